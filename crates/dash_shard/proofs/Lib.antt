@@ -1,0 +1,7 @@
+mod Amounts
+mod Chaining
+mod Nodes
+mod Places
+mod Routing
+mod Seeking
+mod Shards

@@ -1,0 +1,307 @@
+-- A shard's state after each change of its table.
+use Rattle.std.proofs.Common.{◌≡◌, ◌⊎◌, ℕ, zero, suc, ◌+◌, ◌<◌, Bool, true, false, cond, List, [], ◌∷◌, ◌++◌, length, get_or, set, Option, Some, None, refl, sym, ap, subst, ◌∙◌, inl, inr, arith, add-zero, is_some, IsNone, get_or-set_same, get_or-set_other}
+use Rattle.std.specs.Cmp.{IsEquivalence}
+use Rattle.std.specs.Hash.{HashWrites}
+use Rattle.std.specs.Option.{option_map}
+use Rattle.std.specs.declared.hash.Hasher as hasher
+use Rattle.std.specs.declared.hash.BuildHasher as builder
+use Rattle.std.proofs.lemmas.Bool.{cases_Bool, cases_eq, true≢false}
+use Rattle.std.proofs.lemmas.List.{length-map}
+use Rattle.std.proofs.lemmas.Option.{none-some, same_Some}
+use Rattle.std.proofs.Math.ListN.{get_or-map, replicate}
+use Rattle.dash_shard.specs.Hashing.{IsAmount, hash_of, route_of_hash}
+use Rattle.dash_shard.specs.Contents.{Keys, at, IsOnShard}
+use Rattle.dash_shard.specs.Steps.{Insert, Old, after, key_or}
+use Rattle.dash_shard.specs.Shard.{ShardState, place, taken, pairs, keys_of, Routes, IsShard, TakesExactly}
+use Rattle.dash_shard.specs.declared.shard.table.Node.{Node}
+use Rattle.dash_shard.specs.declared.shard.table.Table.{Table}
+use Rattle.dash_shard.specs.Table.{blank, pairs_of, hashes_of, Holds, IsAbsent, IsHashed, IsGrown, IsTable, IsInside}
+use Rattle.dash_shard.proofs.Places.{NoOther, Equal, at-absent, absent-at, at-sole, at-equal, at-written, others-fail, on_shard-written, taken-empties, length-taken-fill, length-taken-replace}
+
+-- empty places behind
+place-empties : {A : Type 0} (xs : List (Option A)) (n i : ℕ) → place (xs ++ replicate n None) i ≡ place xs i
+place-empties {A} [] n i = nothing n i
+  where
+    nothing : (n i : ℕ) → place (replicate {A = Option A} n None) i ≡ None
+    nothing zero i = refl
+    nothing (suc n) zero = refl
+    nothing (suc n) (suc i) = nothing n i
+place-empties (o ∷ xs) n zero = refl
+place-empties (o ∷ xs) n (suc i) = place-empties xs n i
+
+-- nothing stands in empty places
+none-taken : {A : Type 0} (xs : List (Option A)) → ((i : ℕ) → IsNone (place xs i)) → taken xs ≡ []
+none-taken [] h = refl
+none-taken (None ∷ xs) h = none-taken xs (λ i. h (suc i))
+none-taken (Some p ∷ xs) h = absurd (true≢false (h 0))
+
+-- a number that stands at an index still stands there with more behind
+get_or-more : (xs ys : List ℕ) (i : ℕ) → i < length xs → get_or (xs ++ ys) i 0 ≡ get_or xs i 0
+get_or-more [] ys i lt = absurd (omega arith)
+get_or-more (x ∷ xs) ys zero lt = refl
+get_or-more (x ∷ xs) ys (suc i) lt = get_or-more xs ys i (omega arith)
+
+place-within : {A : Type 0} (xs : List (Option A)) (i : ℕ) (p : A) → place xs i ≡ Some p → i < length xs
+place-within [] i p e = absurd (none-some p e)
+place-within (o ∷ xs) zero p e = omega arith
+place-within (o ∷ xs) (suc i) p e = omega (arith, place-within xs i p e)
+
+module _ {K V : Type 0} (hash : K → ℕ) where
+  hashed-empties : (xs : List (Option (K × V))) (hs : List ℕ) (n : ℕ) → length hs ≡ length xs → IsHashed hash xs hs → IsHashed hash (xs ++ replicate n None) (hs ++ replicate n 0)
+  hashed-empties xs hs n long h i p e =
+      let old = sym (place-empties xs n i) ∙ e in
+      get_or-more hs (replicate n 0) i (omega (arith, long, place-within xs i p old)) ∙ h i p old
+
+  hashed-fill : (xs : List (Option (K × V))) (hs : List ℕ) (i : ℕ) (k : K) (v : V) (n : ℕ) → i < length xs → length hs ≡ length xs → n ≡ hash k → IsHashed hash xs hs → IsHashed hash (set xs i (Some (k, v))) (set hs i n)
+  hashed-fill xs hs i k v n within long is h j p e = elim (cases_eq j i) as (λ _. get_or (set hs i n) j 0 ≡ hash p.0) [
+    | inl same ↦
+        let new : (k, v) ≡ p = same_Some (k, v) p (sym (get_or-set_same xs i (Some (k, v)) None within) ∙ ap (λ m. place (set xs i (Some (k, v))) m) (sym same) ∙ e) in
+        ap (λ m. get_or (set hs i n) m 0) same ∙ get_or-set_same hs i n 0 (omega (arith, long, within)) ∙ is ∙ ap (λ q. hash q.0) new
+    | inr other ↦ get_or-set_other hs i j n 0 other ∙ h j p (sym (get_or-set_other xs i j (Some (k, v)) None other) ∙ e)
+  ]
+
+  hashed-replace : (xs : List (Option (K × V))) (hs : List ℕ) (i : ℕ) (p : K × V) (v : V) → i < length xs → place xs i ≡ Some p → IsHashed hash xs hs → IsHashed hash (set xs i (Some (p.0, v))) hs
+  hashed-replace xs hs i p v within there h j q e = elim (cases_eq j i) as (λ _. get_or hs j 0 ≡ hash q.0) [
+    | inl same ↦
+        let new : (p.0, v) ≡ q = same_Some (p.0, v) q (sym (get_or-set_same xs i (Some (p.0, v)) None within) ∙ ap (λ m. place (set xs i (Some (p.0, v))) m) (sym same) ∙ e) in
+        ap (λ m. get_or hs m 0) same ∙ h i p there ∙ ap (λ r. hash r.0) new
+    | inr other ↦ h j q (sym (get_or-set_other xs i j (Some (p.0, v)) None other) ∙ e)
+  ]
+
+-- as many hashes as places
+columns : {K V : Type 0} (nodes : List (Node K V)) → length (hashes_of nodes) ≡ length (pairs_of nodes)
+columns nodes = length-map nodes (λ n. n.hash) ∙ sym (length-map nodes (λ n. n.pair))
+
+module _ {K V S H : Type 0} (eq : K → K → Bool) (b : builder.Ghosts S H) (h : hasher.Ghosts H) (input : K → HashWrites)
+    (laws : IsEquivalence eq) (respects : (x y : K) → eq x y ≡ true → input x ≡ input y) (s : S) (number amount : ℕ) where
+  -- the state of the shard that has this table
+  abbrev pub state : Table K V → ShardState K V S
+  state t = record { places = pairs_of t.nodes.items; number = number; amount = amount; hasher = s; capacity = length t.nodes.items }
+
+  abbrev pub Inside : Table K V → Type 0
+  Inside t = IsInside eq b h input t (state t)
+
+  -- what an insert leaves, where o is the old value
+  pub record Inserted (old new : Table K V) (k : K) (v : V) (o : Option V) : Type 0 where
+    pub inside : Inside new
+    pub takes : TakesExactly eq b h input (state old) (state new) (Insert k v) (Old o)
+    pub len : length (pairs (state new)) ≡ length (pairs (state old)) + cond (is_some o) 0 1
+
+  -- the same as contracts see it, where the state before is written z
+  module _ (old new : Table K V) (k : K) (v : V) (o : Option V) (z : ShardState K V S) (view : state old ≡ z) (i : Inserted old new k v o) where
+    pub shown-takes : TakesExactly eq b h input z (state new) (Insert k v) (Old o)
+    shown-takes = subst (λ x. TakesExactly eq b h input x (state new) (Insert k v) (Old o)) view i.takes
+
+    pub shown-len : length (pairs (state new)) ≡ length (pairs z) + cond (is_some o) 0 1
+    shown-len = subst (λ x. length (pairs (state new)) ≡ length (pairs x) + cond (is_some o) 0 1) view i.len
+
+  module _ (t : Table K V) (inside : Inside t) (k : K) where
+    abbrev w : Keys K
+    w = keys_of eq b h input (state t)
+
+    -- a key that goes here takes equal keys with it
+    routes-equal : Routes eq b h input (state t) k → (j : K) → eq k j ≡ true → w.route j ≡ number
+    routes-equal routes j same = ap (λ writes. route_of_hash amount (hash_of b h s writes)) (sym (respects k j same)) ∙ routes
+
+    -- what a look-up found is the pair at the key, and no other pair is
+    equal-found : (i : ℕ) (found : Holds eq t.nodes.items k i) → Equal w k (place (pairs_of t.nodes.items) i)
+    equal-found i found p e = subst (λ q. eq q.0 k ≡ true) (same_Some found.pair p (sym found.is ∙ e)) found.equal
+
+    others-found : (i : ℕ) → Holds eq t.nodes.items k i → NoOther w (pairs_of t.nodes.items) k i
+    others-found i found = others-fail w laws (pairs_of t.nodes.items) k i found.pair inside.shard.contents.distinct found.is found.equal
+
+    pub at-found : (i : ℕ) (found : Holds eq t.nodes.items k i) → at w (pairs (state t)) k ≡ Some found.pair
+    at-found i found = at-sole w (pairs_of t.nodes.items) k i (equal-found i found) (others-found i found) ∙ found.is
+
+    -- what a look-up didn't find isn't there
+    missing : (hash : ℕ) → hash ≡ hash_of b h s (input k) → IsAbsent eq t.nodes.items hash k → (i : ℕ) (p : K × V) → place (pairs_of t.nodes.items) i ≡ Some p → eq p.0 k ≡ false
+    missing hash is absent i p e = elim (cases_Bool (eq p.0 k)) as (λ _. eq p.0 k ≡ false) [
+      | inl equal ↦ absent i p e (inside.hashed i p e ∙ ap (hash_of b h s) (respects p.0 k equal) ∙ sym is)
+      | inr fails ↦ fails
+    ]
+
+    pub at-missing : (hash : ℕ) → hash ≡ hash_of b h s (input k) → IsAbsent eq t.nodes.items hash k → at w (pairs (state t)) k ≡ None
+    at-missing hash is absent = at-absent w (pairs_of t.nodes.items) k (missing hash is absent)
+
+    module _ (z : ShardState K V S) (view : state t ≡ z) (here : Routes eq b h input z k) (v : V) (new : Table K V) where
+      routes : Routes eq b h input (state t) k
+      routes = subst (λ x. Routes eq b h input x k) (sym view) here
+
+      -- another value under the stored key
+      module _ (i : ℕ) (found : Holds eq t.nodes.items k i)
+          (places : pairs_of new.nodes.items ≡ set (pairs_of t.nodes.items) i (option_map (λ p. (p.0, v)) (place (pairs_of t.nodes.items) i)))
+          (hashes : hashes_of new.nodes.items ≡ hashes_of t.nodes.items) (len : new.len ≡ t.len) (table : IsTable new) where
+        within : i < length (pairs_of t.nodes.items)
+        within = omega (arith, found.within, length-map t.nodes.items (λ n. n.pair))
+
+        now : pairs_of new.nodes.items ≡ set (pairs_of t.nodes.items) i (Some (found.pair.0, v))
+        now = places ∙ ap (λ o. set (pairs_of t.nodes.items) i (option_map (λ p. (p.0, v)) o)) found.is
+
+        equal-now : Equal w k (Some (found.pair.0, v))
+        equal-now p e = subst (λ q. eq q.0 k ≡ true) (same_Some (found.pair.0, v) p e) found.equal
+
+        replaced-shard : IsShard eq b h input (state new)
+        replaced-shard = record {
+          contents = subst (λ xs. IsOnShard w number (taken xs)) (sym now)
+              (on_shard-written w laws number (pairs_of t.nodes.items) k i _ (routes-equal routes) within (equal-found i found) equal-now (others-found i found) inside.shard.contents);
+          number = inside.shard.number;
+          amount = inside.shard.amount;
+        }
+
+        replaced-inside : Inside new
+        replaced-inside = record {
+          shard = replaced-shard;
+          table = table;
+          hashed = subst (λ xs. IsHashed (λ j. hash_of b h s (input j)) xs (hashes_of new.nodes.items)) (sym now)
+              (subst (λ hs. IsHashed (λ j. hash_of b h s (input j)) (set (pairs_of t.nodes.items) i (Some (found.pair.0, v))) hs) (sym hashes)
+              (hashed-replace (λ j. hash_of b h s (input j)) _ _ i found.pair v within found.is inside.hashed));
+          counted = len ∙ inside.counted ∙ sym (ap (λ xs. length (taken xs)) now ∙ length-taken-replace _ i _ found.pair found.is);
+        }
+
+        replaced-takes : TakesExactly eq b h input (state t) (state new) (Insert k v) (Old (Some found.pair.1))
+        replaced-takes = record {
+          replies = ap (λ o. Old (option_map (λ p. p.1) o)) (sym (at-found i found));
+          becomes = λ j. ap (λ xs. at w (taken xs) j) now
+              ∙ at-written w laws (pairs_of t.nodes.items) k i _ within (equal-found i found) equal-now (others-found i found) j
+              ∙ stored j (cases_Bool (eq k j));
+          stays = record { number = refl; amount = refl; hasher = refl };
+          lawful = replaced-shard;
+        }
+          where
+            stored : (j : K) → (eq k j ≡ true) ⊎ (eq k j ≡ false) → cond (eq k j) (Some (found.pair.0, v)) (at w (pairs (state t)) j) ≡ after w (Insert k v) j (at w (pairs (state t)) j)
+            stored j (inl same) = rw same (ap (λ o. Some (key_or k o, v)) (sym (at-found i found) ∙ at-equal w laws (pairs (state t)) k j same))
+            stored j (inr other) = rw other refl
+
+        pub replaced : Inserted t new k v (Some found.pair.1)
+        replaced = record {
+          inside = replaced-inside;
+          takes = replaced-takes;
+          len = ap (λ xs. length (taken xs)) now ∙ length-taken-replace _ i _ found.pair found.is ∙ sym (add-zero _);
+        }
+
+      -- a new pair on a free place
+      module _ (i hash : ℕ) (free : i < length t.nodes.items) (empty : place (pairs_of t.nodes.items) i ≡ None)
+          (is : hash ≡ hash_of b h s (input k)) (none : at w (pairs (state t)) k ≡ None)
+          (places : pairs_of new.nodes.items ≡ set (pairs_of t.nodes.items) i (Some (k, v)))
+          (hashes : hashes_of new.nodes.items ≡ set (hashes_of t.nodes.items) i hash) (len : new.len ≡ t.len + 1) (table : IsTable new) where
+        room : i < length (pairs_of t.nodes.items)
+        room = omega (arith, free, length-map t.nodes.items (λ n. n.pair))
+
+        equal-before : Equal w k (place (pairs_of t.nodes.items) i)
+        equal-before p e = absurd (none-some p (sym empty ∙ e))
+
+        equal-filled : Equal w k (Some (k, v))
+        equal-filled p e = subst (λ q. eq q.0 k ≡ true) (same_Some (k, v) p e) (laws.refl k)
+
+        no-other : NoOther w (pairs_of t.nodes.items) k i
+        no-other j p _ e = absent-at w (pairs_of t.nodes.items) k none j p e
+
+        filled-shard : IsShard eq b h input (state new)
+        filled-shard = record {
+          contents = subst (λ xs. IsOnShard w number (taken xs)) (sym places)
+              (on_shard-written w laws number (pairs_of t.nodes.items) k i _ (routes-equal routes) room equal-before equal-filled no-other inside.shard.contents);
+          number = inside.shard.number;
+          amount = inside.shard.amount;
+        }
+
+        filled-len : length (pairs (state new)) ≡ length (pairs (state t)) + 1
+        filled-len = ap (λ xs. length (taken xs)) places ∙ length-taken-fill (pairs_of t.nodes.items) i (k, v) room empty
+
+        filled-inside : Inside new
+        filled-inside = record {
+          shard = filled-shard;
+          table = table;
+          hashed = subst (λ xs. IsHashed (λ j. hash_of b h s (input j)) xs (hashes_of new.nodes.items)) (sym places)
+              (subst (λ hs. IsHashed (λ j. hash_of b h s (input j)) (set (pairs_of t.nodes.items) i (Some (k, v))) hs) (sym hashes)
+              (hashed-fill (λ j. hash_of b h s (input j)) _ _ i k v hash room (columns t.nodes.items) is inside.hashed));
+          counted = len ∙ ap (λ n. n + 1) inside.counted ∙ sym filled-len;
+        }
+
+        filled-takes : TakesExactly eq b h input (state t) (state new) (Insert k v) (Old None)
+        filled-takes = record {
+          replies = ap (λ o. Old (option_map (λ p. p.1) o)) (sym none);
+          becomes = λ j. ap (λ xs. at w (taken xs) j) places
+              ∙ at-written w laws (pairs_of t.nodes.items) k i _ room equal-before equal-filled no-other j
+              ∙ put j (cases_Bool (eq k j));
+          stays = record { number = refl; amount = refl; hasher = refl };
+          lawful = filled-shard;
+        }
+          where
+            put : (j : K) → (eq k j ≡ true) ⊎ (eq k j ≡ false) → cond (eq k j) (Some (k, v)) (at w (pairs (state t)) j) ≡ after w (Insert k v) j (at w (pairs (state t)) j)
+            put j (inl same) = rw same (ap (λ o. Some (key_or k o, v)) (sym none ∙ at-equal w laws (pairs (state t)) k j same))
+            put j (inr other) = rw other refl
+
+        pub filled : Inserted t new k v None
+        filled = record { inside = filled-inside; takes = filled-takes; len = filled-len }
+
+  -- a table with no pairs
+  module _ (t : Table K V) (table : IsTable t) (len : t.len ≡ 0) where
+    pub fresh-pairs : pairs (state t) ≡ []
+    fresh-pairs = none-taken (pairs_of t.nodes.items) (λ i. subst (λ o. IsNone o) (sym (get_or-map (λ n. n.pair) t.nodes.items i blank)) (table.empty i (omega (arith, len))))
+
+    pub fresh-shard : number < amount → IsAmount amount → IsShard eq b h input (state t)
+    fresh-shard below lawful = record {
+      contents = subst (λ ps. IsOnShard (keys_of eq b h input (state t)) number ps) (sym fresh-pairs) (record { distinct = tt; routed = λ k away. refl });
+      number = below;
+      amount = lawful;
+    }
+
+    pub fresh-inside : number < amount → IsAmount amount → Inside t
+    fresh-inside below lawful = record {
+      shard = fresh-shard below lawful;
+      table = table;
+      hashed = λ i p e. absurd (none_some (table.empty i (omega (arith, len))) (sym (get_or-map (λ n. n.pair) t.nodes.items i blank) ∙ e));
+      counted = len ∙ ap length (sym fresh-pairs);
+    }
+      where
+        none_some : {o : Option (K × V)} {p : K × V} → IsNone o → o ≡ Some p → ⊥
+        none_some {o} {p} none e = true≢false (subst (λ x. IsNone x) e none)
+
+  -- empty places came behind
+  module _ (t new : Table K V) (inside : Inside t) (grown : IsGrown t.nodes.items new.nodes.items) (len : new.len ≡ t.len) (table : IsTable new) where
+    pub grown-pairs : pairs (state new) ≡ pairs (state t)
+    grown-pairs = ap taken grown.pairs ∙ taken-empties (pairs_of t.nodes.items) grown.more
+
+    pub grown-inside : Inside new
+    grown-inside = record {
+      shard = record {
+        contents = subst (λ ps. IsOnShard (keys_of eq b h input (state t)) number ps) (sym grown-pairs) inside.shard.contents;
+        number = inside.shard.number;
+        amount = inside.shard.amount;
+      };
+      table = table;
+      hashed = subst (λ xs. IsHashed (λ j. hash_of b h s (input j)) xs (hashes_of new.nodes.items)) (sym grown.pairs)
+          (subst (λ hs. IsHashed (λ j. hash_of b h s (input j)) (pairs_of t.nodes.items ++ replicate grown.more None) hs) (sym grown.hashes)
+          (hashed-empties (λ j. hash_of b h s (input j)) _ _ grown.more (columns t.nodes.items) inside.hashed));
+      counted = len ∙ inside.counted ∙ ap length (sym grown-pairs);
+    }
+
+    -- what an insert leaves of the table before it grew
+    pub inserted-grown : (last : Table K V) (k : K) (v : V) (o : Option V) → Inserted new last k v o → Inserted t last k v o
+    inserted-grown last k v o i = record {
+      inside = i.inside;
+      takes = record {
+        replies = i.takes.replies ∙ ap (λ ps. Old (option_map (λ p. p.1) (at (keys_of eq b h input (state t)) ps k))) grown-pairs;
+        becomes = λ j. i.takes.becomes j ∙ ap (λ ps. after (keys_of eq b h input (state t)) (Insert k v) j (at (keys_of eq b h input (state t)) ps j)) grown-pairs;
+        stays = record { number = refl; amount = refl; hasher = refl };
+        lawful = i.takes.lawful;
+      };
+      len = i.len ∙ ap (λ ps. length ps + cond (is_some o) 0 1) grown-pairs;
+    }
+
+    -- a new pair, in the room that was made
+    module _ (k : K) (z : ShardState K V S) (view : state t ≡ z) (here : Routes eq b h input z k) (v : V) (last : Table K V) (hash : ℕ) where
+      pub pushed : new.len < length new.nodes.items → hash ≡ hash_of b h s (input k) → IsAbsent eq t.nodes.items hash k
+          → pairs_of last.nodes.items ≡ set (pairs_of new.nodes.items) new.len (Some (k, v)) → hashes_of last.nodes.items ≡ set (hashes_of new.nodes.items) new.len hash
+          → last.len ≡ new.len + 1 → IsTable last → Inserted t last k v None
+      pushed room is absent places hashes longer lawful =
+          inserted-grown last k v None
+          (filled new grown-inside k (state new) refl (subst (λ x. Routes eq b h input x k) (sym view) here) v last new.len hash room
+          (get_or-map (λ n. n.pair) new.nodes.items new.len blank ∙ is_none _ (table.empty new.len (omega arith)))
+          is
+          (ap (λ ps. at (keys_of eq b h input (state t)) ps k) grown-pairs ∙ at-missing t inside k hash is absent)
+          places hashes longer lawful)
+        where
+          is_none : (o : Option (K × V)) → IsNone o → o ≡ None
+          is_none None n = refl
+          is_none (Some x) n = absurd (true≢false n)

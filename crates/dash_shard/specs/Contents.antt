@@ -1,0 +1,38 @@
+-- The contents of a map: a set of pairs, no two with equal keys. They are written as a list that is read through `at` alone,
+-- so that its order says nothing.
+use Rattle.std.specs.Prelude.{ℕ, ◌≡◌, ◌≢◌, ◌==◌, Bool, List, [], ◌∷◌, filter, Option, Some, None, if◌then◌else◌}
+
+-- what a map knows of its keys: which are equal, which shard each goes to, and how many shards there are
+pub record Keys (K : Type 0) : Type 0 where
+  pub eq : K → K → Bool
+  pub route : K → ℕ
+  pub shards : ℕ
+
+-- the same, in one row
+abbrev pub keys : {K : Type 0} → (K → K → Bool) → (K → ℕ) → ℕ → Keys K
+keys eq route shards = record { eq = eq; route = route; shards = shards }
+
+module _ {K V : Type 0} (w : Keys K) where
+  -- 'P at k': the pair whose key equals k, or none
+  abbrev pub at : List (K × V) → K → Option (K × V)
+  at [] k = None
+  at (p ∷ ps) k = if w.eq p.0 k then Some p else at ps k
+
+  -- 'P on i': the pairs whose key has the route i
+  abbrev pub on : ℕ → List (K × V) → List (K × V)
+  on i ps = filter (λ p. w.route p.0 == i) ps
+
+  -- no two keys are equal
+  abbrev pub Distinct : List (K × V) → Type 0
+  Distinct [] = Unit {0}
+  Distinct (p ∷ ps) = (at ps p.0 ≡ None) × Distinct ps
+
+  -- qs has each pair of ps once, in any order
+  pub record EachOnce (ps qs : List (K × V)) : Type 0 where
+    pub distinct : Distinct qs
+    pub same : (k : K) → at qs k ≡ at ps k
+
+  -- the contents of shard i: no two keys are equal, and no key goes elsewhere
+  pub record IsOnShard (i : ℕ) (ps : List (K × V)) : Type 0 where
+    pub distinct : Distinct ps
+    pub routed : (k : K) → w.route k ≢ i → at ps k ≡ None

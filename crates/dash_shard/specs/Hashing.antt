@@ -1,0 +1,34 @@
+-- The hash of a key, and the shard that it goes to.
+use Rattle.std.specs.Prelude.{◌≡◌, ℕ, ◌*◌, ◌/◌, ◌%◌, ◌^◌, ◌<◌, ◌==◌, List, length, if◌then◌else◌}
+use Rattle.std.specs.List.{fold}
+use Rattle.std.specs.Int.{w64, from_le_bytes, IsPowerOfTwo}
+use Rattle.std.specs.Hash.{HashWrites}
+use Rattle.std.specs.declared.hash.Hasher as hasher
+use Rattle.std.specs.declared.hash.BuildHasher as builder
+
+-- a lawful amount of shards: a power of two above 1, of 64 bits
+pub record IsAmount (n : ℕ) : Type 0 where
+  pub power : IsPowerOfTwo n
+  pub several : 1 < n
+  pub fits : n < 2 ^ 64
+
+-- the shard of a hash among n: its low 57 bits, scaled to n
+unfoldable pub route_of_hash : ℕ → ℕ → ℕ
+route_of_hash n h = h % 2 ^ 57 * n / 2 ^ 57
+
+-- the state of a place hasher after one write: eight bytes are a number, whose low nine bits become the high nine of the hash
+unfoldable pub placed : ℕ → List ℕ → ℕ
+placed s bytes = if length bytes == 8 then from_le_bytes w64 bytes * 2 ^ 55 % 2 ^ 64 else s
+
+module _ {S H : Type 0} (b : builder.Ghosts S H) (h : hasher.Ghosts H) where
+  -- the hash that the builder s gives to what a key writes
+  unfoldable pub hash_of : S → HashWrites → ℕ
+  hash_of s writes = h.finish (fold h.write (b.build_hasher s) writes)
+
+  -- two builders give everything one hash
+  abbrev pub HashAlike : S → S → Type 0
+  HashAlike s t = (writes : HashWrites) → hash_of t writes ≡ hash_of s writes
+
+  -- the shard of a key among n, by its hash
+  abbrev pub route_by : {K : Type 0} → (K → HashWrites) → S → ℕ → K → ℕ
+  route_by input s n k = route_of_hash n (hash_of s (input k))

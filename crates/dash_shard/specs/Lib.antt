@@ -1,0 +1,5 @@
+pub mod Hashing
+pub mod Contents
+pub mod Steps
+pub mod Shard
+pub mod Table

@@ -1,0 +1,72 @@
+-- What contracts see of a shard: a row of places, each with a pair or none, and where the shard stands among the others.
+use Rattle.std.specs.Prelude.{◌≡◌, ℕ, ◌<◌, Bool, List, [], ◌∷◌, length, Option, Some, None, slice_index_or, refl}
+use Rattle.std.specs.Coded.{Coded, code_by, coded×, coded_ℕ, coded_list, coded_option}
+use Rattle.std.specs.Hash.{HashWrites}
+use Rattle.std.specs.declared.hash.Hasher as hasher
+use Rattle.std.specs.declared.hash.BuildHasher as builder
+use Rattle.dash_shard.specs.Hashing.{IsAmount, route_by}
+use Rattle.dash_shard.specs.Contents.{Keys, keys, IsOnShard}
+use Rattle.dash_shard.specs.Steps.{Step, Reply, Replies, Becomes}
+
+pub record ShardState (K V S : Type 0) : Type 0 where
+  pub places : List (Option (K × V))
+  pub number : ℕ
+  pub amount : ℕ
+  pub hasher : S
+  pub capacity : ℕ
+
+abbrev pub shard_code : {K V S : Type 0} → Coded K → Coded V → Coded S → Coded (ShardState K V S)
+shard_code {K} {V} {S} k v s =
+    code_by (List (Option (K × V)) × (ℕ × (ℕ × (S × ℕ))))
+    (coded× (coded_list (coded_option (coded× k v))) (coded× coded_ℕ (coded× coded_ℕ (coded× s coded_ℕ))))
+    (λ p. (p.places, (p.number, (p.amount, (p.hasher, p.capacity)))))
+    (λ t. record { places = t.0; number = t.1.0; amount = t.1.1.0; hasher = t.1.1.1.0; capacity = t.1.1.1.1 })
+    (λ _. refl)
+
+module _ {A : Type 0} where
+  -- the pair at a place, or none
+  abbrev pub place : List (Option A) → ℕ → Option A
+  place places i = slice_index_or places i None
+
+  -- the pairs of the taken places
+  abbrev pub taken : List (Option A) → List A
+  taken [] = []
+  taken (None ∷ places) = taken places
+  taken (Some p ∷ places) = p ∷ taken places
+
+module _ {K V S : Type 0} where
+  -- the contents of a shard
+  abbrev pub pairs : ShardState K V S → List (K × V)
+  pairs s = taken s.places
+
+  -- how many pairs
+  abbrev pub shard_len : ShardState K V S → ℕ
+  shard_len s = length (pairs s)
+
+  -- number, amount and hasher stay
+  pub record SameShard (old new : ShardState K V S) : Type 0 where
+    pub number : new.number ≡ old.number
+    pub amount : new.amount ≡ old.amount
+    pub hasher : new.hasher ≡ old.hasher
+
+  module _ {H : Type 0} (eq : K → K → Bool) (b : builder.Ghosts S H) (h : hasher.Ghosts H) (input : K → HashWrites) where
+    -- what a map of the shard's hasher and amount knows of its keys
+    abbrev pub keys_of : ShardState K V S → Keys K
+    keys_of s = keys eq (route_by b h input s.hasher s.amount) s.amount
+
+    -- a key goes to this shard
+    abbrev pub Routes : ShardState K V S → K → Type 0
+    Routes s k = route_by b h input s.hasher s.amount k ≡ s.number
+
+    -- no two keys are equal, each goes to this shard, and the shard is one of a lawful amount
+    pub record IsShard (s : ShardState K V S) : Type 0 where
+      pub contents : IsOnShard (keys_of s) s.number (pairs s)
+      pub number : s.number < s.amount
+      pub amount : IsAmount s.amount
+
+    -- takes, on one shard and to the letter: the step gets the reply of the table, and the contents become what the table says
+    pub record TakesExactly (old new : ShardState K V S) (step : Step K V) (reply : Reply K V) : Type 0 where
+      pub replies : Replies (keys_of old) step (pairs old) reply
+      pub becomes : Becomes (keys_of old) step (pairs old) (pairs new)
+      pub stays : SameShard old new
+      pub lawful : IsShard new

@@ -1,0 +1,98 @@
+-- The step table: what each kind of step does to the contents of a map, and what it replies.
+use Rattle.std.specs.Prelude.{ℕ, ◌≡◌, ◌-◌, ◌^◌, ◌==◌, min, Bool, List, length, Option, Some, None, option_map, option_and_then, is_some, if◌then◌else◌}
+use Rattle.dash_shard.specs.Contents.{Keys, at, on, EachOnce}
+
+-- what an action makes of a pair's value, and what it answers: yes or no
+abbrev pub Act : Type 0 → Type 0 → Type 0
+Act K V = K → V → V × Bool
+
+pub data Step (K V : Type 0) : Type 0 where
+  Get : K → Step K V
+  Contains : K → Step K V
+  Insert : K → V → Step K V
+  Remove : K → Step K V
+  RemoveIf : K → Act K V → Step K V
+  RemoveIfMut : K → Act K V → Step K V
+  Alter : K → Act K V → Step K V
+  Read : ℕ → Step K V
+  Count : ℕ → Step K V
+  AlterAll : ℕ → Act K V → Step K V
+  Retain : ℕ → Act K V → Step K V
+
+pub data Reply (K V : Type 0) : Type 0 where
+  Pair : Option (K × V) → Reply K V
+  Found : Bool → Reply K V
+  Old : Option V → Reply K V
+  Pairs : List (K × V) → Reply K V
+  Number : ℕ → Reply K V
+  Done : Reply K V
+
+-- A line of the table. A step is about one key or about one shard. The line says what it makes of the pair that stands there, or of
+-- none, and what it replies: to what stood at the key, or to a list of the shard's pairs, each once, in any order.
+pub data Line (K V : Type 0) : Type 0 where
+  at_key : K → (Option (K × V) → Option (K × V)) → (Option (K × V) → Reply K V) → Line K V
+  on_shard : ℕ → (K × V → Option (K × V)) → (List (K × V) → Reply K V) → Line K V
+
+module _ {K V : Type 0} where
+  -- the stored key, or k where there is none
+  abbrev pub key_or : K → Option (K × V) → K
+  key_or k None = k
+  key_or k (Some p) = p.0
+
+  abbrev pub value : Option (K × V) → Option V
+  value o = option_map (λ p. p.1) o
+
+  -- the pair with the action's new value
+  abbrev pub changed : Act K V → K × V → K × V
+  changed f p = (p.0, (f p.0 p.1).0)
+
+  -- p where the action answers yes to q, else none; and the other way round
+  abbrev pub if_yes : Act K V → K × V → K × V → Option (K × V)
+  if_yes f q p = if (f q.0 q.1).1 then Some p else None
+
+  abbrev pub if_no : Act K V → K × V → K × V → Option (K × V)
+  if_no f q p = if (f q.0 q.1).1 then None else Some p
+
+  -- THE STEP TABLE
+  abbrev pub line : Step K V → Line K V
+  line (Get k) = at_key k (λ o. o) Pair
+  line (Contains k) = at_key k (λ o. o) (λ o. Found (is_some o))
+  line (Insert k v) = at_key k (λ o. Some (key_or k o, v)) (λ o. Old (value o))
+  line (Remove k) = at_key k (λ _. None) Pair
+  line (RemoveIf k f) = at_key k (option_and_then (λ p. if_no f p p)) (λ o. Pair (option_and_then (λ p. if_yes f p p) o))
+  line (RemoveIfMut k f) = at_key k (option_and_then (λ p. if_no f p (changed f p))) (λ o. Pair (option_and_then (λ p. if_yes f p (changed f p)) o))
+  line (Alter k f) = at_key k (option_map (changed f)) (λ _. Done)
+  line (Read i) = on_shard i Some Pairs
+  line (Count i) = on_shard i Some (λ ps. Number (min (length ps) (2 ^ 64 - 1)))
+  line (AlterAll i f) = on_shard i (λ p. Some (changed f p)) (λ _. Done)
+  line (Retain i f) = on_shard i (λ p. if_yes f p (changed f p)) (λ _. Done)
+
+-- How a line is read, on the contents of a map.
+module _ {K V : Type 0} (w : Keys K) where
+  abbrev pub line_place : Line K V → ℕ
+  line_place (at_key k _ _) = w.route k
+  line_place (on_shard i _ _) = i
+
+  abbrev pub line_after : Line K V → K → Option (K × V) → Option (K × V)
+  line_after (at_key k becomes _) j o = if w.eq k j then becomes o else o
+  line_after (on_shard i becomes _) j o = if w.route j == i then option_and_then becomes o else o
+
+  abbrev pub LineReplies : Line K V → List (K × V) → Reply K V → Type 0
+  LineReplies (at_key k _ replies) ps r = r ≡ replies (at w ps k)
+  LineReplies (on_shard i _ replies) ps r = (l : List (K × V)) × EachOnce w (on w i ps) l × (r ≡ replies l)
+
+  -- the place of a step: the route of its key, or the number that it names
+  abbrev pub place : Step K V → ℕ
+  place step = line_place (line step)
+
+  -- what stands at the key j after a step, from what stood there
+  abbrev pub after : Step K V → K → Option (K × V) → Option (K × V)
+  after step j o = line_after (line step) j o
+
+  -- a step at the contents ps may get this reply
+  abbrev pub Replies : Step K V → List (K × V) → Reply K V → Type 0
+  Replies step ps r = LineReplies (line step) ps r
+
+  -- a step makes qs of the contents ps
+  abbrev pub Becomes : Step K V → List (K × V) → List (K × V) → Type 0
+  Becomes step ps qs = (j : K) → at w qs j ≡ after step j (at w ps j)

@@ -1,0 +1,16 @@
+//! Why a map or a shard can't be made.
+use thiserror::Error;
+
+/// Why a map or a shard can't be made. Nothing is made then.
+#[derive(Clone, Copy, Debug, PartialEq, Eq, Error)]
+pub enum ConstructError {
+    /// The amount of shards is no power of two above 1.
+    #[error("shard amount (5)")]
+    ShardAmount,
+    /// There is no memory.
+    #[error("no memory (8)")]
+    Memory,
+    /// The number of callers is not 1 to 65,536.
+    #[error("callers (17)")]
+    Callers,
+}

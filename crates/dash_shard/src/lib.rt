@@ -1,0 +1,6 @@
+//! One shard of a sharded hash map, its hashers and its routing.
+#![tactic(auto)]
+
+pub mod error;
+pub mod hash;
+pub mod shard;

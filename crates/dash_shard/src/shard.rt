@@ -1,0 +1,169 @@
+//! One shard: pairs with distinct keys, all routed to the shard's number.
+ghost use Rattle.std.specs.Prelude.{◌≡◌, ◌≢◌, ℕ, ◌+◌, ◌<◌, ◌≤◌, ◌↔◌, IsTrue, IfOk, OnOk, OnErr, IfErr, IsSome, MatchOption, is_some, None, if◌then◌else◌};
+ghost use Rattle.std.specs.Option.{option_map};
+ghost use Rattle.std.specs.Map.Iter.{deref_pair};
+ghost use Rattle.dash_shard.specs.Hashing.{IsAmount, hash_of};
+ghost use Rattle.dash_shard.specs.Contents.{at};
+ghost use Rattle.dash_shard.specs.Steps.{Get, Insert, Pair, Old, Replies};
+ghost use Rattle.dash_shard.specs.Shard.{place, pairs, shard_len, keys_of, Routes, IsShard, SameShard, TakesExactly};
+ghost use Rattle.dash_shard.specs.declared.error.ConstructError.TheVariants.{Memory};
+
+use crate::error::ConstructError;
+use crate::hash::determine_shard;
+use std::alloc::Global;
+use std::hash::{BuildHasher, Hash};
+use std::marker::Model;
+use table::Table;
+
+mod table;
+
+/// One shard of a map, as the original's table behind a lock: pairs with distinct keys that all go to the shard's number.
+///
+/// Calls take amortised constant time where the hasher spreads the keys. A new shard of capacity 0 takes no memory.
+#[derive(Drop)]
+pub struct Shard<K: Eq + Hash, V, S: BuildHasher> {
+    hasher: S,
+    number: usize,
+    amount: usize,
+    table: Table<K, V>,
+}
+
+impl<K: Eq + Hash, V, S: BuildHasher> Model for Shard<K, V, S> {
+    ghost use Rattle.std.specs.Prelude.{length};
+    ghost use Rattle.dash_shard.specs.Shard.{ShardState, shard_code};
+    ghost use Rattle.dash_shard.specs.Table.{IsInside, pairs_of};
+
+    ghost Value = { ShardState K V S };
+
+    ghost coded = { shard_code K.code V.code S.code };
+
+    ghost view = { λ s. record { places = pairs_of s.table.nodes.items; number = s.number; amount = s.amount; hasher = s.hasher; capacity = length s.table.nodes.items } };
+
+    ghost invariant = { λ s. IsInside K.eq S.BuildHasher S.Hasher.Hasher K.hash_input s.table (record { places = pairs_of s.table.nodes.items; number = s.number; amount = s.amount; hasher = s.hasher; capacity = length s.table.nodes.items }) };
+}
+
+/// No memory for a new key (1). The pair comes back, and the shard or map is as it was.
+#[derive(Debug, Drop)]
+pub struct InsertRefused<K, V> {
+    pub key: K,
+    pub value: V,
+}
+
+impl<K: Eq + Hash, V, S: BuildHasher> Shard<K, V, S> {
+    /// An empty shard with room for `capacity` pairs, the one of this number among `amount`.
+    ///
+    /// Takes memory, but for a capacity of 0.
+    pub fn new(
+        alloc: Global,
+        hasher: S,
+        number: usize,
+        amount: usize,
+        capacity: usize,
+    ) -> Result<Self, ConstructError>
+    where
+        K: Drop,
+        V: Drop,
+        S: Drop,
+        requires number { number < amount }
+        requires amount { IsAmount amount }
+        ensures empty { IfOk result (λ s. shard_len s ≡ 0) }
+        ensures number { IfOk result (λ s. s.number ≡ number) }
+        ensures amount { IfOk result (λ s. s.amount ≡ amount) }
+        ensures hasher { IfOk result (λ s. s.hasher ≡ hasher) }
+        ensures capacity { IfOk result (λ s. capacity ≤ s.capacity) }
+        ensures lawful { IfOk result (IsShard K.eq S.BuildHasher S.Hasher.Hasher K.hash_input) }
+        ensures refused { IfErr result (λ e. e ≡ Memory) }
+    {
+        match Table::with_capacity(alloc, capacity) {
+            Ok(table) => Ok(Shard {
+                hasher,
+                number,
+                amount,
+                table,
+            }),
+            Err(_) => Err(ConstructError::Memory),
+        }
+    }
+
+    /// The shard's number among the map's shards.
+    #[inline]
+    pub fn number(&self) -> usize
+        ensures number { result ≡ self.now.number }
+        ensures lawful { IsShard K.eq S.BuildHasher S.Hasher.Hasher K.hash_input self.now }
+    {
+        self.number
+    }
+
+    /// How many shards the map has.
+    #[inline]
+    pub fn amount(&self) -> usize
+        ensures amount { result ≡ self.now.amount }
+        ensures lawful { IsShard K.eq S.BuildHasher S.Hasher.Hasher K.hash_input self.now }
+    {
+        self.amount
+    }
+
+    /// Whether the key goes to this shard, which the keyed calls ask.
+    #[inline]
+    pub fn routes(&self, key: &K) -> bool
+        ensures { IsTrue result ↔ Routes K.eq S.BuildHasher S.Hasher.Hasher K.hash_input self.now key.now }
+    {
+        determine_shard(self.hasher.hash_one(key), self.amount) == self.number
+    }
+
+    /// Puts the pair, or where an equal key is there the value under the stored key, and answers the old value.
+    ///
+    /// Takes memory for a new key where the shard is full, and is refused (1) only then.
+    #[inline]
+    pub fn insert(&mut self, key: K, value: V) -> Result<Option<V>, InsertRefused<K, V>>
+    where
+        K: Drop,
+        V: Drop,
+        requires { Routes K.eq S.BuildHasher S.Hasher.Hasher K.hash_input self.old key }
+        ensures taken { IfOk result (λ old. TakesExactly K.eq S.BuildHasher S.Hasher.Hasher K.hash_input self.old self.new (Insert key value) (Old old)) }
+        ensures len { IfOk result (λ old. shard_len self.new ≡ shard_len self.old + (if is_some old then 0 else 1)) }
+        ensures room { shard_len self.old < self.old.capacity → self.new.capacity ≡ self.old.capacity }
+
+        // A refusal hands the pair back, and comes only for a new key in a full shard.
+        ensures refused { IfErr result (λ e. (e.key ≡ key) × (e.value ≡ value) × (self.new ≡ self.old)) }
+        ensures absent { OnErr result (at (keys_of K.eq S.BuildHasher S.Hasher.Hasher K.hash_input self.old) (pairs self.old) key ≡ None) }
+        ensures full { OnErr result (shard_len self.old ≡ self.old.capacity) }
+    {
+        let hash = self.hasher.hash_one(&key);
+        if let Some(place) = self.table.find(hash, &key) {
+            return Ok(Some(self.table.replace(place, value)));
+        }
+        let Ok(()) = self.table.make_room() else {
+            return Err(InsertRefused { key, value });
+        };
+        self.table.push(hash, key, value);
+        Ok(None)
+    }
+
+    /// The pair whose key equals `key`.
+    #[inline]
+    pub fn get(&self, key: &K) -> Option<(&K, &V)>
+        ensures pair { Replies (keys_of K.eq S.BuildHasher S.Hasher.Hasher K.hash_input self.now) (Get key.now) (pairs self.now) (Pair (option_map deref_pair result)) }
+        ensures lawful { IsShard K.eq S.BuildHasher S.Hasher.Hasher K.hash_input self.now }
+    {
+        let place = self.table.find(self.hasher.hash_one(key), key)?;
+        Some(self.table.at(place))
+    }
+
+    /// How many pairs there are.
+    #[inline]
+    pub fn len(&self) -> usize
+        ensures len { result ≡ shard_len self.now }
+        ensures within { result ≤ self.now.capacity }
+    {
+        self.table.len()
+    }
+
+    /// How many pairs there may be before the shard takes memory.
+    #[inline]
+    pub fn capacity(&self) -> usize
+        ensures { result ≡ self.now.capacity }
+    {
+        self.table.places()
+    }
+}
