@@ -1,5 +1,5 @@
 //! One shard: pairs with distinct keys, all routed to the shard's number.
-ghost use Rattle.std.specs.Prelude.{◌≡◌, ◌≢◌, ℕ, ◌+◌, ◌<◌, ◌≤◌, ◌↔◌, IsTrue, IfOk, OnOk, OnErr, IfErr, IsSome, MatchOption, is_some, None, if◌then◌else◌};
+ghost use Rattle.std.specs.Prelude.{◌≡◌, ◌≢◌, ℕ, ◌+◌, ◌<◌, ◌≤◌, ◌↔◌, IsTrue, IsOk, IfOk, OnOk, OnErr, IfErr, IsSome, MatchOption, is_some, None, if◌then◌else◌};
 ghost use Rattle.std.specs.Option.{option_map};
 ghost use Rattle.std.specs.Map.Iter.{deref_pair};
 ghost use Rattle.dash_shard.specs.Hashing.{IsAmount, hash_of};
@@ -73,6 +73,7 @@ impl<K: Eq + Hash, V, S: BuildHasher> Shard<K, V, S> {
         ensures capacity { IfOk result (λ s. capacity ≤ s.capacity) }
         ensures lawful { IfOk result (IsShard K.eq S.BuildHasher S.Hasher.Hasher K.hash_input) }
         ensures refused { IfErr result (λ e. e ≡ Memory) }
+        ensures free { capacity ≡ 0 → IsOk result }
     {
         match Table::with_capacity(alloc, capacity) {
             Ok(table) => Ok(Shard {

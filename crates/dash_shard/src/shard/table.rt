@@ -1,5 +1,5 @@
 //! A table of pairs, found by the buckets of their hashes.
-ghost use Rattle.std.specs.Prelude.{ℕ, ◌≡◌, ◌+◌, ◌-◌, ◌<◌, ◌≤◌, ◌==◌, ◌++◌, IfSome, IfNone, IfOk, OnOk, OnErr, IsSome, IsNone, length, map, false, [], ◌∷◌, if◌then◌else◌, vec_len, vec_capacity, slice_set, replicate, max};
+ghost use Rattle.std.specs.Prelude.{ℕ, ◌≡◌, ◌+◌, ◌-◌, ◌<◌, ◌≤◌, ◌==◌, ◌++◌, IfSome, IfNone, IsOk, IfOk, OnOk, OnErr, IsSome, IsNone, length, map, false, [], ◌∷◌, if◌then◌else◌, vec_len, vec_capacity, slice_set, replicate, max};
 ghost use Rattle.dash_shard.specs.Table.{IsTable, IsFilled, Holds, IsAbsent, KeepsPairs, IsLinked, bucket_of, node, blank, pairs_of, hashes_of, IsGrown};
 ghost use Rattle.dash_shard.specs.Shard.{place};
 ghost use Rattle.std.specs.Option.{option_map};
@@ -142,6 +142,7 @@ impl<K, V> Table<K, V> {
         ensures table { IfOk result IsTable }
         ensures empty { IfOk result (λ t. t.len ≡ 0) }
         ensures places { IfOk result (λ t. capacity ≤ length t.nodes.items) }
+        ensures free { capacity ≡ 0 → IsOk result }
     {
         let mut table = Table::new(alloc);
         if capacity == 0 {

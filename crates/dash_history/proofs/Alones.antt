@@ -1,0 +1,115 @@
+-- The shards of a recorded map of one owner.
+use Rattle.std.proofs.Common.{◌≡◌, ℕ, ◌<◌, Bool, List, length, Some, sym, ap, subst, ◌∙◌, inl, inr, arith, get_or-set_same, get_or-set_other, get_or, slice_get, slice_set}
+use mathlib.Core.Path.{fun_ext}
+use Rattle.std.specs.Hash.{HashWrites}
+use Rattle.std.specs.Option.{option_map_or}
+use Rattle.std.proofs.lemmas.List.{set-get_or}
+use Rattle.std.specs.declared.hash.Hasher as hasher
+use Rattle.std.specs.declared.hash.BuildHasher as builder
+use Rattle.std.proofs.lemmas.Bool.{cases_eq}
+use Rattle.std.proofs.lemmas.Option.{slice_get-get_or, slice_get_within, get_or_from_slice_get, same_Some}
+use Rattle.std.proofs.Math.ListN.{length-set}
+use Rattle.dash_shard.specs.Contents.{keys}
+use Rattle.dash_shard.specs.Hashing.{IsAmount, HashAlike, hash_of, route_by, route_of_hash}
+use Rattle.dash_shard.specs.Shard.{SameShard}
+use Rattle.dash_shard.specs.Steps.{place}
+use Rattle.dash_history.specs.declared.step.ShardStep.{ShardStep}
+use Rattle.dash_history.specs.declared.step.Reply as program
+use Rattle.dash_history.specs.Steps.{step_of}
+use Rattle.dash_history.specs.Takes.{rules}
+use Rattle.dash_history.specs.History.{RecState, LogState, Recorded, rules_of, place_of}
+use Rattle.dash_history.specs.Alone.{AloneState, IsPlaced, IsAlone, Applied, last_at, rules_in}
+
+module _ {A : Type 0} where
+  -- an element after a write
+  pub slice_get-set_same : (xs : List A) (i : ℕ) (x : A) → i < length xs → slice_get (slice_set xs i x) i ≡ Some x
+  slice_get-set_same xs i x lt = slice_get-get_or (slice_set xs i x) i x (omega (arith, lt, length-set xs i x)) ∙ ap Some (get_or-set_same xs i x x lt)
+
+  pub slice_get-set_other : (xs : List A) (i j : ℕ) (x y : A) → (j ≡ i → ⊥) → slice_get (slice_set xs i x) j ≡ Some y → slice_get xs j ≡ Some y
+  slice_get-set_other xs i j x y other e =
+      let lt = slice_get_within (slice_set xs i x) j y e in
+      slice_get-get_or xs j y (omega (arith, lt, length-set xs i x)) ∙ ap Some (sym (get_or-set_other xs i j x y other) ∙ get_or_from_slice_get (slice_set xs i x) j y y e)
+
+module _ {K V S H : Type 0} (b : builder.Ghosts S H) (h : hasher.Ghosts H) where
+  pub placed-moved : (base : S) (n c i : ℕ) (s t : RecState K V S) → IsPlaced b h base n c i s → SameShard s.shard t.shard → t.callers ≡ s.callers → IsPlaced b h base n c i t
+  placed-moved base n c i s t p stays callers = record {
+    number = stays.number ∙ p.number;
+    amount = stays.amount ∙ p.amount;
+    callers = callers ∙ p.callers;
+    hashes = subst (λ x. HashAlike b h base x) (sym stays.hasher) p.hashes;
+  }
+
+  -- one shard changed in its place
+  pub alone-set : (base : S) (c i : ℕ) (row : List (RecState K V S)) (s t : RecState K V S) → IsAlone b h (record { hasher = base; callers = c; row = row }) → slice_get row i ≡ Some s
+      → SameShard s.shard t.shard → t.callers ≡ s.callers → IsAlone b h (record { hasher = base; callers = c; row = slice_set row i t })
+  alone-set base c i row s t a here stays callers =
+      let long : length (slice_set row i t) ≡ length row = length-set row i t in
+      record {
+        amount = subst IsAmount (sym long) a.amount;
+        callers = a.callers;
+        placed = λ j x e. subst (λ n. IsPlaced b h base n c j x) (sym long) (elim (cases_eq j i) as (λ _. IsPlaced b h base (length row) c j x) [
+          | inl same ↦
+              let new : t ≡ x = same_Some t x (sym (slice_get-set_same row i t (slice_get_within row i s here)) ∙ ap (λ n. slice_get (slice_set row i t) n) (sym same) ∙ e) in
+              subst (λ n. IsPlaced b h base (length row) c n x) (sym same) (subst (λ y. IsPlaced b h base (length row) c i y) new (placed-moved base (length row) c i s t (a.placed i s here) stays callers))
+          | inr other ↦ a.placed j x (slice_get-set_other row i j t x other e)
+        ]);
+      }
+
+  -- a shard's rules are the map's
+  pub rules-same : (eq : K → K → Bool) (input : K → HashWrites) (k : K → K → Bool) (v : V → V → Bool) (base : S) (c i : ℕ) (row : List (RecState K V S)) (s : RecState K V S)
+      → IsPlaced b h base (length row) c i s → rules_of eq b h input k v s.shard ≡ rules_in b h eq input k v (record { hasher = base; callers = c; row = row })
+  rules-same eq input k v base c i row s p =
+      let route = fun_ext (λ (x : K). ap (λ n. route_of_hash n (hash_of b h s.shard.hasher (input x))) p.amount ∙ ap (route_of_hash (length row)) (p.hashes (input x))) in
+      ap (λ r. rules k v (keys eq r s.shard.amount)) route ∙ ap (λ n. rules k v (keys eq (route_by b h input base (length row)) n)) p.amount
+
+-- The map, the place that was computed, and the shard that an index lends there.
+module _ {K V S H : Type 0} (eq : K → K → Bool) (b : builder.Ghosts S H) (h : hasher.Ghosts H) (input : K → HashWrites) (k : K → K → Bool) (v : V → V → Bool)
+    (base : S) (c : ℕ) (row : List (RecState K V S)) (z : AloneState K V S) (view : record { hasher = base; callers = c; row = row } ≡ z)
+    (a : IsAlone b h (record { hasher = base; callers = c; row = row })) (step : ShardStep K V) (p n : ℕ) (s : RecState K V S)
+    (long : n ≡ length row) (computed : p ≡ place (keys eq (route_by b h input base n) n) (step_of step)) (within : p < length row) (read : s ≡ get_or row p s) where
+  abbrev old : AloneState K V S
+  old = record { hasher = base; callers = c; row = row }
+
+  abbrev set_row : AloneState K V S → List (RecState K V S) → AloneState K V S
+  set_row x r = record x { row = r }
+
+  pub here : slice_get row p ≡ Some s
+  here = slice_get-get_or row p s within ∙ ap Some (sym read)
+
+  placed : IsPlaced b h base (length row) c p s
+  placed = a.placed p s here
+
+  same : rules_of eq b h input k v s.shard ≡ rules_in b h eq input k v z
+  same = rules-same b h eq input k v base c p row s placed ∙ ap (rules_in b h eq input k v) view
+
+  pub place_is : p ≡ place_of (rules_in b h eq input k v z) step
+  place_is = computed ∙ ap (λ l. place (keys eq (route_by b h input base l) l) (step_of step)) long ∙ ap (λ x. place_of (rules_in b h eq input k v x) step) view
+
+  pub goes_there : place_of (rules_of eq b h input k v s.shard) step ≡ s.shard.number
+  goes_there = ap (λ r. place_of r step) same ∙ sym place_is ∙ sym placed.number
+
+  pub callers_are : s.callers ≡ z.callers
+  callers_are = placed.callers ∙ ap (λ x. x.callers) view
+
+  pub count_is : length row ≡ length z.row
+  count_is = ap (λ x. length x.row) view
+
+  pub there : slice_get z.row (place_of (rules_in b h eq input k v z) step) ≡ Some s
+  there = subst (λ x. slice_get x.row (place_of (rules_in b h eq input k v z) step) ≡ Some s) view (subst (λ i. slice_get row i ≡ Some s) place_is here)
+
+  pub last_is : last_at z (place_of (rules_in b h eq input k v z) step) ≡ s.last
+  last_is = ap (λ o. option_map_or (λ x. x.last) o 0) there
+
+  pub applied : (t : RecState K V S) (l l' : LogState K V) (reply : program.Reply K V) → Recorded (rules_of eq b h input k v s.shard) s t l l' step reply
+      → Applied (rules_in b h eq input k v z) z (record { hasher = base; callers = c; row = slice_set row p t }) l l' step reply
+  applied t l l' reply r = record {
+    before = s;
+    after = t;
+    here = there;
+    recorded = subst (λ x. Recorded x s t l l' step reply) same r;
+    others = ap (λ i. set_row old (slice_set row i t)) place_is ∙ ap (λ x. set_row x (slice_set x.row (place_of (rules_in b h eq input k v z) step) t)) view;
+  }
+
+  -- the shard was put back as it was
+  pub unchanged : (t : RecState K V S) → t ≡ s → record { hasher = base; callers = c; row = slice_set row p t } ≡ z
+  unchanged t e = ap (λ x. record { hasher = base; callers = c; row = slice_set row p x }) (e ∙ read) ∙ ap (λ x. record { hasher = base; callers = c; row = x }) (set-get_or row p s) ∙ view

@@ -1,0 +1,6 @@
+mod AlikeLaws
+mod Alones
+mod Copies
+mod Growing
+mod Recording
+mod Rows

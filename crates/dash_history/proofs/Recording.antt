@@ -1,0 +1,75 @@
+-- A step that was taken on a shard, and recorded.
+use Rattle.std.proofs.Common.{◌≡◌, ℕ, ◌<◌, Bool, true, List, [], ◌∷◌, ◌++◌, sym, ap, subst, ◌∙◌, arith, IsTrue, ◌==◌, ◌&&◌, eqb-true}
+use Rattle.std.proofs.lemmas.Bool.{and_parts}
+use Rattle.std.specs.Cmp.{IsEquivalence}
+use Rattle.std.specs.Hash.{HashWrites}
+use Rattle.std.specs.declared.hash.Hasher as hasher
+use Rattle.std.specs.declared.hash.BuildHasher as builder
+use Rattle.dash_shard.specs.Hashing.{hash_of, route_of_hash}
+use Rattle.dash_shard.specs.Contents.{at}
+use Rattle.dash_shard.specs.Steps.{Becomes, after}
+use Rattle.dash_shard.specs.Shard.{ShardState, IsShard, SameShard, pairs, keys_of}
+use Rattle.dash_history.specs.declared.step.ShardStep.{ShardStep}
+use Rattle.dash_history.specs.declared.step.Reply as program
+use Rattle.dash_history.specs.declared.step.Record.{Record}
+use Rattle.dash_history.specs.Steps.{step_of, reply_of, alike_record}
+use Rattle.dash_history.specs.Takes.{AlikeAt, Answers, Takes}
+use Rattle.dash_history.specs.History.{RecState, IsRecorded, Tells, last_or, rules_of, place_of}
+use Rattle.dash_history.proofs.Copies.{Lawful, at_laws, takes-alike, line-alike, place-alike}
+use Rattle.dash_history.proofs.Growing.{history-more, last_or-more}
+
+-- alike records have one stamp and one caller
+module _ {K V : Type 0} (k : K → K → Bool) (v : V → V → Bool) (r q : Record K V) (same : IsTrue (alike_record k v r q)) where
+  stamp_caller : ((r.stamp == q.stamp) && (r.caller == q.caller)) ≡ true
+  stamp_caller = (and_parts _ _ (and_parts _ _ (and_parts _ _ same).0).0).0
+
+  pub same-stamp : r.stamp ≡ q.stamp
+  same-stamp = eqb-true _ _ (and_parts _ _ stamp_caller).0
+
+  pub same-caller : r.caller ≡ q.caller
+  same-caller = eqb-true _ _ (and_parts _ _ stamp_caller).1
+
+module _ {K V S H : Type 0} (eq : K → K → Bool) (b : builder.Ghosts S H) (h : hasher.Ghosts H) (input : K → HashWrites) (k : K → K → Bool) (v : V → V → Bool)
+    (equal : IsEquivalence eq) (respects : (i j : K) → eq i j ≡ true → input i ≡ input j) (key : IsEquivalence k) (value : IsEquivalence v)
+    (alike_equal : (i j : K) → k i j ≡ true → eq i j ≡ true) where
+  lawful : (s : ShardState K V S) → Lawful (rules_of eq b h input k v s)
+  lawful s = record {
+    equal = equal;
+    route_same = λ i j e. ap (λ w. route_of_hash s.amount (hash_of b h s.hasher w)) (respects i j e);
+    key = key;
+    value = value;
+    alike_equal = alike_equal;
+  }
+
+  -- a step that got this reply and made this of the pairs was taken
+  pub taken : (s t : ShardState K V S) (step : ShardStep K V) (reply : program.Reply K V) → IsShard eq b h input s → place_of (rules_of eq b h input k v s) step ≡ s.number
+      → Answers (rules_of eq b h input k v s) (pairs s) (step_of step) (reply_of reply) → Becomes (keys_of eq b h input s) (step_of step) (pairs s) (pairs t)
+      → IsShard eq b h input t → Takes (rules_of eq b h input k v s) (pairs s) (step_of step) (reply_of reply) (pairs t)
+  taken s t step reply shard here answers becomes new = record {
+    in_range = subst (λ n. n < s.amount) (sym here) shard.number;
+    answers = answers;
+    each_key = λ j. subst (λ o. AlikeAt (rules_of eq b h input k v s) (after (keys_of eq b h input s) (step_of step) j (at (keys_of eq b h input s) (pairs s) j)) o) (sym (becomes j))
+        ((at_laws (rules_of eq b h input k v s) (lawful s)).refl (after (keys_of eq b h input s) (step_of step) j (at (keys_of eq b h input s) (pairs s) j)));
+    distinct = new.contents.distinct;
+  }
+
+  -- the recorded shard, with a record of the step at the end of its history
+  pub recorded : (s : RecState K V S) (t : ShardState K V S) (step : ShardStep K V) (reply : program.Reply K V) (stamp caller : ℕ) (r : Record K V) (history : List (Record K V))
+      → IsRecorded eq b h input k v s → SameShard s.shard t → IsShard eq b h input t
+      → Takes (rules_of eq b h input k v s.shard) (pairs s.shard) (step_of step) (reply_of reply) (pairs t)
+      → place_of (rules_of eq b h input k v s.shard) step ≡ s.shard.number → caller < s.callers → s.last < stamp
+      → Tells k v stamp caller s.shard.number step reply r → history ≡ s.history ++ r ∷ []
+      → IsRecorded eq b h input k v (record { shard = t; callers = s.callers; last = stamp; history = history })
+  recorded s t step reply stamp caller r history old stays new takes here below above tells e =
+      let m = rules_of eq b h input k v s.shard in
+      let laws = lawful s.shard in
+      let line = line-alike m laws step r.step tells.stepped in
+      record {
+        shard = new;
+        history = rw (stays.hasher, stays.amount, stays.number, e)
+            (history-more (rules_of eq b h input k v s.shard) s.callers s.shard.number s.history (pairs s.shard) (pairs t) r old.history
+            (omega (arith, above, old.last, tells.stamped))
+            (record { shard = tells.of; place = sym (place-alike m laws _ _ line) ∙ here; caller = subst (λ n. n < s.callers) (sym tells.by) below })
+            (takes-alike m laws (pairs s.shard) (pairs t) (step_of step) (step_of r.step) (reply_of reply) (reply_of r.reply) line tells.replied takes));
+        last = sym (ap (last_or 0) e ∙ last_or-more 0 s.history r ∙ tells.stamped);
+      }

@@ -1,0 +1,27 @@
+use Rattle.std.proofs.Common.{arith, subst, sym}
+use Rattle.dash_shard.specs.Hashing.{IsAmount}
+use Rattle.dash_history.specs.Alone.{IsPlaced}
+use Rattle.dash_history.proofs.alone.RecAlone.new.Goals as goal
+
+pub invariant_of-alone : goal.invariant_of-alone
+invariant_of-alone g c =
+    let lawful : IsAmount c.args.amount = c.is_shard_amount.ensures.0 c.if-not-is_shard_amount.false in
+    let made = c.in-Ok.ensures in
+    record {
+      amount = subst IsAmount (sym made.len) lawful;
+      callers = record { some = omega arith; few = omega arith };
+      placed = λ i s e. subst (λ n. IsPlaced g.S.BuildHasher g.S.Hasher.Hasher c.args.hasher n c.args.callers i s) (sym made.len) (made.made i s e).0;
+    }
+
+pub returns-clause-fresh : goal.returns-clause-fresh
+returns-clause-fresh g c = λ i s e. (c.in-Ok.ensures.made i s e).1
+
+pub returns-clause-lawful : goal.returns-clause-lawful
+returns-clause-lawful g c =
+    let lawful : IsAmount c.args.amount = c.is_shard_amount.ensures.0 c.if-not-is_shard_amount.false in
+    let made = c.in-Ok.ensures in
+    record {
+      amount = subst IsAmount (sym made.len) lawful;
+      callers = record { some = omega arith; few = omega arith };
+      placed = λ i s e. subst (λ n. IsPlaced g.S.BuildHasher g.S.Hasher.Hasher c.args.hasher n c.args.callers i s) (sym made.len) (made.made i s e).0;
+    }

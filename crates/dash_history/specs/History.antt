@@ -1,0 +1,97 @@
+-- The history of a shard and the log of a caller, and how both grow.
+use Rattle.std.specs.Prelude.{ℕ, ◌≡◌, ◌+◌, ◌<◌, ◌≤◌, max, Bool, List, [], ◌∷◌, ◌++◌, map, All, ⊤, IsTrue}
+use Rattle.std.specs.Hash.{HashWrites}
+use Rattle.std.specs.declared.hash.Hasher as hasher
+use Rattle.std.specs.declared.hash.BuildHasher as builder
+use Rattle.dash_shard.specs.Steps.{place}
+use Rattle.dash_shard.specs.Shard.{ShardState, IsShard, SameShard, pairs, keys_of}
+use Rattle.dash_history.specs.Alike.{alike_reply}
+use Rattle.dash_history.specs.Steps.{step_of, reply_of, done, alike_step, alike_record}
+use Rattle.dash_history.specs.Takes.{Rules, rules, Takes, Runs}
+use Rattle.dash_history.specs.declared.step.ShardStep.{ShardStep}
+use Rattle.dash_history.specs.declared.step.Reply.{Reply}
+use Rattle.dash_history.specs.declared.step.Record.{Record}
+
+-- the stamp of the last record, or the one given where there is none
+abbrev pub last_or : {K V : Type 0} → ℕ → List (Record K V) → ℕ
+last_or low [] = low
+last_or low (r ∷ rs) = last_or r.stamp rs
+
+-- the stamps rise strictly, from above low
+abbrev pub Rises : {K V : Type 0} → ℕ → List (Record K V) → Type 0
+Rises low [] = ⊤
+Rises low (r ∷ rs) = (low < r.stamp) × Rises r.stamp rs
+
+module _ {K V : Type 0} (m : Rules K V) where
+  -- a record of shard s, by one of the callers, of a step that goes to s
+  pub record IsOf (callers s : ℕ) (r : Record K V) : Type 0 where
+    pub shard : r.shard ≡ s
+    pub place : place m.keys (step_of r.step) ≡ s
+    pub caller : r.caller < callers
+
+  -- shard history: the history of shard s, from no pairs to the pairs P
+  pub record IsHistory (callers s : ℕ) (h : List (Record K V)) (P : List (K × V)) : Type 0 where
+    pub of : All (IsOf callers s) h
+    pub rises : Rises 0 h
+    pub runs : Runs m [] (map done h) P
+
+-- what contracts see of a caller's log
+pub record LogState (K V : Type 0) : Type 0 where
+  pub caller : ℕ
+  pub last : ℕ
+  pub entries : List (Record K V)
+
+-- caller log: the caller's own records, and the last stamp is not below theirs
+pub record IsLog {K V : Type 0} (l : LogState K V) : Type 0 where
+  pub of : All (λ r. r.caller ≡ l.caller) l.entries
+  pub rises : Rises 0 l.entries
+  pub last : last_or 0 l.entries ≤ l.last
+
+-- what contracts see of a recorded shard
+pub record RecState (K V S : Type 0) : Type 0 where
+  pub shard : ShardState K V S
+  pub callers : ℕ
+  pub last : ℕ
+  pub history : List (Record K V)
+
+-- one above the greater of the shard's last and the log's last
+abbrev pub stamp_of : {K V S : Type 0} → RecState K V S → LogState K V → ℕ
+stamp_of s l = max s.last l.last + 1
+
+-- the record says this
+pub record Tells {K V : Type 0} (k : K → K → Bool) (v : V → V → Bool) (stamp caller shard : ℕ) (step : ShardStep K V) (reply : Reply K V) (r : Record K V) : Type 0 where
+  pub stamped : r.stamp ≡ stamp
+  pub by : r.caller ≡ caller
+  pub of : r.shard ≡ shard
+  pub stepped : IsTrue (alike_step k v step r.step)
+  pub replied : IsTrue (alike_reply k v (reply_of reply) (reply_of r.reply))
+
+-- The step was taken on the shard, and one same record of it was added at the end of the history and of the log.
+pub record Recorded {K V S : Type 0} (m : Rules K V) (s s' : RecState K V S) (l l' : LogState K V) (step : ShardStep K V) (reply : Reply K V) : Type 0 where
+  pub takes : Takes m (pairs s.shard) (step_of step) (reply_of reply) (pairs s'.shard)
+  pub kept : Record K V
+  pub logged : Record K V
+  pub tells : Tells m.alike_key m.alike_value (stamp_of s l) l.caller s.shard.number step reply kept
+  pub same : IsTrue (alike_record m.alike_key m.alike_value kept logged)
+  pub history : s'.history ≡ s.history ++ kept ∷ []
+  pub entries : l'.entries ≡ l.entries ++ logged ∷ []
+  pub last : s'.last ≡ stamp_of s l
+  pub log_last : l'.last ≡ stamp_of s l
+  pub stays : SameShard s.shard s'.shard
+  pub callers : s'.callers ≡ s.callers
+  pub caller : l'.caller ≡ l.caller
+
+module _ {K V S H : Type 0} (eq : K → K → Bool) (b : builder.Ghosts S H) (h : hasher.Ghosts H) (input : K → HashWrites) (k : K → K → Bool) (v : V → V → Bool) where
+  -- what the map of a shard knows of its keys and values
+  abbrev pub rules_of : ShardState K V S → Rules K V
+  rules_of s = rules k v (keys_of eq b h input s)
+
+  -- a recorded shard: its history led to its pairs
+  pub record IsRecorded (s : RecState K V S) : Type 0 where
+    pub shard : IsShard eq b h input s.shard
+    pub history : IsHistory (rules_of s.shard) s.callers s.shard.number s.history (pairs s.shard)
+    pub last : s.last ≡ last_or 0 s.history
+
+-- the place of a step: the number of its shard
+abbrev pub place_of : {K V : Type 0} → Rules K V → ShardStep K V → ℕ
+place_of m step = place m.keys (step_of step)

@@ -1,0 +1,5 @@
+pub mod Alike
+pub mod Steps
+pub mod Takes
+pub mod History
+pub mod Alone

@@ -1,0 +1,38 @@
+-- What a step does to the contents of a map, up to alike, and what a list of steps does.
+use Rattle.std.specs.Prelude.{◌≡◌, ◌<◌, Bool, List, [], ◌∷◌, Option, IsTrue}
+use Rattle.dash_shard.specs.Contents.{Keys, at, Distinct}
+use Rattle.dash_shard.specs.Steps.{Step, Reply, place, after, Replies}
+use Rattle.dash_history.specs.Alike.{alike_option, alike_pair, alike_reply}
+
+-- what a map knows of its keys and values
+pub record Rules (K V : Type 0) : Type 0 where
+  pub keys : Keys K
+  pub alike_key : K → K → Bool
+  pub alike_value : V → V → Bool
+
+-- the same, in one row
+abbrev pub rules : {K V : Type 0} → (K → K → Bool) → (V → V → Bool) → Keys K → Rules K V
+rules k v keys = record { keys = keys; alike_key = k; alike_value = v }
+
+module _ {K V : Type 0} (m : Rules K V) where
+  -- alike pairs, or none on both sides
+  abbrev pub AlikeAt : Option (K × V) → Option (K × V) → Type 0
+  AlikeAt o p = IsTrue (alike_option (alike_pair m.alike_key m.alike_value) o p)
+
+  -- a step at the contents P may get this reply, up to alike
+  pub record Answers (P : List (K × V)) (step : Step K V) (reply : Reply K V) : Type 0 where
+    pub told : Reply K V
+    pub replies : Replies m.keys step P told
+    pub alike : IsTrue (alike_reply m.alike_key m.alike_value told reply)
+
+  -- takes: at the contents P the step may get this reply and leave Q
+  pub record Takes (P : List (K × V)) (step : Step K V) (reply : Reply K V) (Q : List (K × V)) : Type 0 where
+    pub in_range : place m.keys step < m.keys.shards
+    pub answers : Answers P step reply
+    pub each_key : (j : K) → AlikeAt (after m.keys step j (at m.keys P j)) (at m.keys Q j)
+    pub distinct : Distinct m.keys Q
+
+  -- runs: the steps, taken one after the other from P on, may get these replies, and leave Q
+  abbrev pub Runs : List (K × V) → List (Step K V × Reply K V) → List (K × V) → Type 0
+  Runs P [] Q = P ≡ Q
+  Runs P (d ∷ ds) Q = (M : List (K × V)) × Takes P d.0 d.1 M × Runs M ds Q

@@ -1,0 +1,162 @@
+//! A recorded map of one owner, without locks.
+ghost use Rattle.std.specs.Prelude.{◌≡◌, ◌+◌, ◌-◌, ◌<◌, ◌≤◌, ◌^◌, ◌↔◌, ℕ, max, IsTrue, IsErrOf, IsSomeAnd, IfOk, IfErr, OnOk, length, slice_get};
+ghost use Rattle.dash_shard.specs.Hashing.{IsAmount, HashAlike};
+ghost use Rattle.dash_history.specs.History.{last_or, place_of};
+ghost use Rattle.dash_history.specs.Alone.{IsCallers, IsFresh, IsAlone, IsPlaced, Applied, fresh_logs, last_at, rules_in};
+
+use crate::kept::{Kept, KeptKey};
+use crate::record::{CallerLog, RecShard, RecordFault};
+use crate::step::{Reply, ShardStep};
+use dash_shard::error::ConstructError;
+use dash_shard::hash::is_shard_amount;
+use std::alloc::{AllocError, Global};
+use std::hash::BuildHasher;
+use std::marker::Model;
+
+/// A recorded map of one owner: its shards without locks, each with its history.
+#[derive(Drop)]
+pub struct RecAlone<K: KeptKey, V: Kept, S: BuildHasher> {
+    hasher: S,
+    callers: u32,
+    row: Vec<RecShard<K, V, S>>,
+}
+
+impl<K: KeptKey, V: Kept, S: BuildHasher> Model for RecAlone<K, V, S> {
+    ghost use Rattle.dash_history.specs.Alone.{AloneState, IsAlone};
+
+    ghost Value = { AloneState K V S };
+
+    ghost view = { λ a. record { hasher = a.hasher; callers = a.callers; row = a.row.items } };
+
+    ghost invariant = { λ a. IsAlone S.BuildHasher S.Hasher.Hasher (record { hasher = a.hasher; callers = a.callers; row = a.row.items }) };
+}
+
+// The row of a map with no pairs and no histories.
+fn fresh_row<K: KeptKey + Drop, V: Kept + Drop, S: BuildHasher + Clone>(
+    alloc: Global,
+    hasher: &S,
+    amount: usize,
+    callers: u32,
+) -> Result<Vec<RecShard<K, V, S>>, AllocError>
+    requires amount { IsAmount amount }
+    requires alike { (s t : S) → S.is_clone s t → HashAlike S.BuildHasher S.Hasher.Hasher s t }
+    ensures len { IfOk result (λ row. length row.items ≡ amount) }
+    ensures made { IfOk result (λ row. (i : ℕ) (s : _) → slice_get row.items i ≡ Some s → IsPlaced S.BuildHasher S.Hasher.Hasher hasher.now amount callers i s × IsFresh s) }
+{
+    let mut row = Vec::with_capacity(alloc, amount)?;
+    for number in 0..amount {
+        row.push(RecShard::new(alloc, hasher.clone()?, number, amount, callers)?)?;
+    }
+    Ok(row)
+}
+
+// The logs of callers who did nothing yet.
+fn fresh_logs<K: Drop, V: Drop>(
+    alloc: Global,
+    callers: u32,
+) -> Result<Vec<CallerLog<K, V>>, AllocError>
+    ensures { IfOk result (λ logs. logs.items ≡ fresh_logs callers) }
+{
+    let mut logs = Vec::with_capacity(alloc, callers as usize)?;
+    for caller in 0..callers {
+        logs.push(CallerLog::new(alloc, caller))?;
+    }
+    Ok(logs)
+}
+
+impl<K: KeptKey + Drop, V: Kept + Drop, S: BuildHasher> RecAlone<K, V, S> {
+    /// A map of `amount` shards with no pairs, beside the logs of its callers, which are numbered from 0.
+    ///
+    /// It is refused where the amount is no power of two above 1 (5), then where there are not 1 to 65,536 callers (17), then where
+    /// there is no memory (8). It clones the hasher for each shard.
+    pub fn new(
+        alloc: Global,
+        hasher: S,
+        amount: usize,
+        callers: u32,
+    ) -> Result<(RecAlone<K, V, S>, Vec<CallerLog<K, V>>), ConstructError>
+    where
+        S: Clone,
+        requires { (s t : S) → S.is_clone s t → HashAlike S.BuildHasher S.Hasher.Hasher s t }
+        ensures hasher { IfOk result (λ m. m.0.hasher ≡ hasher) }
+        ensures callers { IfOk result (λ m. m.0.callers ≡ callers) }
+        ensures amount { IfOk result (λ m. length m.0.row ≡ amount) }
+        ensures fresh { IfOk result (λ m. (i : ℕ) (s : _) → slice_get m.0.row i ≡ Some s → IsFresh s) }
+        ensures logs { IfOk result (λ m. m.1.items ≡ fresh_logs callers) }
+        ensures lawful { IfOk result (λ m. IsAlone S.BuildHasher S.Hasher.Hasher m.0) }
+
+        // In the order of the refusals' numbers; else there was no memory.
+        ensures bad_amount { IsErrOf result ConstructError.ShardAmount ↔ (IsAmount amount → ⊥) }
+        ensures bad_callers { IsErrOf result ConstructError.Callers ↔ (IsAmount amount × (IsCallers callers → ⊥)) }
+    {
+        if !is_shard_amount(amount) {
+            return Err(ConstructError::ShardAmount);
+        }
+        if callers == 0 || callers > 65_536 {
+            return Err(ConstructError::Callers);
+        }
+        let Ok(row) = fresh_row(alloc, &hasher, amount, callers) else {
+            return Err(ConstructError::Memory);
+        };
+        let Ok(logs) = fresh_logs(alloc, callers) else {
+            return Err(ConstructError::Memory);
+        };
+        let alone = RecAlone {
+            hasher,
+            callers,
+            row,
+        };
+        Ok((alone, logs))
+    }
+
+    /// How many callers the map has.
+    #[inline]
+    pub fn callers(&self) -> u32
+        ensures callers { result ≡ self.now.callers }
+        ensures lawful { IsAlone S.BuildHasher S.Hasher.Hasher self.now }
+    {
+        self.callers
+    }
+
+    /// How many shards the map has.
+    #[inline]
+    pub fn shard_count(&self) -> usize
+        ensures count { result ≡ length self.now.row }
+        ensures lawful { IsAlone S.BuildHasher S.Hasher.Hasher self.now }
+    {
+        let _ = &self.hasher;
+        self.row.len()
+    }
+
+    /// Takes a step on the shard of its place, and adds one same record of it at the end of the shard's history and of the caller's log.
+    ///
+    /// It waits for nobody. Where it is refused, the step is handed back, and nothing changes.
+    pub fn apply(
+        &mut self,
+        log: &mut CallerLog<K, V>,
+        step: ShardStep<K, V>,
+    ) -> Result<Reply<K, V>, (ShardStep<K, V>, RecordFault)>
+        requires { log.old.caller < self.old.callers }
+        ensures ok { IfOk result (λ reply. Applied (rules_in S.BuildHasher S.Hasher.Hasher K.eq K.hash_input K.alike V.alike self.old) self.old self.new log.old log.new step reply) }
+        ensures refused { IfErr result (λ e. (e.0 ≡ step) × (self.new ≡ self.old) × (log.new ≡ log.old)) }
+
+        // In this order; else there was no memory.
+        ensures no_such_shard { (result ≡ Err (step, RecordFault.NoSuchShard)) ↔ (length self.old.row ≤ place_of (rules_in S.BuildHasher S.Hasher.Hasher K.eq K.hash_input K.alike V.alike self.old) step) }
+        ensures last_stamp { (result ≡ Err (step, RecordFault.LastStamp)) ↔ ((place_of (rules_in S.BuildHasher S.Hasher.Hasher K.eq K.hash_input K.alike V.alike self.old) step < length self.old.row) × (max (last_at self.old (place_of (rules_in S.BuildHasher S.Hasher.Hasher K.eq K.hash_input K.alike V.alike self.old) step)) log.old.last ≡ 2 ^ 64 - 1)) }
+    {
+        let place = step.place(&self.hasher, self.row.len());
+        if place >= self.row.len() {
+            return Err((step, RecordFault::NoSuchShard));
+        }
+        self.row[place].record(log, step)
+    }
+
+    /// The stamp of the last step of a shard, 0 for none.
+    pub fn last_of(&self, shard: usize) -> u64
+        requires { shard < length self.now.row }
+        ensures last { IsSomeAnd (slice_get self.now.row shard) (λ s. result ≡ last_or 0 s.history) }
+        ensures same { result ≡ last_at self.now shard }
+    {
+        self.row[shard].last_stamp()
+    }
+}

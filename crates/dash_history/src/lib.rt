@@ -1,0 +1,7 @@
+//! Recorded steps of a sharded hash map: histories of shards and logs of callers.
+#![tactic(auto)]
+
+pub mod alone;
+pub mod kept;
+pub mod record;
+pub mod step;

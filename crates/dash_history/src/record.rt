@@ -1,0 +1,282 @@
+//! Recorded shards and callers' logs, and the one call that lengthens both.
+ghost use Rattle.std.specs.Prelude.{◌≡◌, ◌+◌, ◌-◌, ◌<◌, ◌≤◌, ◌^◌, ◌↔◌, ◌⊎◌, max, [], IsTrue, IfOk, IfErr, OnOk, vec_len, vec_capacity};
+ghost use Rattle.dash_shard.specs.Hashing.{IsAmount};
+ghost use Rattle.dash_shard.specs.Steps.{Becomes};
+ghost use Rattle.dash_shard.specs.Shard.{pairs, keys_of, IsShard, SameShard};
+ghost use Rattle.dash_history.specs.Steps.{step_of, reply_of, alike_record};
+ghost use Rattle.dash_history.specs.Takes.{Answers};
+ghost use Rattle.dash_history.specs.History.{IsLog, IsRecorded, Recorded, Tells, place_of, rules_of};
+ghost use Rattle.dash_history.specs.Alone.{IsFresh};
+
+use crate::kept::{Kept, KeptKey};
+use crate::step::{Record, Reply, ShardStep};
+use dash_shard::shard::{InsertRefused, Shard};
+use std::alloc::{AllocError, Global};
+use std::hash::BuildHasher;
+use std::marker::Model;
+use thiserror::Error;
+
+/// Why a step is refused. Nothing changes then, and the step is handed back.
+#[derive(Clone, Copy, Debug, PartialEq, Eq, Error)]
+pub enum RecordFault {
+    /// The greater of the shard's and the caller's last stamp is 2^64 - 1.
+    #[error("last stamp (18)")]
+    LastStamp,
+    /// There is no memory.
+    #[error("no memory (19)")]
+    Memory,
+    /// The map has no shard of the number that the step names.
+    #[error("no such shard (20)")]
+    NoSuchShard,
+}
+
+/// What one caller did, in its order.
+#[derive(Drop)]
+pub struct CallerLog<K, V> {
+    caller: u32,
+    last: u64,
+    entries: Vec<Record<K, V>>,
+}
+
+impl<K, V> Model for CallerLog<K, V> {
+    ghost use Rattle.dash_history.specs.History.{LogState, IsLog};
+
+    ghost Value = { LogState K V };
+
+    ghost view = { λ l. record { caller = l.caller; last = l.last; entries = l.entries.items } };
+
+    ghost invariant = { λ l. IsLog (record { caller = l.caller; last = l.last; entries = l.entries.items }) };
+}
+
+impl<K, V> CallerLog<K, V> {
+    // A log with no entries, which takes no memory.
+    pub(crate) fn new(alloc: Global, caller: u32) -> CallerLog<K, V>
+        ensures { result ≡ record { caller = caller; last = 0; entries = [] } }
+    {
+        CallerLog {
+            caller,
+            last: 0,
+            entries: Vec::new(alloc),
+        }
+    }
+
+    /// The caller's number.
+    #[inline]
+    pub fn caller(&self) -> u32
+        ensures caller { result ≡ self.now.caller }
+        ensures log { IsLog self.now }
+    {
+        self.caller
+    }
+
+    /// The stamp of the caller's last step, 0 for none.
+    #[inline]
+    pub fn last_stamp(&self) -> u64
+        ensures last { result ≡ self.now.last }
+        ensures log { IsLog self.now }
+    {
+        self.last
+    }
+
+    /// The records of the caller's steps, in its order.
+    #[inline]
+    pub fn entries(&self) -> &[Record<K, V>]
+        ensures entries { result.now ≡ self.now.entries }
+        ensures log { IsLog self.now }
+    {
+        let _ = &self.last;
+        self.entries.as_slice()
+    }
+}
+
+/// A shard with the history that led to its pairs.
+#[derive(Drop)]
+pub struct RecShard<K: KeptKey, V: Kept, S: BuildHasher> {
+    shard: Shard<K, V, S>,
+    history: Vec<Record<K, V>>,
+    last: u64,
+    callers: u32,
+}
+
+impl<K: KeptKey, V: Kept, S: BuildHasher> Model for RecShard<K, V, S> {
+    ghost use Rattle.dash_history.specs.History.{RecState, IsRecorded};
+
+    ghost Value = { RecState K V S };
+
+    ghost view = { λ s. record { shard = s.shard; callers = s.callers; last = s.last; history = s.history.items } };
+
+    ghost invariant = { λ s. IsRecorded K.eq S.BuildHasher S.Hasher.Hasher K.hash_input K.alike V.alike (record { shard = s.shard; callers = s.callers; last = s.last; history = s.history.items }) };
+}
+
+// A reply that the step may get now.
+fn answer<K: KeptKey + Drop, V: Kept + Drop, S: BuildHasher>(
+    shard: &Shard<K, V, S>,
+    step: &ShardStep<K, V>,
+) -> Result<Reply<K, V>, AllocError>
+    ensures { IfOk result (λ reply. Answers (rules_of K.eq S.BuildHasher S.Hasher.Hasher K.hash_input K.alike V.alike shard.now) (pairs shard.now) (step_of step.now) (reply_of reply)) }
+{
+    match step {
+        ShardStep::Get(key) => match shard.get(key) {
+            Some((key, value)) => {
+                let key = key.copy()?;
+                Ok(Reply::Pair(Some((key, value.copy()?))))
+            }
+            None => Ok(Reply::Pair(None)),
+        },
+        ShardStep::Insert(key, _) => match shard.get(key) {
+            Some((_, value)) => Ok(Reply::Old(Some(value.copy()?))),
+            None => Ok(Reply::Old(None)),
+        },
+    }
+}
+
+// The record of a step with its reply, twice.
+fn copies<K: Kept + Drop, V: Kept + Drop>(
+    stamp: u64,
+    caller: u32,
+    shard: usize,
+    step: &ShardStep<K, V>,
+    reply: &Reply<K, V>,
+) -> Result<(Record<K, V>, Record<K, V>), AllocError>
+    ensures first { IfOk result (λ p. Tells K.alike V.alike stamp caller shard step.now reply.now p.0) }
+    ensures second { IfOk result (λ p. IsTrue (alike_record K.alike V.alike p.0 p.1)) }
+{
+    let first = Record {
+        stamp,
+        caller,
+        shard,
+        step: step.copy()?,
+        reply: reply.copy()?,
+    };
+    let second = Record {
+        stamp,
+        caller,
+        shard,
+        step: first.step.copy()?,
+        reply: first.reply.copy()?,
+    };
+    Ok((first, second))
+}
+
+// Changes the pairs as the step says, or hands it back.
+fn take<K: KeptKey + Drop, V: Kept + Drop, S: BuildHasher>(
+    shard: &mut Shard<K, V, S>,
+    step: ShardStep<K, V>,
+) -> Result<(), ShardStep<K, V>>
+    requires { place_of (rules_of K.eq S.BuildHasher S.Hasher.Hasher K.hash_input K.alike V.alike shard.old) step ≡ shard.old.number }
+    ensures ok { OnOk result (Becomes (keys_of K.eq S.BuildHasher S.Hasher.Hasher K.hash_input shard.old) (step_of step) (pairs shard.old) (pairs shard.new)) }
+    ensures stays { SameShard shard.old shard.new }
+    ensures lawful { IsShard K.eq S.BuildHasher S.Hasher.Hasher K.hash_input shard.old → IsShard K.eq S.BuildHasher S.Hasher.Hasher K.hash_input shard.new }
+    ensures err { IfErr result (λ back. (back ≡ step) × (shard.new ≡ shard.old)) }
+{
+    match step {
+        ShardStep::Get(_) => Ok(()),
+        ShardStep::Insert(key, value) => match shard.insert(key, value) {
+            Ok(_) => Ok(()),
+            Err(InsertRefused { key, value }) => Err(ShardStep::Insert(key, value)),
+        },
+    }
+}
+
+// Room for one more record.
+fn make_room<T>(list: &mut Vec<T>) -> bool
+    ensures room { IsTrue result → vec_len list.new < vec_capacity list.new }
+    ensures items { list.new.items ≡ list.old.items }
+{
+    list.reserve(1).is_ok()
+}
+
+// What a refused step had made.
+fn discard<K: Drop, V: Drop>(first: Record<K, V>, second: Record<K, V>, reply: Reply<K, V>) {
+    drop(first);
+    drop(second);
+    drop(reply);
+}
+
+impl<K: KeptKey + Drop, V: Kept + Drop, S: BuildHasher> RecShard<K, V, S> {
+    // A shard with no pairs and no history.
+    pub(crate) fn new(
+        alloc: Global,
+        hasher: S,
+        number: usize,
+        amount: usize,
+        callers: u32,
+    ) -> Result<Self, AllocError>
+    where
+        S: Drop,
+        requires number { number < amount }
+        requires amount { IsAmount amount }
+        ensures number { IfOk result (λ s. s.shard.number ≡ number) }
+        ensures amount { IfOk result (λ s. s.shard.amount ≡ amount) }
+        ensures hasher { IfOk result (λ s. s.shard.hasher ≡ hasher) }
+        ensures callers { IfOk result (λ s. s.callers ≡ callers) }
+        ensures fresh { IfOk result IsFresh }
+    {
+        let Ok(shard) = Shard::new(alloc, hasher, number, amount, 0) else {
+            return Err(AllocError);
+        };
+        Ok(RecShard {
+            shard,
+            history: Vec::new(alloc),
+            last: 0,
+            callers,
+        })
+    }
+
+    // The last stamp, 0 for none.
+    #[inline]
+    pub(crate) fn last_stamp(&self) -> u64
+        ensures last { result ≡ self.now.last }
+        ensures legal { IsRecorded K.eq S.BuildHasher S.Hasher.Hasher K.hash_input K.alike V.alike self.now }
+    {
+        self.last
+    }
+
+    /// Takes a step of this shard, and adds one same record of it at the end of its history and of the caller's log.
+    ///
+    /// Takes memory for the copies and the records, before anything changes.
+    pub(crate) fn record(
+        &mut self,
+        log: &mut CallerLog<K, V>,
+        step: ShardStep<K, V>,
+    ) -> Result<Reply<K, V>, (ShardStep<K, V>, RecordFault)>
+        requires place { place_of (rules_of K.eq S.BuildHasher S.Hasher.Hasher K.hash_input K.alike V.alike self.old.shard) step ≡ self.old.shard.number }
+        requires caller { log.old.caller < self.old.callers }
+        ensures ok { IfOk result (λ reply. Recorded (rules_of K.eq S.BuildHasher S.Hasher.Hasher K.hash_input K.alike V.alike self.old.shard) self.old self.new log.old log.new step reply) }
+        ensures refused { IfErr result (λ e. (e.0 ≡ step) × (self.new ≡ self.old) × (log.new ≡ log.old)) }
+        ensures last_stamp { (result ≡ Err (step, RecordFault.LastStamp)) ↔ (max self.old.last log.old.last ≡ 2 ^ 64 - 1) }
+        ensures faults { IfErr result (λ e. (e.1 ≡ RecordFault.LastStamp) ⊎ (e.1 ≡ RecordFault.Memory)) }
+        ensures stays { SameShard self.old.shard self.new.shard }
+        ensures callers { self.new.callers ≡ self.old.callers }
+    {
+        let last = self.last.max(log.last);
+        if last == u64::MAX {
+            return Err((step, RecordFault::LastStamp));
+        }
+        let stamp = last + 1;
+        if !make_room(&mut self.history) || !make_room(&mut log.entries) {
+            return Err((step, RecordFault::Memory));
+        }
+        let Ok(reply) = answer(&self.shard, &step) else {
+            return Err((step, RecordFault::Memory));
+        };
+        let number = self.shard.number();
+        let Ok((first, second)) = copies(stamp, log.caller, number, &step, &reply) else {
+            drop(reply);
+            return Err((step, RecordFault::Memory));
+        };
+        match take(&mut self.shard, step) {
+            Ok(()) => {
+                self.history.push_reserved(first);
+                self.last = stamp;
+                log.entries.push_reserved(second);
+                log.last = stamp;
+                Ok(reply)
+            }
+            Err(step) => {
+                discard(first, second, reply);
+                Err((step, RecordFault::Memory))
+            }
+        }
+    }
+}
