@@ -1,15 +1,16 @@
 -- A step's copy, with a copy of its reply, is the same step of the map.
-use Rattle.std.proofs.Common.{◌≡◌, ◌<◌, ◌==◌, Bool, true, false, cond, List, [], ◌∷◌, Option, Some, None, refl, ◌∙◌, ap, subst}
+use Rattle.std.proofs.Common.{◌≡◌, ◌<◌, ◌==◌, Bool, true, false, cond, List, Option, Some, None, refl, sym, subst}
 use Rattle.std.specs.Option.{option_and_then}
 use Rattle.std.specs.Cmp.{IsEquivalence}
 use Rattle.std.proofs.lemmas.Bool.{and_parts, and_from}
-use Rattle.dash_shard.specs.Contents.{at, on, EachOnce}
-use Rattle.dash_shard.specs.Steps.{Line, at_key, on_shard, Step, Reply, line, line_place, line_after, LineReplies, Pair, Old, key_or, value}
+use Rattle.dash_shard.specs.Contents.{at, on, Distinct, EachOnce}
+use Rattle.dash_shard.specs.Steps.{Line, at_key, on_shard, Step, Reply, line, line_place, line_after, LineReplies, place, after, Becomes, Pair, Old, key_or, value}
 use Rattle.dash_history.specs.declared.step.ShardStep.{ShardStep}
 use Rattle.dash_history.specs.declared.step.ShardStep.TheVariants.{Get, Insert}
 use Rattle.dash_history.specs.Alike.{alike_option, alike_pair, alike_reply}
 use Rattle.dash_history.specs.Steps.{step_of, alike_step}
-use Rattle.dash_history.specs.Takes.{Rules, AlikeAt, Takes}
+use Rattle.dash_history.specs.Takes.{Rules, AlikeAt, Answers, Takes}
+use Rattle.dash_shard.proofs.Equals.{at-equal}
 use Rattle.dash_history.proofs.AlikeLaws.{turned, chained, option_equiv, pair_equiv, reply_equiv}
 
 -- lawful keys, and alike keys and values
@@ -26,13 +27,6 @@ module _ {K V : Type 0} (m : Rules K V) (laws : Lawful m) where
 
   pub reply_laws : IsEquivalence (alike_reply m.alike_key m.alike_value)
   reply_laws = reply_equiv laws.key laws.value
-
-  -- equal keys find the same pair
-  at-equal : (P : List (K × V)) (j k : K) → m.keys.eq j k ≡ true → at m.keys P j ≡ at m.keys P k
-  at-equal [] j k e = refl
-  at-equal (p ∷ P) j k e =
-      let same : m.keys.eq p.0 j ≡ m.keys.eq p.0 k = laws.equal.symm p.0 j ∙ laws.equal.congr j k p.0 e ∙ laws.equal.symm k p.0 in
-      ap (λ b. cond b (Some p) (at m.keys P j)) same ∙ ap (λ o. cond (m.keys.eq p.0 k) (Some p) o) (at-equal P j k e)
 
   -- two lines of the table that say the same, up to alike
   abbrev pub AlikeLine : Line K V → Line K V → Type 0
@@ -68,7 +62,7 @@ module _ {K V : Type 0} (m : Rules K V) (laws : Lawful m) where
   replies-alike : (s t : Line K V) (P : List (K × V)) (r : Reply K V) → AlikeLine s t → LineReplies m.keys s P r
       → (q : Reply K V) × LineReplies m.keys t P q × (alike_reply m.alike_key m.alike_value q r ≡ true)
   replies-alike (at_key j b f) (at_key k c g) P r a e =
-      let same : at m.keys P j ≡ at m.keys P k = at-equal P j k (laws.alike_equal j k a.0) in
+      let same : at m.keys P j ≡ at m.keys P k = at-equal m.keys laws.equal P j k (laws.alike_equal j k a.0) in
       (g (at m.keys P k), refl, rw e (subst (λ o. alike_reply m.alike_key m.alike_value (g o) (f (at m.keys P j)) ≡ true) same (turned reply_laws (f (at m.keys P j)) (g (at m.keys P j)) (a.2 (at m.keys P j)))))
   replies-alike (on_shard i b f) (on_shard j c g) P r a e =
       (g e.0, (e.0, subst (λ n. EachOnce m.keys (on m.keys n P) e.0) a.0 e.1, refl), rw e.2 (turned reply_laws (f e.0) (g e.0) (a.2 e.0)))
@@ -84,6 +78,16 @@ module _ {K V : Type 0} (m : Rules K V) (laws : Lawful m) where
         each_key = λ j. chained at_laws _ _ _ (turned at_laws _ _ (after-alike (line s) (line t) j (at m.keys P j) a)) (x.each_key j);
         distinct = x.distinct;
       }
+
+  -- a step that got this reply and made exactly this of the contents was taken
+  pub takes-exactly : (P Q : List (K × V)) (step : Step K V) (reply : Reply K V) → place m.keys step < m.keys.shards → Answers m P step reply
+      → Becomes m.keys step P Q → Distinct m.keys Q → Takes m P step reply Q
+  takes-exactly P Q step reply here answers becomes distinct = record {
+    in_range = here;
+    answers = answers;
+    each_key = λ j. subst (λ o. AlikeAt m (after m.keys step j (at m.keys P j)) o) (sym (becomes j)) (at_laws.refl (after m.keys step j (at m.keys P j)));
+    distinct = distinct;
+  }
 
   -- a step's copy has an alike line
   pub line-alike : (s t : ShardStep K V) → alike_step m.alike_key m.alike_value s t ≡ true → AlikeLine (line (step_of s)) (line (step_of t))

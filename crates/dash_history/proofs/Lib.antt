@@ -2,5 +2,6 @@ mod AlikeLaws
 mod Alones
 mod Copies
 mod Growing
+mod Plains
 mod Recording
 mod Rows

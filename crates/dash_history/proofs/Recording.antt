@@ -5,17 +5,17 @@ use Rattle.std.specs.Cmp.{IsEquivalence}
 use Rattle.std.specs.Hash.{HashWrites}
 use Rattle.std.specs.declared.hash.Hasher as hasher
 use Rattle.std.specs.declared.hash.BuildHasher as builder
-use Rattle.dash_shard.specs.Hashing.{hash_of, route_of_hash}
-use Rattle.dash_shard.specs.Contents.{at}
-use Rattle.dash_shard.specs.Steps.{Becomes, after}
+use Rattle.dash_shard.specs.Hashing.{hash_of, route_by, route_of_hash}
+use Rattle.dash_shard.specs.Contents.{keys}
+use Rattle.dash_shard.specs.Steps.{Becomes}
 use Rattle.dash_shard.specs.Shard.{ShardState, IsShard, SameShard, pairs, keys_of}
 use Rattle.dash_history.specs.declared.step.ShardStep.{ShardStep}
 use Rattle.dash_history.specs.declared.step.Reply as program
 use Rattle.dash_history.specs.declared.step.Record.{Record}
 use Rattle.dash_history.specs.Steps.{step_of, reply_of, alike_record}
-use Rattle.dash_history.specs.Takes.{AlikeAt, Answers, Takes}
+use Rattle.dash_history.specs.Takes.{rules, Answers, Takes}
 use Rattle.dash_history.specs.History.{RecState, IsRecorded, Tells, last_or, rules_of, place_of}
-use Rattle.dash_history.proofs.Copies.{Lawful, at_laws, takes-alike, line-alike, place-alike}
+use Rattle.dash_history.proofs.Copies.{Lawful, takes-exactly, takes-alike, line-alike, place-alike}
 use Rattle.dash_history.proofs.Growing.{history-more, last_or-more}
 
 -- alike records have one stamp and one caller
@@ -32,26 +32,25 @@ module _ {K V : Type 0} (k : K → K → Bool) (v : V → V → Bool) (r q : Rec
 module _ {K V S H : Type 0} (eq : K → K → Bool) (b : builder.Ghosts S H) (h : hasher.Ghosts H) (input : K → HashWrites) (k : K → K → Bool) (v : V → V → Bool)
     (equal : IsEquivalence eq) (respects : (i j : K) → eq i j ≡ true → input i ≡ input j) (key : IsEquivalence k) (value : IsEquivalence v)
     (alike_equal : (i j : K) → k i j ≡ true → eq i j ≡ true) where
-  lawful : (s : ShardState K V S) → Lawful (rules_of eq b h input k v s)
-  lawful s = record {
+  -- what a map with this hasher and amount knows of them
+  pub lawful-by : (base : S) (n : ℕ) → Lawful (rules k v (keys eq (route_by b h input base n) n))
+  lawful-by base n = record {
     equal = equal;
-    route_same = λ i j e. ap (λ w. route_of_hash s.amount (hash_of b h s.hasher w)) (respects i j e);
+    route_same = λ i j e. ap (λ w. route_of_hash n (hash_of b h base w)) (respects i j e);
     key = key;
     value = value;
     alike_equal = alike_equal;
   }
 
+  lawful : (s : ShardState K V S) → Lawful (rules_of eq b h input k v s)
+  lawful s = lawful-by s.hasher s.amount
+
   -- a step that got this reply and made this of the pairs was taken
   pub taken : (s t : ShardState K V S) (step : ShardStep K V) (reply : program.Reply K V) → IsShard eq b h input s → place_of (rules_of eq b h input k v s) step ≡ s.number
       → Answers (rules_of eq b h input k v s) (pairs s) (step_of step) (reply_of reply) → Becomes (keys_of eq b h input s) (step_of step) (pairs s) (pairs t)
       → IsShard eq b h input t → Takes (rules_of eq b h input k v s) (pairs s) (step_of step) (reply_of reply) (pairs t)
-  taken s t step reply shard here answers becomes new = record {
-    in_range = subst (λ n. n < s.amount) (sym here) shard.number;
-    answers = answers;
-    each_key = λ j. subst (λ o. AlikeAt (rules_of eq b h input k v s) (after (keys_of eq b h input s) (step_of step) j (at (keys_of eq b h input s) (pairs s) j)) o) (sym (becomes j))
-        ((at_laws (rules_of eq b h input k v s) (lawful s)).refl (after (keys_of eq b h input s) (step_of step) j (at (keys_of eq b h input s) (pairs s) j)));
-    distinct = new.contents.distinct;
-  }
+  taken s t step reply shard here answers becomes new =
+      takes-exactly (rules_of eq b h input k v s) (lawful s) (pairs s) (pairs t) (step_of step) (reply_of reply) (subst (λ n. n < s.amount) (sym here) shard.number) answers becomes new.contents.distinct
 
   -- the recorded shard, with a record of the step at the end of its history
   pub recorded : (s : RecState K V S) (t : ShardState K V S) (step : ShardStep K V) (reply : program.Reply K V) (stamp caller : ℕ) (r : Record K V) (history : List (Record K V))

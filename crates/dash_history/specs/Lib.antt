@@ -3,3 +3,4 @@ pub mod Steps
 pub mod Takes
 pub mod History
 pub mod Alone
+pub mod Plain

@@ -3,5 +3,6 @@
 
 pub mod alone;
 pub mod kept;
+pub mod plain;
 pub mod record;
 pub mod step;

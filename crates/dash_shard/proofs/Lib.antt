@@ -1,7 +1,8 @@
 mod Amounts
 mod Chaining
+pub mod Equals
 mod Nodes
 mod Places
-mod Routing
+pub mod Routing
 mod Seeking
 mod Shards

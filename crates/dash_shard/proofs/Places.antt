@@ -6,6 +6,7 @@ use Rattle.std.proofs.Math.ListN.{replicate}
 use Rattle.std.proofs.lemmas.Option.{none-some, same_Some}
 use Rattle.dash_shard.specs.Contents.{Keys, at, Distinct, IsOnShard}
 use Rattle.dash_shard.specs.Shard.{place, taken}
+use Rattle.dash_shard.proofs.Equals.{along, apart}
 
 module _ {A : Type 0} where
   pub taken-empties : (xs : List (Option A)) (n : ℕ) → taken (xs ++ replicate n None) ≡ taken xs
@@ -30,14 +31,6 @@ module _ {A : Type 0} where
   length-taken-replace (Some r ∷ xs) zero p q e = refl
   length-taken-replace (None ∷ xs) (suc i) p q e = length-taken-replace xs i p q e
   length-taken-replace (Some r ∷ xs) (suc i) p q e = ap suc (length-taken-replace xs i p q e)
-
-module _ {K : Type 0} {eq : K → K → Bool} (laws : IsEquivalence eq) where
-  -- what is equal to one of two equal keys is equal to the other
-  along : (p k j : K) → eq k j ≡ true → eq p k ≡ eq p j
-  along p k j e = laws.symm p k ∙ laws.congr k j p e ∙ laws.symm j p
-
-  apart : (p k j : K) → eq p k ≡ true → eq k j ≡ false → eq p j ≡ false
-  apart p k j e f = laws.congr p k j e ∙ f
 
 module _ {K V : Type 0} (w : Keys K) where
   -- no place has a key equal to k
@@ -92,13 +85,6 @@ module _ {K V : Type 0} (w : Keys K) where
   at-past (Some q ∷ xs) k (suc i) o f g = ap (λ r. cond (w.eq q.0 k) (Some q) r) (at-past xs k i o f g)
 
   module _ (laws : IsEquivalence w.eq) where
-    -- equal keys find the same pair
-    pub at-equal : (ps : List (K × V)) (j k : K) → w.eq j k ≡ true → at w ps j ≡ at w ps k
-    at-equal [] j k e = refl
-    at-equal (p ∷ ps) j k e =
-        let same : w.eq p.0 j ≡ w.eq p.0 k = laws.symm p.0 j ∙ laws.congr j k p.0 e ∙ laws.symm k p.0 in
-        ap (λ b. cond b (Some p) (at w ps j)) same ∙ ap (λ o. cond (w.eq p.0 k) (Some p) o) (at-equal ps j k e)
-
     -- where one place has a key equal to k, no other has
     pub others-fail : (xs : List (Option (K × V))) (k : K) (i : ℕ) (p : K × V) → Distinct w (taken xs) → place xs i ≡ Some p → w.eq p.0 k ≡ true → NoOther xs k i
     others-fail [] k i p d e equal j r ne there = absurd (none-some r there)

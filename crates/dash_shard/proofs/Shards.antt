@@ -16,7 +16,8 @@ use Rattle.dash_shard.specs.Shard.{ShardState, place, taken, pairs, keys_of, Rou
 use Rattle.dash_shard.specs.declared.shard.table.Node.{Node}
 use Rattle.dash_shard.specs.declared.shard.table.Table.{Table}
 use Rattle.dash_shard.specs.Table.{blank, pairs_of, hashes_of, Holds, IsAbsent, IsHashed, IsGrown, IsTable, IsInside}
-use Rattle.dash_shard.proofs.Places.{NoOther, Equal, at-absent, absent-at, at-sole, at-equal, at-written, others-fail, on_shard-written, taken-empties, length-taken-fill, length-taken-replace}
+use Rattle.dash_shard.proofs.Equals.{at-equal}
+use Rattle.dash_shard.proofs.Places.{NoOther, Equal, at-absent, absent-at, at-sole, at-written, others-fail, on_shard-written, taken-empties, length-taken-fill, length-taken-replace}
 
 -- empty places behind
 place-empties : {A : Type 0} (xs : List (Option A)) (n i : ℕ) → place (xs ++ replicate n None) i ≡ place xs i

@@ -1,0 +1,113 @@
+-- A list of pairs, where the first with an equal key is found by looking at each.
+use Rattle.std.proofs.Common.{◌≡◌, ℕ, zero, suc, ◌<◌, true, false, cond, List, [], ◌∷◌, length, get_or, set, Some, None, refl, sym, ap, subst, ◌∙◌, inl, inr, arith}
+use Rattle.std.specs.Cmp.{IsEquivalence}
+use Rattle.std.specs.List.{position, position_or_len}
+use Rattle.std.proofs.lemmas.Bool.{cases_Bool, cases_lt, lt-ltb, le-ltb}
+use Rattle.std.proofs.lemmas.Option.{none-some, same_Some}
+use Rattle.dash_shard.specs.Contents.{Keys, at, Distinct}
+use Rattle.dash_shard.proofs.Equals.{along, apart, at-equal}
+use Rattle.dash_shard.specs.Steps.{Get, Insert, after, Becomes}
+
+module _ {K V : Type 0} (w : Keys K) (k : K) where
+  -- x is the first pair with a key equal to k, and stands at i
+  abbrev pub IsFirst : List (K × V) → ℕ → K × V → Type 0
+  IsFirst [] i x = ⊥
+  IsFirst (p ∷ ps) zero x = (p ≡ x) × (w.eq p.0 k ≡ true)
+  IsFirst (p ∷ ps) (suc i) x = (w.eq p.0 k ≡ false) × IsFirst ps i x
+
+  past : (p : K × V) (ps : List (K × V)) → w.eq p.0 k ≡ false → position_or_len (λ q. w.eq q.0 k) (p ∷ ps) ≡ suc (position_or_len (λ q. w.eq q.0 k) ps)
+  past p ps fails = rw fails (omega arith)
+
+  first-from : (ps : List (K × V)) → position_or_len (λ p. w.eq p.0 k) ps < length ps → (x : K × V) × IsFirst ps (position_or_len (λ p. w.eq p.0 k) ps) x
+  first-from [] lt = absurd (omega (arith, lt))
+  first-from (p ∷ ps) lt = elim (cases_Bool (w.eq p.0 k)) as (λ _. (x : K × V) × IsFirst (p ∷ ps) (position_or_len (λ p. w.eq p.0 k) (p ∷ ps)) x) [
+    | inl here ↦ (p, rw here (refl, here))
+    | inr fails ↦
+        let less : position_or_len (λ p. w.eq p.0 k) ps < length ps = omega (arith, past p ps fails, lt) in
+        let rest = first-from ps less in
+        (rest.0, subst (λ n. IsFirst (p ∷ ps) n rest.0) (sym (past p ps fails)) (fails, rest.1))
+  ]
+
+  -- what `position` found
+  pub first : (ps : List (K × V)) (i : ℕ) → position (λ p. w.eq p.0 k) ps ≡ Some i → (x : K × V) × IsFirst ps i x
+  first ps i e = elim (cases_lt (position_or_len (λ p. w.eq p.0 k) ps) (length ps)) as (λ _. (x : K × V) × IsFirst ps i x) [
+    | inl less ↦ let f = first-from ps less in (f.0, subst (λ n. IsFirst ps n f.0) (same_Some _ _ (rw (lt-ltb _ _ less) at e)) f.1)
+    | inr more ↦ absurd (none-some i (rw (le-ltb _ _ more) at e))
+  ]
+
+  pub at-first : (ps : List (K × V)) (i : ℕ) (x : K × V) → IsFirst ps i x → at w ps k ≡ Some x
+  at-first [] i x f = absurd f
+  at-first (p ∷ ps) zero x f = rw f.1 (ap Some f.0)
+  at-first (p ∷ ps) (suc i) x f = rw f.0 (at-first ps i x f.1)
+
+  pub read-first : (ps : List (K × V)) (i : ℕ) (x d : K × V) → IsFirst ps i x → get_or ps i d ≡ x
+  read-first [] i x d f = absurd f
+  read-first (p ∷ ps) zero x d f = f.0
+  read-first (p ∷ ps) (suc i) x d f = read-first ps i x d f.1
+
+  module _ (laws : IsEquivalence w.eq) where
+    at-head : (p : K × V) (ps : List (K × V)) (v : V) → w.eq p.0 k ≡ true → (j : K) → at w ((p.0, v) ∷ ps) j ≡ after w (Insert k v) j (at w (p ∷ ps) j)
+    at-head p ps v here j = elim (cases_Bool (w.eq k j)) as (λ _. at w ((p.0, v) ∷ ps) j ≡ after w (Insert k v) j (at w (p ∷ ps) j)) [
+      | inl same ↦ rw (same, sym (along laws p.0 k j same) ∙ here) refl
+      | inr other ↦ rw (other, apart laws p.0 k j here other) refl
+    ]
+
+    at-tail : (p : K × V) (ps qs : List (K × V)) (v : V) → w.eq p.0 k ≡ false → (j : K) → at w qs j ≡ after w (Insert k v) j (at w ps j) → at w (p ∷ qs) j ≡ after w (Insert k v) j (at w (p ∷ ps) j)
+    at-tail p ps qs v fails j e = elim (cases_Bool (w.eq k j)) as (λ _. at w (p ∷ qs) j ≡ after w (Insert k v) j (at w (p ∷ ps) j)) [
+      | inl same ↦ rw (same, sym (along laws p.0 k j same) ∙ fails) (e ∙ rw same refl)
+      | inr other ↦ rw other (ap (cond (w.eq p.0 j) (Some p)) (e ∙ rw other refl))
+    ]
+
+    -- another value under the first such key
+    pub at-revalued : (ps : List (K × V)) (i : ℕ) (x : K × V) (v : V) → IsFirst ps i x → (j : K) → at w (set ps i (x.0, v)) j ≡ after w (Insert k v) j (at w ps j)
+    at-revalued [] i x v f j = absurd f
+    at-revalued (p ∷ ps) zero x v f j = subst (λ y. at w ((y.0, v) ∷ ps) j ≡ after w (Insert k v) j (at w (p ∷ ps) j)) f.0 (at-head p ps v f.1 j)
+    at-revalued (p ∷ ps) (suc i) x v f j = at-tail p ps (set ps i (x.0, v)) v f.0 j (at-revalued ps i x v f.1 j)
+
+    pub distinct-revalued : (ps : List (K × V)) (i : ℕ) (x : K × V) (v : V) → IsFirst ps i x → Distinct w ps → Distinct w (set ps i (x.0, v))
+    distinct-revalued [] i x v f d = absurd f
+    distinct-revalued (p ∷ ps) zero x v f d = (subst (λ y. at w ps y.0 ≡ None) f.0 d.0, d.1)
+    distinct-revalued (p ∷ ps) (suc i) x v f d =
+        let fails : w.eq k p.0 ≡ false = laws.symm k p.0 ∙ f.0 in
+        (at-revalued ps i x v f.1 p.0 ∙ rw fails d.0, distinct-revalued ps i x v f.1 d.1)
+
+    -- a new pair in front
+    pub at-pushed : (ps : List (K × V)) (v : V) → at w ps k ≡ None → (j : K) → at w ((k, v) ∷ ps) j ≡ after w (Insert k v) j (at w ps j)
+    at-pushed ps v none j = elim (cases_Bool (w.eq k j)) as (λ _. at w ((k, v) ∷ ps) j ≡ after w (Insert k v) j (at w ps j)) [
+      | inl same ↦ rw (same, sym (at-equal w laws ps k j same) ∙ none) refl
+      | inr other ↦ rw other refl
+    ]
+
+    -- the same, as `position` finds it
+    pub found : (ps : List (K × V)) (i : ℕ) (y : K × V) → position (λ p. w.eq p.0 k) ps ≡ Some i → y ≡ get_or ps i y → at w ps k ≡ Some y
+    found ps i y e read = let f = first ps i e in at-first ps i f.0 f.1 ∙ ap Some (sym (read ∙ read-first ps i f.0 y f.1))
+
+    pub revalued : (ps : List (K × V)) (i : ℕ) (y : K × V) (v : V) → position (λ p. w.eq p.0 k) ps ≡ Some i → y ≡ get_or ps i y
+        → ((j : K) → at w (set ps i (y.0, v)) j ≡ after w (Insert k v) j (at w ps j)) × (Distinct w ps → Distinct w (set ps i (y.0, v)))
+    revalued ps i y v e read =
+        let f = first ps i e in
+        let same : f.0 ≡ y = sym (read ∙ read-first ps i f.0 y f.1) in
+        subst (λ x. ((j : K) → at w (set ps i (x.0, v)) j ≡ after w (Insert k v) j (at w ps j)) × (Distinct w ps → Distinct w (set ps i (x.0, v)))) same
+        (at-revalued ps i f.0 v f.1, distinct-revalued ps i f.0 v f.1)
+
+  -- a look-up changes nothing
+  pub looked : (ps : List (K × V)) → Becomes w (Get k) ps ps
+  looked ps j = elim (cases_Bool (w.eq k j)) as (λ _. at w ps j ≡ after w (Get k) j (at w ps j)) [ inl same ↦ rw same refl | inr other ↦ rw other refl ]
+
+  -- what `position` didn't find
+  pub missing : (ps : List (K × V)) → position (λ p. w.eq p.0 k) ps ≡ None → at w ps k ≡ None
+  missing [] e = refl
+  missing (p ∷ ps) e = elim (cases_Bool (w.eq p.0 k)) as (λ _. at w (p ∷ ps) k ≡ None) [
+    | inl here ↦
+        let lt : position_or_len (λ q. w.eq q.0 k) (p ∷ ps) < length (p ∷ ps) = rw here (omega arith) in
+        absurd (none-some (position_or_len (λ q. w.eq q.0 k) (p ∷ ps)) (sym e ∙ rw (lt-ltb _ _ lt) refl))
+    | inr fails ↦ rw fails (missing ps (later p ps fails e))
+  ]
+    where
+      later : (p : K × V) (ps : List (K × V)) → w.eq p.0 k ≡ false → position (λ q. w.eq q.0 k) (p ∷ ps) ≡ None → position (λ q. w.eq q.0 k) ps ≡ None
+      later p ps fails e = elim (cases_lt (position_or_len (λ q. w.eq q.0 k) ps) (length ps)) as (λ _. position (λ q. w.eq q.0 k) ps ≡ None) [
+        | inl less ↦
+            let lt : position_or_len (λ q. w.eq q.0 k) (p ∷ ps) < length (p ∷ ps) = omega (arith, past p ps fails, less) in
+            absurd (none-some (position_or_len (λ q. w.eq q.0 k) (p ∷ ps)) (sym e ∙ rw (lt-ltb _ _ lt) refl))
+        | inr more ↦ rw (le-ltb _ _ more) refl
+      ]

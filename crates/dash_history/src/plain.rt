@@ -1,0 +1,107 @@
+//! A plain, slow map whose contract is the step table: a list that is scanned.
+ghost use Rattle.std.specs.Prelude.{◌≡◌, [], IsTrue, IfOk, OnOk, IfErr, position};
+ghost use Rattle.dash_shard.specs.Hashing.{IsAmount};
+ghost use Rattle.dash_shard.specs.Contents.{at, Distinct};
+ghost use Rattle.dash_shard.specs.Steps.{Insert, Old, Replies, Becomes};
+ghost use Rattle.dash_history.specs.Alike.{alike_option, alike_pair};
+ghost use Rattle.dash_history.specs.Steps.{step_of, reply_of};
+ghost use Rattle.dash_history.specs.Takes.{Takes};
+ghost use Rattle.dash_history.specs.Plain.{plain_rules};
+
+use crate::kept::{Kept, KeptKey};
+use crate::step::{Reply, ShardStep};
+use std::alloc::{AllocError, Global};
+use std::hash::BuildHasher;
+use std::marker::Model;
+use std::mem;
+
+/// One map of all shards as a list of pairs. Tests compare the others with it, and a merged history is replayed on it.
+#[derive(Drop)]
+pub struct Plain<K: KeptKey, V: Kept, S: BuildHasher> {
+    hasher: S,
+    amount: usize,
+    pairs: Vec<(K, V)>,
+}
+
+impl<K: KeptKey, V: Kept, S: BuildHasher> Model for Plain<K, V, S> {
+    ghost use Rattle.dash_shard.specs.Hashing.{route_by};
+    ghost use Rattle.dash_history.specs.Plain.{PlainState, IsPlain};
+
+    ghost Value = { PlainState K V S };
+
+    ghost view = { λ m. record { hasher = m.hasher; amount = m.amount; pairs = m.pairs.items } };
+
+    ghost invariant = { λ m. IsPlain K.eq (route_by S.BuildHasher S.Hasher.Hasher K.hash_input) (record { hasher = m.hasher; amount = m.amount; pairs = m.pairs.items }) };
+}
+
+// The place of the pair whose key equals `key`.
+fn find<K: Eq, V>(pairs: &[(K, V)], key: &K) -> Option<usize>
+    ensures { result ≡ position (λ p. K.eq p.0 key.now) pairs.now }
+{
+    pairs.iter().position(|pair| pair.0 == *key)
+}
+
+impl<K: KeptKey + Drop, V: Kept + Drop, S: BuildHasher> Plain<K, V, S> {
+    /// A map with no pairs, whose keys go to `amount` shards by this hasher.
+    pub fn new(alloc: Global, hasher: S, amount: usize) -> Self
+        requires { IsAmount amount }
+        ensures { result ≡ record { hasher = hasher; amount = amount; pairs = [] } }
+    {
+        Plain {
+            hasher,
+            amount,
+            pairs: Vec::new(alloc),
+        }
+    }
+
+    // A copy of the pair whose key equals `key`.
+    fn copy_at(&self, key: &K) -> Result<Option<(K, V)>, AllocError>
+        ensures { IfOk result (λ copy. IsTrue (alike_option (alike_pair K.alike V.alike) (at (plain_rules K.eq S.BuildHasher S.Hasher.Hasher K.hash_input K.alike V.alike self.now).keys self.now.pairs key.now) copy)) }
+    {
+        match find(&self.pairs, key) {
+            Some(i) => {
+                let pair = &self.pairs[i];
+                let key = pair.0.copy()?;
+                Ok(Some((key, pair.1.copy()?)))
+            }
+            None => Ok(None),
+        }
+    }
+
+    // Puts the pair, or the value under the stored key where an equal key is there.
+    fn put(&mut self, key: K, value: V) -> Result<Option<V>, (K, V)>
+        ensures old { IfOk result (λ old. Replies (plain_rules K.eq S.BuildHasher S.Hasher.Hasher K.hash_input K.alike V.alike self.old).keys (Insert key value) self.old.pairs (Old old)) }
+        ensures pairs { OnOk result (Becomes (plain_rules K.eq S.BuildHasher S.Hasher.Hasher K.hash_input K.alike V.alike self.old).keys (Insert key value) self.old.pairs self.new.pairs) }
+        ensures distinct { OnOk result (Distinct (plain_rules K.eq S.BuildHasher S.Hasher.Hasher K.hash_input K.alike V.alike self.old).keys self.new.pairs) }
+        ensures stays { (self.new.hasher ≡ self.old.hasher) × (self.new.amount ≡ self.old.amount) }
+        ensures refused { IfErr result (λ back. (back ≡ (key, value)) × (self.new ≡ self.old)) }
+    {
+        if let Some(i) = find(&self.pairs, &key) {
+            let old = mem::replace(&mut self.pairs[i].1, value);
+            return Ok(Some(old));
+        }
+        match self.pairs.insert(0, (key, value)) {
+            Ok(()) => Ok(None),
+            Err(e) => Err(e.value),
+        }
+    }
+
+    /// Takes a step as the step table says, or hands it back where there is no memory.
+    pub fn take(&mut self, step: ShardStep<K, V>) -> Result<Reply<K, V>, ShardStep<K, V>>
+        ensures ok { IfOk result (λ reply. Takes (plain_rules K.eq S.BuildHasher S.Hasher.Hasher K.hash_input K.alike V.alike self.old) self.old.pairs (step_of step) (reply_of reply) self.new.pairs) }
+        ensures stays { (self.new.hasher ≡ self.old.hasher) × (self.new.amount ≡ self.old.amount) }
+        ensures refused { IfErr result (λ back. (back ≡ step) × (self.new ≡ self.old)) }
+    {
+        let _ = &self.amount;
+        match step {
+            ShardStep::Get(key) => match self.copy_at(&key) {
+                Ok(pair) => Ok(Reply::Pair(pair)),
+                Err(_) => Err(ShardStep::Get(key)),
+            },
+            ShardStep::Insert(key, value) => match self.put(key, value) {
+                Ok(old) => Ok(Reply::Old(old)),
+                Err((key, value)) => Err(ShardStep::Insert(key, value)),
+            },
+        }
+    }
+}
