@@ -1,0 +1,10 @@
+-- The command line.
+use Rattle.std.specs.Prelude.{◌≡◌, ℕ, List, [], ◌∷◌}
+
+-- the bytes of `script`
+abbrev pub script : List ℕ
+script = 115 ∷ 99 ∷ 114 ∷ 105 ∷ 112 ∷ 116 ∷ []
+
+-- the words, as bytes, are the one word `script`
+abbrev pub IsScript : List (List ℕ) → Type 0
+IsScript words = words ≡ script ∷ []

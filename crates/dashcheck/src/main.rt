@@ -1,0 +1,38 @@
+//! `dashcheck` takes a script of steps on a recorded map and prints each reply.
+#![tactic(auto)]
+
+pub mod command;
+mod lines;
+mod script;
+mod step;
+#[cfg(test)]
+mod tests;
+
+use command::{refuse_memory, run_words};
+use std::process::ExitCode;
+use std::{env, io};
+
+fn main(rt: HostRuntime) -> ExitCode {
+    let errors = &mut rt.stderr();
+    let status = match words(&rt) {
+        Ok(words) => run_words(
+            rt.alloc(),
+            words.as_slice(),
+            &mut rt.stdin(),
+            &mut rt.stdout(),
+            errors,
+        ),
+        Err(e) if e.kind() == io::ErrorKind::OutOfMemory => refuse_memory(errors),
+        Err(_) => run_words(rt.alloc(), &[], &mut rt.stdin(), &mut rt.stdout(), errors),
+    };
+    ExitCode::from(status.code())
+}
+
+// The words after the program's name.
+fn words(rt: &HostRuntime) -> io::Result<Vec<String>> {
+    let mut words = Vec::new(rt.alloc());
+    for word in env::args(rt)?.skip(1) {
+        words.push(word)?;
+    }
+    Ok(words)
+}

@@ -1,0 +1,250 @@
+//! What `dashcheck` prints, which no clause says.
+use crate::command::{Status, run_words};
+use std::alloc::{AllocError, Global};
+use std::io::{self, Read, Write};
+use std::process::Abort;
+use std::test::Fail;
+
+const USAGE: &str = "usage: dashcheck script | dashcheck threads C N\n";
+
+// Gives the bytes, one piece a read, then fails.
+#[derive(Drop)]
+struct Failing<'a> {
+    bytes: &'a [u8],
+}
+
+impl Read for Failing<'_> {
+    fn read(&mut self, buf: &mut [u8]) -> io::Result<usize> {
+        if self.bytes.is_empty() {
+            return Err(io::Error::from(io::ErrorKind::Other));
+        }
+        self.bytes.read(buf)
+    }
+}
+
+// Takes so many bytes, then fails.
+#[derive(Drop)]
+struct Full {
+    room: usize,
+}
+
+impl Write for Full {
+    fn write(&mut self, buf: &[u8]) -> io::Result<usize> {
+        let taken = buf.len().min(self.room);
+        if taken == 0 {
+            return Err(io::Error::from(io::ErrorKind::Other));
+        }
+        self.room -= taken;
+        Ok(taken)
+    }
+
+    fn flush(&mut self) -> io::Result<()> {
+        Ok(())
+    }
+}
+
+fn words(alloc: Global, line: &str) -> Result<Vec<String>, AllocError> {
+    let mut words = Vec::new(alloc);
+    for word in line.split_ascii_whitespace() {
+        words.push(word.to_string(alloc)?)?;
+    }
+    Ok(words)
+}
+
+// Runs a script, whose output and errors are to be these.
+fn check(
+    rt: &impl Abort,
+    alloc: Global,
+    script: &[u8],
+    output: &str,
+    errors: &str,
+) -> Result<(), Fail> {
+    let words = words(alloc, "script")?;
+    let mut input = script;
+    let mut printed = Vec::new(alloc);
+    let mut refused = Vec::new(alloc);
+    let status = run_words(
+        alloc,
+        words.as_slice(),
+        &mut input,
+        &mut printed,
+        &mut refused,
+    );
+    let want = if errors.is_empty() {
+        Status::Good
+    } else {
+        Status::Refused
+    };
+    assert_eq!(rt;
+        printed.as_slice(),
+        output.as_bytes(),
+        "output of {script:?}"
+    );
+    assert_eq!(rt;
+        refused.as_slice(),
+        errors.as_bytes(),
+        "errors of {script:?}"
+    );
+    assert_eq!(rt; status, want, "status of {script:?}");
+    Ok(())
+}
+
+#[test]
+fn prints_replies(rt: HostRuntime) -> Result<(), Fail> {
+    check(&rt, rt.alloc(), b"", "", "")?;
+    check(
+        &rt,
+        rt.alloc(),
+        b"insert 1 10\ninsert 1 11\nget 1\n",
+        "old none\nold 10\npair 1 11\n",
+        "",
+    )?;
+    check(&rt, rt.alloc(), b"get 1", "pair none\n", "")?;
+    check(
+        &rt,
+        rt.alloc(),
+        b"insert 18446744073709551615 0\n",
+        "old none\n",
+        "",
+    )?;
+    check(
+        &rt,
+        rt.alloc(),
+        b"insert 0 18446744073709551615\nget 0",
+        "old none\npair 0 18446744073709551615\n",
+        "",
+    )
+}
+
+#[test]
+fn refuses_bad_steps(rt: HostRuntime) -> Result<(), Fail> {
+    let bad: [&[u8]; 26] = [
+        b"\n",
+        b" get 1\n",
+        b"get 1 \n",
+        b"get  1\n",
+        b"insert 1  2\n",
+        b"get\t1\n",
+        b"get 1\r\n",
+        b"get \xff\n",
+        b"get \xc3\xa9\n",
+        b"get +1\n",
+        b"get -1\n",
+        b"get 01\n",
+        b"get 00\n",
+        b"get 1x\n",
+        b"get 0x1\n",
+        b"get 18446744073709551616\n",
+        b"insert 18446744073709551616 1\n",
+        b"insert 1 18446744073709551616\n",
+        b"get\n",
+        b"get \n",
+        b"get 1 2\n",
+        b"insert 1\n",
+        b"insert 1 2 3\n",
+        b"put 1 2\n",
+        b"Get 1\n",
+        b"contains 1\n",
+    ];
+    for line in bad {
+        check(&rt, rt.alloc(), line, "", "refused line 1: bad step\n")?;
+    }
+    check(
+        &rt,
+        rt.alloc(),
+        &[b'1'; 9000],
+        "",
+        "refused line 1: bad step\n",
+    )?;
+    check(
+        &rt,
+        rt.alloc(),
+        b"insert 1 10\nget 1\n\nget 1\n",
+        "old none\npair 1 10\n",
+        "refused line 3: bad step\n",
+    )?;
+    check(
+        &rt,
+        rt.alloc(),
+        b"get 1\nget x",
+        "pair none\n",
+        "refused line 2: bad step\n",
+    )
+}
+
+#[test]
+fn refuses_failed_reads(rt: HostRuntime) -> Result<(), Fail> {
+    let words = words(rt.alloc(), "script")?;
+    for (bytes, output) in [
+        ("", ""),
+        ("insert 1 10\nget", "old none\n"),
+        ("get 1\n", "pair none\n"),
+    ] {
+        let mut input = Failing {
+            bytes: bytes.as_bytes(),
+        };
+        let mut printed = Vec::new(rt.alloc());
+        let mut refused = Vec::new(rt.alloc());
+        let status = run_words(
+            rt.alloc(),
+            words.as_slice(),
+            &mut input,
+            &mut printed,
+            &mut refused,
+        );
+        assert_eq!(rt; printed.as_slice(), output.as_bytes());
+        assert_eq!(rt; refused.as_slice(), b"refused: read failed\n".as_slice());
+        assert_eq!(rt; status, Status::Refused);
+    }
+    Ok(())
+}
+
+#[test]
+fn stops_where_a_write_fails(rt: HostRuntime) -> Result<(), Fail> {
+    let words = words(rt.alloc(), "script")?;
+    for room in [0, 4, 9, 12] {
+        let mut input = b"insert 1 10\nget 1\nbad\n".as_slice();
+        let mut output = Full { room };
+        let mut refused = Vec::new(rt.alloc());
+        let status = run_words(
+            rt.alloc(),
+            words.as_slice(),
+            &mut input,
+            &mut output,
+            &mut refused,
+        );
+        assert_eq!(rt; refused.len(), 0);
+        assert_eq!(rt; status, Status::Refused);
+    }
+    Ok(())
+}
+
+#[test]
+fn checks_the_command_line_first(rt: HostRuntime) -> Result<(), Fail> {
+    for line in [
+        "",
+        "Script",
+        "script 1",
+        "script script",
+        "threads",
+        "threads 4",
+        "--help",
+    ] {
+        let words = words(rt.alloc(), line)?;
+        let mut input = Failing { bytes: b"get 1\n" };
+        let mut printed = Vec::new(rt.alloc());
+        let mut usage = Vec::new(rt.alloc());
+        let status = run_words(
+            rt.alloc(),
+            words.as_slice(),
+            &mut input,
+            &mut printed,
+            &mut usage,
+        );
+        assert_eq!(rt; status.code(), 2, "status of {line:?}");
+        assert_eq!(rt; input.bytes.len(), 6);
+        assert_eq!(rt; printed.len(), 0);
+        assert_eq!(rt; usage.as_slice(), USAGE.as_bytes());
+    }
+    Ok(())
+}
