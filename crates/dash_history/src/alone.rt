@@ -160,3 +160,6 @@ impl<K: KeptKey + Drop, V: Kept + Drop, S: BuildHasher> RecAlone<K, V, S> {
         self.row[shard].last_stamp()
     }
 }
+
+#[cfg(test)]
+mod tests;

@@ -51,3 +51,22 @@ impl Kept for u64 {
 impl KeptKey for u64 {
     ghost alike_equal = { λ j k same. same };
 }
+
+#[cfg(test)]
+mod tests {
+    use super::*;
+    use std::test::Fail;
+
+    // At the bound, as generic code calls them.
+    fn is_kept<T: Kept + Drop>(value: T, other: T) -> Result<bool, AllocError> {
+        let copy = value.copy()?;
+        Ok(copy.same(&value) && !copy.same(&other))
+    }
+
+    #[test]
+    fn numbers(rt: HostRuntime) -> Result<(), Fail> {
+        assert!(rt; is_kept(0u64, 1)?);
+        assert!(rt; is_kept(u64::MAX, 0)?);
+        Ok(())
+    }
+}

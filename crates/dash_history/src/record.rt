@@ -280,3 +280,21 @@ impl<K: KeptKey + Drop, V: Kept + Drop, S: BuildHasher> RecShard<K, V, S> {
         }
     }
 }
+
+#[cfg(test)]
+mod tests {
+    use super::*;
+    use std::test::Fail;
+
+    #[test]
+    fn texts(rt: HostRuntime) -> Result<(), Fail> {
+        for (fault, text) in [
+            (RecordFault::LastStamp, "last stamp (18)"),
+            (RecordFault::Memory, "no memory (19)"),
+            (RecordFault::NoSuchShard, "no such shard (20)"),
+        ] {
+            assert_eq!(rt; format!(in rt.alloc(); "{fault}")?.as_str(), text);
+        }
+        Ok(())
+    }
+}

@@ -91,3 +91,46 @@ impl<K: Kept + Drop, V: Kept> Reply<K, V> {
         }
     }
 }
+
+#[cfg(test)]
+mod tests {
+    use super::*;
+    use dash_shard::hash::{PlaceState, is_shard_amount};
+    use std::test::Fail;
+
+    #[test]
+    fn copies(rt: HostRuntime) -> Result<(), Fail> {
+        assert!(rt; matches!(ShardStep::<u64, u64>::Get(1).copy()?, ShardStep::Get(1)));
+        assert!(rt;
+            matches!(
+                ShardStep::<u64, u64>::Insert(1, 10).copy()?,
+                ShardStep::Insert(1, 10)
+            )
+        );
+        assert!(rt; matches!(Reply::<u64, u64>::Pair(None).copy()?, Reply::Pair(None)));
+        assert!(rt;
+            matches!(
+                Reply::<u64, u64>::Pair(Some((1, 10))).copy()?,
+                Reply::Pair(Some((1, 10)))
+            )
+        );
+        assert!(rt; matches!(Reply::<u64, u64>::Old(None).copy()?, Reply::Old(None)));
+        assert!(rt;
+            matches!(
+                Reply::<u64, u64>::Old(Some(10)).copy()?,
+                Reply::Old(Some(10))
+            )
+        );
+        Ok(())
+    }
+
+    #[test]
+    fn places(rt: HostRuntime) {
+        assert!(rt; is_shard_amount(4));
+        assert_eq!(rt; ShardStep::<u64, u64>::Get(6).place(&PlaceState, 4), 2);
+        assert_eq!(rt;
+            ShardStep::<u64, u64>::Insert(7, 1).place(&PlaceState, 4),
+            3
+        );
+    }
+}

@@ -14,3 +14,21 @@ pub enum ConstructError {
     #[error("callers (17)")]
     Callers,
 }
+
+#[cfg(test)]
+mod tests {
+    use super::*;
+    use std::test::Fail;
+
+    #[test]
+    fn texts(rt: HostRuntime) -> Result<(), Fail> {
+        for (error, text) in [
+            (ConstructError::ShardAmount, "shard amount (5)"),
+            (ConstructError::Memory, "no memory (8)"),
+            (ConstructError::Callers, "callers (17)"),
+        ] {
+            assert_eq!(rt; format!(in rt.alloc(); "{error}")?.as_str(), text);
+        }
+        Ok(())
+    }
+}

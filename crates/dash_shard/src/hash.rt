@@ -71,3 +71,53 @@ impl BuildHasher for PlaceState {
         PlaceHasher { state: 0 }
     }
 }
+
+#[cfg(test)]
+mod tests {
+    use super::*;
+
+    #[test]
+    fn routes_of_hashes(rt: HostRuntime) {
+        for (amount, hash, shard) in [
+            (4, 1 << 55, 1),
+            (4, 1 << 56, 2),
+            (4, 1 << 57, 0),
+            (4, u64::MAX, 3),
+            (2, (1 << 56) - 1, 0),
+            (2, 1 << 56, 1),
+        ] {
+            assert!(rt; is_shard_amount(amount), "{amount}");
+            assert_eq!(rt;
+                determine_shard(hash, amount),
+                shard,
+                "the hash {hash} among {amount}"
+            );
+        }
+    }
+
+    #[test]
+    fn amounts(rt: HostRuntime) {
+        for (amount, lawful) in [
+            (0, false),
+            (1, false),
+            (3, false),
+            (2, true),
+            (4, true),
+            (1 << 63, true),
+        ] {
+            assert_eq!(rt; is_shard_amount(amount), lawful, "{amount}");
+        }
+    }
+
+    #[test]
+    fn place_keys(rt: HostRuntime) {
+        for (key, shard) in [(0u64, 0), (1, 1), (5, 1), (7, 3), (u64::MAX, 3)] {
+            assert!(rt; is_shard_amount(4));
+            assert_eq!(rt;
+                determine_shard(PlaceState.hash_one(&key), 4),
+                shard,
+                "the key {key}"
+            );
+        }
+    }
+}

@@ -168,3 +168,6 @@ impl<K: Eq + Hash, V, S: BuildHasher> Shard<K, V, S> {
         self.table.places()
     }
 }
+
+#[cfg(test)]
+mod tests;

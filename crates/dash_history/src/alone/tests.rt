@@ -1,0 +1,143 @@
+//! A recorded map's refusals, its stamps and its replies, as worked by hand.
+use super::*;
+use crate::plain::Plain;
+use dash_shard::hash::PlaceState;
+use std::process::Abort;
+use std::test::Fail;
+
+type Alone = RecAlone<u64, u64, PlaceState>;
+
+type Log = CallerLog<u64, u64>;
+
+// Takes a step, by the caller of this log.
+fn apply(
+    rt: &impl Abort,
+    alone: &mut Alone,
+    log: &mut Log,
+    step: ShardStep<u64, u64>,
+) -> Result<Reply<u64, u64>, Fail> {
+    assert!(rt; log.caller() < alone.callers());
+    Ok(alone.apply(log, step)?)
+}
+
+// The stamp of the last step of a shard.
+fn last_of(rt: &impl Abort, alone: &Alone, shard: usize) -> u64 {
+    assert!(rt; shard < alone.shard_count());
+    alone.last_of(shard)
+}
+
+#[test]
+fn refuses_amounts_and_then_callers(rt: HostRuntime) {
+    for (amount, callers, error) in [
+        (0, 1, ConstructError::ShardAmount),
+        (1, 1, ConstructError::ShardAmount),
+        (3, 1, ConstructError::ShardAmount),
+        (0, 0, ConstructError::ShardAmount),
+        (1, 0, ConstructError::ShardAmount),
+        (3, 0, ConstructError::ShardAmount),
+        (4, 0, ConstructError::Callers),
+        (4, 65_537, ConstructError::Callers),
+    ] {
+        match Alone::new(rt.alloc(), PlaceState, amount, callers) {
+            Ok(_) => assert!(rt; false, "{callers} callers of {amount}"),
+            Err(e) => assert_eq!(rt; e, error, "{callers} callers of {amount}"),
+        }
+    }
+}
+
+#[test]
+fn first_steps(rt: HostRuntime) -> Result<(), Fail> {
+    let (mut alone, mut logs) = Alone::new(rt.alloc(), PlaceState, 4, 1)?;
+    assert_eq!(rt; alone.shard_count(), 4);
+    assert_eq!(rt; alone.callers(), 1);
+    assert_eq!(rt; logs.len(), 1);
+    let log = &mut logs[0];
+    assert_eq!(rt; log.caller(), 0);
+
+    let reply = apply(&rt, &mut alone, log, ShardStep::Insert(1, 10))?;
+    assert!(rt; matches!(reply, Reply::Old(None)));
+    let reply = apply(&rt, &mut alone, log, ShardStep::Insert(1, 11))?;
+    assert!(rt; matches!(reply, Reply::Old(Some(10))));
+    let reply = apply(&rt, &mut alone, log, ShardStep::Get(1))?;
+    assert!(rt; matches!(reply, Reply::Pair(Some((1, 11)))));
+
+    assert_eq!(rt; log.last_stamp(), 3);
+    assert_eq!(rt; last_of(&rt, &alone, 1), 3);
+    assert_eq!(rt; last_of(&rt, &alone, 0), 0);
+    assert_eq!(rt; log.entries().len(), 3);
+    for (record, stamp) in log.entries().iter().zip([1, 2, 3]) {
+        assert_eq!(rt; record.stamp, stamp);
+        assert_eq!(rt; record.caller, 0, "at {stamp}");
+        assert_eq!(rt; record.shard, 1, "at {stamp}");
+    }
+    Ok(())
+}
+
+#[test]
+fn stamps_follow_shard_and_caller(rt: HostRuntime) -> Result<(), Fail> {
+    let (mut alone, mut logs) = Alone::new(rt.alloc(), PlaceState, 4, 2)?;
+    let mut second = logs.pop().ok_or("no log")?;
+    let mut first = logs.pop().ok_or("no log")?;
+    assert_eq!(rt; first.caller(), 0);
+    assert_eq!(rt; second.caller(), 1);
+    for i in 0..7 {
+        apply(&rt, &mut alone, &mut first, ShardStep::Insert(4 * i, i))?;
+    }
+    assert_eq!(rt; first.last_stamp(), 7);
+    for i in 0..4 {
+        apply(
+            &rt,
+            &mut alone,
+            &mut second,
+            ShardStep::Insert(4 * i + 1, i),
+        )?;
+    }
+    assert_eq!(rt; second.last_stamp(), 4);
+    assert_eq!(rt; last_of(&rt, &alone, 1), 4);
+
+    apply(&rt, &mut alone, &mut first, ShardStep::Get(1))?;
+    assert_eq!(rt; first.last_stamp(), 8);
+    assert_eq!(rt; last_of(&rt, &alone, 1), 8);
+    Ok(())
+}
+
+// The next of a fixed row of numbers.
+fn next(state: &mut u64) -> u64 {
+    *state = state
+        .wrapping_mul(6_364_136_223_846_793_005)
+        .wrapping_add(1_442_695_040_888_963_407);
+    *state >> 33
+}
+
+// Two replies of numbers are the same.
+fn same(left: &Reply<u64, u64>, right: &Reply<u64, u64>) -> bool {
+    match (left, right) {
+        (Reply::Pair(left), Reply::Pair(right)) => left == right,
+        (Reply::Old(left), Reply::Old(right)) => left == right,
+        _ => false,
+    }
+}
+
+#[test]
+fn replies_as_the_plain_map(rt: HostRuntime) -> Result<(), Fail> {
+    let (mut alone, mut logs) = Alone::new(rt.alloc(), PlaceState, 4, 1)?;
+    assert!(rt; is_shard_amount(4));
+    let mut plain = Plain::new(rt.alloc(), PlaceState, 4);
+    assert_eq!(rt; logs.len(), 1);
+    let log = &mut logs[0];
+    let mut state = 1;
+    for i in 0..300u64 {
+        let number = next(&mut state);
+        let key = number % 8;
+        let step = if number / 8 % 3 == 0 {
+            ShardStep::Get(key)
+        } else {
+            ShardStep::Insert(key, i)
+        };
+        let copy = step.copy()?;
+        let reply = apply(&rt, &mut alone, log, step)?;
+        let want = plain.take(copy)?;
+        assert!(rt; same(&reply, &want), "at {i}: {reply:?}, and not {want:?}");
+    }
+    Ok(())
+}

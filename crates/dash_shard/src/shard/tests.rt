@@ -1,0 +1,79 @@
+//! One shard's calls, as worked by hand.
+use super::*;
+use crate::hash::{PlaceState, is_shard_amount};
+use std::test::Fail;
+
+#[test]
+fn one_key_after_another(rt: HostRuntime) -> Result<(), Fail> {
+    assert!(rt; is_shard_amount(4));
+    let mut shard = Shard::<u64, u64, PlaceState>::new(rt.alloc(), PlaceState, 1, 4, 0)?;
+    assert_eq!(rt; shard.number(), 1);
+    assert_eq!(rt; shard.amount(), 4);
+    assert!(rt; !shard.routes(&4));
+    assert_eq!(rt; shard.get(&1), None);
+
+    for (key, value, old) in [(1, 10, None), (5, 50, None), (1, 11, Some(10))] {
+        assert!(rt; shard.routes(&key), "{key}");
+        assert_eq!(rt; shard.insert(key, value)?, old, "{key}");
+    }
+    assert_eq!(rt; shard.get(&1), Some((&1, &11)));
+    assert_eq!(rt; shard.get(&5), Some((&5, &50)));
+    assert_eq!(rt; shard.get(&9), None);
+    assert_eq!(rt; shard.len(), 2);
+    Ok(())
+}
+
+#[test]
+fn grows(rt: HostRuntime) -> Result<(), Fail> {
+    assert!(rt; is_shard_amount(4));
+    let mut shard = Shard::<u64, u64, PlaceState>::new(rt.alloc(), PlaceState, 1, 4, 0)?;
+    assert_eq!(rt; shard.capacity(), 0);
+    for i in 0..1000u64 {
+        let key = 4 * i + 1;
+        assert!(rt; shard.routes(&key), "{key}");
+        assert_eq!(rt; shard.insert(key, i)?, None, "{key}");
+        assert!(rt; shard.capacity() >= shard.len(), "{key}");
+    }
+    assert_eq!(rt; shard.len(), 1000);
+    for i in 0..1000u64 {
+        let key = 4 * i + 1;
+        assert_eq!(rt; shard.get(&key), Some((&key, &i)));
+    }
+    Ok(())
+}
+
+#[test]
+fn has_room_from_the_start(rt: HostRuntime) -> Result<(), Fail> {
+    assert!(rt; is_shard_amount(2));
+    let shard = Shard::<u64, u64, PlaceState>::new(rt.alloc(), PlaceState, 0, 2, 100)?;
+    assert!(rt; shard.capacity() >= 100);
+    assert_eq!(rt; shard.len(), 0);
+    Ok(())
+}
+
+// A name with a note, which says nothing to `==` and to hashers.
+#[derive_where(PartialEq, Eq, Hash, Debug)]
+#[derive(Drop)]
+struct Noted {
+    name: u64,
+    #[derive_where(skip(EqHashOrd))]
+    note: u64,
+}
+
+#[test]
+fn the_stored_key_stays(rt: HostRuntime) -> Result<(), Fail> {
+    assert!(rt; is_shard_amount(4));
+    let mut shard = Shard::<Noted, u64, PlaceState>::new(rt.alloc(), PlaceState, 1, 4, 0)?;
+    for (note, value, old) in [(1, 100, None), (2, 200, Some(100))] {
+        let key = Noted { name: 5, note };
+        assert!(rt; shard.routes(&key), "{note}");
+        assert_eq!(rt; shard.insert(key, value)?, old, "{note}");
+    }
+    let Some((key, value)) = shard.get(&Noted { name: 5, note: 3 }) else {
+        return Err(Fail::from("no pair"));
+    };
+    assert_eq!(rt; key.note, 1);
+    assert_eq!(rt; *value, 200);
+    assert_eq!(rt; shard.len(), 1);
+    Ok(())
+}
