@@ -5,3 +5,11 @@ mod Places
 mod Routing
 mod Seeking
 mod Shards
+mod Changing
+mod HoldFields
+mod LockBorrows
+mod LockShown
+mod RoundParts
+mod Rounds
+mod WordSteps
+mod Exchanging

@@ -1,0 +1,52 @@
+-- The data fields of a `Hold`. Assumes `Logic`.
+use Rattle.std.proofs.Common.{◌≡◌, ℕ, T, List, [], ◌∷◌, ◌++◌, refl, ap, ◌∙◌}
+use seplogic.Ra.Ura.{Ura}
+use mir.Syntax.{ty_ptr, ty_struct, tcons, tnil}
+use mir.Val.{Val, vstruct, vcons, vnil, of_list, has_ty, WT}
+use base.Logic.{ent, emp, never_e}
+use base.Fml.{Lft}
+use contract.Monad.{fact, fact_i}
+use types.Logic.{Logic, sem}
+use denote.RattleType.{RattleType}
+use denote.Laws.{Is}
+use denote.Ref.{NamedLft, ShrRef}
+use denote.Opens.{Opens}
+use denote.Copied.{Struct-Copied}
+use denote.RawPtr.{Ptr, InBlock, block_ptr, null_ptr, ptr_val}
+use denote.Shadow.{makes_shadow}
+use denote.Struct.Laws.{RawPtr-copy, field_copy}
+use denote.Struct.Struct.{Struct}
+use denote.Struct.Owning.{shape}
+use Rattle.core.specs.contracts.marker.PhantomData as marker
+use Rattle.dash_shard.specs.declared.lock.Tagged.{Ghosts}
+use Rattle.dash_shard.specs.Holding.{hold_owns, hold_shares}
+use Rattle.dash_shard.specs.contracts.lock.hold.Hold as hold
+
+abbrev pub bits_of : Ptr → Val
+bits_of p = vstruct (vcons (ptr_val p) (vcons (vstruct vnil) vnil))
+
+pub typed : (p : Ptr) → InBlock p → T (has_ty (ty_struct [] (tcons ty_ptr (tcons (ty_struct [] tnil) tnil))) (bits_of p)) × WT (bits_of p)
+typed (block_ptr b o) i = (tt, (tt, (tt, tt)))
+typed null_ptr i = absurd i
+
+module _ (a : NamedLft) (R G : RattleType) (g : Ghosts R.Denot G.Denot) where
+  abbrev pub Words : RattleType
+  Words = Struct (shape (hold.the_type a R G g))
+
+  pub told : (p : Ptr) (vs : List Val) → Is Words (p, (tt, tt)) vs → vs ≡ bits_of p ∷ []
+  told p vs is = is.1.0 ∙ ap (λ (ws : List Val). vstruct (of_list (ws ++ (is.0.1.0 ++ []))) ∷ []) is.1.1.0 ∙ ap (λ (ws : List Val). vstruct (of_list (ptr_val p ∷ (ws ++ []))) ∷ []) is.1.1.1.0.1.0
+
+  pub made : {M : Type 1} {𝓤 : Ura M} (𝓛 : Logic 𝓤) (p : Ptr) → ent 𝓤 (emp 𝓤) (sem 𝓛 (Words.own_val (p, (tt, tt)) (bits_of p ∷ [])))
+  made 𝓛 p = makes_shadow 𝓛 (Words.own_val (p, (tt, tt)) (bits_of p ∷ [])) (λ vss. (tt, (tt, ((λ uss. (tt, tt)), tt)))) ((ptr_val p ∷ [], (vstruct vnil ∷ [], tt)), (refl, (refl, ((tt, (refl, tt)), tt))))
+
+  pub opened : {M : Type 1} {𝓤 : Ura M} (𝓛 : Logic 𝓤) → Opens 𝓛 Words
+  opened {M} {𝓤 = 𝓤} 𝓛 = (Struct-Copied 𝓛 (shape (hold.the_type a R G g)) (refl, (refl, tt)) (RawPtr-copy.copied M 𝓤 𝓛, ((field_copy (marker.the_type (ShrRef a.mir a.lft R)) tt).copied M 𝓤 𝓛, tt))).opens
+
+module _ {M : Type 1} {𝓤 : Ura M} (𝓛 : Logic 𝓤) (β : Lft) (R : RattleType) (ok : R.Denot → Type 0) where
+  pub owns_placed : (p : Ptr) (right : ℕ) (x : R.Denot) → ent 𝓤 (sem 𝓛 (hold_owns β R ok p right x)) (fact 𝓤 (InBlock p))
+  owns_placed (block_ptr b o) right x = fact_i 𝓤 (Unit {0}) _ tt
+  owns_placed null_ptr right x = never_e 𝓤 _
+
+  pub shares_placed : (p : Ptr) (right : ℕ) (x : R.Denot) (κ : Lft) → ent 𝓤 (sem 𝓛 (hold_shares β R ok p right x κ)) (fact 𝓤 (InBlock p))
+  shares_placed (block_ptr b o) right x κ = fact_i 𝓤 (Unit {0}) _ tt
+  shares_placed null_ptr right x κ = never_e 𝓤 _
