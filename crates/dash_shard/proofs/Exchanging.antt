@@ -9,8 +9,8 @@ use base.Fml.{Fml, ftrue, fsep}
 use prog.Atomic.{either}
 use prog.Model.{Model}
 use prog.Wired.{Wired}
-use types.Logic.{Logic, sem}
-use types.Kit.{Item, mean, ‵, raw, ◌⊛◌, some, given, later, ◌$◌, ◌∵◌, !, qed, move, drop, split, join, fjoin, feq_i, flt_i, pick, show, check, use0, updating, await, now, done}
+use types.Logic.{Logic}
+use types.Kit.{Item, mean, ‵, raw, ◌⊛◌, some, given, later, ◌$◌, ◌∵◌, !, qed, move, drop, split, fjoin, feq_i, flt_i, pick, show, check, use0, updating, await, now, done}
 use contract.Monad.{fact, fact_i}
 use contract.Running.{Running, tables}
 use denote.Builtin.{u64}

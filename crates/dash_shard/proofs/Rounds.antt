@@ -2,7 +2,7 @@
 use Rattle.std.proofs.Common.{ℕ, zero, suc, ◌+◌, [], ◌∷◌, ◌++◌, refl, sym}
 use seplogic.Ra.Ura.{Ura}
 use base.Fraction.{full_share}
-use base.Logic.{apply∗, guard, guard_i, via, SProp, ent, sep, wand, ex, ex_i, emp, upd, upd_i, id⊢}
+use base.Logic.{apply∗, guard, guard_i, SProp, ent, sep, wand, ex, upd_i, id⊢}
 use base.Fml.{Lft, GName, Share, Incl, Incl-trans, Fml, ftrue, ffalse, fsep, fseps, fex, fwand, fupd, fdead, fbor, flft, fobs, fauth}
 use base.Before.{before}
 use contract.BorrowLft.{meet_⊑_left, meet_⊑_right, ⊑_meet}

@@ -19,7 +19,7 @@ use denote.SharingLaws.{contraction}
 use denote.Steps.{nothing}
 use Rattle.core.specs.Sync.RawAtomic.{asks, always, word}
 use Rattle.core.proofs.raw_atomic.Asked.{borrowed, Lies, Again}
-use Rattle.dash_shard.specs.Holding.{most, count, IsTake, Gains, fact, names, share, parts, Fixed, Phase, away, shared, seen, state, State, Inv, begun, writer, right_to}
+use Rattle.dash_shard.specs.Holding.{most, count, one_reader, IsTake, Gains, fact, names, share, parts, Fixed, Phase, away, shared, seen, state, State, Inv, begun, writer, right_to}
 use Rattle.dash_shard.proofs.RoundParts.{parts_in, parts_cut, parts_glue, parts_whole, none_beside, parts_agree, renames}
 use Rattle.dash_shard.proofs.Rounds.{seen_laws, seen_fits}
 
@@ -52,7 +52,6 @@ module _ {M : Type 1} {𝓤 : Ura M} (𝓛 : Logic 𝓤) (R : RattleType) (ok : 
   abbrev st : ℕ → Phase R.Denot → Fml
   st = state R ok b o t
 
-
   module _ (q : Share) where
     -- any step, from what it does to the state beside the word
     opened : (f : ℕ → ℕ) (after : ℕ → Fml) (K : Fml) → ((n : ℕ) → n < 2 ^ 64 → (p : Phase R.Denot) → ⟦ st n p ⟧ ∗ ⟦ K ⟧ ⊢ upd 𝓤 (⟦ St (f n) ⟧ ∗ ⟦ after n ⟧))
@@ -71,9 +70,9 @@ module _ {M : Type 1} {𝓤 : Ura M} (𝓛 : Logic 𝓤) (R : RattleType) (ok : 
     looks = opened (λ n. n) (λ _. ftrue) ftrue (λ n _ p. ends_as n p ftrue)
 
     -- a reader goes
-    gone : (a n : ℕ) → n < 2 ^ 64 → (p : Phase R.Denot) → ⟦ st n p ⟧ ∗ ⟦ parts t.round a 1 ⟧ ⊢ upd 𝓤 (⟦ St ((n + (2 ^ 64 - 1)) % 2 ^ 64) ⟧ ∗ ⟦ ftrue ⟧)
+    gone : (a n : ℕ) → n < 2 ^ 64 → (p : Phase R.Denot) → ⟦ st n p ⟧ ∗ ⟦ parts t.round a 1 ⟧ ⊢ upd 𝓤 (⟦ St ((n + (2 ^ 64 - one_reader)) % 2 ^ 64) ⟧ ∗ ⟦ ftrue ⟧)
     gone a n fits away = qed 𝓛 (‵ (st n away) ∷ ‵ (parts t.round a 1) ∷ []) ∵ fsplit ! $ drop ! $ fpick ! (λ c. by ! (none_beside 𝓛 t.round a c 1 _))
-    gone a n fits (shared c x) = let w : ℕ = (n + 18446744073709551615) % 18446744073709551616 in
+    gone a n fits (shared c x) = let w : ℕ = (n + (2 ^ 64 - one_reader)) % 2 ^ 64 in
         qed 𝓛 (‵ (st n (shared c x)) ∷ ‵ (parts t.round a 1) ∷ []) ∵ fsplit3 ! $ fpick ! (λ h. drop ! $ dite (ℕ_discrete (count n) 0)
         (λ z. rewrite ! 0 (λ (k : ℕ). ‵ (parts t.round c (2 ^ 63 - k))) z refl $ use1 𝓛 (‵ (share t.round c full_share)) (parts_whole 𝓛 t.round c) $ fsplit ! $ keep ! (1 ∷ 3 ∷ []) $ by ! (none_beside 𝓛 t.round a c 1 _))
         (λ z. move ! (0 ∷ 2 ∷ []) $ use2 𝓛 (given (c ≡ a) (‵ (parts t.round c (2 ^ 63 - count n)) ⊛ ‵ (parts t.round a 1))) (parts_agree 𝓛 t.round c a (2 ^ 63 - count n) 1) $ learn ! (λ same. split ! $
@@ -81,8 +80,8 @@ module _ {M : Type 1} {𝓤 : Ura M} (𝓛 : Logic 𝓤) (R : RattleType) (ok : 
         let is : (2 ^ 63 - count n) + 1 ≡ 2 ^ 63 - count w = omega arith in rewrite ! 0 (λ (k : ℕ). ‵ (parts t.round c k)) is refl $ move ! (0 ∷ 1 ∷ []) $ fjoin ! $ nothing ! $
         fpack ! (count w ≤ most) (λ _. ftrue) (omega arith) $ fjoin ! $ nothing ! $ move ! (1 ∷ 0 ∷ []) $ by ! (ends_as w (shared c x) ftrue))))
 
-    pub leaves : (a : ℕ) → A.inv (fbor α I) ∗ (A.lft α q ∗ ⟦ parts t.round a 1 ⟧) ⊢ asks 𝓛 (block_ptr b (o + 0)) (λ n. (n + (2 ^ 64 - 1)) % 2 ^ 64) always (λ n. fsep (flft α q) ftrue)
-    leaves a = opened (λ n. (n + (2 ^ 64 - 1)) % 2 ^ 64) (λ _. ftrue) (parts t.round a 1) (gone a)
+    pub leaves : (a : ℕ) → A.inv (fbor α I) ∗ (A.lft α q ∗ ⟦ parts t.round a 1 ⟧) ⊢ asks 𝓛 (block_ptr b (o + 0)) (λ n. (n + (2 ^ 64 - one_reader)) % 2 ^ 64) always (λ n. fsep (flft α q) ftrue)
+    leaves a = opened (λ n. (n + (2 ^ 64 - one_reader)) % 2 ^ 64) (λ _. ftrue) (parts t.round a 1) (gone a)
 
     -- a writer goes
     back : (x : R.Denot) (n : ℕ) (p : Phase R.Denot) → ⟦ st n p ⟧ ∗ ⟦ writer R ok b o t x ⟧ ⊢ upd 𝓤 (⟦ St 0 ⟧ ∗ ⟦ ftrue ⟧)

@@ -17,13 +17,17 @@ use denote.RawPtr.{Ptr, block_ptr, null_ptr}
 use denote.Sharing.{said, beside, some, ends, always, within, nothing}
 use Rattle.core.specs.Sync.RawAtomic.{word}
 
--- the most readers
-abbrev pub most : ℕ
-most = 4611686018427387902
-
 -- how many holders a word says: up to `most` they are readers, and above it there is a writer
 abbrev pub count : ℕ → ℕ
 count w = w
+
+-- the most readers
+abbrev pub most : ℕ
+most = 2 ^ 62 - 2
+
+-- by what the word of one reader more is greater
+abbrev pub one_reader : ℕ
+one_reader = 1
 
 -- A take: one reader more, or the whole lock where nobody has it.
 abbrev pub IsTake : ℕ → ℕ → Type 0

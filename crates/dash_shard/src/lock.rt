@@ -100,6 +100,7 @@ impl<T: Tagged> RwLock<T> {
     #[inline]
     pub fn read<R: Wait + Clock>(&self, rt: &R) -> RwLockReadGuard<'_, T>
         ensures tag { result.tag ≡ self.now }
+        ensures fits { T.fits self.now result.value }
     {
         match self.read_once(self.word()) {
             Ok(guard) => guard,
@@ -111,6 +112,7 @@ impl<T: Tagged> RwLock<T> {
     #[inline]
     pub fn write<R: Wait + Clock>(&self, rt: &R) -> RwLockWriteGuard<'_, T>
         ensures tag { result.tag ≡ self.now }
+        ensures fits { T.fits self.now result.value }
     {
         match self.try_write() {
             Some(guard) => guard,
@@ -122,6 +124,7 @@ impl<T: Tagged> RwLock<T> {
     #[inline]
     pub fn try_read(&self) -> Option<RwLockReadGuard<'_, T>>
         ensures tag { IfSome result (λ guard. guard.tag ≡ self.now) }
+        ensures fits { IfSome result (λ guard. T.fits self.now guard.value) }
     {
         match self.read_once(self.word()) {
             Ok(guard) => Some(guard),
@@ -133,6 +136,7 @@ impl<T: Tagged> RwLock<T> {
     #[inline]
     pub fn try_write(&self) -> Option<RwLockWriteGuard<'_, T>>
         ensures tag { IfSome result (λ guard. guard.tag ≡ self.now) }
+        ensures fits { IfSome result (λ guard. T.fits self.now guard.value) }
     {
         let (found, hold) = self.take(0, ONE_WRITER);
         if found.is_ok() {
@@ -146,6 +150,7 @@ impl<T: Tagged> RwLock<T> {
     #[inline]
     fn read_once(&self, seen: u64) -> Result<RwLockReadGuard<'_, T>, u64>
         ensures tag { IfOk result (λ guard. guard.tag ≡ self.now) }
+        ensures fits { IfOk result (λ guard. T.fits self.now guard.value) }
     {
         if seen >= MOST_READERS {
             return Err(seen);
@@ -165,6 +170,7 @@ impl<T: Tagged> RwLock<T> {
     #[inline(never)]
     fn read_again(&self, seen: u64) -> Option<RwLockReadGuard<'_, T>>
         ensures tag { IfSome result (λ guard. guard.tag ≡ self.now) }
+        ensures fits { IfSome result (λ guard. T.fits self.now guard.value) }
     {
         let turns = Backoff::new();
         let mut seen = seen;
@@ -186,6 +192,7 @@ impl<T: Tagged> RwLock<T> {
     #[inline(never)]
     fn wait_to_read<R: Wait + Clock>(&self, rt: &R) -> RwLockReadGuard<'_, T>
         ensures tag { result.tag ≡ self.now }
+        ensures fits { T.fits self.now result.value }
     {
         let turns = Backoff::new();
         for _ in rt.forever() {
@@ -202,6 +209,7 @@ impl<T: Tagged> RwLock<T> {
     #[inline(never)]
     fn wait_to_write<R: Wait + Clock>(&self, rt: &R) -> RwLockWriteGuard<'_, T>
         ensures tag { result.tag ≡ self.now }
+        ensures fits { T.fits self.now result.value }
     {
         let turns = Backoff::new();
         for _ in rt.forever() {
@@ -323,3 +331,6 @@ impl<T: Tagged> Drop for RwLockWriteGuard<'_, T> {
         hold.open();
     }
 }
+
+#[cfg(test)]
+mod tests;

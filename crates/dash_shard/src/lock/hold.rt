@@ -3,7 +3,7 @@ ghost use Rattle.std.specs.Prelude.{◌≡◌, ℕ, ◌<◌, OnOk, OnErr};
 ghost use Rattle.std.specs.Fn.{FnOnceReturnsAtMut};
 ghost use Rattle.dash_shard.specs.Holding.{hold_owns, hold_shares, IsTake, Gains};
 
-use crate::lock::{RwLock, Tagged};
+use crate::lock::{ONE_READER, RwLock, Tagged};
 use std::marker::{Brand, Model, PhantomData};
 use std::sync::atomic::Ordering::SeqCst;
 use std::sync::atomic::raw;
@@ -99,7 +99,7 @@ impl<T: Tagged> Hold<'_, T> {
         requires { self.right ≡ 1 }
     {
         let Hold { lock, marker: _ } = self;
-        unsafe { raw::fetch_sub::<Brand>(&raw const (*lock).word, 1, SeqCst) }
+        unsafe { raw::fetch_sub::<Brand>(&raw const (*lock).word, ONE_READER, SeqCst) }
     }
 
     /// Ends a hold for writing: the lock is free. Answers the word as it was.

@@ -4,8 +4,7 @@ use mir.Syntax.{dcons, dnil, a_type, named}
 use mir.Val.{Val, vint, vptr}
 use mir.MapTy.{inst_fn}
 use base.Logic.{emp, SProp, wand, via, apply∗}
-use base.Fml.{Lft, Share, Fml, ftrue, fsep, flft, fbor, finv}
-use base.Before.{before}
+use base.Fml.{Lft, Share, Fml, ftrue, fsep, flft}
 use types.Kit.{‵, raw, ◌⊛◌, some, later, mean, at_ret, ◌$◌, ◌∵◌, !, qed, by, move, keep, split, join, fsplit, fpick, pick, use2, use3, await, feq_i, flt_i, fjoin}
 use types.Run.{stop, fld, addr, lit, of_opd, no_more, and_then, first, blocks, exec, Calls-last, returns, enter}
 use types.ByLocal.{alloc_all, pass_all, free_all, look_at, get, through, sets, lands_last, env}

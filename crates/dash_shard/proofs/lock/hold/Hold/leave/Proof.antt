@@ -4,7 +4,7 @@ use mir.Syntax.{dcons, dnil, a_type}
 use mir.Val.{Val, vint, vptr}
 use mir.MapTy.{inst_fn}
 use base.Logic.{SProp, wand, via, apply∗, guard_i}
-use base.Fml.{Lft, Share, Fml, ftrue, fsep, fex, flft}
+use base.Fml.{Lft, Share, Fml, ftrue, fsep, flft}
 use types.Logic.{sem}
 use types.Kit.{‵, raw, ◌⊛◌, some, given, later, mean, at_ret, ◌$◌, ◌∵◌, !, qed, by, move, keep, drop, split, join, fsplit, fjoin, fpick, pick, learn, use1, use2, use3, await, rewrite, feq_i, flt_i}
 use types.Run.{stop, fld, addr, lit, of_opd, no_more, and_then, first, blocks, exec, Calls-last, returns, enter}
