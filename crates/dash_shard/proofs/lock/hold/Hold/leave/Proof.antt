@@ -25,7 +25,7 @@ use Rattle.core.proofs.atomic.Steps.{tail}
 use Rattle.core.proofs.mem.Param.{El}
 use Rattle.std.proofs.raw_atomic.Walks.{proved, leaves}
 use Rattle.std.proofs.raw_atomic.Calls.{fm, seq_cst, found, finds, subs}
-use Rattle.dash_shard.specs.Holding.{hold_owns}
+use Rattle.dash_shard.specs.Holding.{one_reader, hold_owns}
 use Rattle.dash_shard.specs.contracts.lock.RwLock as lock
 use Rattle.dash_shard.specs.contracts.lock.hold.Hold as hold
 use Rattle.dash_shard.proofs.HoldFields.{bits_of, told, typed, owns_placed}
@@ -52,8 +52,8 @@ leave_spec 𝓤 𝓛 𝓜 𝓡 wired X Y L _ g d _ =
     fpick ! (λ t. fsplit ! $ fsplit ! $ move ! (2 ∷ []) $ fpick ! (λ u. fsplit ! $ move ! (1 ∷ []) $ drop ! $ move ! (1 ∷ 3 ∷ []) $ use2 𝓛 (later (some (λ (s : Share). ‵ (flft t.life s) ⊛ raw (wand 𝓤 (𝓛.A.lft t.life s) (H.⇛ (𝓛.A.lft β q)))))) (Lends-one 𝓛 𝓜 𝓡 β t.life q) $ await ! tt $ pick ! (λ s. split ! $
     let after : ℕ → Fml = λ n. fsep (flft t.life s) ftrue in
     sets ! (is ! (of_opd ! (get_in ! (fld ! refl (stop !)) (sub ! 0 refl (whole !)))) (ap ptr_val at)) refl (tt, tt) $ first ! $ blocks ! $ sets ! (addr ! (through ! refl (fld ! refl (stop !)))) refl (tt, tt) $
-    move ! (3 ∷ 0 ∷ 2 ∷ []) $ use3 𝓛 (raw (𝓣.C _ (vptr b (o + 0) ∷ vint w64 1 ∷ seq_cst ∷ []) (λ r. mean 𝓛 (found after r))))
-    (via 𝓤 _ (steps.leaves 𝓛 R ok b o t s u) (subs 𝓛 𝓜 𝓡 (code.calls-core::raw_atomic::fetch_sub 𝓡.env wired) (block_ptr b (o + 0)) 1 (lit< tt) after)) $
+    move ! (3 ∷ 0 ∷ 2 ∷ []) $ use3 𝓛 (raw (𝓣.C _ (vptr b (o + 0) ∷ vint w64 one_reader ∷ seq_cst ∷ []) (λ r. mean 𝓛 (found after r))))
+    (via 𝓤 _ (steps.leaves 𝓛 R ok b o t s u) (subs 𝓛 𝓜 𝓡 (code.calls-core::raw_atomic::fetch_sub 𝓡.env wired) (block_ptr b (o + 0)) one_reader (lit< tt) after)) $
     sets ! (agg ! (and_then ! (lit ! tt) (no_more !))) refl (tt, (record { fits = lit< tt }, tt)) $
     Calls-last ! (fm 𝓛 𝓜 𝓡) (found after) (and_then ! (get ! refl) (and_then ! (lit ! tt) (and_then ! (get ! refl) (no_more !)))) (λ r. finds ! after (λ n fits.
     lands_last ! refl (tt, record { fits = fits }) $ exec ! 𝓣.C 𝓣.Λ Ev (tail (tail fn.body)) (at_ret Ev Post) $ sets ! (of_opd ! (get ! refl)) refl (tt, record { fits = fits }) $
