@@ -1,31 +1,7 @@
 -- A value is lent as a `&mut` for one call of `apply`, and comes back as the call left it. Assumes `Logic`.
-use Rattle.std.proofs.Common.{ℕ, [], ◌∷◌}
-use seplogic.Ra.Ura.{Ura}
-use mir.Syntax.{Dict, named}
-use mir.Val.{Val, vptr}
-use base.Fraction.{full_share}
-use base.FractionLaws.{common}
+use Rattle.dash_shard.proofs.Walking.{[], ℕ, ◌∷◌, Ura, Dict, named, Val, vptr, full_share, common, SProp, ent, sep, ex, guard, wand, emp, apply∗, id⊢, Lft, GName, Share, Fml, ftrue, fsep, flft, flent, fbor, fres, fdead, Memory, Routine, Logic, sem, ‵, raw, ◌⊛◌, some, later, ◌$◌, ◌∵◌, !, qed, move, keep, split, split3, join, fsplit, fjoin, pick, use0, use1, use2, use3, await, updating, now, show, check, frame, done, Body, lft_new, lft_end, lft-common, Fun, fact, fact_i, ◌⊑◌, ⊑_refl, meet_⊑_left, RattleType, part_at, mem, lends_ref, ref_back, param, always_once, MutRef, nothing, heard, triple_of, Contract, FnOnceReturnsAtMut}
 use base.Share
-use base.Logic.{SProp, ent, sep, ex, guard, wand, emp, apply∗, id⊢}
-use base.Fml.{Lft, GName, Share, Fml, ftrue, fsep, flft, flent, fbor, fres, fdead}
-use prog.Memory.{Memory}
-use prog.Routine.{Routine}
-use types.Logic.{Logic, sem}
-use types.Kit.{‵, raw, ◌⊛◌, some, later, ◌$◌, ◌∵◌, !, qed, move, keep, split, split3, join, fsplit, fjoin, pick, use0, use1, use2, use3, await, updating, now, show, check, frame, done}
-use types.SemTy.{Body}
-use types.Tokens.{lft_new, lft_end, lft-common}
-use contract.Monad.{Fun, fact, fact_i}
-use contract.BorrowLft.{◌⊑◌, ⊑_refl, meet_⊑_left}
-use denote.RattleType.{RattleType}
-use denote.Memory.{part_at, mem}
-use denote.Lend.{lends_ref, ref_back}
-use denote.Param.{param}
-use denote.Param.Always.{always_once}
-use denote.Ref.{MutBor, MutRef}
-use denote.Steps.{nothing, heard}
-use denote.Triple.Spec.{triple_of}
-use denote.Triple.Statement.{Contract}
-use Rattle.core.specs.Fn.{FnOnceReturnsAtMut}
+use denote.Ref.{MutBor}
 use Rattle.dash_shard.specs.contracts.lock.hold.apply as AP
 use Rattle.dash_shard.specs.contracts.lock.hold.apply.F-FnOnce as AF
 

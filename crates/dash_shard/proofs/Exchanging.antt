@@ -1,41 +1,13 @@
 -- A compare-exchange of a word, with the outcome that the caller's proof picks. Assumes `Logic`.
-use Rattle.std.proofs.Common.{◌≡◌, ℕ, ◌^◌, ◌<◌, eqb, List, [], ◌∷◌, refl, w64}
-use Rattle.std.specs.Prelude.{OnOk, OnErr, Ok, Err}
-use seplogic.Ra.Ura.{Ura}
-use mir.Val.{Val, vint}
-use base.Fraction.{full_share}
-use base.Logic.{SProp, ent, sep, emp, via}
-use base.Fml.{Fml, ftrue, fsep}
-use prog.Atomic.{either}
-use prog.Model.{Model}
-use prog.Wired.{Wired}
-use types.Logic.{Logic}
-use types.Kit.{Item, mean, ‵, raw, ◌⊛◌, some, given, later, ◌$◌, ◌∵◌, !, qed, move, drop, split, fjoin, feq_i, flt_i, pick, show, check, use0, updating, await, now, done}
-use contract.Monad.{fact, fact_i}
-use contract.Running.{Running, tables}
-use denote.Builtin.{u64}
-use denote.Laws.{Typed, Is, shows}
-use denote.Param.Laws.{Laws, of_field}
-use denote.Param.Shared.{copy_shared}
-use denote.RattleType.{RattleType, owns}
-use denote.RawPtr.{Ptr, ptr_val}
-use denote.Signature.{types_at}
-use denote.Steps.{nothing, peeks, heard}
-use denote.Struct.Field.{u64-field}
-use denote.Struct.Laws.{u64-laws, u64-copy}
-use denote.Triple.Spec.{triple_of}
-use Rattle.core.specs.Result.{MatchResult}
-use Rattle.core.specs.Sync.RawAtomic.{asks, always, word_found}
+use Rattle.dash_shard.proofs.Walking.{[], ◌≡◌, ℕ, ◌^◌, ◌<◌, eqb, List, ◌∷◌, refl, w64, OnOk, OnErr, Ok, Err, Ura, Val, vint, full_share, SProp, ent, sep, emp, via, Fml, ftrue, fsep, either, Model, Wired, Logic, Item, mean, ‵, raw, ◌⊛◌, some, given, later, ◌$◌, ◌∵◌, !, qed, move, drop, split, fjoin, feq_i, flt_i, pick, show, check, use0, updating, await, now, done, fact, fact_i, Running, tables, u64, Typed, Is, shows, Laws, of_field, copy_shared, RattleType, owns, Ptr, ptr_val, types_at, nothing, peeks, heard, u64-field, u64-laws, u64-copy, triple_of, MatchResult, asks, word_found, SeqCst, order_made, marker, marker_laws, dict, picked, seq_cst, tokens, called}
+use Rattle.core.specs.Sync.RawAtomic.{always}
 use Rattle.core.specs.contracts.atomic.Ordering as Order
 use Rattle.core.specs.contracts.raw_atomic.compare_exchange as exchange
 use Rattle.core.specs.contracts.result.Result.{the_row as ResultOf}
-use Rattle.core.specs.declared.atomic.Ordering.TheVariants.{SeqCst}
 use Rattle.core.specs.declared.raw_atomic.Outcome as Outcome
-use Rattle.core.proofs.raw_atomic.Ordered.{order_made}
 use Rattle.core.proofs.raw_atomic.compare_exchange.Met as exchange-thm
 use Rattle.core.proofs.raw_atomic.compare_exchange.Symbol as exchange_is
 use Rattle.core.proofs.result.Result.TheLaws.{the_row_laws as result_laws}
-use Rattle.std.proofs.raw_atomic.Calls.{marker, marker_laws, dict, picked, seq_cst, tokens, called}
 
 abbrev pub Found : RattleType
 Found = ResultOf u64 u64

@@ -1,22 +1,5 @@
 -- The data fields of a `Hold`. Assumes `Logic`.
-use Rattle.std.proofs.Common.{◌≡◌, ℕ, T, List, [], ◌∷◌, ◌++◌, refl, ap, ◌∙◌}
-use seplogic.Ra.Ura.{Ura}
-use mir.Syntax.{ty_ptr, ty_struct, tcons, tnil}
-use mir.Val.{Val, vstruct, vcons, vnil, of_list, has_ty, WT}
-use base.Logic.{ent, emp, never_e}
-use base.Fml.{Lft}
-use contract.Monad.{fact, fact_i}
-use types.Logic.{Logic, sem}
-use denote.RattleType.{RattleType}
-use denote.Laws.{Is}
-use denote.Ref.{NamedLft, ShrRef}
-use denote.Opens.{Opens}
-use denote.Copied.{Struct-Copied}
-use denote.RawPtr.{Ptr, InBlock, block_ptr, null_ptr, ptr_val}
-use denote.Shadow.{makes_shadow}
-use denote.Struct.Laws.{RawPtr-copy, field_copy}
-use denote.Struct.Struct.{Struct}
-use denote.Struct.Owning.{shape}
+use Rattle.dash_shard.proofs.Walking.{[], ◌++◌, ◌≡◌, ℕ, T, List, ◌∷◌, refl, ap, ◌∙◌, Ura, ty_ptr, ty_struct, tcons, tnil, Val, vstruct, vcons, vnil, of_list, has_ty, WT, ent, emp, never_e, Lft, fact, fact_i, Logic, sem, RattleType, Is, NamedLft, ShrRef, Opens, Struct-Copied, Ptr, InBlock, block_ptr, null_ptr, ptr_val, makes_shadow, RawPtr-copy, field_copy, Struct, shape}
 use Rattle.core.specs.contracts.marker.PhantomData as marker
 use Rattle.dash_shard.specs.declared.lock.Tagged.{Ghosts}
 use Rattle.dash_shard.specs.Holding.{hold_owns, hold_shares}

@@ -13,3 +13,4 @@ mod RoundParts
 mod Rounds
 mod WordSteps
 mod Exchanging
+mod Walking

@@ -1,23 +1,5 @@
 -- A borrow of a lock is cut into those of its word and of its value. Assumes `Logic`.
-use Rattle.std.proofs.Common.{ℕ, zero, ◌+◌, List, [], ◌∷◌}
-use seplogic.Ra.Ura.{Ura}
-use mir.Val.{Val}
-use base.Fraction.{full_share}
-use base.Logic.{SProp, ent, sep, wand, ex, ex_i, all_e, upd_i, apply∗, id⊢}
-use base.Fml.{Lft, GName, Share, Fml, ftrue, fsep, fseps, fex, fwand, fupd, fdead, fbor, flft, fobs}
-use types.Logic.{Logic, sem}
-use types.Kit.{‵, raw, ◌⊛◌, some, ◌$◌, ◌∵◌, !, qed, by, move, keep, drop, use1, use2, split, split3, join, fsplit, fsplit3, fjoin, fjoin3, fpick, fpack, pick, show, assume, suffices, updating, now, done}
-use types.Tokens.{bor_open, obor_alter, name_new}
-use denote.RattleType.{RattleType, Denots}
-use denote.Laws.{Lawful}
-use denote.Memory.{part_of, part_at, cell_at}
-use denote.Struct.Struct.{Struct}
-use denote.Struct.Laws.{u64-laws}
-use denote.Struct.Members.{Member, row_of, rows_of, parts_at}
-use denote.Struct.Parts.{PartsBack, Struct-parts, shape_of}
-use Rattle.core.specs.Sync.RawAtomic.{word}
-use Rattle.core.proofs.cell.Borrows.{flag}
-use Rattle.core.proofs.tally.Steps.{word_out, word_in}
+use Rattle.dash_shard.proofs.Walking.{[], ℕ, zero, ◌+◌, List, ◌∷◌, Ura, Val, full_share, SProp, ent, sep, wand, ex, ex_i, all_e, upd_i, apply∗, id⊢, Lft, GName, Share, Fml, ftrue, fsep, fseps, fex, fwand, fupd, fdead, fbor, flft, fobs, Logic, sem, ‵, raw, ◌⊛◌, some, ◌$◌, ◌∵◌, !, qed, by, move, keep, drop, use1, use2, split, split3, join, fsplit, fsplit3, fjoin, fjoin3, fpick, fpack, pick, show, assume, suffices, updating, now, done, bor_open, obor_alter, name_new, RattleType, Denots, Lawful, part_of, part_at, cell_at, Struct, u64-laws, Member, row_of, rows_of, parts_at, PartsBack, Struct-parts, shape_of, word, flag, word_out, word_in}
 use Rattle.dash_shard.specs.Holding.{fact, offset, at_home, cell}
 use Rattle.dash_shard.specs.declared.lock.Tagged.{Ghosts}
 use Rattle.dash_shard.specs.contracts.lock.RwLock as C

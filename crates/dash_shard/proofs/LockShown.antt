@@ -1,28 +1,6 @@
 -- A borrow of a lock shows its value, whatever the word holds. Assumes `Logic`.
-use Rattle.std.proofs.Common.{◌≡◌, ℕ, ◌+◌, List, [], ◌∷◌, ◌++◌, sym, subst, refl}
-use seplogic.Ra.Ura.{Ura}
-use mir.Syntax.{Ty}
-use base.Fraction.{full_share}
-use base.Logic.{ent, sep, ex, guard}
-use base.Fml.{Lft, GName, Incl, Fml, ftrue, fex, fbor, fobs, Incl-trans}
-use contract.BorrowLft.{meet_⊑_left}
-use ghost.Rules.{Toks, span}
-use types.Logic.{Logic, sem, lfts}
-use types.Kit.{‵, raw, ◌⊛◌, some, given, later, ◌$◌, ◌∵◌, !, qed, move, drop, use2, split, split3, join, fjoin, fpack, pick, learn, await, updating, now, done}
-use denote.RattleType.{RattleType}
-use denote.Laws.{Lawful}
-use denote.Memory.{part_at, shared_of}
-use denote.Steps.{nothing}
-use denote.Shares.{Shares}
+use Rattle.dash_shard.proofs.Walking.{[], ◌++◌, ◌≡◌, ℕ, ◌+◌, List, ◌∷◌, sym, subst, refl, Ura, Ty, full_share, ent, sep, ex, guard, Lft, GName, Incl, Fml, ftrue, fex, fbor, fobs, Incl-trans, meet_⊑_left, Toks, span, Logic, sem, lfts, ‵, raw, ◌⊛◌, some, given, later, ◌$◌, ◌∵◌, !, qed, move, drop, use2, split, split3, join, fjoin, fpack, pick, learn, await, updating, now, done, RattleType, Lawful, part_at, shared_of, nothing, Shares, some_shr_laws, layout, Laws, Member, row_of, Law, Written, Laid, Laid-laws, by_one}
 use denote.Sharing as sharing
-use denote.SharingLaws.{some_shr_laws}
-use denote.Param.{layout}
-use denote.Param.Laws.{Laws}
-use denote.Struct.Members.{Member, row_of}
-use denote.Struct.Lending.{Law}
-use denote.Written.{Written, Laid}
-use denote.Written.Laws.{Laid-laws}
-use Rattle.core.proofs.cell.Borrows.{by_one}
 use Rattle.dash_shard.specs.Holding.{offset, cell, seen}
 use Rattle.dash_shard.specs.declared.lock.Tagged.{Ghosts}
 use Rattle.dash_shard.specs.declared.lock.RwLock as D

@@ -1,19 +1,8 @@
 -- The parts of a round: cut, glued and compared. Assumes `Logic`.
-use Rattle.std.proofs.Common.{◌≡◌, ℕ, ◌+◌, ◌-◌, ◌^◌, ◌<◌, ◌≤◌, [], ◌∷◌, refl, arith}
-use mathlib.Mathlib.Data.Part.{◌∈◌}
-use seplogic.Ra.Ura.{Ura}
+use Rattle.dash_shard.proofs.Walking.{[], ◌≡◌, ℕ, ◌+◌, ◌-◌, ◌^◌, ◌<◌, ◌≤◌, ◌∷◌, refl, arith, ◌∈◌, Ura, full_share, Counts, counts_some, Counts-op, Counts-all, not-OpDef-full_share, coded_ℕ, coded, SetCoded-set, SProp, ent, sep, guard, upd, guard_i, GName, Share, Fml, fex, flft, Logic, sem, ‵, ◌⊛◌, given, ◌$◌, ◌∵◌, !, qed, by, move, keep, split, fsplit, fjoin, fpick, fpack, learn, check, use1, use2, done, own_glued, own_sum, own_join, own_step}
 use seplogic.Ra.Constructions.Prod
 use seplogic.Ra.Instances.Ag
 use base.Share
-use base.Fraction.{full_share}
-use base.FractionLaws.{Counts, counts_some, Counts-op, Counts-all, not-OpDef-full_share}
-use base.Stored.{coded_ℕ}
-use base.SetCodes.{coded, SetCoded-set}
-use base.Logic.{SProp, ent, sep, guard, upd, guard_i}
-use base.Fml.{GName, Share, Fml, fex, flft}
-use types.Logic.{Logic, sem}
-use types.Kit.{‵, ◌⊛◌, given, ◌$◌, ◌∵◌, !, qed, by, move, keep, split, fsplit, fjoin, fpick, fpack, learn, check, use1, use2, done}
-use types.Owned.{own_glued, own_sum, own_join, own_step}
 use Rattle.dash_shard.specs.Holding.{rounds, names, share, parts}
 
 module _ {M : Type 1} {𝓤 : Ura M} (𝓛 : Logic 𝓤) (γ : GName) where

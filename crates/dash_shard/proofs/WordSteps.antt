@@ -1,24 +1,6 @@
 -- One step on a lock's word, under its invariant. Assumes `Logic`.
-use Rattle.std.proofs.Common.{◌≢◌, ◌≡◌, ℕ, ◌+◌, ◌-◌, ◌%◌, ◌^◌, ◌<◌, ◌≤◌, eqb, Bool, [], ◌∷◌, sym, refl, subst, arith, eq-eqb, ne_eqb, w64}
-use mathlib.Core.Logic.{dite}
-use native.Mathlib.Decide.{ℕ_discrete, dec_le}
-use seplogic.Ra.Ura.{Ura}
-use mir.Syntax.{ty_int}
-use mir.Val.{vint, has_ty, WT}
-use base.Fraction.{full_share}
-use base.FractionLaws.{Counts-all}
-use base.Logic.{SProp, ent, sep, ex, upd, upd_i}
-use base.Fml.{Lft, Share, Fml, ftrue, fsep, fex, fbor, flft}
-use prog.Atomic.{either}
-use types.Logic.{Logic, sem}
-use types.Kit.{‵, raw, ◌⊛◌, given, ◌$◌, ◌∵◌, !, qed, by, move, keep, drop, split, fsplit, fsplit3, fjoin, fjoin3, fpick, fpack, learn, show, frame, each, assume, suffices, settle, use1, use2, rewrite, done}
-use types.Na.{out_once}
-use denote.RattleType.{RattleType, RowLaws}
-use denote.RawPtr.{block_ptr}
-use denote.SharingLaws.{contraction}
-use denote.Steps.{nothing}
-use Rattle.core.specs.Sync.RawAtomic.{asks, always, word}
-use Rattle.core.proofs.raw_atomic.Asked.{borrowed, Lies, Again}
+use Rattle.dash_shard.proofs.Walking.{[], ◌≢◌, ◌≡◌, ℕ, ◌+◌, ◌-◌, ◌%◌, ◌^◌, ◌<◌, ◌≤◌, eqb, Bool, ◌∷◌, sym, refl, subst, arith, eq-eqb, ne_eqb, w64, dite, ℕ_discrete, dec_le, Ura, ty_int, vint, has_ty, WT, full_share, Counts-all, SProp, ent, sep, ex, upd, upd_i, Lft, Share, Fml, ftrue, fsep, fex, fbor, flft, either, Logic, sem, ‵, raw, ◌⊛◌, given, ◌$◌, ◌∵◌, !, qed, by, move, keep, drop, split, fsplit, fsplit3, fjoin, fjoin3, fpick, fpack, learn, show, frame, each, assume, suffices, settle, use1, use2, rewrite, done, out_once, RattleType, RowLaws, block_ptr, contraction, nothing, asks, word, borrowed, Lies, Again}
+use Rattle.core.specs.Sync.RawAtomic.{always}
 use Rattle.dash_shard.specs.Holding.{most, count, one_reader, IsTake, Gains, fact, names, share, parts, Fixed, Phase, away, shared, seen, state, State, Inv, begun, writer, right_to}
 use Rattle.dash_shard.proofs.RoundParts.{parts_in, parts_cut, parts_glue, parts_whole, none_beside, parts_agree, renames}
 use Rattle.dash_shard.proofs.Rounds.{seen_laws, seen_fits}

@@ -1,37 +1,7 @@
 -- A `&` to a lock is made of a borrow of it, whatever the word holds. Assumes `Logic`.
-use Rattle.std.proofs.Common.{◌≡◌, ℕ, ◌+◌, ◌-◌, ◌^◌, ◌<◌, ◌≤◌, List, [], ◌∷◌, ◌++◌, sym, subst, refl, arith}
-use mathlib.Core.Logic.{dite}
-use native.Mathlib.Decide.{ℕ_discrete, dec_le}
-use seplogic.Ra.Ura.{Ura}
-use mir.Syntax.{Ty}
+use Rattle.dash_shard.proofs.Walking.{[], ◌++◌, ◌≡◌, ℕ, ◌+◌, ◌-◌, ◌^◌, ◌<◌, ◌≤◌, List, ◌∷◌, sym, subst, refl, arith, dite, ℕ_discrete, dec_le, Ura, Ty, full_share, Counts-all, gnum, SProp, ent, sep, wand, ex, emp, upd_i, via, apply∗, id⊢, Lft, GName, Share, Incl, Fml, ftrue, fsep, fseps, fex, fwand, fupd, fdead, fbor, flft, finv, fobs, Incl-refl, Incl-trans, before, meet_⊑_left, Toks, span, Logic, sem, lfts, ‵, raw, ◌⊛◌, some, later, ◌$◌, ◌∵◌, !, qed, move, keep, group, use0, use1, use2, split, split3, fsplit, fsplit3, fjoin, fjoin3, fpick, fpack, pick, assume, suffices, await, updating, now, rewrite, done, bor_open, obor_alter, name_new, one_token, out, before-Incl, basic, own_new, RattleType, Lawful, part_at, block_ptr, nothing, Shares, ends, some_shr_laws, beside_shr_laws, ends_shr_laws, always_shr_laws, layout, Laws, Member, row_of, Law, word, by_one}
 use base.Share
-use base.Fraction.{full_share}
-use base.FractionLaws.{Counts-all}
-use base.Stored.{gnum}
-use base.Logic.{SProp, ent, sep, wand, ex, emp, upd_i, via, apply∗, id⊢}
-use base.Fml.{Lft, GName, Share, Incl, Fml, ftrue, fsep, fseps, fex, fwand, fupd, fdead, fbor, flft, finv, fobs, Incl-refl, Incl-trans}
-use base.Before.{before}
-use contract.BorrowLft.{meet_⊑_left}
-use ghost.Rules.{Toks, span}
-use types.Logic.{Logic, sem, lfts}
-use types.Kit.{‵, raw, ◌⊛◌, some, later, ◌$◌, ◌∵◌, !, qed, move, keep, group, use0, use1, use2, split, split3, fsplit, fsplit3, fjoin, fjoin3, fpick, fpack, pick, assume, suffices, await, updating, now, rewrite, done}
-use types.Tokens.{bor_open, obor_alter, name_new, one_token}
-use types.Na.{out, before-Incl}
-use types.Owned.{basic, own_new}
-use denote.RattleType.{RattleType}
-use denote.Laws.{Lawful}
-use denote.Memory.{part_at}
-use denote.RawPtr.{block_ptr}
-use denote.Steps.{nothing}
-use denote.Shares.{Shares}
-use denote.Sharing.{ends, always}
-use denote.SharingLaws.{some_shr_laws, beside_shr_laws, ends_shr_laws, always_shr_laws}
-use denote.Param.{layout}
-use denote.Param.Laws.{Laws}
-use denote.Struct.Members.{Member, row_of}
-use denote.Struct.Lending.{Law}
-use Rattle.core.specs.Sync.RawAtomic.{word}
-use Rattle.core.proofs.cell.Borrows.{by_one}
+use denote.Sharing.{always}
 use Rattle.dash_shard.specs.Holding.{most, count, rounds, names, parts, Fixed, Phase, away, shared, offset, cell, begun, state, State, Inv, kept, lock_shares}
 use Rattle.dash_shard.specs.declared.lock.Tagged.{Ghosts}
 use Rattle.dash_shard.specs.contracts.lock.RwLock as C

@@ -1,34 +1,7 @@
 -- `get` turns the `&mut` into a `&` of the value.
-use Rattle.std.proofs.Common.{ℕ, ◌+◌, List, [], ◌∷◌, ◌++◌, refl}
-use mir.Syntax.{dcons, dnil, a_type, named}
-use mir.Val.{Val, vptr}
-use mir.MapTy.{inst_fn}
-use base.Fraction.{full_share}
-use base.Logic.{emp, SProp, id⊢}
-use base.Fml.{Lft, Share, Fml, ftrue, fsep, flft, fbor, fobs, Incl-refl, Incl-trans}
-use types.Kit.{‵, raw, ◌⊛◌, later, ◌$◌, ◌∵◌, !, qed, by, move, keep, drop, split, split3, join, fsplit, fsplit3, fjoin, fpick, use0, use1, use3, group, await, feq_i}
-use types.Run.{stop, fld, addr, returns, enter}
-use types.ByLocal.{alloc_all, pass_all, free_all, look_at, through, sets, env}
-use contract.Running.{tables}
-use contract.Monad.{fact, fact_i}
-use contract.BorrowLft.{◌⊑◌, ⊑_meet, ⊑_static, meet_⊑_left, meet_⊑_right}
-use denote.Exit.{no}
-use denote.RattleType.{RattleType, owns}
-use denote.Signature.{types_at, plain}
-use denote.Steps.{nothing, heard}
-use denote.Memory.{part_at, hidden_shr}
-use denote.Param.{param, bounded}
-use denote.Param.Laws.{param_laws}
-use denote.Triple.Walked.{Stays, stay_dropped, walk_of}
-use Rattle.core.proofs.mem.Param.{El}
-use Rattle.std.proofs.raw_atomic.Walks.{proved, leaves}
+use Rattle.dash_shard.proofs.Walking.{[], ◌++◌, ℕ, ◌+◌, List, ◌∷◌, refl, dcons, dnil, a_type, named, Val, vptr, inst_fn, full_share, emp, SProp, id⊢, Lft, Share, Fml, ftrue, fsep, flft, fbor, fobs, Incl-refl, Incl-trans, ‵, raw, ◌⊛◌, later, ◌$◌, ◌∵◌, !, qed, by, move, keep, drop, split, split3, join, fsplit, fsplit3, fjoin, fpick, use0, use1, use3, group, await, feq_i, stop, fld, addr, returns, enter, alloc_all, pass_all, free_all, look_at, through, sets, env, tables, fact, fact_i, ◌⊑◌, ⊑_meet, ⊑_static, meet_⊑_left, meet_⊑_right, no, RattleType, owns, types_at, plain, nothing, heard, part_at, hidden_shr, param, bounded, param_laws, Stays, stay_dropped, walk_of, El, proved, leaves, mut_vals, mut_Tells, RefMutOf, mem, settles, Goes-spent_ref}
 use Rattle.dash_shard.specs.Holding.{offset}
 use Rattle.dash_shard.specs.contracts.lock.RwLock as lock
-use denote.Ref.{mut_vals, mut_Tells}
-use denote.Builtin.{RefMutOf}
-use denote.Memory.{mem}
-use denote.Shares.{settles}
-use denote.Triple.Walked.{Goes-spent_ref}
 use Rattle.dash_shard.proofs.LockShown as shown
 use Rattle.dash_shard.specs.contracts.lock.RwLock.get.{ended, clauses}
 use Rattle.dash_shard.specs.contracts.lock.RwLock.get.Key.{name as #self}

@@ -1,29 +1,5 @@
 -- `into_inner` takes the value, whatever the word is.
-use Rattle.std.proofs.Common.{◌≡◌, ◌&&◌, T, true, List, [], ◌∷◌, ◌++◌, sym, refl, ◌∙◌, subst, w64}
-use Rattle.std.proofs.ResultValues.{and_tt}
-use mir.Syntax.{dcons, dnil, a_type}
-use mir.Val.{Val, vint, vstruct, vcons, vnil, of_list, has_ty}
-use mir.MapTy.{inst_fn}
-use base.Logic.{emp, SProp, ent, id⊢}
-use base.Fml.{ftrue, fsep}
-use prog.Wp.{WpFn}
-use types.Kit.{‵, raw, ◌⊛◌, ◌$◌, ◌∵◌, !, qed, by, move, keep, drop, split, fsplit, fsplit3, fjoin, fpick, use0, rewrite, feq_l, flt_l, suffices}
-use types.Run.{stop, fld, of_opd, returns, enter}
-use types.ByLocal.{alloc_all, pass_all, free_all, look_at, get, get_in, sets}
-use types.Part.{sub, whole}
-use contract.Running.{tables}
-use contract.Monad.{fact, fact_i}
-use denote.Exit.{no}
-use denote.RattleType.{RattleType}
-use denote.Signature.{plain}
-use denote.Steps.{nothing, peeks}
-use denote.Laws.{Is, shows}
-use denote.Param.{param, layout, bounded}
-use denote.Param.Laws.{param_laws}
-use denote.Triple.Entry.{alive}
-use denote.Triple.Walked.{Stays, stay_dropped, walk_of, Goes-dropped}
-use Rattle.core.proofs.mem.Param.{El, lawful, Good, one}
-use Rattle.std.proofs.raw_atomic.Walks.{proved_at, leaves}
+use Rattle.dash_shard.proofs.Walking.{[], ◌++◌, ◌≡◌, ◌&&◌, T, true, List, ◌∷◌, sym, refl, ◌∙◌, subst, w64, and_tt, dcons, dnil, a_type, Val, vint, vstruct, vcons, vnil, of_list, has_ty, inst_fn, emp, SProp, ent, id⊢, ftrue, fsep, WpFn, ‵, raw, ◌⊛◌, ◌$◌, ◌∵◌, !, qed, by, move, keep, drop, split, fsplit, fsplit3, fjoin, fpick, use0, rewrite, feq_l, flt_l, suffices, stop, fld, of_opd, returns, enter, alloc_all, pass_all, free_all, look_at, get, get_in, sets, sub, whole, tables, fact, fact_i, no, RattleType, plain, nothing, peeks, Is, shows, param, layout, bounded, param_laws, alive, Stays, stay_dropped, walk_of, Goes-dropped, El, lawful, Good, one, proved_at, leaves}
 use Rattle.dash_shard.specs.contracts.lock.RwLock as lock
 use Rattle.dash_shard.specs.contracts.lock.RwLock.into_inner.{ended, clauses}
 use Rattle.dash_shard.specs.contracts.lock.RwLock.into_inner.Key.{name as #self}

@@ -1,31 +1,6 @@
 -- `new` lays the word and the value side by side.
-use Rattle.std.proofs.Common.{◌≡◌, ℕ, ◌^◌, ◌&&◌, T, true, List, [], ◌∷◌, ◌++◌, sym, refl, subst, lit<, w64}
-use Rattle.std.proofs.ResultValues.{and_tt}
-use mir.Syntax.{dcons, dnil, a_type}
-use mir.Val.{Val, vint, vptr, vstruct, vcons, vnil, has_ty, WT}
-use mir.MapTy.{inst_fn}
-use base.Logic.{emp, SProp, ent, id⊢}
-use base.Fml.{ftrue, fsep, fex}
-use prog.Wp.{WpFn}
-use types.Kit.{‵, raw, ◌⊛◌, ◌$◌, ◌∵◌, !, qed, by, move, keep, drop, split, fsplit, fjoin, fjoin3, fpack, use0, rewrite, feq_i, flt_i, suffices}
-use types.Run.{lit, of_opd, no_more, and_then, returns, enter}
-use types.ByLocal.{alloc_all, pass_all, free_all, look_at, get, sets}
-use types.Part.{agg}
-use contract.Running.{tables}
-use contract.Monad.{fact, fact_i}
-use denote.Exit.{yes, no}
-use denote.RattleType.{RattleType, Valss, owns}
-use denote.Signature.{types_at, plain}
-use denote.Steps.{nothing, heard}
-use denote.Laws.{Typed}
-use denote.Param.{param, layout, bounded}
-use denote.Param.Laws.{param_laws}
-use denote.Builtin.{RefOf, u64}
+use Rattle.dash_shard.proofs.Walking.{[], ◌++◌, ◌≡◌, ℕ, ◌^◌, ◌&&◌, T, true, List, ◌∷◌, sym, refl, subst, lit<, w64, and_tt, dcons, dnil, a_type, Val, vint, vptr, vstruct, vcons, vnil, has_ty, WT, inst_fn, emp, SProp, ent, id⊢, ftrue, fsep, fex, WpFn, ‵, raw, ◌⊛◌, ◌$◌, ◌∵◌, !, qed, by, move, keep, drop, split, fsplit, fjoin, fjoin3, fpack, use0, rewrite, feq_i, flt_i, suffices, lit, of_opd, no_more, and_then, returns, enter, alloc_all, pass_all, free_all, look_at, get, sets, agg, tables, fact, fact_i, yes, no, RattleType, Valss, owns, types_at, plain, nothing, heard, Typed, param, layout, bounded, param_laws, RefOf, u64, alive, Stays, stay_dropped, walk_of, Goes-dropped, El, lawful, Good, one, proved_at, leaves}
 use denote.Struct.Struct.{within}
-use denote.Triple.Entry.{alive}
-use denote.Triple.Walked.{Stays, stay_dropped, walk_of, Goes-dropped}
-use Rattle.core.proofs.mem.Param.{El, lawful, Good, one}
-use Rattle.std.proofs.raw_atomic.Walks.{proved_at, leaves}
 use Rattle.dash_shard.specs.contracts.lock.RwLock as lock
 use Rattle.dash_shard.specs.contracts.lock.RwLock.TheInside as inside
 use Rattle.dash_shard.specs.contracts.lock.RwLock.new.{ended, clauses}

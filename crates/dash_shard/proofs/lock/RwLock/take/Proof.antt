@@ -1,37 +1,5 @@
 -- `take` is one compare-exchange, and the hold has what it gained.
-use Rattle.std.proofs.Common.{◌≡◌, ℕ, ◌+◌, ◌<◌, List, [], ◌∷◌, ◌++◌, refl, lit<, w64}
-use Rattle.std.proofs.ResultValues.{and_tt}
-use Rattle.std.specs.Prelude.{OnOk, OnErr}
-use mir.Syntax.{dcons, dnil, a_type, named}
-use mir.Val.{Val, vint, vptr, vstruct, vcons, vnil, of_list}
-use mir.MapTy.{inst_fn}
-use base.Logic.{emp, SProp, wand, via, apply∗}
-use base.Fml.{Lft, Share, Fml, ftrue, fsep, feq, flft, fbor, finv}
-use base.Before.{before}
-use types.Kit.{‵, raw, ◌⊛◌, some, later, mean, at_ret, ◌$◌, ◌∵◌, !, qed, by, move, keep, drop, split, join, fsplit, fjoin, fjoin3, fpick, fpack, pick, learn, use0, use1, use2, use3, await, feq_i}
-use types.Run.{stop, fld, addr, lit, of_opd, no_more, and_then, first, blocks, exec, Calls-last, returns, enter}
-use types.ByLocal.{alloc_all, pass_all, free_all, look_at, get, through, sets, lands_last, env}
-use types.Part.{agg}
-use types.Na.{before_dup}
-use contract.Running.{tables}
-use contract.Monad.{fact, fact_i}
-use contract.Shared.{Lends-one}
-use denote.Exit.{yes}
-use denote.RattleType.{RattleType, Valss, owns}
-use denote.Signature.{types_at, plain, named_lft}
-use denote.RawPtr.{Ptr, block_ptr}
-use denote.Steps.{nothing, heard}
-use denote.Opens.{unhide}
-use denote.Param.{param, bounded}
-use denote.Param.Laws.{param_laws}
-use denote.Builtin.{RefOf, u64}
-use denote.Ref.{shr_vals, shr_Tells}
-use denote.Plain.{uint_vals, uint_Tells}
-use denote.Triple.Walked.{Stays, stay_dropped, walk_of, Goes-dropped}
-use Rattle.core.proofs.atomic.Steps.{tail}
-use Rattle.std.proofs.raw_atomic.Walks.{proved, leaves}
-use Rattle.std.proofs.raw_atomic.Calls.{fm, seq_cst}
-use Rattle.core.specs.Sync.RawAtomic.{word_found}
+use Rattle.dash_shard.proofs.Walking.{[], ◌++◌, ◌≡◌, ℕ, ◌+◌, ◌<◌, List, ◌∷◌, refl, lit<, w64, and_tt, OnOk, OnErr, dcons, dnil, a_type, named, Val, vint, vptr, vstruct, vcons, vnil, of_list, inst_fn, emp, SProp, wand, via, apply∗, Lft, Share, Fml, ftrue, fsep, feq, flft, fbor, finv, before, ‵, raw, ◌⊛◌, some, later, mean, at_ret, ◌$◌, ◌∵◌, !, qed, by, move, keep, drop, split, join, fsplit, fjoin, fjoin3, fpick, fpack, pick, learn, use0, use1, use2, use3, await, feq_i, stop, fld, addr, lit, of_opd, no_more, and_then, first, blocks, exec, Calls-last, returns, enter, alloc_all, pass_all, free_all, look_at, get, through, sets, lands_last, env, agg, before_dup, tables, fact, fact_i, Lends-one, yes, RattleType, Valss, owns, types_at, plain, named_lft, Ptr, block_ptr, nothing, heard, unhide, param, bounded, param_laws, RefOf, u64, shr_vals, shr_Tells, uint_vals, uint_Tells, Stays, stay_dropped, walk_of, Goes-dropped, tail, proved, leaves, fm, seq_cst, word_found}
 use Rattle.dash_shard.proofs.Exchanging.{Found, exchanged, exchanges, on_ok, on_err}
 use Rattle.dash_shard.specs.Holding.{IsTake, Gains, Fixed, Inv, kept, right_to}
 use Rattle.dash_shard.specs.contracts.lock.RwLock as lock

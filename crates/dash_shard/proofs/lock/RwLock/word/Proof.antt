@@ -1,30 +1,5 @@
 -- `word` is one load, which leaves the lock as it is.
-use Rattle.std.proofs.Common.{ℕ, ◌+◌, ◌^◌, List, [], ◌∷◌, refl, lit<, w64}
-use mir.Syntax.{dcons, dnil, a_type, named}
-use mir.Val.{Val, vint, vptr}
-use mir.MapTy.{inst_fn}
-use base.Logic.{emp, SProp, wand, via, apply∗}
-use base.Fml.{Lft, Share, Fml, ftrue, fsep, flft}
-use types.Kit.{‵, raw, ◌⊛◌, some, later, mean, at_ret, ◌$◌, ◌∵◌, !, qed, by, move, keep, split, join, fsplit, fpick, pick, use2, use3, await, feq_i, flt_i, fjoin}
-use types.Run.{stop, fld, addr, lit, of_opd, no_more, and_then, first, blocks, exec, Calls-last, returns, enter}
-use types.ByLocal.{alloc_all, pass_all, free_all, look_at, get, through, sets, lands_last, env}
-use types.Part.{agg}
-use contract.Running.{tables}
-use contract.Monad.{fact}
-use contract.Shared.{Lends-one}
-use denote.Exit.{yes}
-use denote.RattleType.{RattleType, owns}
-use denote.Signature.{types_at, plain}
-use denote.RawPtr.{block_ptr}
-use denote.Steps.{nothing}
-use denote.Opens.{unhide}
-use denote.Param.{param, bounded}
-use denote.Builtin.{RefOf}
-use denote.Ref.{shr_vals, shr_Tells}
-use denote.Triple.Walked.{Stays, stay_dropped, walk_of, Goes-dropped}
-use Rattle.core.proofs.atomic.Steps.{tail}
-use Rattle.std.proofs.raw_atomic.Walks.{proved, leaves}
-use Rattle.std.proofs.raw_atomic.Calls.{fm, seq_cst, found, finds, loads}
+use Rattle.dash_shard.proofs.Walking.{[], ℕ, ◌+◌, ◌^◌, List, ◌∷◌, refl, lit<, w64, dcons, dnil, a_type, named, Val, vint, vptr, inst_fn, emp, SProp, wand, via, apply∗, Lft, Share, Fml, ftrue, fsep, flft, ‵, raw, ◌⊛◌, some, later, mean, at_ret, ◌$◌, ◌∵◌, !, qed, by, move, keep, split, join, fsplit, fpick, pick, use2, use3, await, feq_i, flt_i, fjoin, stop, fld, addr, lit, of_opd, no_more, and_then, first, blocks, exec, Calls-last, returns, enter, alloc_all, pass_all, free_all, look_at, get, through, sets, lands_last, env, agg, tables, fact, Lends-one, yes, RattleType, owns, types_at, plain, block_ptr, nothing, unhide, param, bounded, RefOf, shr_vals, shr_Tells, Stays, stay_dropped, walk_of, Goes-dropped, tail, proved, leaves, fm, seq_cst, found, finds, loads}
 use Rattle.dash_shard.specs.contracts.lock.RwLock as lock
 use Rattle.dash_shard.proofs.WordSteps as steps
 use Rattle.dash_shard.specs.contracts.lock.RwLock.word.{ended, clauses}

@@ -1,14 +1,5 @@
 -- A `&` to a hold holds what it sees. Assumes `Logic`.
-use mathlib.Core.List.{[], ◌++◌}
-use base.Fml.{Incl-trans}
-use contract.BorrowLft.{meet_⊑_left, meet_⊑_right}
-use denote.RattleType.{RattleType}
-use denote.Ref.{NamedLft, ShrRef}
-use denote.Param.Laws.{Laws}
-use denote.Param.Shared.{copy_shared}
-use denote.Struct.Field.{RawPtr-field}
-use denote.Struct.Laws.{RawPtr-copy, field_copy}
-use denote.Struct.Lending.{of_Lends}
+use Rattle.dash_shard.proofs.Walking.{[], ◌++◌, Incl-trans, meet_⊑_left, meet_⊑_right, RattleType, NamedLft, ShrRef, Laws, copy_shared, RawPtr-field, RawPtr-copy, field_copy, of_Lends}
 use Rattle.core.specs.contracts.marker.PhantomData as P
 use Rattle.dash_shard.specs.declared.lock.Tagged.{Ghosts}
 use Rattle.dash_shard.specs.contracts.lock.hold.Hold as C

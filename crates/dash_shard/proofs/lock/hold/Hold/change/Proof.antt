@@ -1,44 +1,6 @@
 -- `change` ends the writer's round, lends the value that comes back for one call, and begins another round with what the call left.
-use Rattle.std.proofs.Common.{◌≡◌, ℕ, ◌+◌, List, [], ◌∷◌, sym, refl, ap, ◌∙◌, subst}
-use mir.Syntax.{dcons, dnil, a_type, named}
-use mir.Val.{Val, vptr}
-use mir.MapTy.{inst_fn}
-use base.Fraction.{full_share}
-use base.Logic.{emp, SProp, ent, wand, apply∗, guard_i}
-use base.Fml.{Lft, Share, GName, ftrue, fsep, fex, flft, flent, fres, fbor, Incl-refl, Incl-trans}
-use base.Before.{before}
-use prog.Wp.{WpFn}
-use types.Logic.{sem}
-use types.SemTy.{Body}
-use types.Kit.{‵, raw, ◌⊛◌, some, given, later, at_ret, ◌$◌, ◌∵◌, !, qed, by, move, keep, drop, split, split3, join, fsplit, fsplit3, fjoin, fjoin3, fpick, fpack, pick, learn, use0, use1, use2, group, await, rewrite}
-use types.Run.{stop, fld, hop, addr, of_opd, no_more, and_then, first, blocks, exec, returns, enter}
-use types.ByLocal.{alloc_all, pass_all, free_all, look_at, get, through, sets, lands_last, env}
-use types.Part.{sub, whole, look_in}
-use types.Tokens.{bor_open, obor_close, name_agree, name_set}
-use types.Na.{before_dup}
-use contract.Running.{tables}
-use contract.Monad.{fact, fact_i, fact_use}
-use contract.BorrowLft.{◌⊑◌, meet_⊑_right}
-use contract.Shared.{Lends-one}
-use denote.Exit.{no}
-use denote.Laws.{Is, shows}
-use denote.Memory.{cell_at, part_at, mem}
+use Rattle.dash_shard.proofs.Walking.{[], ◌≡◌, ℕ, ◌+◌, List, ◌∷◌, sym, refl, ap, ◌∙◌, subst, dcons, dnil, a_type, named, Val, vptr, inst_fn, full_share, emp, SProp, ent, wand, apply∗, guard_i, Lft, Share, GName, ftrue, fsep, fex, flft, flent, fres, fbor, Incl-refl, Incl-trans, before, WpFn, sem, Body, ‵, raw, ◌⊛◌, some, given, later, at_ret, ◌$◌, ◌∵◌, !, qed, by, move, keep, drop, split, split3, join, fsplit, fsplit3, fjoin, fjoin3, fpick, fpack, pick, learn, use0, use1, use2, group, await, rewrite, stop, fld, hop, addr, of_opd, no_more, and_then, first, blocks, exec, returns, enter, alloc_all, pass_all, free_all, look_at, get, through, sets, lands_last, env, sub, whole, look_in, bor_open, obor_close, name_agree, name_set, before_dup, tables, fact, fact_i, fact_use, ◌⊑◌, meet_⊑_right, Lends-one, no, Is, shows, cell_at, part_at, mem, param, bounded, always_once, param_laws, RattleType, owns, Ptr, InBlock, block_ptr, block_of, count_of, at_block, mut_vals, mut_Tells, types_at, plain, named_lft, nothing, peeks, heard, opens, closes, calls_at_last, Stays, stay_dropped, stay_ref, walk_of, Goes-dropped, Goes-ref, tail, El, lawful, Good, one, FnOnceReturnsAtMut, proved_at, leaves, fm}
 use denote.MutBor.{MutBor}
-use denote.Param.{param, bounded}
-use denote.Param.Always.{always_once}
-use denote.Param.Laws.{param_laws}
-use denote.RattleType.{RattleType, owns}
-use denote.RawPtr.{Ptr, InBlock, block_ptr, block_of, count_of, at_block}
-use denote.Ref.{mut_vals, mut_Tells}
-use denote.Signature.{types_at, plain, named_lft}
-use denote.Steps.{nothing, peeks, heard, opens, closes}
-use denote.Triple.Call.{calls_at_last}
-use denote.Triple.Walked.{Stays, stay_dropped, stay_ref, walk_of, Goes-dropped, Goes-ref}
-use Rattle.core.proofs.atomic.Steps.{tail}
-use Rattle.core.proofs.mem.Param.{El, lawful, Good, one}
-use Rattle.core.specs.Fn.{FnOnceReturnsAtMut}
-use Rattle.std.proofs.raw_atomic.Walks.{proved_at, leaves}
-use Rattle.std.proofs.raw_atomic.Calls.{fm}
 use Rattle.dash_shard.specs.Holding.{Fixed, offset, at_home, cell, begun, writer, kept, hold_owns}
 use Rattle.dash_shard.specs.contracts.lock.hold.Hold as hold
 use Rattle.dash_shard.proofs.lock.hold.apply.Met as apply
