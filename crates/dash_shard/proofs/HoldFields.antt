@@ -1,5 +1,5 @@
 -- The data fields of a `Hold`. Assumes `Logic`.
-use Rattle.dash_shard.proofs.Walking.{[], ◌++◌, ◌≡◌, ℕ, T, List, ◌∷◌, refl, ap, ◌∙◌, Ura, ty_ptr, ty_struct, tcons, tnil, Val, vstruct, vcons, vnil, of_list, has_ty, WT, ent, emp, never_e, Lft, fact, fact_i, Logic, sem, RattleType, Is, NamedLft, ShrRef, Opens, Struct-Copied, Ptr, InBlock, block_ptr, null_ptr, ptr_val, makes_shadow, RawPtr-copy, field_copy, Struct, shape}
+use Rattle.dash_shard.proofs.Walking.{Share, Item, flft, wand, guard, guard_i, ‵, raw, ◌⊛◌, some, later, [], ◌++◌, ◌≡◌, ℕ, T, List, ◌∷◌, refl, ap, ◌∙◌, Ura, ty_ptr, ty_struct, tcons, tnil, Val, vstruct, vcons, vnil, of_list, has_ty, WT, ent, emp, never_e, Lft, Logic, sem, RattleType, Is, NamedLft, ShrRef, Opens, Struct-Copied, Ptr, InBlock, block_ptr, null_ptr, ptr_val, makes_shadow, RawPtr-copy, field_copy, Struct, shape}
 use Rattle.core.specs.contracts.marker.PhantomData as marker
 use Rattle.dash_shard.specs.declared.lock.Tagged.{Ghosts}
 use Rattle.dash_shard.specs.Holding.{hold_owns, hold_shares}
@@ -25,11 +25,16 @@ module _ (a : NamedLft) (R G : RattleType) (g : Ghosts R.Denot G.Denot) where
   pub opened : {M : Type 1} {𝓤 : Ura M} (𝓛 : Logic 𝓤) → Opens 𝓛 Words
   opened {M} {𝓤 = 𝓤} 𝓛 = (Struct-Copied 𝓛 (shape (hold.the_type a R G g)) (refl, (refl, tt)) (RawPtr-copy.copied M 𝓤 𝓛, ((field_copy (marker.the_type (ShrRef a.mir a.lft R)) tt).copied M 𝓤 𝓛, tt))).opens
 
+-- a share of the token of α, and the way back from it to that of β
+abbrev pub lent : {M : Type 1} {𝓤 : Ura M} (𝓛 : Logic 𝓤) → Lft → Lft → Share → Item 𝓤
+lent {𝓤 = 𝓤} 𝓛 α β q = later (some (λ (s : Share). ‵ (flft α s) ⊛ raw (wand 𝓤 (𝓛.A.lft α s) (𝓛.H.⇛ (𝓛.A.lft β q)))))
+
+-- a hold names a place
 module _ {M : Type 1} {𝓤 : Ura M} (𝓛 : Logic 𝓤) (β : Lft) (R : RattleType) (ok : R.Denot → Type 0) where
-  pub owns_placed : (p : Ptr) (right : ℕ) (x : R.Denot) → ent 𝓤 (sem 𝓛 (hold_owns β R ok p right x)) (fact 𝓤 (InBlock p))
-  owns_placed (block_ptr b o) right x = fact_i 𝓤 (Unit {0}) _ tt
+  pub owns_placed : (p : Ptr) (right : ℕ) (x : R.Denot) → ent 𝓤 (sem 𝓛 (hold_owns β R ok p right x)) (guard 𝓤 (InBlock p) (sem 𝓛 (hold_owns β R ok p right x)))
+  owns_placed (block_ptr b o) right x = guard_i 𝓤 (InBlock (block_ptr b o)) (sem 𝓛 (hold_owns β R ok (block_ptr b o) right x)) tt
   owns_placed null_ptr right x = never_e 𝓤 _
 
-  pub shares_placed : (p : Ptr) (right : ℕ) (x : R.Denot) (κ : Lft) → ent 𝓤 (sem 𝓛 (hold_shares β R ok p right x κ)) (fact 𝓤 (InBlock p))
-  shares_placed (block_ptr b o) right x κ = fact_i 𝓤 (Unit {0}) _ tt
+  pub shares_placed : (p : Ptr) (right : ℕ) (x : R.Denot) (κ : Lft) → ent 𝓤 (sem 𝓛 (hold_shares β R ok p right x κ)) (guard 𝓤 (InBlock p) (sem 𝓛 (hold_shares β R ok p right x κ)))
+  shares_placed (block_ptr b o) right x κ = guard_i 𝓤 (InBlock (block_ptr b o)) (sem 𝓛 (hold_shares β R ok (block_ptr b o) right x κ)) tt
   shares_placed null_ptr right x κ = never_e 𝓤 _

@@ -23,7 +23,7 @@ pub use base.Logic.{SProp, all_e, apply∗, emp, ent, ex, ex_i, guard, guard_i, 
 pub use base.SetCodes.{SetCoded-set, coded}
 pub use base.Stored.{coded_ℕ, gnum}
 pub use contract.BorrowLft.{meet_⊑_left, meet_⊑_right, ⊑_meet, ⊑_refl, ⊑_static, ◌⊑◌}
-pub use contract.Monad.{Fun, fact, fact_i, fact_use}
+pub use contract.Monad.{Fun, fact, fact_i}
 pub use contract.Running.{Running, tables}
 pub use contract.Shared.{Lends-one}
 pub use denote.Builtin.{RefMutOf, RefOf, u64}

@@ -1,8 +1,8 @@
 //! The reader-writer lock round each shard: a value in place beside one word.
 //!
-//! The word is 0 where nobody holds the lock, r for r readers, at most 2^62 - 2, and 2^64 - 1 for a writer. It changes in four kinds
-//! of atomic step: a reader takes its place and a writer the whole lock by a compare-exchange, a reader goes by a subtraction and
-//! a writer by a swap to 0. Only what waits needs the right to wait.
+//! The word is 0 where nobody has the lock, r for r readers, at most 2^62 - 2, and 2^64 - 1 for a writer. It changes in four kinds of
+//! atomic step: a reader takes its place and a writer the whole lock by a compare-exchange, a reader goes by a subtraction and a writer
+//! by a swap to 0. Whoever can't have the lock turns: it pauses, for longer each time, and then yields the processor.
 ghost use Rattle.std.specs.Prelude.{◌≡◌, IfOk, IfSome};
 ghost use Rattle.std.specs.Fn.{FnOnceReturnsAtMut};
 ghost use Rattle.dash_shard.specs.Holding.{lock_owns, lock_shares};
@@ -40,7 +40,8 @@ pub trait Tagged {
 
 /// A value behind a reader-writer lock, as the original's `RwLock` over its `RawRwLock`. A contract sees a lock as its tag.
 ///
-/// Nothing is said of who gets the lock first, nor that a call that waits returns. A guard that is leaked keeps the lock held for good.
+/// Nothing is said of who gets the lock first, nor that a call that waits returns: a thread that has a guard and waits for a second one
+/// may wait for itself. A guard that is leaked keeps its hold for good, and leaves the lock safe to use and to drop.
 pub struct RwLock<T: Tagged> {
     word: u64,
     value: T,
@@ -69,7 +70,7 @@ impl<T: Tagged + Drop> Drop for RwLock<T> {
 }
 
 impl<T: Tagged> RwLock<T> {
-    /// A lock that nobody holds. The original's `new` has no tag.
+    /// A lock that nobody has. The original's `new` takes no tag.
     #[inline]
     pub fn new(value: T, tag: &T::Tag) -> RwLock<T>
         requires fits { T.fits tag.now value }
@@ -79,7 +80,7 @@ impl<T: Tagged> RwLock<T> {
         RwLock { word: 0, value }
     }
 
-    /// The value. It needs no lock, and a guard that was leaked is no hindrance.
+    /// The value. It waits for nobody, even where a guard was leaked.
     #[inline]
     pub fn into_inner(self) -> T
         ensures fits { T.fits self result }
@@ -88,7 +89,7 @@ impl<T: Tagged> RwLock<T> {
         value
     }
 
-    /// Lends the value for reading, as the original's `get_mut` does for writing. It needs no lock.
+    /// Lends the value for reading, as the original's `get_mut` does for writing. It waits for nobody.
     #[inline]
     pub fn get(&mut self) -> &T
         ensures fits { T.fits self.old result.now }
@@ -96,7 +97,7 @@ impl<T: Tagged> RwLock<T> {
         &self.value
     }
 
-    /// Waits until no writer holds the lock and there is room for a reader, and holds it for reading.
+    /// Waits until no writer has the lock, as the original's `read`, whose waiters sleep. Where the most readers have it, this waits too.
     #[inline]
     pub fn read<R: Wait + Clock>(&self, rt: &R) -> RwLockReadGuard<'_, T>
         ensures tag { result.tag ≡ self.now }
@@ -108,7 +109,7 @@ impl<T: Tagged> RwLock<T> {
         }
     }
 
-    /// Waits until nobody holds the lock, and holds it for writing.
+    /// Waits until nobody has the lock, as the original's `write`, whose waiters sleep.
     #[inline]
     pub fn write<R: Wait + Clock>(&self, rt: &R) -> RwLockWriteGuard<'_, T>
         ensures tag { result.tag ≡ self.now }
@@ -120,7 +121,7 @@ impl<T: Tagged> RwLock<T> {
         }
     }
 
-    /// Holds the lock for reading, if it can be had by eight exchanges. `None` says nothing of who has it.
+    /// Takes the lock for reading, as the original's `try_read`, if at most eight exchanges do it. `None` says nothing of who has it.
     #[inline]
     pub fn try_read(&self) -> Option<RwLockReadGuard<'_, T>>
         ensures tag { IfSome result (λ guard. guard.tag ≡ self.now) }
@@ -132,7 +133,7 @@ impl<T: Tagged> RwLock<T> {
         }
     }
 
-    /// Holds the lock for writing, if one exchange finds it free. `None` says nothing of who has it.
+    /// Takes the lock for writing, as the original's `try_write`, if one exchange does it. `None` says nothing of who has it.
     #[inline]
     pub fn try_write(&self) -> Option<RwLockWriteGuard<'_, T>>
         ensures tag { IfSome result (λ guard. guard.tag ≡ self.now) }
@@ -146,7 +147,7 @@ impl<T: Tagged> RwLock<T> {
         None
     }
 
-    /// One reader more by one exchange, where the word is still `seen`. Else the word that was found.
+    /// One reader more by at most one exchange, if the word is still `seen`. Else the word as it was found.
     #[inline]
     fn read_once(&self, seen: u64) -> Result<RwLockReadGuard<'_, T>, u64>
         ensures tag { IfOk result (λ guard. guard.tag ≡ self.now) }
@@ -224,9 +225,9 @@ impl<T: Tagged> RwLock<T> {
     }
 }
 
-/// A hold for reading, which ends when the guard is dropped. While it is there the value stays as it is.
+/// The right to read, as the original's `RwLockReadGuard`: it ends when the guard is dropped, and till then the value stays as it is.
 ///
-/// To end it needs no right to wait, and can't fail. A contract sees a guard as the lock's tag and the value.
+/// To drop it takes one atomic step, which waits for nobody and can't fail. A contract sees a guard as the lock's tag and the value.
 pub struct RwLockReadGuard<'a, T: Tagged> {
     hold: Hold<'a, T>,
 }
@@ -263,10 +264,11 @@ impl<T: Tagged> Drop for RwLockReadGuard<'_, T> {
     }
 }
 
-/// A hold for writing, which ends when the guard is dropped. While it is there the value changes by the guard's own calls alone.
+/// The right to read and to replace, as the original's `RwLockWriteGuard`: it ends when the guard is dropped, and till then the value
+/// changes by the guard's own calls alone.
 ///
-/// It lends the value for reading only, where the original's guard lends it for writing too: a new value comes by `replace`.
-/// To end it needs no right to wait, and can't fail. A contract sees a guard as the lock's tag and the value.
+/// The original's guard lends the value for writing. This one doesn't, so that each value fits the tag, also after a guard was leaked.
+/// To drop it takes one atomic step, which waits for nobody and can't fail. A contract sees a guard as the lock's tag and the value.
 pub struct RwLockWriteGuard<'a, T: Tagged> {
     hold: Hold<'a, T>,
 }
@@ -305,12 +307,12 @@ impl<T: Tagged> RwLockWriteGuard<'_, T> {
         ensures tag { self.new.tag ≡ self.old.tag }
         ensures value { self.new.value ≡ new }
     {
-        // The closure runs, and takes it.
+        // The closure takes it out again, so nothing is leaked.
         let new = unsafe { ManuallyDrop::new_unchecked(new) };
         self.change(|value: &mut T| -> T { mem::replace(value, ManuallyDrop::into_inner(new)) })
     }
 
-    /// Calls `f` on the value, in place: nothing moves. What `f` leaves has to fit.
+    /// Calls `f` on the value in place, so that nothing moves. What `f` leaves has to fit.
     #[inline]
     pub(crate) fn change<R, F: FnOnce(&mut T) -> R>(&mut self, f: F) -> R
         requires callable { F.IsAlwaysCallable f }

@@ -1,4 +1,4 @@
-//! The lock's atomic steps, and what they gain: a hold. Each is proved by hand.
+//! What is raw in the lock: the atomic steps on its word, and a hold's way to the value. Each such function has a proof by hand.
 ghost use Rattle.std.specs.Prelude.{◌≡◌, ℕ, ◌<◌, OnOk, OnErr};
 ghost use Rattle.std.specs.Fn.{FnOnceReturnsAtMut};
 ghost use Rattle.dash_shard.specs.Holding.{hold_owns, hold_shares, IsTake, Gains};
@@ -8,7 +8,7 @@ use std::marker::{Brand, Model, PhantomData};
 use std::sync::atomic::Ordering::SeqCst;
 use std::sync::atomic::raw;
 
-/// What a take gained: `right` is 0 for nothing, 1 to read and 2 to write. It has to be given back by the call that fits.
+/// What a take gained: `right` is 0 for nothing, 1 to read and 2 to write. It has no `Drop`: `done`, `leave` or `open` ends it.
 pub struct Hold<'a, T: Tagged> {
     lock: *const RwLock<T>,
     marker: PhantomData<&'a T>,

@@ -1,10 +1,10 @@
 -- `take` is one compare-exchange, and the hold has what it gained.
-use Rattle.dash_shard.proofs.Walking.{[], ◌++◌, ◌≡◌, ℕ, ◌+◌, ◌<◌, List, ◌∷◌, refl, lit<, w64, and_tt, OnOk, OnErr, dcons, dnil, a_type, named, Val, vint, vptr, vstruct, vcons, vnil, of_list, inst_fn, emp, SProp, wand, via, apply∗, Lft, Share, Fml, ftrue, fsep, feq, flft, fbor, finv, before, ‵, raw, ◌⊛◌, some, later, mean, at_ret, ◌$◌, ◌∵◌, !, qed, by, move, keep, drop, split, join, fsplit, fjoin, fjoin3, fpick, fpack, pick, learn, use0, use1, use2, use3, await, feq_i, stop, fld, addr, lit, of_opd, no_more, and_then, first, blocks, exec, Calls-last, returns, enter, alloc_all, pass_all, free_all, look_at, get, through, sets, lands_last, env, agg, before_dup, tables, fact, fact_i, Lends-one, yes, RattleType, Valss, owns, types_at, plain, named_lft, Ptr, block_ptr, nothing, heard, unhide, param, bounded, param_laws, RefOf, u64, shr_vals, shr_Tells, uint_vals, uint_Tells, Stays, stay_dropped, walk_of, Goes-dropped, tail, proved, leaves, fm, seq_cst, word_found}
+use Rattle.dash_shard.proofs.Walking.{[], ◌++◌, ◌≡◌, ℕ, ◌+◌, ◌<◌, List, ◌∷◌, refl, lit<, w64, and_tt, OnOk, OnErr, dcons, dnil, a_type, named, Val, vint, vptr, vstruct, vcons, vnil, of_list, inst_fn, emp, SProp, via, apply∗, Lft, Share, Fml, ftrue, fsep, feq, flft, fbor, finv, before, ‵, raw, ◌⊛◌, later, mean, at_ret, ◌$◌, ◌∵◌, !, qed, by, move, keep, drop, split, join, fsplit, fjoin, fjoin3, fpick, fpack, pick, learn, use0, use1, use2, use3, await, feq_i, stop, fld, addr, lit, of_opd, no_more, and_then, first, blocks, exec, Calls-last, returns, enter, alloc_all, pass_all, free_all, look_at, get, through, sets, lands_last, env, agg, before_dup, tables, fact, fact_i, Lends-one, yes, RattleType, Valss, owns, types_at, plain, named_lft, Ptr, block_ptr, nothing, heard, unhide, param, bounded, param_laws, RefOf, u64, shr_vals, shr_Tells, uint_vals, uint_Tells, Stays, stay_dropped, walk_of, Goes-dropped, tail, proved, leaves, fm, seq_cst, word_found}
 use Rattle.dash_shard.proofs.Exchanging.{Found, exchanged, exchanges, on_ok, on_err}
 use Rattle.dash_shard.specs.Holding.{IsTake, Gains, Fixed, Inv, kept, right_to}
 use Rattle.dash_shard.specs.contracts.lock.RwLock as lock
 use Rattle.dash_shard.specs.contracts.lock.hold.Hold as hold
-use Rattle.dash_shard.proofs.HoldFields.{bits_of, Words, made}
+use Rattle.dash_shard.proofs.HoldFields.{lent, bits_of, Words, made}
 use Rattle.dash_shard.proofs.WordSteps as steps
 use Rattle.dash_shard.specs.contracts.lock.RwLock.take.{ended, clauses}
 use Rattle.dash_shard.specs.contracts.lock.RwLock.take.Key.{name as #self}
@@ -27,7 +27,7 @@ take_spec 𝓤 𝓛 𝓜 𝓡 wired X Y L _ g d _ =
     enter ! 𝓣.C 𝓣.Λ fn us Post $ alloc_all ! (λ l. pass_all ! refl ((tt, tt), ((tt, record { fits = fits }), ((tt, record { fits = fits' }), tt))) $ let Ev = env fn.locals l in
     -- [what the lock keeps; κ; the other tokens]
     unhide ! $ fpick ! (λ t. let J : Fml = fbor t.life (Inv R ok b o t) in fsplit ! $ use1 𝓛 (‵ (before κ t.life) ⊛ ‵ (before κ t.life)) (before_dup 𝓛 κ t.life) $ split ! $ move ! (2 ∷ []) $
-    use1 𝓛 (‵ (finv J) ⊛ ‵ (finv J)) (𝓛.invs.inv_dup J) $ split ! $ move ! (2 ∷ 0 ∷ []) $ fjoin ! $ move ! (2 ∷ 3 ∷ []) $ use2 𝓛 (later (some (λ (s : Share). ‵ (flft t.life s) ⊛ raw (wand 𝓤 (𝓛.A.lft t.life s) (H.⇛ (𝓛.A.lft κ q)))))) (Lends-one 𝓛 𝓜 𝓡 κ t.life q) $ await ! tt $ pick ! (λ s. split ! $
+    use1 𝓛 (‵ (finv J) ⊛ ‵ (finv J)) (𝓛.invs.inv_dup J) $ split ! $ move ! (2 ∷ 0 ∷ []) $ fjoin ! $ move ! (2 ∷ 3 ∷ []) $ use2 𝓛 (lent 𝓛 t.life κ q) (Lends-one 𝓛 𝓜 𝓡 κ t.life q) $ await ! tt $ pick ! (λ s. split ! $
     let Gained : ℕ → Fml = steps.Gained 𝓛 R ok b o t s LR.shr_laws old new asked in let after : ℕ → Fml = λ n. fsep (flft t.life s) (Gained n) in
     -- [the lock's token; the way back; what the lock keeps; the invariant; the other tokens]
     first ! $ blocks ! $ sets ! (addr ! (through ! refl (fld ! refl (stop !)))) refl (tt, tt) $ sets ! (agg ! (and_then ! (lit ! tt) (no_more !))) refl (tt, (record { fits = lit< tt }, tt)) $ sets ! (agg ! (and_then ! (lit ! tt) (no_more !))) refl (tt, (record { fits = lit< tt }, tt)) $

@@ -1,6 +1,7 @@
 -- `word` is one load, which leaves the lock as it is.
-use Rattle.dash_shard.proofs.Walking.{[], ℕ, ◌+◌, ◌^◌, List, ◌∷◌, refl, lit<, w64, dcons, dnil, a_type, named, Val, vint, vptr, inst_fn, emp, SProp, wand, via, apply∗, Lft, Share, Fml, ftrue, fsep, flft, ‵, raw, ◌⊛◌, some, later, mean, at_ret, ◌$◌, ◌∵◌, !, qed, by, move, keep, split, join, fsplit, fpick, pick, use2, use3, await, feq_i, flt_i, fjoin, stop, fld, addr, lit, of_opd, no_more, and_then, first, blocks, exec, Calls-last, returns, enter, alloc_all, pass_all, free_all, look_at, get, through, sets, lands_last, env, agg, tables, fact, Lends-one, yes, RattleType, owns, types_at, plain, block_ptr, nothing, unhide, param, bounded, RefOf, shr_vals, shr_Tells, Stays, stay_dropped, walk_of, Goes-dropped, tail, proved, leaves, fm, seq_cst, found, finds, loads}
+use Rattle.dash_shard.proofs.Walking.{[], ℕ, ◌+◌, ◌^◌, List, ◌∷◌, refl, lit<, w64, dcons, dnil, a_type, named, Val, vint, vptr, inst_fn, emp, SProp, via, apply∗, Lft, Share, Fml, ftrue, fsep, flft, ‵, raw, ◌⊛◌, later, mean, at_ret, ◌$◌, ◌∵◌, !, qed, by, move, keep, split, join, fsplit, fpick, pick, use2, use3, await, feq_i, flt_i, fjoin, stop, fld, addr, lit, of_opd, no_more, and_then, first, blocks, exec, Calls-last, returns, enter, alloc_all, pass_all, free_all, look_at, get, through, sets, lands_last, env, agg, tables, fact, Lends-one, yes, RattleType, owns, types_at, plain, block_ptr, nothing, unhide, param, bounded, RefOf, shr_vals, shr_Tells, Stays, stay_dropped, walk_of, Goes-dropped, tail, proved, leaves, fm, seq_cst, found, finds, loads}
 use Rattle.dash_shard.specs.contracts.lock.RwLock as lock
+use Rattle.dash_shard.proofs.HoldFields.{lent}
 use Rattle.dash_shard.proofs.WordSteps as steps
 use Rattle.dash_shard.specs.contracts.lock.RwLock.word.{ended, clauses}
 use Rattle.dash_shard.specs.contracts.lock.RwLock.word.Key.{name as #self}
@@ -19,7 +20,7 @@ word_spec 𝓤 𝓛 𝓜 𝓡 wired X Y L _ g d _ =
     keep ! (0 ∷ []) $ split ! $ split ! $ move ! (2 ∷ []) $ fsplit ! $ fsplit ! $ keep ! (1 ∷ 3 ∷ 4 ∷ []) $
     enter ! 𝓣.C 𝓣.Λ fn (vptr b o ∷ []) Post $ alloc_all ! (λ l. pass_all ! refl ((tt, tt), tt) $ let Ev = env fn.locals l in
     -- [what the lock keeps; κ; the other tokens]
-    unhide ! $ fpick ! (λ t. fsplit ! $ move ! (0 ∷ 2 ∷ []) $ use2 𝓛 (later (some (λ (s : Share). ‵ (flft t.life s) ⊛ raw (wand 𝓤 (𝓛.A.lft t.life s) (H.⇛ (𝓛.A.lft κ q)))))) (Lends-one 𝓛 𝓜 𝓡 κ t.life q) $ await ! tt $ pick ! (λ s. split ! $
+    unhide ! $ fpick ! (λ t. fsplit ! $ move ! (0 ∷ 2 ∷ []) $ use2 𝓛 (lent 𝓛 t.life κ q) (Lends-one 𝓛 𝓜 𝓡 κ t.life q) $ await ! tt $ pick ! (λ s. split ! $
     let after : ℕ → Fml = λ n. fsep (flft t.life s) ftrue in
     -- [the lock's token; the way back; the invariant; the other tokens]
     first ! $ blocks ! $ sets ! (addr ! (through ! refl (fld ! refl (stop !)))) refl (tt, tt) $ sets ! (agg ! (and_then ! (lit ! tt) (no_more !))) refl (tt, (record { fits = lit< tt }, tt)) $

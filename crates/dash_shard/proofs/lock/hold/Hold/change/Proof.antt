@@ -1,11 +1,11 @@
 -- `change` ends the writer's round, lends the value that comes back for one call, and begins another round with what the call left.
-use Rattle.dash_shard.proofs.Walking.{[], ◌≡◌, ℕ, ◌+◌, List, ◌∷◌, sym, refl, ap, ◌∙◌, subst, dcons, dnil, a_type, named, Val, vptr, inst_fn, full_share, emp, SProp, ent, wand, apply∗, guard_i, Lft, Share, GName, ftrue, fsep, fex, flft, flent, fres, fbor, Incl-refl, Incl-trans, before, WpFn, sem, Body, ‵, raw, ◌⊛◌, some, given, later, at_ret, ◌$◌, ◌∵◌, !, qed, by, move, keep, drop, split, split3, join, fsplit, fsplit3, fjoin, fjoin3, fpick, fpack, pick, learn, use0, use1, use2, group, await, rewrite, stop, fld, hop, addr, of_opd, no_more, and_then, first, blocks, exec, returns, enter, alloc_all, pass_all, free_all, look_at, get, through, sets, lands_last, env, sub, whole, look_in, bor_open, obor_close, name_agree, name_set, before_dup, tables, fact, fact_i, fact_use, ◌⊑◌, meet_⊑_right, Lends-one, no, Is, shows, cell_at, part_at, mem, param, bounded, always_once, param_laws, RattleType, owns, Ptr, InBlock, block_ptr, block_of, count_of, at_block, mut_vals, mut_Tells, types_at, plain, named_lft, nothing, peeks, heard, opens, closes, calls_at_last, Stays, stay_dropped, stay_ref, walk_of, Goes-dropped, Goes-ref, tail, El, lawful, Good, one, FnOnceReturnsAtMut, proved_at, leaves, fm}
+use Rattle.dash_shard.proofs.Walking.{[], ◌≡◌, ℕ, ◌+◌, List, ◌∷◌, sym, refl, ap, ◌∙◌, subst, dcons, dnil, a_type, named, Val, vptr, inst_fn, full_share, emp, SProp, ent, apply∗, Lft, Share, GName, ftrue, fsep, fex, flft, flent, fres, fbor, Incl-refl, Incl-trans, before, WpFn, Body, ‵, raw, ◌⊛◌, some, given, later, at_ret, ◌$◌, ◌∵◌, !, qed, by, move, keep, drop, split, split3, join, fsplit, fsplit3, fjoin, fjoin3, fpick, fpack, pick, learn, use0, use1, use2, group, await, rewrite, stop, fld, hop, addr, of_opd, no_more, and_then, first, blocks, exec, returns, enter, alloc_all, pass_all, free_all, look_at, get, through, sets, lands_last, env, sub, whole, look_in, bor_open, obor_close, name_agree, name_set, before_dup, tables, fact, fact_i, ◌⊑◌, meet_⊑_right, Lends-one, no, Is, shows, cell_at, part_at, mem, param, bounded, always_once, param_laws, RattleType, owns, Ptr, InBlock, block_ptr, block_of, count_of, at_block, mut_vals, mut_Tells, types_at, plain, named_lft, nothing, peeks, heard, opens, closes, calls_at_last, Stays, stay_dropped, stay_ref, walk_of, Goes-dropped, Goes-ref, tail, El, lawful, Good, one, FnOnceReturnsAtMut, proved_at, leaves, fm}
 use denote.MutBor.{MutBor}
 use Rattle.dash_shard.specs.Holding.{Fixed, offset, at_home, cell, begun, writer, kept, hold_owns}
 use Rattle.dash_shard.specs.contracts.lock.hold.Hold as hold
 use Rattle.dash_shard.proofs.lock.hold.apply.Met as apply
 use Rattle.dash_shard.proofs.Changing as changing
-use Rattle.dash_shard.proofs.HoldFields.{bits_of, told, owns_placed}
+use Rattle.dash_shard.proofs.HoldFields.{lent, bits_of, told, owns_placed}
 use Rattle.dash_shard.proofs.Rounds.{fresh, ended as round_ended}
 use Rattle.dash_shard.specs.contracts.lock.hold.Hold.change.{ended, clauses}
 use Rattle.dash_shard.specs.contracts.lock.hold.Hold.change.Key.{name as #self}
@@ -15,7 +15,7 @@ use Rattle.dash_shard.proofs.lock.hold.Hold.change.Code as code
 pub change_spec : {M : Type 1} → statement M
 change_spec 𝓤 𝓛 𝓜 𝓡 wired X Y Z W L _ LZ LW g d gf df dd _ meets_f meets_drop =
     let H = 𝓛.H in let 𝓣 = tables 𝓤 H 𝓜 𝓡 𝓡.env in let R : RattleType = param 0 X in let G : RattleType = param 1 Y in let En = ended X Y Z W g d gf df dd in let c = clauses X Y Z W g d gf df dd 𝓛 𝓜.mem 𝓡.returns in
-    let E : El = record { row = X; laws = L } in let EZ : El = record { row = Z; laws = LZ } in let EW : El = record { row = W; laws = LW } in
+    let EZ : El = record { row = Z; laws = LZ } in let EW : El = record { row = W; laws = LW } in
     let inst = bounded (a_type ∷ a_type ∷ a_type ∷ a_type ∷ []) (X, (Y, (Z, (W, tt)))) (dcons d (dcons df (dcons dd dnil))) in let fn = inst_fn inst code.function in let closed = code.unfolded 𝓤 H 𝓜 𝓡 wired (X, (Y, (Z, (W, tt)))) d df dd in let LR = param_laws 0 X L in
     let row = plain (λ κs. hold.the_row (named_lft 6 1 tt κs) R G g) in let item = plain (λ _. param 3 W) in
     let hs : Stays En.signature.params En.kept = (stay_ref (0 ∷ []) tt row, (stay_dropped item no, tt)) in
@@ -39,14 +39,14 @@ change_spec 𝓤 𝓛 𝓜 𝓡 wired X Y Z W L _ LZ LW g d gf df dd _ meets_f m
     -- [self; f; ρ; φ; τ; χ; κ; β]
     enter ! 𝓣.C 𝓣.Λ fn (vptr sb so ∷ vf ∷ []) Post $ alloc_all ! (λ l. pass_all ! refl ((tt, tt), (ff, tt)) $ let Ev = env fn.locals l in
     fsplit3 ! $ move ! (1 ∷ 2 ∷ 8 ∷ []) $ opens ! tt Hr sb so (λ us. move ! (1 ∷ []) $ peeks ! Hr (Is Hr) (shows 𝓛 Hr) h us (λ is_self. fsplit ! $ move ! (1 ∷ []) $
-    use1 𝓛 (given (InBlock p) (‵ (hold_owns β R ok p h.right x))) (fact_use 𝓤 _ (owns_placed 𝓛 β R ok p h.right x) (guard_i 𝓤 (InBlock p) (sem 𝓛 (hold_owns β R ok p h.right x)))) $ learn ! (λ inb. let at : p ≡ block_ptr b o = at_block p inb in
+    use1 𝓛 (given (InBlock p) (‵ (hold_owns β R ok p h.right x))) (owns_placed 𝓛 β R ok p h.right x) $ learn ! (λ inb. let at : p ≡ block_ptr b o = at_block p inb in
     rewrite ! 0 (λ (z : Ptr × ℕ). ‵ (hold_owns β R ok z.0 z.1 x)) (λ i. (at i, asked i)) refl $
     let word : us ≡ bits_of (block_ptr b o) ∷ [] = told ℓ R G g p us is_self.0 ∙ ap (λ (r : Ptr). bits_of r ∷ []) at in rewrite ! 2 (λ (ws : List Val). ‵ (cell_at full_share Hr.mir ws sb so)) word refl $
     fpick ! (λ t. fsplit ! $ fsplit ! $ move ! (2 ∷ []) $
     -- the round ends
     fsplit ! $ move ! (1 ∷ []) $ fpick ! (λ u. fsplit ! $ move ! (1 ∷ []) $ fsplit3 ! $ move ! (3 ∷ 2 ∷ []) $ use2 𝓛 (later (‵ (fbor t.life (cell R ok b o t.track)))) (round_ended 𝓛 R ok b o t u) $ await ! tt $
     move ! (4 ∷ []) $ use1 𝓛 (‵ (before β t.life) ⊛ ‵ (before β t.life)) (before_dup 𝓛 β t.life) $ split ! $ move ! (0 ∷ 18 ∷ []) $
-    use2 𝓛 (later (some (λ (s : Share). ‵ (flft t.life s) ⊛ raw (wand 𝓤 (𝓛.A.lft t.life s) (H.⇛ (𝓛.A.lft β q)))))) (Lends-one 𝓛 𝓜 𝓡 β t.life q) $ await ! tt $ pick ! (λ s. split ! $
+    use2 𝓛 (lent 𝓛 t.life β q) (Lends-one 𝓛 𝓜 𝓡 β t.life q) $ await ! tt $ pick ! (λ s. split ! $
     move ! (3 ∷ 0 ∷ []) $ bor_open ! tt $ move ! (1 ∷ []) $ fpick ! (λ old. fsplit3 ! $ move ! (1 ∷ []) $ fpick ! (λ fit. drop ! $
     move ! (5 ∷ 1 ∷ []) $ name_agree ! R.coded (λ same.
     -- [the observation; its authority; the value; the open borrow; the way back; before; seen; out; the invariant; the fields; self's cell; three of self; self's first; f; ρ; φ; τ; χ]
