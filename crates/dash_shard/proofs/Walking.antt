@@ -78,7 +78,7 @@ pub use prog.Wired.{Wired}
 pub use prog.Wp.{WpFn}
 pub use seplogic.Ra.Ura.{Ura}
 pub use types.ByLocal.{alloc_all, env, free_all, get, get_in, is, lands_last, look_at, pass_all, sets, sets_last, through}
-pub use types.Kit.{!, Item, assume, at_ret, await, by, check, done, drop, each, feq_i, feq_l, fjoin, fjoin3, flt_i, flt_l, fpack, fpick, frame, fsplit, fsplit3, given, group, join, keep, later, learn, mean, move, now, pick, qed, raw, rewrite, settle, show, some, split, split3, suffices, updating, use0, use1, use2, use3, ‵, ◌$◌, ◌∵◌, ◌⊛◌}
+pub use types.Kit.{ !, Item, assume, at_ret, await, by, check, done, drop, each, feq_i, feq_l, fjoin, fjoin3, flt_i, flt_l, fpack, fpick, frame, fsplit, fsplit3, given, group, join, keep, later, learn, mean, move, now, pick, qed, raw, rewrite, settle, show, some, split, split3, suffices, updating, use0, use1, use2, use3, ‵, ◌$◌, ◌∵◌, ◌⊛◌}
 pub use types.Logic.{Logic, lfts, sem}
 pub use types.Na.{before-Incl, before_dup, before_shorten, out, out_once}
 pub use types.Owned.{basic, own_glued, own_join, own_new, own_step, own_sum}

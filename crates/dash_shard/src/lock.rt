@@ -5,13 +5,13 @@
 //! by a swap to 0. Whoever can't have the lock turns: it pauses, for longer each time, and then yields the processor.
 ghost use Rattle.std.specs.Prelude.{◌≡◌, IfOk, IfSome};
 ghost use Rattle.std.specs.Fn.{FnOnceReturnsAtMut};
+ghost use Rattle.dash_shard.specs.Guarded.{KeepsFit};
 ghost use Rattle.dash_shard.specs.Holding.{lock_owns, lock_shares};
 
 use crossbeam_utils::Backoff;
 use hold::Hold;
 use std::marker::{Model, Move, Owns};
-use std::mem;
-use std::mem::ManuallyDrop;
+use std::mem::{self, ManuallyDrop};
 use std::ops::Deref;
 use std::rt::Clock;
 use std::sync::Wait;
@@ -228,6 +228,7 @@ impl<T: Tagged> RwLock<T> {
 /// The right to read, as the original's `RwLockReadGuard`: it ends when the guard is dropped, and till then the value stays as it is.
 ///
 /// To drop it takes one atomic step, which waits for nobody and can't fail. A contract sees a guard as the lock's tag and the value.
+#[must_use]
 pub struct RwLockReadGuard<'a, T: Tagged> {
     hold: Hold<'a, T>,
 }
@@ -269,6 +270,7 @@ impl<T: Tagged> Drop for RwLockReadGuard<'_, T> {
 ///
 /// The original's guard lends the value for writing. This one doesn't, so that each value fits the tag, also after a guard was leaked.
 /// To drop it takes one atomic step, which waits for nobody and can't fail. A contract sees a guard as the lock's tag and the value.
+#[must_use]
 pub struct RwLockWriteGuard<'a, T: Tagged> {
     hold: Hold<'a, T>,
 }
@@ -316,7 +318,7 @@ impl<T: Tagged> RwLockWriteGuard<'_, T> {
     #[inline]
     pub(crate) fn change<R, F: FnOnce(&mut T) -> R>(&mut self, f: F) -> R
         requires callable { F.IsAlwaysCallable f }
-        requires keeps { (y : T) (r : R) → T.fits self.old.tag self.old.value → FnOnceReturnsAtMut F.FnOnce f self.old.value r y → T.fits self.old.tag y }
+        requires keeps { KeepsFit (T.fits self.old.tag) F.FnOnce f self.old.value }
         ensures tag { self.new.tag ≡ self.old.tag }
         ensures ran { FnOnceReturnsAtMut F.FnOnce f self.old.value result self.new.value }
         ensures old_fits { T.fits self.old.tag self.old.value }

@@ -1,6 +1,7 @@
 //! What is raw in the lock: the atomic steps on its word, and a hold's way to the value. Each such function has a proof by hand.
 ghost use Rattle.std.specs.Prelude.{◌≡◌, ℕ, ◌<◌, OnOk, OnErr};
 ghost use Rattle.std.specs.Fn.{FnOnceReturnsAtMut};
+ghost use Rattle.dash_shard.specs.Guarded.{KeepsFit};
 ghost use Rattle.dash_shard.specs.Holding.{hold_owns, hold_shares, IsTake, Gains};
 
 use crate::lock::{ONE_READER, RwLock, Tagged};
@@ -74,7 +75,7 @@ impl<T: Tagged> Hold<'_, T> {
     pub(super) fn change<R, F: FnOnce(&mut T) -> R>(&mut self, f: F) -> R
         requires right { self.old.right ≡ 2 }
         requires callable { F.IsAlwaysCallable f }
-        requires keeps { (y : T) (r : R) → T.fits self.old.tag self.old.value → FnOnceReturnsAtMut F.FnOnce f self.old.value r y → T.fits self.old.tag y }
+        requires keeps { KeepsFit (T.fits self.old.tag) F.FnOnce f self.old.value }
         ensures same { (self.new.tag ≡ self.old.tag) × (self.new.right ≡ 2) }
         ensures ran { FnOnceReturnsAtMut F.FnOnce f self.old.value result self.new.value }
         ensures fits { T.fits self.old.tag self.new.value }
