@@ -3,3 +3,5 @@ pub mod Contents
 pub mod Steps
 pub mod Shard
 pub mod Table
+pub mod Guarded
+pub mod Holding

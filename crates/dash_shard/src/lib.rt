@@ -3,4 +3,5 @@
 
 pub mod error;
 pub mod hash;
+pub mod lock;
 pub mod shard;

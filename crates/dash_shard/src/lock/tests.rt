@@ -1,0 +1,109 @@
+ghost use Rattle.std.specs.Prelude.{◌≡◌, ◌<◌, IfOk};
+ghost use Rattle.std.specs.Arc.{arc_value};
+
+use crate::lock::{RwLock, Tagged};
+use std::alloc::{AllocError, Global};
+use std::mem;
+use std::sync::Arc;
+use std::test::Fail;
+
+/// A number below the bound that its lock is made for.
+#[derive(Drop)]
+struct Bounded {
+    number: u64,
+}
+
+impl Tagged for Bounded {
+    type Tag = u64;
+
+    ghost fits = { λ bound bounded. bounded.number < bound };
+}
+
+fn locked(number: u64) -> RwLock<Bounded>
+    requires { number < 100 }
+    ensures { result ≡ 100 }
+{
+    RwLock::new(Bounded { number }, &100)
+}
+
+#[test]
+fn readers_share_and_keep_writers_out(rt: HostRuntime) -> Result<(), Fail> {
+    let lock = locked(7);
+    let first = lock.read(&rt);
+    let second = lock.read(&rt);
+    assert_eq!(rt; first.number, 7);
+    assert_eq!(rt; second.number, 7);
+    assert!(rt; lock.try_write().is_none(), "two readers have the lock");
+    drop(first);
+    assert!(rt; lock.try_write().is_none(), "a reader has the lock");
+    drop(second);
+    assert!(rt; lock.try_write().is_some(), "nobody has the lock");
+    Ok(())
+}
+
+#[test]
+fn a_writer_keeps_others_out(rt: HostRuntime) -> Result<(), Fail> {
+    let lock = locked(7);
+    let guard = lock.write(&rt);
+    assert!(rt; lock.try_read().is_none(), "a writer has the lock");
+    assert!(rt; lock.try_write().is_none(), "a writer has the lock");
+    drop(guard);
+    assert!(rt; lock.try_read().is_some(), "nobody has the lock");
+    Ok(())
+}
+
+#[test]
+fn what_is_replaced_is_read_back(rt: HostRuntime) -> Result<(), Fail> {
+    let mut lock = locked(7);
+    let mut guard = lock.write(&rt);
+    assert_eq!(rt; guard.replace(Bounded { number: 8 }).number, 7);
+    assert_eq!(rt; guard.number, 8);
+    drop(guard);
+    assert_eq!(rt; lock.read(&rt).number, 8);
+    assert_eq!(rt; lock.get().number, 8);
+    assert_eq!(rt; lock.into_inner().number, 8);
+    Ok(())
+}
+
+#[test]
+fn ten_thousand_readers_hold_it_at_once(rt: HostRuntime) -> Result<(), Fail> {
+    let lock = locked(7);
+    let mut guards = Vec::new(rt.alloc());
+    for _ in 0..10_000 {
+        guards.push(lock.read(&rt))?;
+    }
+    assert!(rt; lock.try_write().is_none(), "readers have the lock");
+    drop(guards);
+    assert!(rt; lock.try_write().is_some(), "the readers are gone");
+    Ok(())
+}
+
+#[test]
+fn leaked_guards_leave_a_lock_that_can_be_dropped(rt: HostRuntime) -> Result<(), Fail> {
+    let lock = locked(7);
+    mem::forget(lock.write(&rt));
+    assert!(rt; lock.try_read().is_none(), "the writer is never gone");
+    drop(lock);
+    let lock = locked(8);
+    mem::forget(lock.read(&rt));
+    assert!(rt; lock.try_write().is_none(), "the reader is never gone");
+    assert_eq!(rt; lock.into_inner().number, 8);
+    Ok(())
+}
+
+/// What threads may share.
+fn share<T: Send + Sync>(lock: &Arc<T, Global>) -> Result<Arc<T, Global>, AllocError>
+    ensures { IfOk result (λ other. arc_value other ≡ arc_value lock.now) }
+{
+    Arc::try_clone(lock)
+}
+
+#[test]
+fn threads_may_share_a_lock(rt: HostRuntime) -> Result<(), Fail> {
+    let lock = Arc::new(rt.alloc(), locked(7))?;
+    let other = share(&lock)?;
+    let guard = other.read(&rt);
+    assert!(rt; lock.try_read().is_some(), "readers share the lock");
+    assert!(rt; lock.try_write().is_none(), "a reader has the lock");
+    Ok(())
+}
