@@ -1,17 +1,17 @@
 mod Amounts
 mod Chaining
-pub mod Equals
-mod Nodes
-mod Places
-pub mod Routing
-mod Seeking
-mod Shards
 mod Changing
+pub mod Equals
+mod Exchanging
 mod HoldFields
 mod LockBorrows
 mod LockShown
+mod Nodes
+mod Places
 mod RoundParts
 mod Rounds
-mod WordSteps
-mod Exchanging
+pub mod Routing
+mod Seeking
+mod Shards
 mod Walking
+mod WordSteps
