@@ -1,5 +1,5 @@
 -- A command line of one word.
-use Rattle.std.proofs.Common.{◌≡◌, List, [], ◌∷◌, length, get_or, map, ap, sym, ◌∙◌, arith}
+use Rattle.std.proofs.Common.{◌≡◌, List, [], ◌∷◌, length, get_or, map, ap, sym, arith}
 
 module _ {A B : Type 0} (f : A → B) where
   -- its words are the first

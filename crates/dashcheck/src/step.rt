@@ -1,32 +1,71 @@
 //! How steps are written in a script, and replies in its output.
+ghost use Rattle.std.specs.Prelude.{◌≡◌, ◌↔◌, ℕ, ◌<◌, ◌^◌, ◌++◌, ◌∷◌, List, IsTrue, IfSome, IfNone};
+ghost use Rattle.std.specs.Fmt.{decimal};
+ghost use Rattle.std.specs.Str.{IsAscii};
+ghost use Rattle.dash_history.specs.declared.step.ShardStep.{ShardStep};
+ghost use Rattle.dashcheck.specs.Script.{IsPlain, IsFirst, HasWords, line_of};
+
 use dash_history::step::{Reply, ShardStep};
 use std::{fmt, str};
 
 /// The step that a line says, or `None` for a bad one.
-pub fn parse(line: &[u8]) -> Option<ShardStep<u64, u64>> {
-    let mut words = str::from_utf8(line).ok()?.split(' ');
-    let step = match words.next()? {
+pub fn parse(line: &[u8]) -> Option<ShardStep<u64, u64>>
+    ensures some { IfSome result (λ step. line.now ≡ line_of step) }
+    ensures none { IfNone result ((step : ShardStep ℕ ℕ) → HasWords step → line.now ≡ line_of step → ⊥) }
+{
+    let (kind, rest) = first_word(text(line)?)?;
+    match kind {
+        "get" => Some(ShardStep::Get(number(rest)?)),
         "insert" => {
-            let key = number(words.next()?)?;
-            ShardStep::Insert(key, number(words.next()?)?)
+            let (key, value) = numbers(rest)?;
+            Some(ShardStep::Insert(key, value))
         }
-        "get" => ShardStep::Get(number(words.next()?)?),
-        _ => return None,
-    };
-    match words.next() {
-        None => Some(step),
-        Some(_) => None,
+        _ => None,
     }
 }
 
+// A line as text.
+fn text(line: &[u8]) -> Option<&str>
+    ensures some { IfSome result (λ text. text.now ≡ line.now) }
+    ensures none { IfNone result (IsAscii line.now → ⊥) }
+{
+    str::from_utf8(line).ok()
+}
+
+// The first word and what follows its space.
+fn first_word(text: &str) -> Option<(&str, &str)>
+    ensures some { IfSome result (λ p. IsFirst text.now p.0.now p.1.now) }
+    ensures none { IfNone result ((word rest : List ℕ) → IsFirst text.now word rest → ⊥) }
+{
+    text.split_once(' ')
+}
+
+// Two numbers.
+fn numbers(text: &str) -> Option<(u64, u64)>
+    ensures some { IfSome result (λ p. text.now ≡ decimal p.0 ++ 32 ∷ decimal p.1) }
+    ensures none { IfNone result ((k v : ℕ) → k < 2 ^ 64 → v < 2 ^ 64 → text.now ≡ decimal k ++ 32 ∷ decimal v → ⊥) }
+{
+    let (key, value) = first_word(text)?;
+    Some((number(key)?, number(value)?))
+}
+
+// A digit first, and no zero in front of others.
+fn is_plain(word: &[u8]) -> bool
+    ensures { IsTrue result ↔ IsPlain word.now }
+{
+    !word.is_empty() && word[0] >= b'0' && word[0] <= b'9' && (word[0] != b'0' || word.len() == 1)
+}
+
 // A decimal number without sign and without leading zeros.
-fn number(word: &str) -> Option<u64> {
-    let digits = word.as_bytes();
-    let first = *digits.first()?;
-    if !first.is_ascii_digit() || (first == b'0' && digits.len() > 1) {
-        return None;
+fn number(word: &str) -> Option<u64>
+    ensures some { IfSome result (λ n. word.now ≡ decimal n) }
+    ensures none { IfNone result ((n : ℕ) → n < 2 ^ 64 → word.now ≡ decimal n → ⊥) }
+{
+    if is_plain(word.as_bytes()) {
+        word.parse().ok()
+    } else {
+        None
     }
-    word.parse().ok()
 }
 
 /// A reply as it is printed.
@@ -34,6 +73,11 @@ fn number(word: &str) -> Option<u64> {
 pub struct Printed<'a>(pub &'a Reply<u64, u64>);
 
 impl fmt::Display for Printed<'_> {
+    ghost use Rattle.std.specs.Prelude.{Some};
+    ghost use Rattle.dashcheck.specs.Script.{text_of};
+
+    ghost output = { λ printed. Some (text_of printed.0.now) };
+
     fn fmt<W: fmt::Write>(&self, f: &mut fmt::Formatter<W>) -> fmt::Result {
         match self.0 {
             Reply::Pair(None) => write!(f, "pair none"),

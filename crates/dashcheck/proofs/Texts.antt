@@ -1,0 +1,89 @@
+-- Words of a text, and lines of steps.
+use Rattle.std.proofs.Common.{◌≡◌, ℕ, zero, suc, ◌<◌, ◌^◌, List, [], ◌∷◌, ◌++◌, length, get_or, drop, Option, Some, None, Ok, Err, Bor, ◌⊎◌, inl, inr, refl, sym, ap, ◌∙◌, arith}
+use Rattle.std.specs.declared.result.Result.{Result}
+use Rattle.std.specs.Option.{IfSome, IfNone}
+use Rattle.std.specs.Fmt.{decimal}
+use Rattle.std.specs.Result.{MatchResult, result_ok}
+use Rattle.std.specs.Str.{IsAscii, IsUtf8}
+use Rattle.std.proofs.lemmas.Fmt.{IsAscii-decimal, digits_decimal}
+use Rattle.std.proofs.lemmas.Str.{IsAscii-append, IsUtf8-from_ascii}
+use Rattle.std.proofs.lemmas.Str.Ascii.{IsAscii-cons, IsAscii-nil}
+use Rattle.std.proofs.lemmas.Str.Parse.{numerals_by_value, tells_by_index}
+use Rattle.std.proofs.lemmas.Str.Pattern.{IsSplitOnceResult, split_parts, split_after}
+use Rattle.dash_history.specs.declared.step.ShardStep.{ShardStep}
+use Rattle.dash_history.specs.declared.step.ShardStep.TheVariants.{Get, Insert}
+use Rattle.dashcheck.specs.Script.{IsFirst, HasWords, line_of, get, insert}
+
+-- what `split_once` at a space gives
+pub split-some : (text : List ℕ) (r : Option (Bor (List ℕ) × Bor (List ℕ))) → IsSplitOnceResult 32 text r → IfSome r (λ p. IsFirst text p.0.now p.1.now)
+split-some text None h = tt
+split-some text (Some p) h = let q = split_parts 32 text (Some p) h (omega arith) in record { parts = q.0; free = q.1 }
+
+pub split-none : (text : List ℕ) (r : Option (Bor (List ℕ) × Bor (List ℕ))) → IsSplitOnceResult 32 text r → IfNone r ((word rest : List ℕ) → IsFirst text word rest → ⊥)
+split-none text None h = λ word rest f. split_after 32 text word rest None h (omega arith) f.parts f.free
+split-none text (Some p) h = tt
+
+-- no space
+abbrev IsFree : List ℕ → Type 0
+IsFree word = (i : ℕ) → i < length word → get_or word i 0 ≡ 32 → ⊥
+
+same-word : (a c b d : List ℕ) → IsFree a → IsFree c → a ++ 32 ∷ b ≡ c ++ 32 ∷ d → (a ≡ c) × (b ≡ d)
+same-word [] [] b d f g e = (refl, ap (drop 1) e)
+same-word [] (y ∷ c) b d f g e = absurd (g 0 (omega arith) (sym (ap (λ l. get_or l 0 0) e)))
+same-word (x ∷ a) [] b d f g e = absurd (f 0 (omega arith) (ap (λ l. get_or l 0 0) e))
+same-word (x ∷ a) (y ∷ c) b d f g e =
+    let rest = same-word a c b d (λ i lt. f (suc i) (omega (arith, lt))) (λ i lt. g (suc i) (omega (arith, lt))) (ap (drop 1) e) in
+    (ap (λ l. get_or l 0 0 ∷ a) e ∙ ap (λ l. y ∷ l) rest.0, rest.1)
+
+-- a text has one first word
+pub alone : (text a b c d : List ℕ) → IsFirst text a b → IsFirst text c d → (a ≡ c) × (b ≡ d)
+alone text a b c d f g = same-word a c b d f.free g.free (sym f.parts ∙ g.parts)
+
+-- a number has no space
+pub free-decimal : (n : ℕ) → n < 2 ^ 64 → (i : ℕ) → i < length (decimal n) → get_or (decimal n) i 0 ≡ 32 → ⊥
+free-decimal n small i inside e = let digit = digits_decimal (numerals_by_value _ tells_by_index) n small i inside in omega (arith, digit, e)
+
+pub first-number : (k v : ℕ) → k < 2 ^ 64 → IsFirst (decimal k ++ 32 ∷ decimal v) (decimal k) (decimal v)
+first-number k v small = record { parts = refl; free = free-decimal k small }
+
+free-get : (i : ℕ) → i < 3 → get_or get i 0 ≡ 32 → ⊥
+free-get zero lt e = omega (arith, e)
+free-get (suc zero) lt e = omega (arith, e)
+free-get (suc (suc zero)) lt e = omega (arith, e)
+free-get (suc (suc (suc i))) lt e = omega (arith, lt)
+
+free-insert : (i : ℕ) → i < 6 → get_or insert i 0 ≡ 32 → ⊥
+free-insert zero lt e = omega (arith, e)
+free-insert (suc zero) lt e = omega (arith, e)
+free-insert (suc (suc zero)) lt e = omega (arith, e)
+free-insert (suc (suc (suc zero))) lt e = omega (arith, e)
+free-insert (suc (suc (suc (suc zero)))) lt e = omega (arith, e)
+free-insert (suc (suc (suc (suc (suc zero))))) lt e = omega (arith, e)
+free-insert (suc (suc (suc (suc (suc (suc i)))))) lt e = omega (arith, lt)
+
+-- the first word of a step's line is its kind
+pub first-kind : (step : ShardStep ℕ ℕ) → (word : List ℕ) × (rest : List ℕ) × IsFirst (line_of step) word rest × ((word ≡ get) ⊎ (word ≡ insert))
+first-kind (Get k) = (get, decimal k, record { parts = refl; free = free-get }, inl refl)
+first-kind (Insert k v) = (insert, decimal k ++ 32 ∷ decimal v, record { parts = refl; free = free-insert }, inr refl)
+
+spaced : (text : List ℕ) → IsAscii text → IsAscii (32 ∷ text)
+spaced text = IsAscii-cons 32 text (omega arith)
+
+ascii-get : IsAscii get
+ascii-get = IsAscii-cons 103 (101 ∷ 116 ∷ []) (omega arith) (IsAscii-cons 101 (116 ∷ []) (omega arith) (IsAscii-cons 116 [] (omega arith) IsAscii-nil))
+
+ascii-insert : IsAscii insert
+ascii-insert =
+    IsAscii-cons 105 (110 ∷ 115 ∷ 101 ∷ 114 ∷ 116 ∷ []) (omega arith) (IsAscii-cons 110 (115 ∷ 101 ∷ 114 ∷ 116 ∷ []) (omega arith)
+    (IsAscii-cons 115 (101 ∷ 114 ∷ 116 ∷ []) (omega arith) (IsAscii-cons 101 (114 ∷ 116 ∷ []) (omega arith) (IsAscii-cons 114 (116 ∷ []) (omega arith) (IsAscii-cons 116 [] (omega arith) IsAscii-nil)))))
+
+pub IsAscii-line : (step : ShardStep ℕ ℕ) → HasWords step → IsAscii (line_of step)
+IsAscii-line (Get k) small = IsAscii-append get (32 ∷ decimal k) ascii-get (spaced (decimal k) (IsAscii-decimal k small))
+IsAscii-line (Insert k v) small =
+    IsAscii-append insert (32 ∷ decimal k ++ 32 ∷ decimal v) ascii-insert
+    (spaced (decimal k ++ 32 ∷ decimal v) (IsAscii-append (decimal k) (32 ∷ decimal v) (IsAscii-decimal k small.0) (spaced (decimal v) (IsAscii-decimal v small.1))))
+
+-- what `from_utf8` refuses isn't ASCII
+pub no-text : (E : Type 0) (P : E → Type 0) (line : List ℕ) (r : Result (Bor (List ℕ)) E) → MatchResult r (λ s. (s.now ≡ line) × IsUtf8 line) (λ e. ¬ (IsUtf8 line) × P e) → IfNone (result_ok r) (IsAscii line → ⊥)
+no-text E P line (Ok s) h = tt
+no-text E P line (Err e) h = λ ascii. h.0 (IsUtf8-from_ascii line ascii)
