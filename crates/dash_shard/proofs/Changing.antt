@@ -1,5 +1,5 @@
 -- A value is lent as a `&mut` for one call of `apply`, and comes back as the call left it. Assumes `Logic`.
-use Rattle.dash_shard.proofs.Walking.{[], ℕ, ◌∷◌, Ura, Dict, named, Val, vptr, full_share, common, SProp, ent, sep, ex, guard, wand, emp, apply∗, id⊢, Lft, GName, Share, Fml, ftrue, fsep, flft, flent, fbor, fres, fdead, Memory, Routine, Logic, sem, ‵, raw, ◌⊛◌, some, later, ◌$◌, ◌∵◌, !, qed, move, keep, split, split3, join, fsplit, fjoin, pick, use0, use1, use2, use3, await, updating, now, show, check, frame, done, Body, lft_new, lft_end, lft-common, Fun, fact, fact_i, ◌⊑◌, ⊑_refl, meet_⊑_left, RattleType, part_at, mem, lends_ref, ref_back, param, always_once, MutRef, nothing, heard, triple_of, Contract, FnOnceReturnsAtMut}
+use Rattle.dash_shard.proofs.Walking.{[], ℕ, ◌∷◌, Ura, Dict, named, Val, vptr, full_share, common, SProp, ent, sep, ex, guard, wand, emp, apply∗, id⊢, Lft, GName, Share, Fml, ftrue, fsep, flft, flent, fbor, fres, fdead, Memory, Routine, Logic, sem, ‵, raw, ◌⊛◌, some, later, ◌$◌, ◌∵◌, !, qed, move, keep, split, split3, join, fsplit, fjoin, pick, use0, use1, use2, use3, await, updating, now, show, check, frame, done, Body, lft_new, lft_end, lft-common, Fun, fact, fact_i, ◌⊑◌, ⊑_refl, meet_⊑_left, RattleType, part_at, mem, lends_ref, ref_back, param, MutRef, nothing, heard, triple_of, Contract, FnOnceReturnsAtMut, FnOnceTakesAtMut}
 use base.Share
 use denote.Ref.{MutBor}
 use Rattle.dash_shard.specs.contracts.lock.hold.apply as AP
@@ -58,7 +58,7 @@ module _ {M : Type 1} {𝓤 : Ura M} (𝓛 : Logic 𝓤) where
       Ran r y = FnOnceReturnsAtMut {F = W.Denot} {T = X.Denot} {R = Z.Denot} g f x r y
 
       abbrev Calls : Type 0
-      Calls = always_once {F = W.Denot} {A = MutBor X.Denot × Unit {0}} {R = Z.Denot × (MutBor X.Denot × Unit {0})} g f
+      Calls = FnOnceTakesAtMut {F = W.Denot} {T = X.Denot} {R = Z.Denot × (MutBor X.Denot × Unit {0})} g f x
 
       pub asks : κ ⊑ X.lives → ρ ⊑ Z.lives → φ ⊑ W.lives → Calls
           → ent 𝓤 (sep 𝓤 (sem 𝓛 Mine) (sep 𝓤 (A.lft κ s) (sep 𝓤 (sem 𝓛 (W.own_val f (vf ∷ []))) (sep 𝓤 (A.lft ρ sr) (A.lft φ sf))))) (App.pre at)

@@ -4,7 +4,7 @@
 //! atomic step: a reader takes its place and a writer the whole lock by a compare-exchange, a reader goes by a subtraction and a writer
 //! by a swap to 0. Whoever can't have the lock turns: it pauses, for longer each time, and then yields the processor.
 ghost use Rattle.std.specs.Prelude.{◌≡◌, IfOk, IfSome};
-ghost use Rattle.std.specs.Fn.{FnOnceReturnsAtMut};
+ghost use Rattle.std.specs.Fn.{FnOnceReturnsAtMut, FnOnceTakesAtMut};
 ghost use Rattle.dash_shard.specs.Guarded.{KeepsFit};
 ghost use Rattle.dash_shard.specs.Holding.{lock_owns, lock_shares};
 
@@ -317,7 +317,7 @@ impl<T: Tagged> RwLockWriteGuard<'_, T> {
     /// Calls `f` on the value in place, so that nothing moves. What `f` leaves has to fit.
     #[inline]
     pub(crate) fn change<R, F: FnOnce(&mut T) -> R>(&mut self, f: F) -> R
-        requires callable { F.IsAlwaysCallable f }
+        requires callable { FnOnceTakesAtMut F.FnOnce f self.old.value }
         requires keeps { KeepsFit (T.fits self.old.tag) F.FnOnce f self.old.value }
         ensures tag { self.new.tag ≡ self.old.tag }
         ensures ran { FnOnceReturnsAtMut F.FnOnce f self.old.value result self.new.value }

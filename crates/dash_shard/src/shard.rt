@@ -15,6 +15,7 @@ use std::hash::{BuildHasher, Hash};
 use std::marker::Model;
 use table::Table;
 
+pub mod held;
 mod table;
 
 /// One shard of a map, as the original's table behind a lock: pairs with distinct keys that all go to the shard's number.

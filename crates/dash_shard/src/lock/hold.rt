@@ -1,6 +1,6 @@
 //! What is raw in the lock: the atomic steps on its word, and a hold's way to the value. Each such function has a proof by hand.
 ghost use Rattle.std.specs.Prelude.{◌≡◌, ℕ, ◌<◌, OnOk, OnErr};
-ghost use Rattle.std.specs.Fn.{FnOnceReturnsAtMut};
+ghost use Rattle.std.specs.Fn.{FnOnceReturnsAtMut, FnOnceTakesAtMut};
 ghost use Rattle.dash_shard.specs.Guarded.{KeepsFit};
 ghost use Rattle.dash_shard.specs.Holding.{hold_owns, hold_shares, IsTake, Gains};
 
@@ -54,7 +54,7 @@ impl<T: Tagged> RwLock<T> {
 /// Calls `f` on what `at` refers to.
 #[inline]
 fn apply<T, R, F: FnOnce(&mut T) -> R>(at: &mut T, f: F) -> R
-    requires callable { F.IsAlwaysCallable f }
+    requires callable { FnOnceTakesAtMut F.FnOnce f at.old }
     ensures ran { FnOnceReturnsAtMut F.FnOnce f at.old result at.new }
 {
     f(at)
@@ -74,7 +74,7 @@ impl<T: Tagged> Hold<'_, T> {
     #[inline]
     pub(super) fn change<R, F: FnOnce(&mut T) -> R>(&mut self, f: F) -> R
         requires right { self.old.right ≡ 2 }
-        requires callable { F.IsAlwaysCallable f }
+        requires callable { FnOnceTakesAtMut F.FnOnce f self.old.value }
         requires keeps { KeepsFit (T.fits self.old.tag) F.FnOnce f self.old.value }
         ensures same { (self.new.tag ≡ self.old.tag) × (self.new.right ≡ 2) }
         ensures ran { FnOnceReturnsAtMut F.FnOnce f self.old.value result self.new.value }

@@ -1,5 +1,5 @@
 -- `change` ends the writer's round, lends the value that comes back for one call, and begins another round with what the call left.
-use Rattle.dash_shard.proofs.Walking.{[], ◌≡◌, ℕ, ◌+◌, List, ◌∷◌, sym, refl, ap, ◌∙◌, subst, dcons, dnil, a_type, named, Val, vptr, inst_fn, full_share, emp, SProp, ent, apply∗, Lft, Share, GName, ftrue, fsep, fex, flft, flent, fres, fbor, Incl-refl, Incl-trans, before, WpFn, Body, ‵, raw, ◌⊛◌, some, given, later, at_ret, ◌$◌, ◌∵◌, !, qed, by, move, keep, drop, split, split3, join, fsplit, fsplit3, fjoin, fjoin3, fpick, fpack, pick, learn, use0, use1, use2, group, await, rewrite, stop, fld, hop, addr, of_opd, no_more, and_then, first, blocks, exec, returns, enter, alloc_all, pass_all, free_all, look_at, get, through, sets, lands_last, env, sub, whole, look_in, bor_open, obor_close, name_agree, name_set, before_dup, tables, fact, fact_i, ◌⊑◌, meet_⊑_right, Lends-one, no, Is, shows, cell_at, part_at, mem, param, bounded, always_once, param_laws, RattleType, owns, Ptr, InBlock, block_ptr, block_of, count_of, at_block, mut_vals, mut_Tells, types_at, plain, named_lft, nothing, peeks, heard, opens, closes, calls_at_last, Stays, stay_dropped, stay_ref, walk_of, Goes-dropped, Goes-ref, tail, El, lawful, Good, one, FnOnceReturnsAtMut, proved_at, leaves, fm}
+use Rattle.dash_shard.proofs.Walking.{[], ◌≡◌, ℕ, ◌+◌, List, ◌∷◌, sym, refl, ap, ◌∙◌, subst, dcons, dnil, a_type, named, Val, vptr, inst_fn, full_share, emp, SProp, ent, apply∗, Lft, Share, GName, ftrue, fsep, fex, flft, flent, fres, fbor, Incl-refl, Incl-trans, before, WpFn, Body, ‵, raw, ◌⊛◌, some, given, later, at_ret, ◌$◌, ◌∵◌, !, qed, by, move, keep, drop, split, split3, join, fsplit, fsplit3, fjoin, fjoin3, fpick, fpack, pick, learn, use0, use1, use2, group, await, rewrite, stop, fld, hop, addr, of_opd, no_more, and_then, first, blocks, exec, returns, enter, alloc_all, pass_all, free_all, look_at, get, through, sets, lands_last, env, sub, whole, look_in, bor_open, obor_close, name_agree, name_set, before_dup, tables, fact, fact_i, ◌⊑◌, meet_⊑_right, Lends-one, no, Is, shows, cell_at, part_at, mem, param, bounded, param_laws, RattleType, owns, Ptr, InBlock, block_ptr, block_of, count_of, at_block, mut_vals, mut_Tells, types_at, plain, named_lft, nothing, peeks, heard, opens, closes, calls_at_last, Stays, stay_dropped, stay_ref, walk_of, Goes-dropped, Goes-ref, tail, El, lawful, Good, one, FnOnceReturnsAtMut, FnOnceTakesAtMut, proved_at, leaves, fm}
 use denote.MutBor.{MutBor}
 use Rattle.dash_shard.specs.Holding.{Fixed, offset, at_home, cell, begun, writer, kept, hold_owns}
 use Rattle.dash_shard.specs.contracts.lock.hold.Hold as hold
@@ -28,7 +28,7 @@ change_spec 𝓤 𝓛 𝓜 𝓡 wired X Y Z W L _ LZ LW g d gf df dd _ meets_f m
     let got = one EW z.0.4.1.0 ((lawful EW 𝓛).typed f z.0.4.1.0 are.1.0) in let vf : Val = got.0 in let ff : Good EW vf = got.2 in let me : List Val = mut_vals a.0 in
     let At : List Val × (List Val × Unit {0}) → (walk_of 𝓛 En hs c).Ghost = λ vss. ((κs, qs, z.0.2, a, vss), z.1) in
     let y : (walk_of 𝓛 En hs c).Ghost = At (me, (vf ∷ [], tt)) in let Post : Val → SProp 𝓤 = (walk_of 𝓛 En hs c).post y in
-    let Calls : Type 0 = always_once {F = W.Denot} {A = MutBor X.Denot × Unit {0}} {R = Z.Denot × (MutBor X.Denot × Unit {0})} gf f in
+    let Takes : X.Denot → Type 0 = FnOnceTakesAtMut {F = W.Denot} {T = X.Denot} {R = Z.Denot × (MutBor X.Denot × Unit {0})} gf f in let Calls : Type 0 = Takes x in
     let Runs : X.Denot → Z.Denot → X.Denot → Type 0 = FnOnceReturnsAtMut {F = W.Denot} {T = X.Denot} {R = Z.Denot} gf f in let Keeps : Type 0 = (j : X.Denot) (k : Z.Denot) → ok x → Runs x k j → ok j in
     subst (λ (vss : List Val × (List Val × Unit {0})). ent 𝓤 ((walk_of 𝓛 En hs c).pre (At vss)) (WpFn 𝓤 H 𝓣.C 𝓣.Λ fn ((walk_of 𝓛 En hs c).args (At vss)) ((walk_of 𝓛 En hs c).post (At vss))))
     (λ i. (sym (mut_Tells (named 0) κ Hr a.0 z.0.4.0 are.0) i, (sym got.1 i, tt))) (
@@ -58,7 +58,7 @@ change_spec 𝓤 𝓛 𝓜 𝓡 wired X Y Z W L _ LZ LW g d gf df dd _ meets_f m
     -- [the way back to the tokens; the lender's part; the reference; ν; ..; f; ρ; φ; χ]
     move ! (2 ∷ 3 ∷ 18 ∷ 19 ∷ 20 ∷ []) $ group ! 5 $
     let call : App.Ghost = changing.at 𝓛 X Z W gf df dd 𝓜.mem 𝓡.returns ν ρ φ j rρ rφ b e δ old f vf in
-    use1 𝓛 (raw (App.pre call)) (changing.asks 𝓛 X Z W gf df dd 𝓜.mem 𝓡.returns ν ρ φ j rρ rφ b e δ old f vf (Incl-trans (meet_⊑_right (u.0 ∷ []) τ) le) le_out le_fn calls) $
+    use1 𝓛 (raw (App.pre call)) (changing.asks 𝓛 X Z W gf df dd 𝓜.mem 𝓡.returns ν ρ φ j rρ rφ b e δ old f vf (Incl-trans (meet_⊑_right (u.0 ∷ []) τ) le) le_out le_fn (subst Takes same calls)) $
     calls_at_last ! (fm 𝓛 𝓜 𝓡) App applies call (and_then ! (get ! refl) (and_then ! (get ! refl) (no_more !))) (λ vr.
     use1 𝓛 (later (some (λ (z : Z.Denot × X.Denot). given (changing.Ran 𝓛 X Z W gf df dd 𝓜.mem 𝓡.returns ν ρ φ j rρ rφ b e δ old f vf z.0 z.1) (‵ (Z.own_val z.0 (vr ∷ [])) ⊛ ‵ (flft ν j) ⊛ ‵ (flft ρ rρ) ⊛ ‵ (flft φ rφ) ⊛ ‵ (fres δ (X.coded.code z.1))))))
     (changing.gives 𝓛 X Z W gf df dd 𝓜.mem 𝓡.returns ν ρ φ j rρ rφ b e δ old f vf vr) $ await ! tt $ pick ! (λ out. let res : Z.Denot = out.0 in let x' : X.Denot = out.1 in learn ! (λ ran.

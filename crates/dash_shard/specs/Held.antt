@@ -1,0 +1,29 @@
+-- A shard behind a lock: what its lock is made for, and what an insert through a hold promises.
+use Rattle.std.specs.Prelude.{◌≡◌, ◌+◌, ◌<◌, Bool, Option, None, Result, IfOk, IfErr, OnErr, is_some, if◌then◌else◌}
+use Rattle.std.specs.Hash.{HashWrites}
+use Rattle.std.specs.declared.hash.Hasher as hasher
+use Rattle.std.specs.declared.hash.BuildHasher as builder
+use Rattle.dash_shard.specs.Hashing.{HashAlike}
+use Rattle.dash_shard.specs.Contents.{at}
+use Rattle.dash_shard.specs.Steps.{Insert, Old}
+use Rattle.dash_shard.specs.Shard.{ShardState, pairs, shard_len, keys_of, IsShard, TakesExactly}
+use Rattle.dash_shard.specs.declared.shard.InsertRefused.{InsertRefused}
+use Rattle.dash_shard.specs.declared.shard.held.ShardTag.{ShardTag}
+
+module _ {K V S H : Type 0} (eq : K → K → Bool) (b : builder.Ghosts S H) (h : hasher.Ghosts H) (input : K → HashWrites) where
+  -- a shard fits what its lock was made for: it is the one of the tag's number and amount, and its hasher gives everything the hash
+  -- that the tag's gives
+  pub record FitsPlace (tag : ShardTag S) (s : ShardState K V S) : Type 0 where
+    pub number : s.number ≡ tag.number
+    pub amount : s.amount ≡ tag.amount
+    pub hashes : HashAlike b h tag.hasher.value s.hasher
+    pub lawful : IsShard eq b h input s
+
+  -- all that an insert promises
+  pub record Inserts (old new : ShardState K V S) (key : K) (value : V) (result : Result (Option V) (InsertRefused K V)) : Type 0 where
+    pub taken : IfOk result (λ o. TakesExactly eq b h input old new (Insert key value) (Old o))
+    pub len : IfOk result (λ o. shard_len new ≡ shard_len old + (if is_some o then 0 else 1))
+    pub room : shard_len old < old.capacity → new.capacity ≡ old.capacity
+    pub refused : IfErr result (λ e. (e.key ≡ key) × (e.value ≡ value) × (new ≡ old))
+    pub absent : OnErr result (at (keys_of eq b h input old) (pairs old) key ≡ None)
+    pub full : OnErr result (shard_len old ≡ old.capacity)

@@ -1,0 +1,165 @@
+//! A shard that is held for writing, changed in place behind its lock.
+ghost use Rattle.std.specs.Prelude.{◌≡◌, ◌<◌, ◌≤◌, ◌+◌, ◌↔◌, IsTrue, IfOk, IfErr, OnErr, is_some, None, if◌then◌else◌};
+ghost use Rattle.std.specs.Option.{option_map};
+ghost use Rattle.std.specs.Map.Iter.{deref_pair};
+ghost use Rattle.dash_shard.specs.Contents.{at};
+ghost use Rattle.dash_shard.specs.Steps.{Get, Insert, Pair, Old, Replies};
+ghost use Rattle.dash_shard.specs.Shard.{pairs, shard_len, keys_of, Routes, IsShard, TakesExactly};
+ghost use Rattle.dash_shard.specs.Held.{FitsPlace, Inserts};
+
+use crate::lock::{RwLockWriteGuard, Tagged};
+use crate::shard::{InsertRefused, Shard};
+use std::hash::{BuildHasher, Hash};
+use std::marker::Model;
+use std::snapshot::Snapshot;
+
+/// What a shard's lock is made for: the shard's place among the others, and what its hasher means. The snapshot has no bytes.
+#[derive(Drop)]
+pub struct ShardTag<S> {
+    pub number: usize,
+    pub amount: usize,
+    pub hasher: Snapshot<S>,
+}
+
+impl<S: BuildHasher> ShardTag<S> {
+    /// The tag of a lock of this shard.
+    pub fn of<K: Eq + Hash, V>(shard: &Shard<K, V, S>) -> ShardTag<S>
+        ensures number { result.number ≡ shard.now.number }
+        ensures amount { result.amount ≡ shard.now.amount }
+        ensures hasher { result.hasher.value ≡ shard.now.hasher }
+        ensures fits { FitsPlace K.eq S.BuildHasher S.Hasher.Hasher K.hash_input result shard.now }
+    {
+        ShardTag {
+            number: shard.number,
+            amount: shard.amount,
+            hasher: Snapshot::of(&shard.hasher),
+        }
+    }
+}
+
+impl<K: Eq + Hash, V, S: BuildHasher> Tagged for Shard<K, V, S> {
+    type Tag = ShardTag<S>;
+
+    ghost fits = { λ tag shard. FitsPlace K.eq S.BuildHasher S.Hasher.Hasher K.hash_input tag shard };
+}
+
+/// A shard that is held for writing, as the original's write guard of one shard: the hold ends when it is dropped.
+///
+/// Calls are those of `Shard`, in place. To take or to end a hold takes no memory, and to end one waits for nobody and can't fail.
+/// A contract sees it as the shard.
+#[must_use]
+pub struct ShardMut<'a, K: Eq + Hash, V, S: BuildHasher> {
+    guard: RwLockWriteGuard<'a, Shard<K, V, S>>,
+}
+
+impl<'a, K: Eq + Hash, V, S: BuildHasher> Model for ShardMut<'a, K, V, S> {
+    ghost use Rattle.dash_shard.specs.Shard.{ShardState, shard_code};
+
+    ghost Value = { ShardState K V S };
+
+    ghost coded = { shard_code K.code V.code S.code };
+
+    ghost view = { λ s. s.guard.value };
+}
+
+impl<K: Eq + Hash, V, S: BuildHasher> Drop for ShardMut<'_, K, V, S> {
+    #[inline]
+    fn drop(self) {
+        let Self { guard } = self;
+        drop(guard);
+    }
+}
+
+impl<'a, K: Eq + Hash, V, S: BuildHasher> RwLockWriteGuard<'a, Shard<K, V, S>> {
+    /// The shard that is held, whose calls change it in place.
+    #[inline]
+    pub fn shard(self) -> ShardMut<'a, K, V, S>
+        ensures value { result ≡ self.entry.value }
+        ensures fits { FitsPlace K.eq S.BuildHasher S.Hasher.Hasher K.hash_input self.entry.tag result }
+    {
+        ShardMut { guard: self }
+    }
+}
+
+impl<K: Eq + Hash, V, S: BuildHasher> ShardMut<'_, K, V, S> {
+    /// The shard's number among the map's shards.
+    #[inline]
+    pub fn number(&self) -> usize
+        ensures number { result ≡ self.now.number }
+        ensures lawful { IsShard K.eq S.BuildHasher S.Hasher.Hasher K.hash_input self.now }
+    {
+        self.guard.number()
+    }
+
+    /// How many shards the map has.
+    #[inline]
+    pub fn amount(&self) -> usize
+        ensures amount { result ≡ self.now.amount }
+        ensures lawful { IsShard K.eq S.BuildHasher S.Hasher.Hasher K.hash_input self.now }
+    {
+        self.guard.amount()
+    }
+
+    /// Whether the key goes to this shard, which the keyed calls ask.
+    #[inline]
+    pub fn routes(&self, key: &K) -> bool
+        ensures { IsTrue result ↔ Routes K.eq S.BuildHasher S.Hasher.Hasher K.hash_input self.now key.now }
+    {
+        self.guard.routes(key)
+    }
+
+    /// Puts the pair, or where an equal key is there the value under the stored key, and answers the old value.
+    ///
+    /// Takes memory for a new key where the shard is full, and is refused (1) only then.
+    #[inline]
+    pub fn insert(&mut self, key: K, value: V) -> Result<Option<V>, InsertRefused<K, V>>
+    where
+        K: Drop,
+        V: Drop,
+        requires { Routes K.eq S.BuildHasher S.Hasher.Hasher K.hash_input self.old key }
+        ensures taken { IfOk result (λ old. TakesExactly K.eq S.BuildHasher S.Hasher.Hasher K.hash_input self.old self.new (Insert key value) (Old old)) }
+        ensures len { IfOk result (λ old. shard_len self.new ≡ shard_len self.old + (if is_some old then 0 else 1)) }
+        ensures room { shard_len self.old < self.old.capacity → self.new.capacity ≡ self.old.capacity }
+
+        // A refusal hands the pair back, and comes only for a new key in a full shard.
+        ensures refused { IfErr result (λ e. (e.key ≡ key) × (e.value ≡ value) × (self.new ≡ self.old)) }
+        ensures absent { OnErr result (at (keys_of K.eq S.BuildHasher S.Hasher.Hasher K.hash_input self.old) (pairs self.old) key ≡ None) }
+        ensures full { OnErr result (shard_len self.old ≡ self.old.capacity) }
+    {
+        self.guard.change(
+            |shard: &mut Shard<K, V, S>| -> Result<Option<V>, InsertRefused<K, V>>
+                requires { Routes K.eq S.BuildHasher S.Hasher.Hasher K.hash_input shard.old key }
+                ensures { Inserts K.eq S.BuildHasher S.Hasher.Hasher K.hash_input shard.old shard.new key value result }
+            { shard.insert(key, value) },
+        )
+    }
+
+    /// The pair whose key equals `key`.
+    #[inline]
+    pub fn get(&self, key: &K) -> Option<(&K, &V)>
+        ensures pair { Replies (keys_of K.eq S.BuildHasher S.Hasher.Hasher K.hash_input self.now) (Get key.now) (pairs self.now) (Pair (option_map deref_pair result)) }
+        ensures lawful { IsShard K.eq S.BuildHasher S.Hasher.Hasher K.hash_input self.now }
+    {
+        self.guard.get(key)
+    }
+
+    /// How many pairs there are.
+    #[inline]
+    pub fn len(&self) -> usize
+        ensures len { result ≡ shard_len self.now }
+        ensures within { result ≤ self.now.capacity }
+    {
+        self.guard.len()
+    }
+
+    /// How many pairs there may be before the shard takes memory.
+    #[inline]
+    pub fn capacity(&self) -> usize
+        ensures { result ≡ self.now.capacity }
+    {
+        self.guard.capacity()
+    }
+}
+
+#[cfg(test)]
+mod tests;

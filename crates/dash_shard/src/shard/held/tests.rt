@@ -1,0 +1,51 @@
+//! One shard behind its lock, as worked by hand.
+use super::*;
+use crate::hash::{PlaceState, is_shard_amount};
+use crate::lock::RwLock;
+use std::mem;
+use std::test::Fail;
+
+#[test]
+fn a_held_shard_is_changed_in_place(rt: HostRuntime) -> Result<(), Fail> {
+    assert!(rt; is_shard_amount(4));
+    let shard = Shard::<u64, u64, PlaceState>::new(rt.alloc(), PlaceState, 1, 4, 0)?;
+    let tag = ShardTag::of(&shard);
+    let lock = RwLock::new(shard, &tag);
+    let mut held = lock.write(&rt).shard();
+    assert_eq!(rt; held.number(), 1);
+    assert_eq!(rt; held.amount(), 4);
+    assert_eq!(rt; held.capacity(), 0);
+    for (key, value, old) in [(1, 10, None), (1, 11, Some(10))] {
+        assert!(rt; held.routes(&key), "{key}");
+        assert_eq!(rt; held.insert(key, value)?, old, "{key}");
+    }
+    assert_eq!(rt; held.get(&1), Some((&1, &11)));
+    assert_eq!(rt; held.len(), 1);
+    assert!(rt; lock.try_read().is_none(), "a writer has the shard");
+    drop(held);
+    assert_eq!(rt; lock.read(&rt).get(&1), Some((&1, &11)));
+    let shard = lock.into_inner();
+    assert_eq!(rt; shard.get(&1), Some((&1, &11)));
+    assert_eq!(rt; shard.len(), 1);
+    Ok(())
+}
+
+#[test]
+fn a_leaked_hold_leaves_a_shard(rt: HostRuntime) -> Result<(), Fail> {
+    assert!(rt; is_shard_amount(4));
+    let shard = Shard::<u64, u64, PlaceState>::new(rt.alloc(), PlaceState, 1, 4, 0)?;
+    let tag = ShardTag::of(&shard);
+    let lock = RwLock::new(shard, &tag);
+    let mut held = lock.write(&rt).shard();
+    assert!(rt; held.routes(&5));
+    assert_eq!(rt; held.insert(5, 50)?, None);
+    mem::forget(held);
+    assert!(rt; lock.try_write().is_none(), "the writer is never gone");
+    assert_eq!(rt; lock.into_inner().get(&5), Some((&5, &50)));
+
+    let shard = Shard::<u64, u64, PlaceState>::new(rt.alloc(), PlaceState, 1, 4, 0)?;
+    let lock = RwLock::new(shard, &tag);
+    mem::forget(lock.write(&rt));
+    assert_eq!(rt; lock.into_inner().number(), 1);
+    Ok(())
+}
