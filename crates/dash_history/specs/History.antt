@@ -66,19 +66,23 @@ pub record Tells {K V : Type 0} (k : K → K → Bool) (v : V → V → Bool) (s
   pub stepped : IsTrue (alike_step k v step r.step)
   pub replied : IsTrue (alike_reply k v (reply_of reply) (reply_of r.reply))
 
--- The step was taken on the shard, and one same record of it was added at the end of the history and of the log.
-pub record Recorded {K V S : Type 0} (m : Rules K V) (s s' : RecState K V S) (l l' : LogState K V) (step : ShardStep K V) (reply : Reply K V) : Type 0 where
+-- The step was taken on the shard, and a record of it was added at the end of the history. The other record is the same.
+pub record Grown {K V S : Type 0} (m : Rules K V) (s s' : RecState K V S) (stamp caller : ℕ) (step : ShardStep K V) (reply : Reply K V) (logged : Record K V) : Type 0 where
   pub takes : Takes m (pairs s.shard) (step_of step) (reply_of reply) (pairs s'.shard)
   pub kept : Record K V
-  pub logged : Record K V
-  pub tells : Tells m.alike_key m.alike_value (stamp_of s l) l.caller s.shard.number step reply kept
+  pub tells : Tells m.alike_key m.alike_value stamp caller s.shard.number step reply kept
   pub same : IsTrue (alike_record m.alike_key m.alike_value kept logged)
   pub history : s'.history ≡ s.history ++ kept ∷ []
-  pub entries : l'.entries ≡ l.entries ++ logged ∷ []
-  pub last : s'.last ≡ stamp_of s l
-  pub log_last : l'.last ≡ stamp_of s l
+  pub last : s'.last ≡ stamp
   pub stays : SameShard s.shard s'.shard
   pub callers : s'.callers ≡ s.callers
+
+-- The step was taken on the shard, and one same record of it was added at the end of the history and of the log.
+pub record Recorded {K V S : Type 0} (m : Rules K V) (s s' : RecState K V S) (l l' : LogState K V) (step : ShardStep K V) (reply : Reply K V) : Type 0 where
+  pub logged : Record K V
+  pub grown : Grown m s s' (stamp_of s l) l.caller step reply logged
+  pub entries : l'.entries ≡ l.entries ++ logged ∷ []
+  pub log_last : l'.last ≡ stamp_of s l
   pub caller : l'.caller ≡ l.caller
 
 module _ {K V S H : Type 0} (eq : K → K → Bool) (b : builder.Ghosts S H) (h : hasher.Ghosts H) (input : K → HashWrites) (k : K → K → Bool) (v : V → V → Bool) where

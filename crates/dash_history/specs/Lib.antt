@@ -4,3 +4,4 @@ pub mod Takes
 pub mod History
 pub mod Alone
 pub mod Plain
+pub mod Held

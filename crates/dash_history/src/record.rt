@@ -5,7 +5,7 @@ ghost use Rattle.dash_shard.specs.Steps.{Becomes};
 ghost use Rattle.dash_shard.specs.Shard.{pairs, keys_of, IsShard, SameShard};
 ghost use Rattle.dash_history.specs.Steps.{step_of, reply_of, alike_record};
 ghost use Rattle.dash_history.specs.Takes.{Answers};
-ghost use Rattle.dash_history.specs.History.{IsLog, IsRecorded, Recorded, Tells, place_of, rules_of};
+ghost use Rattle.dash_history.specs.History.{IsLog, IsRecorded, Grown, Recorded, Tells, place_of, rules_of};
 ghost use Rattle.dash_history.specs.Alone.{IsFresh};
 
 use crate::kept::{Kept, KeptKey};
@@ -15,6 +15,8 @@ use std::alloc::{AllocError, Global};
 use std::hash::BuildHasher;
 use std::marker::Model;
 use thiserror::Error;
+
+pub mod held;
 
 /// Why a step is refused. Nothing changes then, and the step is handed back.
 #[derive(Clone, Copy, Debug, PartialEq, Eq, Error)]
@@ -232,6 +234,45 @@ impl<K: KeptKey + Drop, V: Kept + Drop, S: BuildHasher> RecShard<K, V, S> {
         self.last
     }
 
+    // Takes a step at a stamp, and adds a record of it at the end of the history. Answers the same record beside the reply, for the log.
+    fn grow(
+        &mut self,
+        stamp: u64,
+        caller: u32,
+        step: ShardStep<K, V>,
+    ) -> Result<(Reply<K, V>, Record<K, V>), ShardStep<K, V>>
+        requires place { place_of (rules_of K.eq S.BuildHasher S.Hasher.Hasher K.hash_input K.alike V.alike self.old.shard) step ≡ self.old.shard.number }
+        requires caller { caller < self.old.callers }
+        requires above { self.old.last < stamp }
+        ensures ok { IfOk result (λ p. Grown (rules_of K.eq S.BuildHasher S.Hasher.Hasher K.hash_input K.alike V.alike self.old.shard) self.old self.new stamp caller step p.0 p.1) }
+        ensures refused { IfErr result (λ back. (back ≡ step) × (self.new ≡ self.old)) }
+        ensures stays { SameShard self.old.shard self.new.shard }
+        ensures callers { self.new.callers ≡ self.old.callers }
+    {
+        if !make_room(&mut self.history) {
+            return Err(step);
+        }
+        let Ok(reply) = answer(&self.shard, &step) else {
+            return Err(step);
+        };
+        let number = self.shard.number();
+        let Ok((first, second)) = copies(stamp, caller, number, &step, &reply) else {
+            drop(reply);
+            return Err(step);
+        };
+        match take(&mut self.shard, step) {
+            Ok(()) => {
+                self.history.push_reserved(first);
+                self.last = stamp;
+                Ok((reply, second))
+            }
+            Err(step) => {
+                discard(first, second, reply);
+                Err(step)
+            }
+        }
+    }
+
     /// Takes a step of this shard, and adds one same record of it at the end of its history and of the caller's log.
     ///
     /// Takes memory for the copies and the records, before anything changes.
@@ -253,30 +294,16 @@ impl<K: KeptKey + Drop, V: Kept + Drop, S: BuildHasher> RecShard<K, V, S> {
         if last == u64::MAX {
             return Err((step, RecordFault::LastStamp));
         }
-        let stamp = last + 1;
-        if !make_room(&mut self.history) || !make_room(&mut log.entries) {
+        if !make_room(&mut log.entries) {
             return Err((step, RecordFault::Memory));
         }
-        let Ok(reply) = answer(&self.shard, &step) else {
-            return Err((step, RecordFault::Memory));
-        };
-        let number = self.shard.number();
-        let Ok((first, second)) = copies(stamp, log.caller, number, &step, &reply) else {
-            drop(reply);
-            return Err((step, RecordFault::Memory));
-        };
-        match take(&mut self.shard, step) {
-            Ok(()) => {
-                self.history.push_reserved(first);
-                self.last = stamp;
-                log.entries.push_reserved(second);
-                log.last = stamp;
+        match self.grow(last + 1, log.caller, step) {
+            Ok((reply, record)) => {
+                log.entries.push_reserved(record);
+                log.last = last + 1;
                 Ok(reply)
             }
-            Err(step) => {
-                discard(first, second, reply);
-                Err((step, RecordFault::Memory))
-            }
+            Err(step) => Err((step, RecordFault::Memory)),
         }
     }
 }

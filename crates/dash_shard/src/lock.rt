@@ -316,7 +316,7 @@ impl<T: Tagged> RwLockWriteGuard<'_, T> {
 
     /// Calls `f` on the value in place, so that nothing moves. What `f` leaves has to fit.
     #[inline]
-    pub(crate) fn change<R, F: FnOnce(&mut T) -> R>(&mut self, f: F) -> R
+    pub fn change<R, F: FnOnce(&mut T) -> R>(&mut self, f: F) -> R
         requires callable { FnOnceTakesAtMut F.FnOnce f self.old.value }
         requires keeps { KeepsFit (T.fits self.old.tag) F.FnOnce f self.old.value }
         ensures tag { self.new.tag ≡ self.old.tag }

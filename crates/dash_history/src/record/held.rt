@@ -1,0 +1,163 @@
+//! A recorded shard that is held for writing, changed in place behind its lock.
+ghost use Rattle.std.specs.Prelude.{◌≡◌, ◌+◌, ◌-◌, ◌<◌, ◌^◌, ◌↔◌, ◌⊎◌, max, IfOk, IfErr, IsTrue};
+ghost use Rattle.dash_shard.specs.Shard.{Routes, SameShard};
+ghost use Rattle.dash_history.specs.History.{IsRecorded, Recorded, place_of, rules_of};
+ghost use Rattle.dash_history.specs.Held.{FitsPlace, Grows};
+
+use super::{CallerLog, RecShard, RecordFault, make_room};
+use crate::kept::{Kept, KeptKey};
+use crate::step::{Record, Reply, ShardStep};
+use dash_shard::lock::{RwLockWriteGuard, Tagged};
+use std::hash::BuildHasher;
+use std::marker::Model;
+use std::snapshot::Snapshot;
+
+/// What a recorded shard's lock is made for: the shard's place among the others, the number of callers, and what its hasher means.
+/// The snapshot has no bytes.
+#[derive(Drop)]
+pub struct Place<S> {
+    pub number: usize,
+    pub amount: usize,
+    pub callers: u32,
+    pub hasher: Snapshot<S>,
+}
+
+impl<K: KeptKey, V: Kept, S: BuildHasher> Tagged for RecShard<K, V, S> {
+    type Tag = Place<S>;
+
+    ghost fits = { λ tag shard. FitsPlace S.BuildHasher S.Hasher.Hasher tag shard };
+}
+
+/// A recorded shard that is held for writing: the hold ends when it is dropped. A contract sees it as the shard with its history.
+#[must_use]
+pub struct RecShardMut<'a, K: KeptKey, V: Kept, S: BuildHasher> {
+    guard: RwLockWriteGuard<'a, RecShard<K, V, S>>,
+}
+
+impl<'a, K: KeptKey, V: Kept, S: BuildHasher> Model for RecShardMut<'a, K, V, S> {
+    ghost use Rattle.dash_history.specs.History.{RecState};
+
+    ghost Value = { RecState K V S };
+
+    ghost view = { λ s. s.guard.value };
+}
+
+impl<K: KeptKey, V: Kept, S: BuildHasher> Drop for RecShardMut<'_, K, V, S> {
+    #[inline]
+    fn drop(self) {
+        let Self { guard } = self;
+        drop(guard);
+    }
+}
+
+impl<'a, K: KeptKey, V: Kept, S: BuildHasher> RecShardMut<'a, K, V, S> {
+    /// The recorded shard that a write guard holds.
+    #[inline]
+    pub fn of(guard: RwLockWriteGuard<'a, RecShard<K, V, S>>) -> RecShardMut<'a, K, V, S>
+        ensures value { result ≡ guard.entry.value }
+        ensures fits { FitsPlace S.BuildHasher S.Hasher.Hasher guard.entry.tag result }
+    {
+        RecShardMut { guard }
+    }
+}
+
+impl<K: KeptKey + Drop, V: Kept + Drop, S: BuildHasher> RecShardMut<'_, K, V, S> {
+    /// The shard's number among the map's shards.
+    #[inline]
+    pub fn number(&self) -> usize
+        ensures number { result ≡ self.now.shard.number }
+        ensures legal { IsRecorded K.eq S.BuildHasher S.Hasher.Hasher K.hash_input K.alike V.alike self.now }
+    {
+        self.guard.shard.number()
+    }
+
+    /// How many shards the map has.
+    #[inline]
+    pub fn amount(&self) -> usize
+        ensures { result ≡ self.now.shard.amount }
+    {
+        self.guard.shard.amount()
+    }
+
+    /// How many callers the map has.
+    #[inline]
+    pub fn callers(&self) -> u32
+        ensures { result ≡ self.now.callers }
+    {
+        self.guard.callers
+    }
+
+    /// The stamp of the shard's last step, 0 for none.
+    #[inline]
+    pub fn last_stamp(&self) -> u64
+        ensures { result ≡ self.now.last }
+    {
+        self.guard.last
+    }
+
+    /// Whether the key goes to this shard.
+    #[inline]
+    pub fn routes(&self, key: &K) -> bool
+        ensures { IsTrue result ↔ Routes K.eq S.BuildHasher S.Hasher.Hasher K.hash_input self.now.shard key.now }
+    {
+        self.guard.shard.routes(key)
+    }
+
+    // Takes a step at a stamp, in place.
+    fn grow(
+        &mut self,
+        stamp: u64,
+        caller: u32,
+        step: ShardStep<K, V>,
+    ) -> Result<(Reply<K, V>, Record<K, V>), ShardStep<K, V>>
+        requires place { place_of (rules_of K.eq S.BuildHasher S.Hasher.Hasher K.hash_input K.alike V.alike self.old.shard) step ≡ self.old.shard.number }
+        requires caller { caller < self.old.callers }
+        requires above { self.old.last < stamp }
+        ensures { Grows (rules_of K.eq S.BuildHasher S.Hasher.Hasher K.hash_input K.alike V.alike self.old.shard) self.old self.new stamp caller step result }
+    {
+        self.guard.change(
+            |shard: &mut RecShard<K, V, S>| -> Result<(Reply<K, V>, Record<K, V>), ShardStep<K, V>>
+                requires place { place_of (rules_of K.eq S.BuildHasher S.Hasher.Hasher K.hash_input K.alike V.alike shard.old.shard) step ≡ shard.old.shard.number }
+                requires caller { caller < shard.old.callers }
+                requires above { shard.old.last < stamp }
+                ensures { Grows (rules_of K.eq S.BuildHasher S.Hasher.Hasher K.hash_input K.alike V.alike shard.old.shard) shard.old shard.new stamp caller step result }
+            { shard.grow(stamp, caller, step) },
+        )
+    }
+
+    /// Takes a step of this shard, and adds one same record of it at the end of its history and of the caller's log.
+    ///
+    /// Takes memory for the copies and the records, before anything changes. Where it is refused (18, 19), the step is handed back, and
+    /// nothing changes.
+    pub fn record(
+        &mut self,
+        log: &mut CallerLog<K, V>,
+        step: ShardStep<K, V>,
+    ) -> Result<Reply<K, V>, (ShardStep<K, V>, RecordFault)>
+        requires place { place_of (rules_of K.eq S.BuildHasher S.Hasher.Hasher K.hash_input K.alike V.alike self.old.shard) step ≡ self.old.shard.number }
+        requires caller { log.old.caller < self.old.callers }
+        ensures ok { IfOk result (λ reply. Recorded (rules_of K.eq S.BuildHasher S.Hasher.Hasher K.hash_input K.alike V.alike self.old.shard) self.old self.new log.old log.new step reply) }
+        ensures refused { IfErr result (λ e. (e.0 ≡ step) × (self.new ≡ self.old) × (log.new ≡ log.old)) }
+        ensures last_stamp { (result ≡ Err (step, RecordFault.LastStamp)) ↔ (max self.old.last log.old.last ≡ 2 ^ 64 - 1) }
+        ensures faults { IfErr result (λ e. (e.1 ≡ RecordFault.LastStamp) ⊎ (e.1 ≡ RecordFault.Memory)) }
+    {
+        let last = self.last_stamp().max(log.last);
+        if last == u64::MAX {
+            return Err((step, RecordFault::LastStamp));
+        }
+        if !make_room(&mut log.entries) {
+            return Err((step, RecordFault::Memory));
+        }
+        match self.grow(last + 1, log.caller, step) {
+            Ok((reply, record)) => {
+                log.entries.push_reserved(record);
+                log.last = last + 1;
+                Ok(reply)
+            }
+            Err(step) => Err((step, RecordFault::Memory)),
+        }
+    }
+}
+
+#[cfg(test)]
+mod tests;

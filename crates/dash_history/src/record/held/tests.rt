@@ -1,0 +1,51 @@
+//! A recorded shard behind its lock, as worked by hand.
+use super::*;
+use dash_shard::hash::{PlaceState, is_shard_amount};
+use dash_shard::lock::RwLock;
+use std::process::Abort;
+use std::test::Fail;
+
+// Takes an insert, by the caller of this log.
+fn insert(
+    rt: &impl Abort,
+    held: &mut RecShardMut<'_, u64, u64, PlaceState>,
+    log: &mut CallerLog<u64, u64>,
+    key: u64,
+    value: u64,
+) -> Result<Reply<u64, u64>, Fail> {
+    assert!(rt; held.routes(&key), "{key}");
+    assert!(rt; log.caller() < held.callers());
+    Ok(held.record(log, ShardStep::Insert(key, value))?)
+}
+
+#[test]
+fn records_in_place(rt: HostRuntime) -> Result<(), Fail> {
+    assert!(rt; is_shard_amount(4));
+    let shard = RecShard::<u64, u64, PlaceState>::new(rt.alloc(), PlaceState, 1, 4, 2)?;
+    let place = Place {
+        number: 1,
+        amount: 4,
+        callers: 2,
+        hasher: Snapshot::of(&PlaceState),
+    };
+    let lock = RwLock::new(shard, &place);
+    let mut log = CallerLog::new(rt.alloc(), 1);
+    let mut held = RecShardMut::of(lock.write(&rt));
+    assert_eq!(rt; held.number(), 1);
+    assert_eq!(rt; held.amount(), 4);
+    assert_eq!(rt; held.callers(), 2);
+    assert_eq!(rt; held.last_stamp(), 0);
+    for (key, value) in [(1, 10), (5, 50), (1, 11)] {
+        insert(&rt, &mut held, &mut log, key, value)?;
+    }
+    let reply = insert(&rt, &mut held, &mut log, 1, 12)?;
+    assert!(rt; matches!(reply, Reply::Old(Some(11))));
+    assert_eq!(rt; held.last_stamp(), 4);
+    assert_eq!(rt; log.last_stamp(), 4);
+    assert_eq!(rt; log.entries().len(), 4);
+    drop(held);
+
+    let held = RecShardMut::of(lock.write(&rt));
+    assert_eq!(rt; held.last_stamp(), 4);
+    Ok(())
+}
