@@ -56,11 +56,11 @@ module _ {K V S H : Type 0} (b : builder.Ghosts S H) (h : hasher.Ghosts H) where
       }
 
   -- a shard's rules are the map's
-  pub rules-same : (eq : K → K → Bool) (input : K → HashWrites) (k : K → K → Bool) (v : V → V → Bool) (base : S) (c i : ℕ) (row : List (RecState K V S)) (s : RecState K V S)
-      → IsPlaced b h base (length row) c i s → rules_of eq b h input k v s.shard ≡ rules_in b h eq input k v (record { hasher = base; callers = c; row = row })
-  rules-same eq input k v base c i row s p =
-      let route = fun_ext (λ (x : K). ap (λ n. route_of_hash n (hash_of b h s.shard.hasher (input x))) p.amount ∙ ap (route_of_hash (length row)) (p.hashes (input x))) in
-      ap (λ r. rules k v (keys eq r s.shard.amount)) route ∙ ap (λ n. rules k v (keys eq (route_by b h input base (length row)) n)) p.amount
+  pub rules-same : (eq : K → K → Bool) (input : K → HashWrites) (k : K → K → Bool) (v : V → V → Bool) (base : S) (n c i : ℕ) (s : RecState K V S)
+      → IsPlaced b h base n c i s → rules_of eq b h input k v s.shard ≡ rules k v (keys eq (route_by b h input base n) n)
+  rules-same eq input k v base n c i s p =
+      let route = fun_ext (λ (x : K). ap (λ a. route_of_hash a (hash_of b h s.shard.hasher (input x))) p.amount ∙ ap (route_of_hash n) (p.hashes (input x))) in
+      ap (λ r. rules k v (keys eq r s.shard.amount)) route ∙ ap (λ a. rules k v (keys eq (route_by b h input base n) a)) p.amount
 
 -- The map, the place that was computed, and the shard that an index lends there.
 module _ {K V S H : Type 0} (eq : K → K → Bool) (b : builder.Ghosts S H) (h : hasher.Ghosts H) (input : K → HashWrites) (k : K → K → Bool) (v : V → V → Bool)
@@ -80,7 +80,7 @@ module _ {K V S H : Type 0} (eq : K → K → Bool) (b : builder.Ghosts S H) (h 
   placed = a.placed p s here
 
   same : rules_of eq b h input k v s.shard ≡ rules_in b h eq input k v z
-  same = rules-same b h eq input k v base c p row s placed ∙ ap (rules_in b h eq input k v) view
+  same = rules-same b h eq input k v base (length row) c p s placed ∙ ap (rules_in b h eq input k v) view
 
   pub place_is : p ≡ place_of (rules_in b h eq input k v z) step
   place_is = computed ∙ ap (λ l. place (keys eq (route_by b h input base l) l) (step_of step)) long ∙ ap (λ x. place_of (rules_in b h eq input k v x) step) view

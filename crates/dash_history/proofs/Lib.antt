@@ -1,7 +1,10 @@
 mod AlikeLaws
 mod Alones
 mod Copies
+mod Faults
 mod Growing
+mod Logging
+mod Maps
 mod Plains
 mod Recording
 mod Rows

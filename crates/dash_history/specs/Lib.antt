@@ -5,3 +5,4 @@ pub mod History
 pub mod Alone
 pub mod Plain
 pub mod Held
+pub mod Map

@@ -5,6 +5,7 @@ ghost use Rattle.dash_history.specs.History.{last_or, place_of};
 ghost use Rattle.dash_history.specs.Alone.{IsCallers, IsFresh, IsAlone, IsPlaced, Applied, fresh_logs, last_at, rules_in};
 
 use crate::kept::{Kept, KeptKey};
+use crate::record::map::Locked;
 use crate::record::{CallerLog, RecShard, RecordFault};
 use crate::step::{Reply, ShardStep};
 use dash_shard::error::ConstructError;
@@ -16,19 +17,22 @@ use std::marker::Model;
 /// A recorded map of one owner: its shards without locks, each with its history.
 #[derive(Drop)]
 pub struct RecAlone<K: KeptKey, V: Kept, S: BuildHasher> {
-    hasher: S,
-    callers: u32,
-    row: Vec<RecShard<K, V, S>>,
+    pub(crate) hasher: S,
+    pub(crate) callers: u32,
+    pub(crate) row: Vec<RecShard<K, V, S>>,
+    // Empty, with room for all locks.
+    pub(crate) locks: Vec<Locked<K, V, S>>,
 }
 
 impl<K: KeptKey, V: Kept, S: BuildHasher> Model for RecAlone<K, V, S> {
+    ghost use Rattle.std.specs.Prelude.{◌≡◌, ◌≤◌, [], vec_len, vec_capacity};
     ghost use Rattle.dash_history.specs.Alone.{AloneState, IsAlone};
 
     ghost Value = { AloneState K V S };
 
     ghost view = { λ a. record { hasher = a.hasher; callers = a.callers; row = a.row.items } };
 
-    ghost invariant = { λ a. IsAlone S.BuildHasher S.Hasher.Hasher (record { hasher = a.hasher; callers = a.callers; row = a.row.items }) };
+    ghost invariant = { λ a. IsAlone S.BuildHasher S.Hasher.Hasher (record { hasher = a.hasher; callers = a.callers; row = a.row.items }) × (a.locks.items ≡ []) × (vec_len a.row ≤ vec_capacity a.locks) };
 }
 
 // The row of a map with no pairs and no histories.
@@ -98,6 +102,9 @@ impl<K: KeptKey + Drop, V: Kept + Drop, S: BuildHasher> RecAlone<K, V, S> {
         let Ok(row) = fresh_row(alloc, &hasher, amount, callers) else {
             return Err(ConstructError::Memory);
         };
+        let Ok(locks) = Vec::with_capacity(alloc, amount) else {
+            return Err(ConstructError::Memory);
+        };
         let Ok(logs) = fresh_logs(alloc, callers) else {
             return Err(ConstructError::Memory);
         };
@@ -105,6 +112,7 @@ impl<K: KeptKey + Drop, V: Kept + Drop, S: BuildHasher> RecAlone<K, V, S> {
             hasher,
             callers,
             row,
+            locks,
         };
         Ok((alone, logs))
     }

@@ -2,6 +2,7 @@
 #![tactic(auto)]
 
 pub mod alone;
+mod apply;
 pub mod kept;
 pub mod plain;
 pub mod record;

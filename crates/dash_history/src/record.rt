@@ -17,6 +17,7 @@ use std::marker::Model;
 use thiserror::Error;
 
 pub mod held;
+pub mod map;
 
 /// Why a step is refused. Nothing changes then, and the step is handed back.
 #[derive(Clone, Copy, Debug, PartialEq, Eq, Error)]

@@ -6,11 +6,13 @@ mod Exchanging
 mod HoldFields
 mod LockBorrows
 mod LockShown
+pub mod Moving
 mod Nodes
 mod Places
 mod RoundParts
 mod Rounds
 pub mod Routing
+pub mod Rows
 mod Seeking
 mod Shards
 mod Walking

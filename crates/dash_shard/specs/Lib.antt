@@ -1,5 +1,6 @@
 pub mod Hashing
 pub mod Contents
+pub mod Rows
 pub mod Steps
 pub mod Shard
 pub mod Table

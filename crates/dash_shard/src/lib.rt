@@ -4,4 +4,5 @@
 pub mod error;
 pub mod hash;
 pub mod lock;
+pub mod row;
 pub mod shard;

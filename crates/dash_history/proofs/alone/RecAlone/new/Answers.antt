@@ -6,12 +6,15 @@ use Rattle.dash_history.proofs.alone.RecAlone.new.Goals as goal
 pub invariant_of-alone : goal.invariant_of-alone
 invariant_of-alone g c =
     let lawful : IsAmount c.args.amount = c.is_shard_amount.ensures.0 c.if-not-is_shard_amount.false in
-    let made = c.in-Ok.ensures in
-    record {
-      amount = subst IsAmount (sym made.len) lawful;
-      callers = record { some = omega arith; few = omega arith };
-      placed = λ i s e. subst (λ n. IsPlaced g.S.BuildHasher g.S.Hasher.Hasher c.args.hasher n c.args.callers i s) (sym made.len) (made.made i s e).0;
-    }
+    let made = c.in-Ok.ensures in (
+      record {
+        amount = subst IsAmount (sym made.len) lawful;
+        callers = record { some = omega arith; few = omega arith };
+        placed = λ i s e. subst (λ n. IsPlaced g.S.BuildHasher g.S.Hasher.Hasher c.args.hasher n c.args.callers i s) (sym made.len) (made.made i s e).0;
+      },
+      c.in-Ok-with_capacity.ensures.items,
+      omega (arith, made.len, c.in-Ok.row.ok, c.in-Ok-with_capacity.ensures.capacity),
+    )
 
 pub returns-clause-fresh : goal.returns-clause-fresh
 returns-clause-fresh g c = λ i s e. (c.in-Ok.ensures.made i s e).1

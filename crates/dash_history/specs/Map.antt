@@ -1,0 +1,52 @@
+-- A recorded map behind its locks, and what a step through them leaves in the caller's log.
+use Rattle.std.specs.Prelude.{ℕ, ◌≡◌, ◌<◌, Bool, List, [], ◌∷◌, ◌++◌, Some, slice_get}
+use Rattle.std.specs.Hash.{HashWrites}
+use Rattle.std.specs.declared.hash.Hasher as hasher
+use Rattle.std.specs.declared.hash.BuildHasher as builder
+use Rattle.crossbeam_utils.specs.declared.cache_padded.CachePadded.{CachePadded}
+use Rattle.crossbeam_utils.specs.Padded.{padded_value}
+use Rattle.dash_shard.specs.Hashing.{IsAmount, route_by}
+use Rattle.dash_shard.specs.Contents.{keys}
+use Rattle.dash_history.specs.Steps.{step_of, reply_of}
+use Rattle.dash_history.specs.Takes.{Rules, rules, Answers}
+use Rattle.dash_history.specs.History.{LogState, Tells, place_of}
+use Rattle.dash_history.specs.Alone.{IsCallers}
+use Rattle.dash_history.specs.declared.step.ShardStep.{ShardStep}
+use Rattle.dash_history.specs.declared.step.Reply.{Reply}
+use Rattle.dash_history.specs.declared.step.Record.{Record}
+use Rattle.dash_history.specs.declared.record.held.Place.{Place}
+
+-- what contracts see of the map: nothing of its pairs and histories
+pub record MapState (S : Type 0) : Type 0 where
+  pub hasher : S
+  pub callers : ℕ
+  pub amount : ℕ
+
+module _ {S : Type 0} where
+  -- the lock was made for shard i of the map
+  pub record IsAt (m : MapState S) (i : ℕ) (lock : CachePadded (Place S)) : Type 0 where
+    pub number : (padded_value lock).number ≡ i
+    pub amount : (padded_value lock).amount ≡ m.amount
+    pub callers : (padded_value lock).callers ≡ m.callers
+    pub hasher : (padded_value lock).hasher.value ≡ m.hasher
+
+  -- a lawful map, whose locks stand in their places
+  pub record IsMap (m : MapState S) (locks : List (CachePadded (Place S))) : Type 0 where
+    pub amount : IsAmount m.amount
+    pub callers : IsCallers m.callers
+    pub placed : (i : ℕ) (lock : CachePadded (Place S)) → slice_get locks i ≡ Some lock → IsAt m i lock
+
+  -- what the map knows of its keys and values
+  abbrev pub rules_on : {K V H : Type 0} → builder.Ghosts S H → hasher.Ghosts H → (K → K → Bool) → (K → HashWrites) → (K → K → Bool) → (V → V → Bool) → MapState S → Rules K V
+  rules_on b h eq input k v m = rules k v (keys eq (route_by b h input m.hasher m.amount) m.amount)
+
+-- The log is longer by one record of the step, with the reply, the step's place and a stamp above the log's last. The reply is one
+-- that the step gets from some contents of its shard.
+pub record Logged {K V : Type 0} (m : Rules K V) (l l' : LogState K V) (step : ShardStep K V) (reply : Reply K V) : Type 0 where
+  pub entry : Record K V
+  pub tells : Tells m.alike_key m.alike_value l'.last l.caller (place_of m step) step reply entry
+  pub above : l.last < l'.last
+  pub entries : l'.entries ≡ l.entries ++ entry ∷ []
+  pub caller : l'.caller ≡ l.caller
+  pub contents : List (K × V)
+  pub answers : Answers m contents (step_of step) (reply_of reply)

@@ -1,0 +1,36 @@
+//! Steps of callers on a map that threads share.
+ghost use Rattle.std.specs.Prelude.{◌≡◌, ◌<◌, ◌≤◌, ◌↔◌, IfOk, IfErr};
+ghost use Rattle.dash_history.specs.History.{place_of};
+ghost use Rattle.dash_history.specs.Map.{Logged, rules_on};
+
+use crate::kept::{Kept, KeptKey};
+use crate::record::map::RecordedMap;
+use crate::record::{CallerLog, RecordFault};
+use crate::step::{Reply, ShardStep};
+use std::hash::BuildHasher;
+use std::rt::Clock;
+use std::sync::Wait;
+
+impl<K: KeptKey + Drop, V: Kept + Drop, S: BuildHasher> RecordedMap<K, V, S> {
+    /// Waits for the shard of the step's place, takes the step there, and adds one same record of it at the end of the shard's history
+    /// and of the caller's log.
+    ///
+    /// Where it is refused (20, then 18, then 19), the step is handed back, and pairs, history and log stay as they were.
+    pub fn apply<R: Wait + Clock>(
+        &self,
+        rt: &R,
+        log: &mut CallerLog<K, V>,
+        step: ShardStep<K, V>,
+    ) -> Result<Reply<K, V>, (ShardStep<K, V>, RecordFault)>
+        requires { log.old.caller < self.now.callers }
+        ensures ok { IfOk result (λ reply. Logged (rules_on S.BuildHasher S.Hasher.Hasher K.eq K.hash_input K.alike V.alike self.now) log.old log.new step reply) }
+        ensures refused { IfErr result (λ e. (e.0 ≡ step) × (log.new ≡ log.old)) }
+        ensures no_such_shard { (result ≡ Err (step, RecordFault.NoSuchShard)) ↔ (self.now.amount ≤ place_of (rules_on S.BuildHasher S.Hasher.Hasher K.eq K.hash_input K.alike V.alike self.now) step) }
+    {
+        let place = self.place(&step);
+        if place >= self.shard_count() {
+            return Err((step, RecordFault::NoSuchShard));
+        }
+        self.held(rt, place).record(log, step)
+    }
+}

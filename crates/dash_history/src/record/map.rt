@@ -1,0 +1,180 @@
+//! A recorded map that threads share, and its two moves: shards out of their locks, and behind them again.
+ghost use Rattle.std.specs.Prelude.{◌≡◌, ◌<◌, ◌↔◌, IsErrOf, IfOk, length};
+ghost use Rattle.crossbeam_utils.specs.Padded.{padded_value};
+ghost use Rattle.dash_shard.specs.Hashing.{IsAmount, HashAlike};
+ghost use Rattle.dash_history.specs.Alone.{IsAlone, IsCallers, IsPlaced, fresh_logs};
+ghost use Rattle.dash_history.specs.Held.{FitsPlace};
+ghost use Rattle.dash_history.specs.History.{IsRecorded, place_of};
+ghost use Rattle.dash_history.specs.Map.{IsAt, rules_on};
+
+use super::held::{Place, RecShardMut};
+use super::{CallerLog, RecShard};
+use crate::alone::RecAlone;
+use crate::kept::{Kept, KeptKey};
+use crate::step::ShardStep;
+use crossbeam_utils::CachePadded;
+use dash_shard::error::ConstructError;
+use dash_shard::lock::RwLock;
+use dash_shard::row::move_all;
+use std::alloc::Global;
+use std::hash::BuildHasher;
+use std::marker::Model;
+use std::rt::Clock;
+use std::snapshot::Snapshot;
+use std::sync::Wait;
+
+/// A shard behind its lock, on cache lines of its own.
+pub(crate) type Locked<K, V, S> = CachePadded<RwLock<RecShard<K, V, S>>>;
+
+/// A recorded map that threads share: its shards behind locks, each with its history.
+///
+/// A contract sees its hasher, the number of its callers and that of its shards. What is behind a lock is known to whom holds it.
+#[derive(Drop)]
+pub struct RecordedMap<K: KeptKey, V: Kept, S: BuildHasher> {
+    hasher: S,
+    callers: u32,
+    row: Vec<Locked<K, V, S>>,
+    // Empty, with room for all shards.
+    shards: Vec<RecShard<K, V, S>>,
+}
+
+impl<K: KeptKey, V: Kept, S: BuildHasher> Model for RecordedMap<K, V, S> {
+    ghost use Rattle.std.specs.Prelude.{◌≡◌, ◌≤◌, [], length, vec_len, vec_capacity};
+    ghost use Rattle.dash_history.specs.Map.{MapState, IsMap};
+
+    ghost Value = { MapState S };
+
+    ghost view = { λ m. record { hasher = m.hasher; callers = m.callers; amount = length m.row.items } };
+
+    ghost invariant = { λ m. IsMap (record { hasher = m.hasher; callers = m.callers; amount = length m.row.items }) m.row.items × (m.shards.items ≡ []) × (vec_len m.row ≤ vec_capacity m.shards) };
+}
+
+impl<K: KeptKey + Drop, V: Kept + Drop, S: BuildHasher> RecordedMap<K, V, S> {
+    /// A map of `amount` shards with no pairs, beside the logs of its callers, which are numbered from 0.
+    ///
+    /// It is refused where the amount is no power of two above 1 (5), then where there are not 1 to 65,536 callers (17), then where
+    /// there is no memory (8). It clones the hasher for each shard.
+    pub fn new(
+        alloc: Global,
+        hasher: S,
+        amount: usize,
+        callers: u32,
+    ) -> Result<(RecordedMap<K, V, S>, Vec<CallerLog<K, V>>), ConstructError>
+    where
+        S: Clone,
+        requires { (s t : S) → S.is_clone s t → HashAlike S.BuildHasher S.Hasher.Hasher s t }
+        ensures made { IfOk result (λ m. m.0 ≡ record { hasher = hasher; callers = callers; amount = amount }) }
+        ensures logs { IfOk result (λ m. m.1.items ≡ fresh_logs callers) }
+
+        // In the order of the refusals' numbers; else there was no memory.
+        ensures bad_amount { IsErrOf result ConstructError.ShardAmount ↔ (IsAmount amount → ⊥) }
+        ensures bad_callers { IsErrOf result ConstructError.Callers ↔ (IsAmount amount × (IsCallers callers → ⊥)) }
+    {
+        let (alone, logs) = RecAlone::new(alloc, hasher, amount, callers)?;
+        Ok((alone.end(), logs))
+    }
+
+    /// How many callers the map has.
+    #[inline]
+    pub fn callers(&self) -> u32
+        ensures callers { result ≡ self.now.callers }
+        ensures lawful { IsCallers self.now.callers }
+    {
+        self.callers
+    }
+
+    /// How many shards the map has.
+    #[inline]
+    pub fn shard_count(&self) -> usize
+        ensures count { result ≡ self.now.amount }
+        ensures lawful { IsAmount self.now.amount }
+    {
+        self.row.len()
+    }
+
+    /// The number of the shard that a step goes to.
+    #[inline]
+    pub(crate) fn place(&self, step: &ShardStep<K, V>) -> usize
+        ensures { result ≡ place_of (rules_on S.BuildHasher S.Hasher.Hasher K.eq K.hash_input K.alike V.alike self.now) step.now }
+    {
+        step.place(&self.hasher, self.row.len())
+    }
+
+    /// Waits until nobody has the shard, and holds it for writing.
+    #[inline]
+    pub fn held<R: Wait + Clock>(&self, rt: &R, shard: usize) -> RecShardMut<'_, K, V, S>
+        requires { shard < self.now.amount }
+        ensures placed { IsPlaced S.BuildHasher S.Hasher.Hasher self.now.hasher self.now.amount self.now.callers shard result }
+        ensures legal { IsRecorded K.eq S.BuildHasher S.Hasher.Hasher K.hash_input K.alike V.alike result }
+    {
+        RecShardMut::of(self.row[shard].write(rt))
+    }
+
+    /// The map without its locks. It takes no memory, and waits for nobody, even where a hold was leaked.
+    pub fn alone(self) -> RecAlone<K, V, S>
+        ensures hasher { result.hasher ≡ self.hasher }
+        ensures callers { result.callers ≡ self.callers }
+        ensures amount { length result.row ≡ self.amount }
+        ensures lawful { IsAlone S.BuildHasher S.Hasher.Hasher result }
+    {
+        let RecordedMap {
+            hasher,
+            callers,
+            mut row,
+            mut shards,
+        } = self;
+        move_all(
+            &mut row,
+            &mut shards,
+            |_: usize, lock: Locked<K, V, S>| -> RecShard<K, V, S>
+                ensures { FitsPlace S.BuildHasher S.Hasher.Hasher (padded_value lock) result }
+            { lock.into_inner().into_inner() },
+        );
+        RecAlone {
+            hasher,
+            callers,
+            row: shards,
+            locks: row,
+        }
+    }
+}
+
+impl<K: KeptKey + Drop, V: Kept + Drop, S: BuildHasher> RecAlone<K, V, S> {
+    /// The map behind its locks again. It takes no memory.
+    pub fn end(self) -> RecordedMap<K, V, S>
+        ensures { result ≡ record { hasher = self.hasher; callers = self.callers; amount = length self.row } }
+    {
+        let RecAlone {
+            hasher,
+            callers,
+            mut row,
+            mut locks,
+        } = self;
+        let amount = row.len();
+        move_all(
+            &mut row,
+            &mut locks,
+            |number: usize, shard: RecShard<K, V, S>| -> Locked<K, V, S>
+                requires { IsPlaced S.BuildHasher S.Hasher.Hasher hasher amount callers number shard }
+                ensures { IsAt (record { hasher = hasher; callers = callers; amount = amount }) number result }
+            {
+                let place = Place {
+                    number,
+                    amount,
+                    callers,
+                    hasher: Snapshot::of(&hasher),
+                };
+                CachePadded::new(RwLock::new(shard, &place))
+            },
+        );
+        RecordedMap {
+            hasher,
+            callers,
+            row: locks,
+            shards: row,
+        }
+    }
+}
+
+#[cfg(test)]
+mod tests;
