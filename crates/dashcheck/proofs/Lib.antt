@@ -1,3 +1,6 @@
 mod Numbers
 mod OneWord
+mod Reading
+mod Replies
+mod Taking
 mod Texts

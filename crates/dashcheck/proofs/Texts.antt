@@ -1,11 +1,15 @@
 -- Words of a text, and lines of steps.
-use Rattle.std.proofs.Common.{◌≡◌, ℕ, zero, suc, ◌<◌, ◌^◌, List, [], ◌∷◌, ◌++◌, length, get_or, drop, Option, Some, None, Ok, Err, Bor, ◌⊎◌, inl, inr, refl, sym, ap, ◌∙◌, arith}
+use Rattle.std.proofs.Common.{◌≡◌, ℕ, zero, suc, ◌<◌, ◌^◌, List, [], ◌∷◌, ◌++◌, length, length-append, get_or, drop, Option, Some, None, Ok, Err, Bor, ◌⊎◌, inl, inr, refl, sym, ap, ◌∙◌, arith}
 use Rattle.std.specs.declared.result.Result.{Result}
 use Rattle.std.specs.Option.{IfSome, IfNone}
+use Rattle.std.specs.Prelude.{◌≢◌, ◌≤◌, ◌==◌, not, true, All}
+use Rattle.std.specs.List.{list_all}
 use Rattle.std.specs.Fmt.{decimal}
 use Rattle.std.specs.Result.{MatchResult, result_ok}
 use Rattle.std.specs.Str.{IsAscii, IsUtf8}
-use Rattle.std.proofs.lemmas.Fmt.{IsAscii-decimal, digits_decimal}
+use Rattle.std.proofs.lemmas.Fmt.{IsAscii-decimal, digits_decimal, length-decimal-le}
+use Rattle.std.proofs.lemmas.List.Elements.{All-append, All-from_get_or}
+use Rattle.std.proofs.lemmas.List.Sums.{AllPass-from_list_all}
 use Rattle.std.proofs.lemmas.Str.{IsAscii-append, IsUtf8-from_ascii}
 use Rattle.std.proofs.lemmas.Str.Ascii.{IsAscii-cons, IsAscii-nil}
 use Rattle.std.proofs.lemmas.Str.Parse.{numerals_by_value, tells_by_index}
@@ -23,21 +27,28 @@ pub split-none : (text : List ℕ) (r : Option (Bor (List ℕ) × Bor (List ℕ)
 split-none text None h = λ word rest f. split_after 32 text word rest None h (omega arith) f.parts f.free
 split-none text (Some p) h = tt
 
--- no space
-abbrev IsFree : List ℕ → Type 0
-IsFree word = (i : ℕ) → i < length word → get_or word i 0 ≡ 32 → ⊥
+-- what stands before a separator that isn't in it
+module _ (s : ℕ) where
+  abbrev pub IsFree : List ℕ → Type 0
+  IsFree word = (i : ℕ) → i < length word → get_or word i 0 ≡ s → ⊥
 
-same-word : (a c b d : List ℕ) → IsFree a → IsFree c → a ++ 32 ∷ b ≡ c ++ 32 ∷ d → (a ≡ c) × (b ≡ d)
-same-word [] [] b d f g e = (refl, ap (drop 1) e)
-same-word [] (y ∷ c) b d f g e = absurd (g 0 (omega arith) (sym (ap (λ l. get_or l 0 0) e)))
-same-word (x ∷ a) [] b d f g e = absurd (f 0 (omega arith) (ap (λ l. get_or l 0 0) e))
-same-word (x ∷ a) (y ∷ c) b d f g e =
-    let rest = same-word a c b d (λ i lt. f (suc i) (omega (arith, lt))) (λ i lt. g (suc i) (omega (arith, lt))) (ap (drop 1) e) in
-    (ap (λ l. get_or l 0 0 ∷ a) e ∙ ap (λ l. y ∷ l) rest.0, rest.1)
+  pub same-word : (a c b d : List ℕ) → IsFree a → IsFree c → a ++ s ∷ b ≡ c ++ s ∷ d → (a ≡ c) × (b ≡ d)
+  same-word [] [] b d f g e = (refl, ap (drop 1) e)
+  same-word [] (y ∷ c) b d f g e = absurd (g 0 (omega arith) (sym (ap (λ l. get_or l 0 0) e)))
+  same-word (x ∷ a) [] b d f g e = absurd (f 0 (omega arith) (ap (λ l. get_or l 0 0) e))
+  same-word (x ∷ a) (y ∷ c) b d f g e =
+      let rest = same-word a c b d (λ i lt. f (suc i) (omega (arith, lt))) (λ i lt. g (suc i) (omega (arith, lt))) (ap (drop 1) e) in
+      (ap (λ l. get_or l 0 0 ∷ a) e ∙ ap (λ l. y ∷ l) rest.0, rest.1)
+
+  -- a text without it is no longer than what stands before it
+  pub no-longer : (a c b d : List ℕ) → IsFree a → a ++ b ≡ c ++ s ∷ d → length a ≤ length c
+  no-longer [] c b d f e = omega arith
+  no-longer (x ∷ a) [] b d f e = absurd (f 0 (omega arith) (ap (λ l. get_or l 0 0) e))
+  no-longer (x ∷ a) (y ∷ c) b d f e = let rest = no-longer a c b d (λ i lt. f (suc i) (omega (arith, lt))) (ap (drop 1) e) in omega (arith, rest)
 
 -- a text has one first word
 pub alone : (text a b c d : List ℕ) → IsFirst text a b → IsFirst text c d → (a ≡ c) × (b ≡ d)
-alone text a b c d f g = same-word a c b d f.free g.free (sym f.parts ∙ g.parts)
+alone text a b c d f g = same-word 32 a c b d f.free g.free (sym f.parts ∙ g.parts)
 
 -- a number has no space
 pub free-decimal : (n : ℕ) → n < 2 ^ 64 → (i : ℕ) → i < length (decimal n) → get_or (decimal n) i 0 ≡ 32 → ⊥
@@ -87,3 +98,20 @@ IsAscii-line (Insert k v) small =
 pub no-text : (E : Type 0) (P : E → Type 0) (line : List ℕ) (r : Result (Bor (List ℕ)) E) → MatchResult r (λ s. (s.now ≡ line) × IsUtf8 line) (λ e. ¬ (IsUtf8 line) × P e) → IfNone (result_ok r) (IsAscii line → ⊥)
 no-text E P line (Ok s) h = tt
 no-text E P line (Err e) h = λ ascii. h.0 (IsUtf8-from_ascii line ascii)
+
+-- a line of a step is short, and no line end is in it
+pub short-line : (step : ShardStep ℕ ℕ) → HasWords step → length (line_of step) < 128
+short-line (Get k) small = omega (arith, length-append get (32 ∷ decimal k), length-decimal-le 20 k (omega arith) (omega (arith, small)) small)
+short-line (Insert k v) small = omega (arith, length-append insert (32 ∷ decimal k ++ 32 ∷ decimal v), length-append (decimal k) (32 ∷ decimal v), length-decimal-le 20 k (omega arith) (omega (arith, small.0)) small.0, length-decimal-le 20 v (omega arith) (omega (arith, small.1)) small.1)
+
+clean-word : (word : List ℕ) → list_all (λ b. not (b == 10)) word ≡ true → All (λ b. b ≢ 10) word
+clean-word word tested k d inside e = let other = AllPass-from_list_all (λ b. not (b == 10)) word tested k d inside in cc (rw e at other)
+
+clean-decimal : (n : ℕ) → n < 2 ^ 64 → All (λ b. b ≢ 10) (decimal n)
+clean-decimal n small = All-from_get_or (λ b. b ≢ 10) (decimal n) 0 (λ i inside e. let digit = digits_decimal (numerals_by_value _ tells_by_index) n small i inside in omega (arith, digit, e))
+
+pub clean-line : (step : ShardStep ℕ ℕ) → HasWords step → All (λ b. b ≢ 10) (line_of step)
+clean-line (Get k) small = All-append (λ b. b ≢ 10) (get ++ 32 ∷ []) (decimal k) (clean-word (get ++ 32 ∷ []) refl) (clean-decimal k small)
+clean-line (Insert k v) small =
+    All-append (λ b. b ≢ 10) (insert ++ 32 ∷ []) (decimal k ++ 32 ∷ decimal v) (clean-word (insert ++ 32 ∷ []) refl)
+    (All-append (λ b. b ≢ 10) (decimal k) (32 ∷ decimal v) (clean-decimal k small.0) (All-append (λ b. b ≢ 10) (32 ∷ []) (decimal v) (clean-word (32 ∷ []) refl) (clean-decimal v small.1)))

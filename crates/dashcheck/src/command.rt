@@ -1,11 +1,12 @@
 //! The command line.
-ghost use Rattle.std.specs.Prelude.{◌≡◌, ◌↔◌, map, string_bytes};
+ghost use Rattle.std.specs.Prelude.{◌≡◌, ◌↔◌, ◌++◌, ◌∷◌, [], IfOk, OnOk, codes, map, string_bytes};
+ghost use Rattle.std.specs.Io.KnownBytes.{Appends};
 ghost use Rattle.dashcheck.specs.Command.{IsScript};
+ghost use Rattle.dashcheck.specs.Script.{TakesAll, stop_text};
 
-use crate::script;
-use dash_shard::error::ConstructError;
+use crate::script::{self, Stop};
 use std::alloc::Global;
-use std::io::{Read, Write};
+use std::io::{self, Read, Write};
 
 const USAGE: &str = "usage: dashcheck script | dashcheck threads C N";
 
@@ -45,19 +46,27 @@ pub fn run_words<R: Read, O: Write, E: Write>(
 ) -> Status
     ensures bad { (result ≡ Status.BadCommandLine) ↔ (IsScript (map string_bytes words.now) → ⊥) }
     ensures untouched { result ≡ Status.BadCommandLine → (input.new ≡ input.old) × (output.new ≡ output.old) }
+    ensures good { result ≡ Status.Good → TakesAll (R.remaining input.old) (O.contents output.old) (O.contents output.new) × (errors.new ≡ errors.old) }
 {
     if words.len() == 1 && words[0].as_str() == "script" {
-        return script::run(alloc, input, output, errors);
+        return script::run(alloc, input, output, errors).unwrap_or(Status::Refused);
     }
     // Where the errors can't be written there is nothing left to say.
-    let _ = writeln!(errors, "{USAGE}");
+    let _ = print_usage(errors);
     Status::BadCommandLine
 }
 
-/// Says that no memory was found for the words themselves.
-pub(crate) fn refuse_memory<E: Write>(errors: &mut E) -> Status
-    ensures { result ≡ Status.Refused }
+fn print_usage<E: Write>(errors: &mut E) -> io::Result<()>
+    ensures { OnOk result (Appends (E.contents errors.old) (E.contents errors.new) (USAGE.now ++ 10 ∷ [])) }
 {
-    let _ = writeln!(errors, "refused: {}", ConstructError::Memory);
-    Status::Refused
+    writeln!(errors, "{USAGE}")
+}
+
+/// Says that no memory was found for the words themselves.
+pub(crate) fn refuse_memory<E: Write>(errors: &mut E) -> io::Result<Status>
+    ensures status { IfOk result (λ status. status ≡ Status.Refused) }
+    ensures said { OnOk result (Appends (E.contents errors.old) (E.contents errors.new) (stop_text Stop.Memory ++ 10 ∷ [])) }
+{
+    writeln!(errors, "{}", Stop::Memory)?;
+    Ok(Status::Refused)
 }

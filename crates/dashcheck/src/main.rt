@@ -8,7 +8,7 @@ mod step;
 #[cfg(test)]
 mod tests;
 
-use command::{refuse_memory, run_words};
+use command::{Status, refuse_memory, run_words};
 use std::process::ExitCode;
 use std::{env, io};
 
@@ -22,7 +22,9 @@ fn main(rt: HostRuntime) -> ExitCode {
             &mut rt.stdout(),
             errors,
         ),
-        Err(e) if e.kind() == io::ErrorKind::OutOfMemory => refuse_memory(errors),
+        Err(e) if e.kind() == io::ErrorKind::OutOfMemory => {
+            refuse_memory(errors).unwrap_or(Status::Refused)
+        }
         Err(_) => run_words(rt.alloc(), &[], &mut rt.stdin(), &mut rt.stdout(), errors),
     };
     ExitCode::from(status.code())

@@ -1,5 +1,7 @@
 //! `dashcheck script`: steps from the input, one a line, and their replies on the output.
-ghost use Rattle.std.specs.Prelude.{◌≡◌, ◌≢◌, ◌<◌};
+ghost use Rattle.std.specs.Prelude.{◌≡◌, ◌≢◌, ◌<◌, ◌++◌, ◌∷◌, [], Some, IfSome, IfNone, IfOk, IfErr, OnOk};
+ghost use Rattle.std.specs.Io.KnownBytes.{Appends};
+ghost use Rattle.dashcheck.specs.Script.{text_of, fault_text, IsReplyTo, TakesAll, StopsAt, Refuses};
 
 use crate::command::Status;
 use crate::lines::Lines;
@@ -10,24 +12,46 @@ use dash_history::step::{Reply, ShardStep};
 use dash_shard::error::ConstructError;
 use dash_shard::hash::PlaceState;
 use std::alloc::Global;
-use std::io::{LineWriter, Read, Write};
-use thiserror::Error;
+use std::fmt;
+use std::io::{self, Read, Write};
 
 const SHARDS: usize = 4;
 
-// Why a script stops before its end.
-#[derive(Debug, Drop, Error)]
-enum Stop {
-    #[error("refused line {line}: bad step")]
+// No line of a reply has so many bytes.
+const LIMIT: usize = 128;
+
+/// Why a script stops before its end.
+#[derive(Drop)]
+pub enum Stop {
     BadStep { line: u64 },
-    #[error("refused line {line}: {fault}")]
     Step { line: u64, fault: RecordFault },
-    #[error("refused: {0}")]
-    Construct(ConstructError),
-    #[error("refused: read failed")]
+    Memory,
     Read,
-    #[error("write failed")]
-    Write,
+}
+
+impl fmt::Display for Stop {
+    ghost use Rattle.dashcheck.specs.Script.{stop_text};
+
+    ghost output = { λ stop. Some (stop_text stop) };
+
+    fn fmt<W: fmt::Write>(&self, f: &mut fmt::Formatter<W>) -> fmt::Result {
+        match self {
+            Stop::BadStep { line } => write!(f, "refused line {line}: bad step"),
+            Stop::Step { line, fault } => write!(f, "refused line {line}: {}", fault_text(*fault)),
+            Stop::Memory => write!(f, "refused: no memory (8)"),
+            Stop::Read => write!(f, "refused: read failed"),
+        }
+    }
+}
+
+fn fault_text(fault: RecordFault) -> &'static str
+    ensures { result.now ≡ fault_text fault }
+{
+    match fault {
+        RecordFault::LastStamp => "last stamp (18)",
+        RecordFault::Memory => "no memory (19)",
+        RecordFault::NoSuchShard => "no such shard (20)",
+    }
 }
 
 // A recorded map and the log of its caller.
@@ -39,52 +63,83 @@ struct Session {
 }
 
 /// Takes each step of the input and prints its reply, up to the first refusal, which it prints on `errors`. Where the output fails
-/// it prints nothing more.
+/// it prints nothing more. It fails where a write does.
 pub fn run<R: Read, O: Write, E: Write>(
     alloc: Global,
     input: &mut R,
     output: &mut O,
     errors: &mut E,
-) -> Status
-    ensures { result ≢ Status.BadCommandLine }
+) -> io::Result<Status>
+    ensures status { IfOk result (λ status. status ≢ Status.BadCommandLine) }
+    ensures good { result ≡ Ok Status.Good → TakesAll (R.remaining input.old) (O.contents output.old) (O.contents output.new) × (errors.new ≡ errors.old) }
+    ensures refused { result ≡ Ok Status.Refused → Refuses (R.remaining input.old) (O.contents output.old) (O.contents output.new) (E.contents errors.old) (E.contents errors.new) }
 {
-    match take_steps(alloc, input, output) {
-        Ok(()) => Status::Good,
-        Err(Stop::Write) => Status::Refused,
-        Err(stop) => {
-            let _ = writeln!(errors, "{stop}");
-            Status::Refused
-        }
-    }
+    let Some(stop) = take_steps(alloc, input, output)? else {
+        return Ok(Status::Good);
+    };
+    writeln!(errors, "{stop}")?;
+    Ok(Status::Refused)
 }
 
-fn take_steps<R: Read, O: Write>(alloc: Global, input: &mut R, output: &mut O) -> Result<(), Stop> {
-    let Ok(mut output) = LineWriter::new(alloc, output) else {
-        return Err(Stop::Construct(ConstructError::Memory));
+// Takes the steps and prints their replies, and says why it stops before the end.
+fn take_steps<R: Read, O: Write>(
+    alloc: Global,
+    input: &mut R,
+    output: &mut O,
+) -> io::Result<Option<Stop>>
+    ensures all { IfOk result (λ stop. IfNone stop (TakesAll (R.remaining input.old) (O.contents output.old) (O.contents output.new))) }
+    ensures part { IfOk result (λ stop. IfSome stop (λ stop. StopsAt stop (R.remaining input.old) (O.contents output.old) (O.contents output.new))) }
+{
+    let Ok(mut text) = Vec::with_capacity(alloc, LIMIT) else {
+        return Ok(Some(Stop::Memory));
     };
-    let mut session = Session::new(alloc).map_err(Stop::Construct)?;
-    let mut lines = Lines::new(alloc, input).map_err(|_| Stop::Read)?;
+    let Ok(mut session) = Session::new(alloc) else {
+        return Ok(Some(Stop::Memory));
+    };
+    let Ok(mut lines) = Lines::new(alloc, input) else {
+        return Ok(Some(Stop::Read));
+    };
     for line in 1..u64::MAX {
-        let Some(text) = lines.next().map_err(|_| Stop::Read)? else {
-            return output.flush().map_err(|_| Stop::Write);
+        let Ok(is_line) = lines.read() else {
+            return Ok(Some(Stop::Read));
         };
-        let step = parse(text).ok_or(Stop::BadStep { line })?;
-        let reply = session
-            .take(step)
-            .map_err(|fault| Stop::Step { line, fault })?;
-        writeln!(output, "{}", Printed(&reply)).map_err(|_| Stop::Write)?;
+        if !is_line {
+            output.flush()?;
+            return Ok(None);
+        }
+        let Some(step) = parse(lines.line()) else {
+            return Ok(Some(Stop::BadStep { line }));
+        };
+        match session.take(step) {
+            Ok(reply) => print(&reply, &mut text, output)?,
+            Err(fault) => return Ok(Some(Stop::Step { line, fault })),
+        }
     }
-    Err(Stop::Read)
+    Ok(Some(Stop::Read))
+}
+
+// Prints the reply as a line, in one write. `line` is room for it.
+fn print<O: Write>(reply: &Reply<u64, u64>, line: &mut Vec<u8>, output: &mut O) -> io::Result<()>
+    ensures { OnOk result (Appends (O.contents output.old) (O.contents output.new) (text_of reply.now ++ 10 ∷ [])) }
+{
+    line.clear();
+    writeln!(line, "{}", Printed(reply))?;
+    output.write_all(line.as_slice())
 }
 
 impl Session {
-    fn new(alloc: Global) -> Result<Session, ConstructError> {
+    // Only for want of memory is there none.
+    fn new(alloc: Global) -> Result<Session, ConstructError>
+        ensures { IfErr result (λ error. error ≡ ConstructError.Memory) }
+    {
         let (map, mut logs) = RecAlone::new(alloc, PlaceState, SHARDS, 1)?;
         let log = logs.swap_remove(0);
         Ok(Session { map, log })
     }
 
-    fn take(&mut self, step: ShardStep<u64, u64>) -> Result<Reply<u64, u64>, RecordFault> {
+    fn take(&mut self, step: ShardStep<u64, u64>) -> Result<Reply<u64, u64>, RecordFault>
+        ensures { IfOk result (λ reply. IsReplyTo step reply) }
+    {
         self.map
             .apply(&mut self.log, step)
             .map_err(|(_, fault)| fault)

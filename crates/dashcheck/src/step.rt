@@ -11,6 +11,7 @@ use std::{fmt, str};
 /// The step that a line says, or `None` for a bad one.
 pub fn parse(line: &[u8]) -> Option<ShardStep<u64, u64>>
     ensures some { IfSome result (λ step. line.now ≡ line_of step) }
+    ensures words { IfSome result (λ step. HasWords step) }
     ensures none { IfNone result ((step : ShardStep ℕ ℕ) → HasWords step → line.now ≡ line_of step → ⊥) }
 {
     let (kind, rest) = first_word(text(line)?)?;

@@ -1,4 +1,4 @@
-//! What `dashcheck` prints, which no clause says.
+//! What `dashcheck` prints, where reads and writes succeed and where they fail.
 use crate::command::{Status, run_words};
 use std::alloc::{AllocError, Global};
 use std::io::{self, Read, Write};
