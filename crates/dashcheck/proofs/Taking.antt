@@ -28,7 +28,7 @@ Appends-nil None = tt
 Appends-nil (Some bytes) = sym (append-nil bytes)
 
 pub took-none : (input out : Option (List ℕ)) → Took input input out out []
-took-none input out = record { read = reads-none input; printed = Appends-nil out; replies = All-nil (λ d. IsReplyTo d.0 d.1) }
+took-none input out = record { read = reads-none input; printed = Appends-nil out; replies = All-nil (λ d. HasWords d.0 × IsReplyTo d.0 d.1) }
 
 pub going-none : (input left out : Option (List ℕ)) → left ≡ input → Going input left out out 1
 going-none input left out same = record { done = []; took = subst (λ l. Took input l out out []) (sym same) (took-none input out); count = refl }
@@ -120,7 +120,7 @@ took-more : (input left new old now now' : Option (List ℕ)) (done : List (Shar
 took-more input left new old now now' done step reply took words part answered printed = record {
   read = rw (← flat_map_more (λ d. line_of d.0 ++ 10 ∷ []) [] done (step, reply)) (read-more input left new (step_lines done) step words took.read part);
   printed = rw (← flat_map_more (λ d. text_of d.1 ++ 10 ∷ []) [] done (step, reply)) (Appends-more old now now' (reply_lines done) (text_of reply ++ 10 ∷ []) took.printed printed);
-  replies = All-append (λ d. IsReplyTo d.0 d.1) done ((step, reply) ∷ []) took.replies (All-one (λ d. IsReplyTo d.0 d.1) (step, reply) answered);
+  replies = All-append (λ d. HasWords d.0 × IsReplyTo d.0 d.1) done ((step, reply) ∷ []) took.replies (All-one (λ d. HasWords d.0 × IsReplyTo d.0 d.1) (step, reply) (words, answered));
 }
 
 module _ (input left new old now : Option (List ℕ)) (line : ℕ) (text : List ℕ) (g : Going input left old now line) (more : Bool) (is : more ≡ true) (read : ReadsLine left new more text) where

@@ -69,7 +69,7 @@ reply_lines done = flat_map (λ d. text_of d.1 ++ 10 ∷ []) done
 pub record Took (input left old new : Option (List ℕ)) (done : List (ShardStep ℕ ℕ × Reply ℕ ℕ)) : Type 0 where
   pub read : IfSome input (λ bytes. IsSomeAnd left (StartsWithLines bytes (step_lines done)))
   pub printed : Appends old new (reply_lines done)
-  pub replies : All (λ d. IsReplyTo d.0 d.1) done
+  pub replies : All (λ d. HasWords d.0 × IsReplyTo d.0 d.1) done
 
 -- the whole input was taken
 abbrev pub TakesAll : Option (List ℕ) → Option (List ℕ) → Option (List ℕ) → Type 0
