@@ -1,5 +1,5 @@
 -- The hash of a key, and the shard that it goes to.
-use Rattle.std.specs.Prelude.{◌≡◌, ℕ, ◌*◌, ◌/◌, ◌%◌, ◌^◌, ◌<◌, ◌==◌, List, length, if◌then◌else◌}
+use Rattle.std.specs.Prelude.{◌≡◌, ℕ, ◌*◌, ◌/◌, ◌%◌, ◌^◌, ◌<◌, ◌==◌, List, length, bit_xor, if◌then◌else◌}
 use Rattle.std.specs.List.{fold}
 use Rattle.std.specs.Int.{w64, from_le_bytes, IsPowerOfTwo}
 use Rattle.std.specs.Hash.{HashWrites}
@@ -15,6 +15,18 @@ pub record IsAmount (n : ℕ) : Type 0 where
 -- the shard of a hash among n: its low 57 bits, scaled to n
 unfoldable pub route_of_hash : ℕ → ℕ → ℕ
 route_of_hash n h = h % 2 ^ 57 * n / 2 ^ 57
+
+-- FNV-1a on 64 bits before any byte
+abbrev pub fnv_start : ℕ
+fnv_start = 0xcbf2_9ce4_8422_2325
+
+-- FNV-1a after one byte more: it is joined to the state by XOR, and then the state is multiplied, wrapped
+unfoldable pub fnv_step : ℕ → ℕ → ℕ
+fnv_step s byte = bit_xor s byte * 0x100_0000_01b3 % 2 ^ 64
+
+-- FNV-1a after more bytes
+abbrev pub fnv_from : ℕ → List ℕ → ℕ
+fnv_from = fold fnv_step
 
 -- the state of a place hasher after one write: eight bytes are a number, whose low nine bits become the high nine of the hash
 unfoldable pub placed : ℕ → List ℕ → ℕ

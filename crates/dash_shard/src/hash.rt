@@ -1,8 +1,14 @@
 //! Hashers of fixed meaning, and the route from a hash to a shard.
 ghost use Rattle.std.specs.Prelude.{◌≡◌, ◌↔◌, ◌<◌, IsTrue};
-ghost use Rattle.dash_shard.specs.Hashing.{IsAmount, route_of_hash, placed};
+ghost use Rattle.dash_shard.specs.Hashing.{IsAmount, route_of_hash, fnv_start, fnv_from, placed};
 
 use std::hash::{BuildHasher, Hasher};
+
+/// The state of FNV-1a before any byte.
+const FNV_START: u64 = 0xcbf2_9ce4_8422_2325;
+
+/// What FNV-1a multiplies by after each byte.
+const FNV_PRIME: u64 = 0x100_0000_01b3;
 
 /// Whether a map may have this many shards.
 #[inline]
@@ -27,6 +33,82 @@ pub fn determine_shard(hash: u64, amount: usize) -> usize
 {
     let bits = amount.trailing_zeros();
     ((hash << 7) >> (64 - bits)) as usize
+}
+
+/// The default hasher: FNV-1a on 64 bits, the same in each run of each program.
+///
+/// It is fast for short keys. Whoever chooses the keys can make them all meet, which a `std::hash::RandomState` prevents.
+#[derive(Clone, Copy, Debug, Default)]
+pub struct FixedState;
+
+/// What `FixedState` builds. A number is written as its bytes, the lowest first.
+#[derive(Clone, Copy, Debug)]
+pub struct FixedHasher {
+    hash: u64,
+}
+
+impl Hasher for FixedHasher {
+    ghost write = { λ s bytes. record { hash = fnv_from s.hash bytes } };
+
+    ghost finish = { λ s. s.hash };
+
+    #[inline]
+    fn finish(&self) -> u64 {
+        self.hash
+    }
+
+    #[inline]
+    fn write(&mut self, bytes: &[u8]) {
+        let mut hash = self.hash;
+        for &byte in bytes {
+            hash = (hash ^ byte as u64).wrapping_mul(FNV_PRIME);
+        }
+        *self = FixedHasher { hash };
+    }
+}
+
+impl BuildHasher for FixedState {
+    type Hasher = FixedHasher;
+
+    ghost build_hasher = { λ _. record { hash = fnv_start } };
+
+    #[inline]
+    fn build_hasher(&self) -> FixedHasher {
+        FixedHasher { hash: FNV_START }
+    }
+}
+
+/// The hasher by which every hash is 0, so that all keys go to shard 0 and meet there. For tests of the worst case.
+#[derive(Clone, Copy, Debug, Default)]
+pub struct ZeroState;
+
+/// What `ZeroState` builds.
+#[derive(Clone, Copy, Debug)]
+pub struct ZeroHasher;
+
+impl Hasher for ZeroHasher {
+    ghost write = { λ s _. s };
+
+    ghost finish = { λ _. 0 };
+
+    #[inline]
+    fn finish(&self) -> u64 {
+        0
+    }
+
+    #[inline]
+    fn write(&mut self, _bytes: &[u8]) {}
+}
+
+impl BuildHasher for ZeroState {
+    type Hasher = ZeroHasher;
+
+    ghost build_hasher = { λ _. record {} };
+
+    #[inline]
+    fn build_hasher(&self) -> ZeroHasher {
+        ZeroHasher
+    }
 }
 
 /// The hasher by which key `k` goes to shard `k` modulo the amount: a written number of 64 bits makes the hash
@@ -56,7 +138,9 @@ impl Hasher for PlaceHasher {
             let number = u64::from_le_bytes([
                 bytes[0], bytes[1], bytes[2], bytes[3], bytes[4], bytes[5], bytes[6], bytes[7],
             ]);
-            self.state = number.wrapping_mul(1 << 55);
+            *self = PlaceHasher {
+                state: number.wrapping_mul(1 << 55),
+            };
         }
     }
 }
@@ -73,51 +157,4 @@ impl BuildHasher for PlaceState {
 }
 
 #[cfg(test)]
-mod tests {
-    use super::*;
-
-    #[test]
-    fn routes_of_hashes(rt: HostRuntime) {
-        for (amount, hash, shard) in [
-            (4, 1 << 55, 1),
-            (4, 1 << 56, 2),
-            (4, 1 << 57, 0),
-            (4, u64::MAX, 3),
-            (2, (1 << 56) - 1, 0),
-            (2, 1 << 56, 1),
-        ] {
-            assert!(rt; is_shard_amount(amount), "{amount}");
-            assert_eq!(rt;
-                determine_shard(hash, amount),
-                shard,
-                "the hash {hash} among {amount}"
-            );
-        }
-    }
-
-    #[test]
-    fn amounts(rt: HostRuntime) {
-        for (amount, lawful) in [
-            (0, false),
-            (1, false),
-            (3, false),
-            (2, true),
-            (4, true),
-            (1 << 63, true),
-        ] {
-            assert_eq!(rt; is_shard_amount(amount), lawful, "{amount}");
-        }
-    }
-
-    #[test]
-    fn place_keys(rt: HostRuntime) {
-        for (key, shard) in [(0u64, 0), (1, 1), (5, 1), (7, 3), (u64::MAX, 3)] {
-            assert!(rt; is_shard_amount(4));
-            assert_eq!(rt;
-                determine_shard(PlaceState.hash_one(&key), 4),
-                shard,
-                "the key {key}"
-            );
-        }
-    }
-}
+mod tests;

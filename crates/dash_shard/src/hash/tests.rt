@@ -1,0 +1,140 @@
+//! Hashes and routes, as worked by hand or elsewhere.
+ghost use Rattle.std.specs.Prelude.{◌≡◌, IfOk};
+ghost use Rattle.dash_shard.specs.Hashing.{HashAlike, hash_of};
+
+use super::*;
+use crate::shard::Shard;
+use std::alloc::{AllocError, Global};
+use std::hash::{Hash, RandomState};
+use std::process::Abort;
+use std::test::Fail;
+
+// FNV-1a's published vectors.
+#[test]
+fn fixed_bytes(rt: HostRuntime) {
+    for (text, hash) in [
+        ("", 0xcbf2_9ce4_8422_2325),
+        ("a", 0xaf63_dc4c_8601_ec8c),
+        ("foobar", 0x8594_4171_f739_67e8),
+    ] {
+        let mut hasher = FixedState.build_hasher();
+        hasher.write(text.as_bytes());
+        assert_eq!(rt; hasher.finish(), hash, "{text}");
+    }
+}
+
+// FNV-1a of the number's eight bytes, the lowest first, worked out elsewhere.
+#[test]
+fn fixed_numbers(rt: HostRuntime) {
+    for (number, hash) in [
+        (0u64, 0xa8c7_f832_281a_39c5),
+        (1, 0x89cd_3129_1d2a_efa4),
+        (0x0102_0304_0506_0708, 0x0c6d_4496_e178_59d5),
+        (u64::MAX, 0x8cf5_1a8b_fca3_883d),
+    ] {
+        assert_eq!(rt; FixedState.hash_one(&number), hash, "the number {number}");
+    }
+}
+
+#[test]
+fn zero(rt: HostRuntime) {
+    for number in [1u64, u64::MAX] {
+        assert_eq!(rt; ZeroState.hash_one(&number), 0, "the number {number}");
+    }
+    assert_eq!(rt; ZeroState.hash_one(&"a"), 0);
+}
+
+// By a clone, as the shards of a map hash.
+#[tactic(auto, unfolding(crate::specs::Hashing::hash_of))]
+fn hash_by_clone<K: Hash, S: BuildHasher + Clone + Drop>(
+    state: &S,
+    key: &K,
+) -> Result<u64, AllocError>
+    requires { (s t : S) → S.is_clone s t → HashAlike S.BuildHasher S.Hasher.Hasher s t }
+    ensures { IfOk result (λ hash. hash ≡ hash_of S.BuildHasher S.Hasher.Hasher state.now (K.hash_input key.now)) }
+{
+    Ok(state.clone()?.hash_one(key))
+}
+
+#[test]
+fn clones(rt: HostRuntime) -> Result<(), Fail> {
+    assert_eq!(rt; hash_by_clone(&FixedState, &1u64)?, 0x89cd_3129_1d2a_efa4);
+    assert_eq!(rt; hash_by_clone(&ZeroState, &1u64)?, 0);
+    assert_eq!(rt; hash_by_clone(&PlaceState, &1u64)?, 1 << 55);
+    let state = RandomState::new(&rt)?;
+    assert_eq!(rt; hash_by_clone(&state, &1u64)?, state.hash_one(&1u64));
+    Ok(())
+}
+
+// Puts into the first of two shards what goes there of some keys, and answers how many that are.
+fn fill<S: BuildHasher + Drop>(rt: &impl Abort, alloc: Global, state: S) -> Result<usize, Fail> {
+    assert!(rt; is_shard_amount(2));
+    let mut shard = Shard::<u64, u64, S>::new(alloc, state, 0, 2, 0)?;
+    for key in 0..64 {
+        if shard.routes(&key) {
+            assert_eq!(rt; shard.insert(key, !key)?, None, "{key}");
+        }
+    }
+    for key in 0..64 {
+        if shard.routes(&key) {
+            assert_eq!(rt; shard.get(&key), Some((&key, &!key)), "{key}");
+        } else {
+            assert_eq!(rt; shard.get(&key), None, "{key}");
+        }
+    }
+    Ok(shard.len())
+}
+
+#[test]
+fn shards(rt: HostRuntime) -> Result<(), Fail> {
+    assert_eq!(rt; fill(&rt, rt.alloc(), ZeroState)?, 64);
+    assert_eq!(rt; fill(&rt, rt.alloc(), PlaceState)?, 32);
+    assert_eq!(rt; fill(&rt, rt.alloc(), FixedState)?, 33);
+    assert!(rt; fill(&rt, rt.alloc(), RandomState::new(&rt)?)? <= 64);
+    Ok(())
+}
+
+#[test]
+fn routes_of_hashes(rt: HostRuntime) {
+    for (amount, hash, shard) in [
+        (4, 1 << 55, 1),
+        (4, 1 << 56, 2),
+        (4, 1 << 57, 0),
+        (4, u64::MAX, 3),
+        (2, (1 << 56) - 1, 0),
+        (2, 1 << 56, 1),
+    ] {
+        assert!(rt; is_shard_amount(amount), "{amount}");
+        assert_eq!(rt;
+            determine_shard(hash, amount),
+            shard,
+            "the hash {hash} among {amount}"
+        );
+    }
+}
+
+#[test]
+fn amounts(rt: HostRuntime) {
+    for (amount, lawful) in [
+        (0, false),
+        (1, false),
+        (3, false),
+        (2, true),
+        (4, true),
+        (1 << 63, true),
+    ] {
+        assert_eq!(rt; is_shard_amount(amount), lawful, "{amount}");
+    }
+}
+
+#[test]
+fn place_keys(rt: HostRuntime) {
+    for (key, shard) in [(0u64, 0), (1, 1), (5, 1), (7, 3), (u64::MAX, 3)] {
+        assert!(rt; is_shard_amount(4));
+        assert_eq!(rt;
+            determine_shard(PlaceState.hash_one(&key), 4),
+            shard,
+            "the key {key}"
+        );
+    }
+}
