@@ -2,28 +2,23 @@
 use Rattle.std.proofs.Common.{◌≡◌, ℕ, Ok, Err, refl, ap, ◌∙◌, arith}
 use Rattle.std.specs.Prelude.{◌↔◌, Result, IfOk, IfErr, IsErrAnd, IsErrOf, MatchResult, nat_eq}
 use Rattle.dash_shard.specs.Contents.{keys}
-use Rattle.dash_shard.specs.Shard.{pairs}
 use Rattle.dash_shard.specs.Hashing.{IsAmount}
 use Rattle.dash_shard.specs.declared.error.ConstructError.{ConstructError}
 use Rattle.dash_shard.specs.declared.error.ConstructError.TheVariants.{ShardAmount, Memory, Callers}
-use Rattle.dash_history.specs.Alone.{AloneState, Applied, IsCallers}
+use Rattle.dash_history.specs.Alone.{IsCallers}
+use Rattle.dash_history.specs.Map.{Logged}
 use Rattle.dash_history.specs.History.{LogState}
 use Rattle.dash_history.specs.Takes.{rules}
 use Rattle.dash_history.specs.declared.step.ShardStep.{ShardStep}
 use Rattle.dash_history.specs.declared.step.Reply.{Reply}
 use Rattle.dashcheck.specs.Script.{IsReplyTo}
 
--- a step that was taken has a reply of the step table
-replied : {S : Type 0} (route : ℕ → ℕ) (n : ℕ) (a a' : AloneState ℕ ℕ S) (l l' : LogState ℕ ℕ) (step : ShardStep ℕ ℕ) (reply : Reply ℕ ℕ)
-    → Applied (rules nat_eq nat_eq (keys nat_eq route n)) a a' l l' step reply → IsReplyTo step reply
-replied route n a a' l l' step reply applied = (route, n, pairs applied.before.shard, applied.recorded.grown.takes.answers)
-
--- also where the refusal is told in other words
-pub IsReplyTo-applied : {S E F : Type 0} (route : ℕ → ℕ) (n : ℕ) (a a' : AloneState ℕ ℕ S) (l l' : LogState ℕ ℕ) (step : ShardStep ℕ ℕ) (r : Result (Reply ℕ ℕ) E) (s : Result (Reply ℕ ℕ) F) (P : E → F → Type 0)
-    → MatchResult r (λ reply. s ≡ Ok reply) (λ e. IsErrAnd s (P e)) → IfOk r (Applied (rules nat_eq nat_eq (keys nat_eq route n)) a a' l l' step) → IfOk s (IsReplyTo step)
-IsReplyTo-applied route n a a' l l' step (Ok reply) s P told applied = rw told (replied route n a a' l l' step reply applied)
-IsReplyTo-applied route n a a' l l' step (Err e) (Ok reply) P told applied = absurd told
-IsReplyTo-applied route n a a' l l' step (Err e) (Err f) P told applied = tt
+-- a step that is in the log has a reply of the step table, also where the refusal is told in other words
+pub replied : {E F : Type 0} (route : ℕ → ℕ) (n : ℕ) (l l' : LogState ℕ ℕ) (step : ShardStep ℕ ℕ) (r : Result (Reply ℕ ℕ) E) (s : Result (Reply ℕ ℕ) F) (P : E → F → Type 0)
+    → MatchResult r (λ reply. s ≡ Ok reply) (λ e. IsErrAnd s (P e)) → IfOk r (Logged (rules nat_eq nat_eq (keys nat_eq route n)) l l' step) → IfOk s (IsReplyTo step)
+replied route n l l' step (Ok reply) s P told logged = rw told (route, n, logged.contents, logged.answers)
+replied route n l l' step (Err e) (Ok reply) s told logged = absurd told
+replied route n l l' step (Err e) (Err f) P told logged = tt
 
 -- a map of four shards and one caller is refused only for want of memory
 only-memory : (e : ConstructError) → (e ≡ ShardAmount → ⊥) → (e ≡ Callers → ⊥) → e ≡ Memory

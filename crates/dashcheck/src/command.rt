@@ -7,6 +7,8 @@ ghost use Rattle.dashcheck.specs.Script.{TakesAll, stop_text};
 use crate::script::{self, Stop};
 use std::alloc::Global;
 use std::io::{self, Read, Write};
+use std::rt::Clock;
+use std::sync::Wait;
 
 const USAGE: &str = "usage: dashcheck script | dashcheck threads C N";
 
@@ -37,7 +39,8 @@ impl Status {
 ///
 /// The words are checked before anything is read or made. A bad command line prints the usage on `errors`, and leaves the rest.
 /// `script` takes memory for a map, for its steps, and for a buffer on either side.
-pub fn run_words<R: Read, O: Write, E: Write>(
+pub fn run_words<T: Wait + Clock, R: Read, O: Write, E: Write>(
+    rt: &T,
     alloc: Global,
     words: &[String],
     input: &mut R,
@@ -49,7 +52,7 @@ pub fn run_words<R: Read, O: Write, E: Write>(
     ensures good { result ≡ Status.Good → TakesAll (R.remaining input.old) (O.contents output.old) (O.contents output.new) × (errors.new ≡ errors.old) }
 {
     if words.len() == 1 && words[0].as_str() == "script" {
-        return script::run(alloc, input, output, errors).unwrap_or(Status::Refused);
+        return script::run(rt, alloc, input, output, errors).unwrap_or(Status::Refused);
     }
     // Where the errors can't be written there is nothing left to say.
     let _ = print_usage(errors);

@@ -16,6 +16,7 @@ fn main(rt: HostRuntime) -> ExitCode {
     let errors = &mut rt.stderr();
     let status = match words(&rt) {
         Ok(words) => run_words(
+            &rt,
             rt.alloc(),
             words.as_slice(),
             &mut rt.stdin(),
@@ -25,7 +26,14 @@ fn main(rt: HostRuntime) -> ExitCode {
         Err(e) if e.kind() == io::ErrorKind::OutOfMemory => {
             refuse_memory(errors).unwrap_or(Status::Refused)
         }
-        Err(_) => run_words(rt.alloc(), &[], &mut rt.stdin(), &mut rt.stdout(), errors),
+        Err(_) => run_words(
+            &rt,
+            rt.alloc(),
+            &[],
+            &mut rt.stdin(),
+            &mut rt.stdout(),
+            errors,
+        ),
     };
     ExitCode::from(status.code())
 }

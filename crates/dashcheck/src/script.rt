@@ -6,7 +6,7 @@ ghost use Rattle.dashcheck.specs.Script.{text_of, fault_text, IsReplyTo, TakesAl
 use crate::command::Status;
 use crate::lines::Lines;
 use crate::step::{Printed, parse};
-use dash_history::alone::RecAlone;
+use dash_history::record::map::RecordedMap;
 use dash_history::record::{CallerLog, RecordFault};
 use dash_history::step::{Reply, ShardStep};
 use dash_shard::error::ConstructError;
@@ -14,6 +14,8 @@ use dash_shard::hash::PlaceState;
 use std::alloc::Global;
 use std::fmt;
 use std::io::{self, Read, Write};
+use std::rt::Clock;
+use std::sync::Wait;
 
 const SHARDS: usize = 4;
 
@@ -57,14 +59,15 @@ fn fault_text(fault: RecordFault) -> &'static str
 // A recorded map and the log of its caller.
 #[derive(Drop)]
 struct Session {
-    map: RecAlone<u64, u64, PlaceState>,
+    map: RecordedMap<u64, u64, PlaceState>,
     log: CallerLog<u64, u64>,
     ghost caller: { log.caller < map.callers },
 }
 
 /// Takes each step of the input and prints its reply, up to the first refusal, which it prints on `errors`. Where the output fails
 /// it prints nothing more. It fails where a write does.
-pub fn run<R: Read, O: Write, E: Write>(
+pub fn run<T: Wait + Clock, R: Read, O: Write, E: Write>(
+    rt: &T,
     alloc: Global,
     input: &mut R,
     output: &mut O,
@@ -74,7 +77,7 @@ pub fn run<R: Read, O: Write, E: Write>(
     ensures good { result ≡ Ok Status.Good → TakesAll (R.remaining input.old) (O.contents output.old) (O.contents output.new) × (errors.new ≡ errors.old) }
     ensures refused { result ≡ Ok Status.Refused → Refuses (R.remaining input.old) (O.contents output.old) (O.contents output.new) (E.contents errors.old) (E.contents errors.new) }
 {
-    let Some(stop) = take_steps(alloc, input, output)? else {
+    let Some(stop) = take_steps(rt, alloc, input, output)? else {
         return Ok(Status::Good);
     };
     writeln!(errors, "{stop}")?;
@@ -82,7 +85,8 @@ pub fn run<R: Read, O: Write, E: Write>(
 }
 
 // Takes the steps and prints their replies, and says why it stops before the end.
-fn take_steps<R: Read, O: Write>(
+fn take_steps<T: Wait + Clock, R: Read, O: Write>(
+    rt: &T,
     alloc: Global,
     input: &mut R,
     output: &mut O,
@@ -110,7 +114,7 @@ fn take_steps<R: Read, O: Write>(
         let Some(step) = parse(lines.line()) else {
             return Ok(Some(Stop::BadStep { line }));
         };
-        match session.take(step) {
+        match session.take(rt, step) {
             Ok(reply) => print(&reply, &mut text, output)?,
             Err(fault) => return Ok(Some(Stop::Step { line, fault })),
         }
@@ -132,16 +136,20 @@ impl Session {
     fn new(alloc: Global) -> Result<Session, ConstructError>
         ensures { IfErr result (λ error. error ≡ ConstructError.Memory) }
     {
-        let (map, mut logs) = RecAlone::new(alloc, PlaceState, SHARDS, 1)?;
+        let (map, mut logs) = RecordedMap::new(alloc, PlaceState, SHARDS, 1)?;
         let log = logs.swap_remove(0);
         Ok(Session { map, log })
     }
 
-    fn take(&mut self, step: ShardStep<u64, u64>) -> Result<Reply<u64, u64>, RecordFault>
+    fn take<T: Wait + Clock>(
+        &mut self,
+        rt: &T,
+        step: ShardStep<u64, u64>,
+    ) -> Result<Reply<u64, u64>, RecordFault>
         ensures { IfOk result (λ reply. IsReplyTo step reply) }
     {
         self.map
-            .apply(&mut self.log, step)
+            .apply(rt, &mut self.log, step)
             .map_err(|(_, fault)| fault)
     }
 }

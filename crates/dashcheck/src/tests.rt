@@ -3,6 +3,8 @@ use crate::command::{Status, run_words};
 use std::alloc::{AllocError, Global};
 use std::io::{self, Read, Write};
 use std::process::Abort;
+use std::rt::Clock;
+use std::sync::Wait;
 use std::test::Fail;
 
 const USAGE: &str = "usage: dashcheck script | dashcheck threads C N\n";
@@ -52,8 +54,8 @@ fn words(alloc: Global, line: &str) -> Result<Vec<String>, AllocError> {
 }
 
 // Runs a script, whose output and errors are to be these.
-fn check(
-    rt: &impl Abort,
+fn check<T: Abort + Wait + Clock>(
+    rt: &T,
     alloc: Global,
     script: &[u8],
     output: &str,
@@ -64,6 +66,7 @@ fn check(
     let mut printed = Vec::new(alloc);
     let mut refused = Vec::new(alloc);
     let status = run_words(
+        rt,
         alloc,
         words.as_slice(),
         &mut input,
@@ -186,6 +189,7 @@ fn refuses_failed_reads(rt: HostRuntime) -> Result<(), Fail> {
         let mut printed = Vec::new(rt.alloc());
         let mut refused = Vec::new(rt.alloc());
         let status = run_words(
+            &rt,
             rt.alloc(),
             words.as_slice(),
             &mut input,
@@ -207,6 +211,7 @@ fn stops_where_a_write_fails(rt: HostRuntime) -> Result<(), Fail> {
         let mut output = Full { room };
         let mut refused = Vec::new(rt.alloc());
         let status = run_words(
+            &rt,
             rt.alloc(),
             words.as_slice(),
             &mut input,
@@ -235,6 +240,7 @@ fn checks_the_command_line_first(rt: HostRuntime) -> Result<(), Fail> {
         let mut printed = Vec::new(rt.alloc());
         let mut usage = Vec::new(rt.alloc());
         let status = run_words(
+            &rt,
             rt.alloc(),
             words.as_slice(),
             &mut input,
