@@ -1,5 +1,5 @@
 -- What a script has taken so far.
-use Rattle.std.proofs.Common.{◌≡◌, ℕ, zero, suc, ◌+◌, ◌<◌, ◌≤◌, Bool, true, List, [], ◌∷◌, ◌++◌, length, length-append, get_or, Option, Some, None, refl, sym, ap, subst, ◌∙◌, inl, inr, arith, append_assoc}
+use Rattle.std.proofs.Common.{◌≡◌, ℕ, zero, suc, ◌+◌, ◌<◌, ◌≤◌, Bool, true, List, [], ◌∷◌, ◌++◌, length, length-append, Option, Some, None, refl, sym, ap, subst, ◌∙◌, inl, inr, arith, append_assoc}
 use Rattle.std.specs.Prelude.{◌≢◌, All, IfSome, IsSomeAnd, ◌⊎◌}
 use Rattle.std.specs.Io.KnownBytes.{Appends}
 use Rattle.std.proofs.lemmas.List.{append-nil, flat_map_more}
@@ -68,9 +68,6 @@ ended : (left text rest : List ℕ) → StartsWithLines left (text ++ 10 ∷ [])
 ended left text rest (inl e) = (rest ++ 10 ∷ [], simp append_assoc at (ap (λ l. l ++ 10 ∷ []) e))
 ended left text rest (inr e) = ([], e.1)
 
-free : (text : List ℕ) → All (λ b. b ≢ 10) text → (i : ℕ) → i < length text → get_or text i 0 ≡ 10 → ⊥
-free text clean i inside = clean i 0 inside
-
 -- where the line that was read is no step's, no step's line is next
 not-next : (left : List ℕ) (new : Option (List ℕ)) (text : List ℕ) → All (λ b. b ≢ 10) text → ReadsPart (Some left) new text
     → ((step : ShardStep ℕ ℕ) → HasWords step → text ≡ line_of step → ⊥) → (step : ShardStep ℕ ℕ) → IsNext left step → ⊥
@@ -78,8 +75,8 @@ not-next left new text clean part other step next =
     let words : HasWords step = next.0 in
     let line = ended left (line_of step) next.1 next.2 in
     elim (parts left new text part) [
-      | inl p ↦ other step words ((same-word 10 text (line_of step) _ line.0 (free text clean) (free (line_of step) (clean-line step words)) (sym (ended left text p.0 (starts-next left text p.0 p.2)).1 ∙ line.1)).0)
-      | inr long ↦ omega (arith, long.0, short-line step words, no-longer 10 text (line_of step) (long.1.0 ++ 10 ∷ []) line.0 (free text clean) (sym (simp append_assoc at (ap (λ l. l ++ 10 ∷ []) long.1.1)) ∙ line.1))
+      | inl p ↦ other step words ((same-word 10 text (line_of step) _ line.0 (λ i. clean i 0) (λ i. clean-line step words i 0) (sym (ended left text p.0 (starts-next left text p.0 p.2)).1 ∙ line.1)).0)
+      | inr long ↦ omega (arith, long.0, short-line step words, no-longer 10 text (line_of step) (long.1.0 ++ 10 ∷ []) line.0 (λ i. clean i 0) (sym (simp append_assoc at (ap (λ l. l ++ 10 ∷ []) long.1.1)) ∙ line.1))
     ]
 
 -- bytes that were read as a line are some

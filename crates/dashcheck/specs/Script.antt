@@ -50,7 +50,7 @@ text_of (Pair (Some p)) = 112 ∷ 97 ∷ 105 ∷ 114 ∷ 32 ∷ decimal p.0 ++ 3
 text_of (Old None) = 111 ∷ 108 ∷ 100 ∷ 32 ∷ 110 ∷ 111 ∷ 110 ∷ 101 ∷ []
 text_of (Old (Some v)) = 111 ∷ 108 ∷ 100 ∷ 32 ∷ decimal v
 
--- the lines come first in the input, and leave the rest; the end of the last may lack where the input ends
+-- the lines come first in the input, and leave the rest; the last line of the input may lack its end
 abbrev pub StartsWithLines : List ℕ → List ℕ → List ℕ → Type 0
 StartsWithLines input lines rest = (input ≡ lines ++ rest) ⊎ (rest ≡ []) × (input ++ 10 ∷ [] ≡ lines)
 
@@ -65,7 +65,8 @@ step_lines done = flat_map (λ d. line_of d.0 ++ 10 ∷ []) done
 abbrev pub reply_lines : List (ShardStep ℕ ℕ × Reply ℕ ℕ) → List ℕ
 reply_lines done = flat_map (λ d. text_of d.1 ++ 10 ∷ []) done
 
--- The steps, whose lines come first in the input, were taken, and the lines of their replies were printed. This is left of the input.
+-- The steps were taken, each with a reply to it: their lines come first in the input, which has this left, and the output grew by the
+-- lines of the replies.
 pub record Took (input left old new : Option (List ℕ)) (done : List (ShardStep ℕ ℕ × Reply ℕ ℕ)) : Type 0 where
   pub read : IfSome input (λ bytes. IsSomeAnd left (StartsWithLines bytes (step_lines done)))
   pub printed : Appends old new (reply_lines done)
@@ -79,7 +80,7 @@ TakesAll input old new = (done : List (ShardStep ℕ ℕ × Reply ℕ ℕ)) × T
 abbrev pub IsNext : List ℕ → ShardStep ℕ ℕ → Type 0
 IsNext input step = HasWords step × (rest : List ℕ) × StartsWithLines input (line_of step ++ 10 ∷ []) rest
 
--- why a script stops, in words
+-- what is said of a refused step, and of a stop
 abbrev pub fault_text : RecordFault → List ℕ
 fault_text fault.LastStamp = codes "last stamp (18)"
 fault_text fault.Memory = codes "no memory (19)"

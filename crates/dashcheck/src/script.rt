@@ -25,9 +25,13 @@ const LIMIT: usize = 128;
 /// Why a script stops before its end.
 #[derive(Drop)]
 pub enum Stop {
+    /// The line is that of no step.
     BadStep { line: u64 },
+    /// The map refuses the step of the line.
     Step { line: u64, fault: RecordFault },
+    /// There is no memory for the map, or for the lines of replies.
     Memory,
+    /// A read failed, or found no memory.
     Read,
 }
 
@@ -132,7 +136,6 @@ fn print<O: Write>(reply: &Reply<u64, u64>, line: &mut Vec<u8>, output: &mut O) 
 }
 
 impl Session {
-    // Only for want of memory is there none.
     fn new(alloc: Global) -> Result<Session, ConstructError>
         ensures { IfErr result (λ error. error ≡ ConstructError.Memory) }
     {
