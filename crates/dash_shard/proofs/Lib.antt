@@ -9,6 +9,7 @@ mod LockShown
 pub mod Moving
 mod Nodes
 mod Places
+mod Positions
 mod RoundParts
 mod Rounds
 pub mod Routing

@@ -105,17 +105,17 @@ module _ {K V S H : Type 0} (eq : K → K → Bool) (b : builder.Ghosts S H) (h 
     routes-equal routes j same = ap (λ writes. route_of_hash amount (hash_of b h s writes)) (sym (respects k j same)) ∙ routes
 
     -- what a look-up found is the pair at the key, and no other pair is
-    equal-found : (i : ℕ) (found : Holds eq t.nodes.items k i) → Equal w k (place (pairs_of t.nodes.items) i)
+    pub equal-found : (i : ℕ) (found : Holds eq t.nodes.items k i) → Equal w k (place (pairs_of t.nodes.items) i)
     equal-found i found p e = subst (λ q. eq q.0 k ≡ true) (same_Some found.pair p (sym found.is ∙ e)) found.equal
 
-    others-found : (i : ℕ) → Holds eq t.nodes.items k i → NoOther w (pairs_of t.nodes.items) k i
+    pub others-found : (i : ℕ) → Holds eq t.nodes.items k i → NoOther w (pairs_of t.nodes.items) k i
     others-found i found = others-fail w laws (pairs_of t.nodes.items) k i found.pair inside.shard.contents.distinct found.is found.equal
 
     pub at-found : (i : ℕ) (found : Holds eq t.nodes.items k i) → at w (pairs (state t)) k ≡ Some found.pair
     at-found i found = at-sole w (pairs_of t.nodes.items) k i (equal-found i found) (others-found i found) ∙ found.is
 
     -- what a look-up didn't find isn't there
-    missing : (hash : ℕ) → hash ≡ hash_of b h s (input k) → IsAbsent eq t.nodes.items hash k → (i : ℕ) (p : K × V) → place (pairs_of t.nodes.items) i ≡ Some p → eq p.0 k ≡ false
+    pub missing : (hash : ℕ) → hash ≡ hash_of b h s (input k) → IsAbsent eq t.nodes.items hash k → (i : ℕ) (p : K × V) → place (pairs_of t.nodes.items) i ≡ Some p → eq p.0 k ≡ false
     missing hash is absent i p e = elim (cases_Bool (eq p.0 k)) as (λ _. eq p.0 k ≡ false) [
       | inl equal ↦ absent i p e (inside.hashed i p e ∙ ap (hash_of b h s) (respects p.0 k equal) ∙ sym is)
       | inr fails ↦ fails

@@ -1,5 +1,5 @@
 -- What contracts see of a shard: a row of places, each with a pair or none, and where the shard stands among the others.
-use Rattle.std.specs.Prelude.{◌≡◌, ℕ, ◌<◌, Bool, List, [], ◌∷◌, length, Option, Some, None, slice_index_or, refl}
+use Rattle.std.specs.Prelude.{◌≡◌, ℕ, ◌<◌, Bool, IsTrue, List, [], ◌∷◌, length, Option, Some, None, IsSomeAnd, slice_index_or, refl}
 use Rattle.std.specs.Coded.{Coded, code_by, coded×, coded_ℕ, coded_list, coded_option}
 use Rattle.std.specs.Hash.{HashWrites}
 use Rattle.std.specs.declared.hash.Hasher as hasher
@@ -42,6 +42,10 @@ module _ {K V S : Type 0} where
   -- how many pairs
   abbrev pub shard_len : ShardState K V S → ℕ
   shard_len s = length (pairs s)
+
+  -- the place i has a pair whose key is equal to k
+  abbrev pub HasKey : (K → K → Bool) → ShardState K V S → K → ℕ → Type 0
+  HasKey eq s k i = IsSomeAnd (place s.places i) (λ p. IsTrue (eq p.0 k))
 
   -- number, amount and hasher stay
   pub record SameShard (old new : ShardState K V S) : Type 0 where

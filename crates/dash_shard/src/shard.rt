@@ -1,11 +1,11 @@
 //! One shard: pairs with distinct keys, all routed to the shard's number.
-ghost use Rattle.std.specs.Prelude.{◌≡◌, ◌≢◌, ℕ, ◌+◌, ◌<◌, ◌≤◌, ◌↔◌, IsTrue, IsOk, IfOk, OnOk, OnErr, IfErr, IsSome, MatchOption, is_some, None, if◌then◌else◌};
+ghost use Rattle.std.specs.Prelude.{◌≡◌, ◌≢◌, ℕ, ◌+◌, ◌<◌, ◌≤◌, ◌↔◌, IsTrue, IsOk, IfOk, OnOk, OnErr, IfErr, IsSome, IfSome, IsNone, is_some, Some, None, if◌then◌else◌};
 ghost use Rattle.std.specs.Option.{option_map};
 ghost use Rattle.std.specs.Map.Iter.{deref_pair};
 ghost use Rattle.dash_shard.specs.Hashing.{IsAmount, hash_of};
 ghost use Rattle.dash_shard.specs.Contents.{at};
 ghost use Rattle.dash_shard.specs.Steps.{Get, Insert, Pair, Old, Replies};
-ghost use Rattle.dash_shard.specs.Shard.{place, pairs, shard_len, keys_of, Routes, IsShard, SameShard, TakesExactly};
+ghost use Rattle.dash_shard.specs.Shard.{place, pairs, shard_len, HasKey, keys_of, Routes, IsShard, SameShard, TakesExactly};
 ghost use Rattle.dash_shard.specs.declared.error.ConstructError.TheVariants.{Memory};
 
 use crate::error::ConstructError;
@@ -148,8 +148,29 @@ impl<K: Eq + Hash, V, S: BuildHasher> Shard<K, V, S> {
         ensures pair { Replies (keys_of K.eq S.BuildHasher S.Hasher.Hasher K.hash_input self.now) (Get key.now) (pairs self.now) (Pair (option_map deref_pair result)) }
         ensures lawful { IsShard K.eq S.BuildHasher S.Hasher.Hasher K.hash_input self.now }
     {
-        let place = self.table.find(self.hasher.hash_one(key), key)?;
-        Some(self.table.at(place))
+        let position = self.position_of(key)?;
+        Some(self.at(position))
+    }
+
+    /// The place of the pair whose key equals `key`, for `at`. It is good while the shard isn't changed.
+    #[inline]
+    pub fn position_of(&self, key: &K) -> Option<usize>
+        ensures position { (i : ℕ) → (result ≡ Some i) ↔ HasKey K.eq self.now key.now i }
+        ensures pair { IfSome result (λ i. place self.now.places i ≡ at (keys_of K.eq S.BuildHasher S.Hasher.Hasher K.hash_input self.now) (pairs self.now) key.now) }
+        ensures absent { IsNone result ↔ (at (keys_of K.eq S.BuildHasher S.Hasher.Hasher K.hash_input self.now) (pairs self.now) key.now ≡ None) }
+        ensures lawful { IsShard K.eq S.BuildHasher S.Hasher.Hasher K.hash_input self.now }
+    {
+        self.table.find(self.hasher.hash_one(key), key)
+    }
+
+    /// The pair of a taken place, without a look at any other.
+    #[inline]
+    pub fn at(&self, position: usize) -> (&K, &V)
+        requires { IsSome (place self.now.places position) }
+        ensures pair { place self.now.places position ≡ Some (deref_pair result) }
+        ensures lawful { IsShard K.eq S.BuildHasher S.Hasher.Hasher K.hash_input self.now }
+    {
+        self.table.at(position)
     }
 
     /// How many pairs there are.

@@ -1,10 +1,10 @@
 //! A shard that is held for writing, changed in place behind its lock.
-ghost use Rattle.std.specs.Prelude.{◌≡◌, ◌<◌, ◌≤◌, ◌+◌, ◌↔◌, IsTrue, IfOk, IfErr, OnErr, is_some, None, if◌then◌else◌};
+ghost use Rattle.std.specs.Prelude.{◌≡◌, ℕ, ◌<◌, ◌≤◌, ◌+◌, ◌↔◌, IsTrue, IfOk, IfErr, OnErr, IsSome, IfSome, IsNone, is_some, Some, None, if◌then◌else◌};
 ghost use Rattle.std.specs.Option.{option_map};
 ghost use Rattle.std.specs.Map.Iter.{deref_pair};
 ghost use Rattle.dash_shard.specs.Contents.{at};
 ghost use Rattle.dash_shard.specs.Steps.{Get, Insert, Pair, Old, Replies};
-ghost use Rattle.dash_shard.specs.Shard.{pairs, shard_len, keys_of, Routes, IsShard, TakesExactly};
+ghost use Rattle.dash_shard.specs.Shard.{place, pairs, shard_len, HasKey, keys_of, Routes, IsShard, TakesExactly};
 ghost use Rattle.dash_shard.specs.Held.{FitsPlace, Inserts};
 
 use crate::lock::{RwLockWriteGuard, Tagged};
@@ -141,6 +141,27 @@ impl<K: Eq + Hash, V, S: BuildHasher> ShardMut<'_, K, V, S> {
         ensures lawful { IsShard K.eq S.BuildHasher S.Hasher.Hasher K.hash_input self.now }
     {
         self.guard.get(key)
+    }
+
+    /// The place of the pair whose key equals `key`, for `at`. It is good while the shard isn't changed.
+    #[inline]
+    pub fn position_of(&self, key: &K) -> Option<usize>
+        ensures position { (i : ℕ) → (result ≡ Some i) ↔ HasKey K.eq self.now key.now i }
+        ensures pair { IfSome result (λ i. place self.now.places i ≡ at (keys_of K.eq S.BuildHasher S.Hasher.Hasher K.hash_input self.now) (pairs self.now) key.now) }
+        ensures absent { IsNone result ↔ (at (keys_of K.eq S.BuildHasher S.Hasher.Hasher K.hash_input self.now) (pairs self.now) key.now ≡ None) }
+        ensures lawful { IsShard K.eq S.BuildHasher S.Hasher.Hasher K.hash_input self.now }
+    {
+        self.guard.position_of(key)
+    }
+
+    /// The pair of a taken place, without a look at any other.
+    #[inline]
+    pub fn at(&self, position: usize) -> (&K, &V)
+        requires { IsSome (place self.now.places position) }
+        ensures pair { place self.now.places position ≡ Some (deref_pair result) }
+        ensures lawful { IsShard K.eq S.BuildHasher S.Hasher.Hasher K.hash_input self.now }
+    {
+        self.guard.at(position)
     }
 
     /// How many pairs there are.

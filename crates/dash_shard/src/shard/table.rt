@@ -192,8 +192,7 @@ impl<K, V> Table<K, V> {
     /// The pair of a taken place.
     #[inline(always)]
     pub fn at(&self, position: usize) -> (&K, &V)
-        requires within { position < length self.now.nodes.items }
-        requires taken { IsSome (place (pairs_of self.now.nodes.items) position) }
+        requires { IsSome (place (pairs_of self.now.nodes.items) position) }
         ensures { Some (deref_pair result) ≡ place (pairs_of self.now.nodes.items) position }
     {
         match &self.nodes[position].pair {

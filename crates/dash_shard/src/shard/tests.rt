@@ -20,6 +20,11 @@ fn one_key_after_another(rt: HostRuntime) -> Result<(), Fail> {
     assert_eq!(rt; shard.get(&5), Some((&5, &50)));
     assert_eq!(rt; shard.get(&9), None);
     assert_eq!(rt; shard.len(), 2);
+    let Some(position) = shard.position_of(&5) else {
+        return Err(Fail::from("no place"));
+    };
+    assert_eq!(rt; shard.at(position), (&5, &50));
+    assert_eq!(rt; shard.position_of(&9), None);
     Ok(())
 }
 

@@ -20,6 +20,10 @@ fn a_held_shard_is_changed_in_place(rt: HostRuntime) -> Result<(), Fail> {
         assert_eq!(rt; held.insert(key, value)?, old, "{key}");
     }
     assert_eq!(rt; held.get(&1), Some((&1, &11)));
+    let Some(position) = held.position_of(&1) else {
+        return Err(Fail::from("no place"));
+    };
+    assert_eq!(rt; held.at(position), (&1, &11));
     assert_eq!(rt; held.len(), 1);
     assert!(rt; lock.try_read().is_none(), "a writer has the shard");
     drop(held);
