@@ -8,6 +8,7 @@ mod LockBorrows
 mod LockShown
 pub mod Moving
 mod Nodes
+mod Passing
 mod Places
 mod Positions
 mod RoundParts
@@ -16,5 +17,7 @@ pub mod Routing
 pub mod Rows
 mod Seeking
 mod Shards
+mod Stacks
+mod Tables
 mod Walking
 mod WordSteps

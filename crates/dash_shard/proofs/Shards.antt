@@ -1,22 +1,23 @@
 -- A shard's state after each change of its table.
-use Rattle.std.proofs.Common.{◌≡◌, ◌⊎◌, ℕ, zero, suc, ◌+◌, ◌<◌, Bool, true, false, cond, List, [], ◌∷◌, ◌++◌, length, get_or, set, Option, Some, None, refl, sym, ap, subst, ◌∙◌, inl, inr, arith, add-zero, is_some, IsNone, get_or-set_same, get_or-set_other}
+use Rattle.std.proofs.Common.{◌≡◌, ◌⊎◌, ℕ, zero, suc, ◌+◌, ◌<◌, Bool, true, false, cond, List, [], ◌∷◌, ◌++◌, length, get_or, set, Option, Some, None, refl, sym, ap, subst, ◌∙◌, inl, inr, arith, add-zero, is_some, get_or-set_same, get_or-set_other}
 use Rattle.std.specs.Cmp.{IsEquivalence}
 use Rattle.std.specs.Hash.{HashWrites}
 use Rattle.std.specs.Option.{option_map}
 use Rattle.std.specs.declared.hash.Hasher as hasher
 use Rattle.std.specs.declared.hash.BuildHasher as builder
-use Rattle.std.proofs.lemmas.Bool.{cases_Bool, cases_eq, true≢false}
+use Rattle.std.proofs.lemmas.Bool.{cases_Bool, cases_eq}
 use Rattle.std.proofs.lemmas.List.{length-map}
 use Rattle.std.proofs.lemmas.Option.{none-some, same_Some}
-use Rattle.std.proofs.Math.ListN.{get_or-map, replicate}
+use Rattle.std.proofs.Math.ListN.{replicate}
 use Rattle.dash_shard.specs.Hashing.{IsAmount, hash_of, route_of_hash}
 use Rattle.dash_shard.specs.Contents.{Keys, at, IsOnShard}
 use Rattle.dash_shard.specs.Steps.{Insert, Old, after, key_or}
 use Rattle.dash_shard.specs.Shard.{ShardState, place, taken, pairs, keys_of, Routes, IsShard, TakesExactly}
 use Rattle.dash_shard.specs.declared.shard.table.Node.{Node}
 use Rattle.dash_shard.specs.declared.shard.table.Table.{Table}
-use Rattle.dash_shard.specs.Table.{blank, pairs_of, hashes_of, Holds, IsAbsent, IsHashed, IsGrown, IsTable, IsInside}
+use Rattle.dash_shard.specs.Table.{pairs_of, hashes_of, next_place, Holds, IsAbsent, IsHashed, IsGrown, IsTable, IsInside}
 use Rattle.dash_shard.proofs.Equals.{at-equal}
+use Rattle.dash_shard.proofs.Tables.{next_free}
 use Rattle.dash_shard.proofs.Places.{NoOther, Equal, at-absent, absent-at, at-sole, at-written, others-fail, on_shard-written, taken-empties, length-taken-fill, length-taken-replace}
 
 -- empty places behind
@@ -30,11 +31,12 @@ place-empties {A} [] n i = nothing n i
 place-empties (o ∷ xs) n zero = refl
 place-empties (o ∷ xs) n (suc i) = place-empties xs n i
 
--- nothing stands in empty places
-none-taken : {A : Type 0} (xs : List (Option A)) → ((i : ℕ) → IsNone (place xs i)) → taken xs ≡ []
-none-taken [] h = refl
-none-taken (None ∷ xs) h = none-taken xs (λ i. h (suc i))
-none-taken (Some p ∷ xs) h = absurd (true≢false (h 0))
+-- where no place is taken, none has a pair
+none-taken : {A : Type 0} (xs : List (Option A)) (i : ℕ) (p : A) → taken xs ≡ [] → place xs i ≡ Some p → ⊥
+none-taken [] i p none e = none-some p e
+none-taken (None ∷ xs) zero p none e = none-some p e
+none-taken (None ∷ xs) (suc i) p none e = none-taken xs i p none e
+none-taken (Some q ∷ xs) i p none e = cc
 
 -- a number that stands at an index still stands there with more behind
 get_or-more : (xs ys : List ℕ) (i : ℕ) → i < length xs → get_or (xs ++ ys) i 0 ≡ get_or xs i 0
@@ -236,13 +238,10 @@ module _ {K V S H : Type 0} (eq : K → K → Bool) (b : builder.Ghosts S H) (h 
         filled = record { inside = filled-inside; takes = filled-takes; len = filled-len }
 
   -- a table with no pairs
-  module _ (t : Table K V) (table : IsTable t) (len : t.len ≡ 0) where
-    pub fresh-pairs : pairs (state t) ≡ []
-    fresh-pairs = none-taken (pairs_of t.nodes.items) (λ i. subst (λ o. IsNone o) (sym (get_or-map (λ n. n.pair) t.nodes.items i blank)) (table.empty i (omega (arith, len))))
-
+  module _ (t : Table K V) (table : IsTable t) (empty : taken (pairs_of t.nodes.items) ≡ []) (len : t.len ≡ 0) where
     pub fresh-shard : number < amount → IsAmount amount → IsShard eq b h input (state t)
     fresh-shard below lawful = record {
-      contents = subst (λ ps. IsOnShard (keys_of eq b h input (state t)) number ps) (sym fresh-pairs) (record { distinct = tt; routed = λ k away. refl });
+      contents = subst (λ ps. IsOnShard (keys_of eq b h input (state t)) number ps) (sym empty) (record { distinct = tt; routed = λ k away. refl });
       number = below;
       amount = lawful;
     }
@@ -251,12 +250,9 @@ module _ {K V S H : Type 0} (eq : K → K → Bool) (b : builder.Ghosts S H) (h 
     fresh-inside below lawful = record {
       shard = fresh-shard below lawful;
       table = table;
-      hashed = λ i p e. absurd (none_some (table.empty i (omega (arith, len))) (sym (get_or-map (λ n. n.pair) t.nodes.items i blank) ∙ e));
-      counted = len ∙ ap length (sym fresh-pairs);
+      hashed = λ i p e. absurd (none-taken (pairs_of t.nodes.items) i p empty e);
+      counted = len ∙ ap length (sym empty);
     }
-      where
-        none_some : {o : Option (K × V)} {p : K × V} → IsNone o → o ≡ Some p → ⊥
-        none_some {o} {p} none e = true≢false (subst (λ x. IsNone x) e none)
 
   -- empty places came behind
   module _ (t new : Table K V) (inside : Inside t) (grown : IsGrown t.nodes.items new.nodes.items) (len : new.len ≡ t.len) (table : IsTable new) where
@@ -293,16 +289,12 @@ module _ {K V S H : Type 0} (eq : K → K → Bool) (b : builder.Ghosts S H) (h 
     -- a new pair, in the room that was made
     module _ (k : K) (z : ShardState K V S) (view : state t ≡ z) (here : Routes eq b h input z k) (v : V) (last : Table K V) (hash : ℕ) where
       pub pushed : new.len < length new.nodes.items → hash ≡ hash_of b h s (input k) → IsAbsent eq t.nodes.items hash k
-          → pairs_of last.nodes.items ≡ set (pairs_of new.nodes.items) new.len (Some (k, v)) → hashes_of last.nodes.items ≡ set (hashes_of new.nodes.items) new.len hash
+          → pairs_of last.nodes.items ≡ set (pairs_of new.nodes.items) (next_place new) (Some (k, v)) → hashes_of last.nodes.items ≡ set (hashes_of new.nodes.items) (next_place new) hash
           → last.len ≡ new.len + 1 → IsTable last → Inserted t last k v None
       pushed room is absent places hashes longer lawful =
+          let free = next_free new table room in
           inserted-grown last k v None
-          (filled new grown-inside k (state new) refl (subst (λ x. Routes eq b h input x k) (sym view) here) v last new.len hash room
-          (get_or-map (λ n. n.pair) new.nodes.items new.len blank ∙ is_none _ (table.empty new.len (omega arith)))
+          (filled new grown-inside k (state new) refl (subst (λ x. Routes eq b h input x k) (sym view) here) v last (next_place new) hash free.0 free.1
           is
           (ap (λ ps. at (keys_of eq b h input (state t)) ps k) grown-pairs ∙ at-missing t inside k hash is absent)
           places hashes longer lawful)
-        where
-          is_none : (o : Option (K × V)) → IsNone o → o ≡ None
-          is_none None n = refl
-          is_none (Some x) n = absurd (true≢false n)

@@ -1,6 +1,6 @@
--- A table of pairs, found by the buckets of their hashes. A bucket is a chain of places in falling order: a link is one more than a
--- place, or 0 at the chain's end.
-use Rattle.std.specs.Prelude.{ℕ, ◌≡◌, ◌+◌, ◌-◌, ◌<◌, ◌≤◌, true, false, Bool, List, map, length, slice_index_or, slice_index, ◌++◌, replicate, Option, Some, None, IsSome, IsNone, option_map, bit_and, ◌==◌, if◌then◌else◌}
+-- A table of pairs, found by the buckets of their hashes. A bucket is a chain of places in falling order, and the free places are a
+-- stack. A link is one more than a place, or 0 at the end.
+use Rattle.std.specs.Prelude.{ℕ, zero, suc, ◌≡◌, ◌≢◌, ◌⊎◌, ◌+◌, ◌-◌, ◌<◌, ◌≤◌, true, false, Bool, List, map, length, slice_index_or, slice_index, ◌++◌, replicate, Option, Some, None, IsSome, IsNone, bit_and, ◌==◌, if◌then◌else◌}
 use Rattle.std.specs.Hash.{HashWrites}
 use Rattle.std.specs.declared.hash.Hasher as hasher
 use Rattle.std.specs.declared.hash.BuildHasher as builder
@@ -13,16 +13,21 @@ use Rattle.dash_shard.specs.declared.shard.table.Table.{Table}
 abbrev pub bucket_of : ℕ → ℕ → ℕ
 bucket_of n hash = bit_and hash (n - 1)
 
--- the link leads to the last place below the bound that is in the bucket b
-pub record Links (bucket : ℕ → Option ℕ) (b bound link : ℕ) : Type 0 where
+-- the link leads to the last place below the bound that is in the bucket
+pub record Links (IsIn : ℕ → Type 0) (bound link : ℕ) : Type 0 where
   pub within : link ≤ bound
-  pub covers : (j : ℕ) → bucket j ≡ Some b → j < bound → j < link
-  pub stands : (j : ℕ) → link ≡ j + 1 → bucket j ≡ Some b
+  pub covers : (j : ℕ) → IsIn j → j < bound → j < link
+  pub stands : (j : ℕ) → link ≡ j + 1 → IsIn j
 
--- among n buckets, each one's chain leads through its places below m
-pub record IsChained (bucket : ℕ → Option ℕ) (head next : ℕ → ℕ) (n m : ℕ) : Type 0 where
-  pub from_head : (b : ℕ) → b < n → Links bucket b m (head b)
-  pub from_place : (i b : ℕ) → i < m → bucket i ≡ Some b → Links bucket b i (next i)
+-- each of n buckets has a chain that leads through its places
+pub record IsChained (IsIn : ℕ → ℕ → Type 0) (head next : ℕ → ℕ) (n : ℕ) : Type 0 where
+  pub from_head : (b : ℕ) → b < n → Links (IsIn b) n (head b)
+  pub from_place : (b i : ℕ) → IsIn b i → Links (IsIn b) i (next i)
+
+-- the link to the last of some places
+abbrev pub link_to : (ℕ → ℕ) → ℕ → ℕ
+link_to spot zero = 0
+link_to spot (suc m) = spot m + 1
 
 module _ {K V : Type 0} where
   abbrev pub blank : Node K V
@@ -32,23 +37,54 @@ module _ {K V : Type 0} where
   abbrev pub node : List (Node K V) → ℕ → Node K V
   node nodes i = slice_index_or nodes i blank
 
-  -- the bucket that the pair of a place is in
-  abbrev pub bucket_at : List (Node K V) → ℕ → Option ℕ
-  bucket_at nodes i = option_map (λ _. bucket_of (length nodes) (node nodes i).hash) (node nodes i).pair
+  -- the place j has a pair, in the bucket b
+  pub record InBucket (nodes : List (Node K V)) (b j : ℕ) : Type 0 where
+    pub taken : IsSome (node nodes j).pair
+    pub bucket : bucket_of (length nodes) (node nodes j).hash ≡ b
 
-  -- each bucket's chain leads through its places below m
-  abbrev pub Chained : List (Node K V) → ℕ → Type 0
-  Chained nodes m = IsChained (bucket_at nodes) (λ b. (node nodes b).head) (λ i. (node nodes i).next) (length nodes) m
+  -- the chains lead through these places
+  abbrev pub ChainedBy : (ℕ → ℕ → Type 0) → List (Node K V) → Type 0
+  ChainedBy IsIn nodes = IsChained IsIn (λ b. (node nodes b).head) (λ i. (node nodes i).next) (length nodes)
 
-  -- the first m places are taken and chained, and the others are empty
-  pub record IsFilled (nodes : List (Node K V)) (m : ℕ) : Type 0 where
-    pub within : m ≤ length nodes
-    pub taken : (i : ℕ) → i < m → IsSome (node nodes i).pair
-    pub empty : (i : ℕ) → m ≤ i → IsNone (node nodes i).pair
-    pub chained : Chained nodes m
+  abbrev pub Chained : List (Node K V) → Type 0
+  Chained nodes = ChainedBy (InBucket nodes) nodes
 
-  abbrev pub IsTable : Table K V → Type 0
-  IsTable t = IsFilled t.nodes.items t.len
+  -- with the place i in the bucket c, or without the place i
+  abbrev pub With : List (Node K V) → ℕ → ℕ → ℕ → ℕ → Type 0
+  With nodes i c b j = InBucket nodes b j ⊎ ((j ≡ i) × (b ≡ c))
+
+  abbrev pub Without : List (Node K V) → ℕ → ℕ → ℕ → Type 0
+  Without nodes i b j = InBucket nodes b j × (j ≢ i)
+
+  -- the link at a bound of a bucket's chain: that of a place, or at the end of the places the bucket's head
+  abbrev pub link_at : List (Node K V) → ℕ → ℕ → ℕ
+  link_at nodes b c = if c == length nodes then (node nodes b).head else (node nodes c).next
+
+  -- the link at c is where the chain of the bucket b passes the place i
+  pub record Passes (nodes : List (Node K V)) (b i c : ℕ) : Type 0 where
+    pub bound : (c ≡ length nodes) ⊎ InBucket nodes b c
+    pub above : i < c
+    pub below : link_at nodes b c ≤ i + 1
+
+  -- m places below n are free and stand on a stack: the link leads to the last, and the link of each to the one before
+  pub record IsStack (nodes : List (Node K V)) (n link m : ℕ) : Type 0 where
+    pub spot : ℕ → ℕ
+    pub first : link ≡ link_to spot m
+    pub nexts : (l : ℕ) → l < m → (node nodes (spot l)).next ≡ link_to spot l
+    pub within : (l : ℕ) → l < m → spot l < n
+    pub empty : (l : ℕ) → l < m → IsNone (node nodes (spot l)).pair
+    pub distinct : (k l : ℕ) → k < l → l < m → spot k ≢ spot l
+
+  -- the taken places are chained, and the others stand on the stack
+  pub record IsTable (t : Table K V) : Type 0 where
+    pub free : ℕ
+    pub counted : t.len + free ≡ length t.nodes.items
+    pub chained : Chained t.nodes.items
+    pub stack : IsStack t.nodes.items (length t.nodes.items) t.free free
+
+  -- the place that the next pair takes
+  abbrev pub next_place : Table K V → ℕ
+  next_place t = t.free - 1
 
   abbrev pub pairs_of : List (Node K V) → List (Option (K × V))
   pairs_of nodes = map (λ n. n.pair) nodes
@@ -61,11 +97,16 @@ module _ {K V : Type 0} where
     pub pairs : pairs_of new ≡ pairs_of old
     pub hashes : hashes_of new ≡ hashes_of old
 
-  -- the place was put first in the bucket
-  pub record IsLinked (i b : ℕ) (old new : List (Node K V)) : Type 0 where
+  -- one link was written, the one at the bound c of the bucket b
+  pub record Relinked (b c link : ℕ) (old new : List (Node K V)) : Type 0 where
     pub keeps : KeepsPairs old new
-    pub heads : (c : ℕ) → (node new c).head ≡ (if c == b then i + 1 else (node old c).head)
-    pub nexts : (j : ℕ) → (node new j).next ≡ (if j == i then (node old b).head else (node old j).next)
+    pub here : link_at new b c ≡ link
+    pub heads : (a : ℕ) → (c ≡ length old → a ≢ b) → (node new a).head ≡ (node old a).head
+    pub nexts : (j : ℕ) → j ≢ c → (node new j).next ≡ (node old j).next
+
+  -- the links of the free places stay, but for the place i
+  abbrev pub KeepsFree : ℕ → List (Node K V) → List (Node K V) → Type 0
+  KeepsFree i old new = (j : ℕ) → j ≢ i → IsNone (node old j).pair → (node new j).next ≡ (node old j).next
 
   -- the place i has a pair whose key is equal
   pub record Holds (eq : K → K → Bool) (nodes : List (Node K V)) (k : K) (i : ℕ) : Type 0 where

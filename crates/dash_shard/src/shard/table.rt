@@ -1,15 +1,18 @@
 //! A table of pairs, found by the buckets of their hashes.
 ghost use Rattle.std.specs.Prelude.{ℕ, ◌≡◌, ◌+◌, ◌-◌, ◌<◌, ◌≤◌, ◌==◌, ◌++◌, IfSome, IfNone, IsOk, IfOk, OnOk, OnErr, IsSome, IsNone, length, map, false, [], ◌∷◌, if◌then◌else◌, vec_len, vec_capacity, slice_set, replicate, max};
-ghost use Rattle.dash_shard.specs.Table.{IsTable, IsFilled, Holds, IsAbsent, KeepsPairs, IsLinked, bucket_of, node, blank, pairs_of, hashes_of, IsGrown};
-ghost use Rattle.dash_shard.specs.Shard.{place};
+ghost use Rattle.dash_shard.specs.Table.{IsTable, Holds, IsAbsent, blank, pairs_of, hashes_of, next_place, IsGrown};
+ghost use Rattle.dash_shard.specs.Shard.{place, taken};
 ghost use Rattle.std.specs.Option.{option_map};
 ghost use Rattle.std.specs.Map.Iter.{deref_pair};
 
+use links::{bucket, free_from, link_all, put, take};
 use std::alloc::{AllocError, Global};
 use std::mem;
 
-// A place: a pair with its hash, or none; the link to the next pair of the pair's bucket; and the first link of the bucket that
-// has the place's number.
+mod links;
+
+// A place: a pair with its hash, or none; the link to the next pair of the pair's bucket, or for a free place to the next free one;
+// and the first link of the bucket that has the place's number.
 #[derive(Drop)]
 pub struct Node<K, V> {
     head: usize,
@@ -23,87 +26,8 @@ pub struct Node<K, V> {
 pub struct Table<K, V> {
     nodes: Vec<Node<K, V>>,
     len: usize,
-}
-
-// The bucket of a hash among `count`, which is a power of two.
-#[inline(always)]
-fn bucket(hash: u64, count: usize) -> usize
-    requires { 0 < count }
-    ensures bucket { result ≡ bucket_of count hash }
-    ensures below { result < count }
-{
-    hash as usize & (count - 1)
-}
-
-#[inline(always)]
-fn set_head<K, V>(nodes: &mut [Node<K, V>], bucket: usize, link: usize)
-    requires { bucket < length nodes.old }
-    ensures { nodes.new ≡ slice_set nodes.old bucket (record (node nodes.old bucket) { head = link }) }
-{
-    nodes[bucket].head = link;
-}
-
-#[inline(always)]
-fn set_next<K, V>(nodes: &mut [Node<K, V>], place: usize, link: usize)
-    requires { place < length nodes.old }
-    ensures { nodes.new ≡ slice_set nodes.old place (record (node nodes.old place) { next = link }) }
-{
-    nodes[place].next = link;
-}
-
-// Puts a place first in a bucket.
-#[inline(always)]
-fn link<K, V>(nodes: &mut [Node<K, V>], place: usize, bucket: usize)
-    requires place { place < length nodes.old }
-    requires bucket { bucket < length nodes.old }
-    ensures { IsLinked place bucket nodes.old nodes.new }
-{
-    let first = nodes[bucket].head;
-    set_next(nodes, place, first);
-    set_head(nodes, bucket, place + 1);
-}
-
-// Chains the first `len` places anew, as in a table that has grown.
-fn link_all<K, V>(nodes: &mut [Node<K, V>], len: usize)
-    requires within { len ≤ length nodes.old }
-    requires taken { (i : ℕ) → i < len → IsSome (node nodes.old i).pair }
-    requires empty { (i : ℕ) → len ≤ i → IsNone (node nodes.old i).pair }
-    ensures filled { IsFilled nodes.new len }
-    ensures pairs { KeepsPairs nodes.old nodes.new }
-{
-    let count = nodes.len();
-    for bucket in 0..count {
-        set_head(nodes, bucket, 0);
-    }
-    for place in 0..len {
-        let bucket = bucket(nodes[place].hash, count);
-        link(nodes, place, bucket);
-    }
-}
-
-// Puts a pair on a place.
-#[inline(always)]
-fn fill<K: Drop, V: Drop>(nodes: &mut [Node<K, V>], place: usize, hash: u64, key: K, value: V)
-    requires { place < length nodes.old }
-    ensures { nodes.new ≡ slice_set nodes.old place (record (node nodes.old place) { hash = hash; pair = Some (key, value) }) }
-{
-    let node = &mut nodes[place];
-    node.hash = hash;
-    node.pair = Some((key, value));
-}
-
-// Puts a pair on the first place that is free.
-#[inline(always)]
-fn put<K: Drop, V: Drop>(nodes: &mut [Node<K, V>], place: usize, hash: u64, key: K, value: V)
-    requires room { place < length nodes.old }
-    requires filled { IsFilled nodes.old place }
-    ensures pairs { pairs_of nodes.new ≡ slice_set (pairs_of nodes.old) place (Some (key, value)) }
-    ensures hashes { hashes_of nodes.new ≡ slice_set (hashes_of nodes.old) place hash }
-    ensures filled { IsFilled nodes.new (place + 1) }
-{
-    let bucket = bucket(hash, nodes.len());
-    fill(nodes, place, hash, key, value);
-    link(nodes, place, bucket);
+    // The link to the free place that the next pair takes.
+    free: usize,
 }
 
 // Adds places with no pair, in room that is there.
@@ -131,6 +55,7 @@ impl<K, V> Table<K, V> {
         Table {
             nodes: Vec::new(alloc),
             len: 0,
+            free: 0,
         }
     }
 
@@ -140,7 +65,8 @@ impl<K, V> Table<K, V> {
         K: Drop,
         V: Drop,
         ensures table { IfOk result IsTable }
-        ensures empty { IfOk result (λ t. t.len ≡ 0) }
+        ensures empty { IfOk result (λ t. taken (pairs_of t.nodes.items) ≡ []) }
+        ensures len { IfOk result (λ t. t.len ≡ 0) }
         ensures places { IfOk result (λ t. capacity ≤ length t.nodes.items) }
         ensures free { capacity ≡ 0 → IsOk result }
     {
@@ -219,7 +145,7 @@ impl<K, V> Table<K, V> {
         }
     }
 
-    /// Puts a pair on the next place, which is free.
+    /// Puts a pair on the next free place.
     #[inline(always)]
     pub fn push(&mut self, hash: u64, key: K, value: V)
     where
@@ -227,13 +153,35 @@ impl<K, V> Table<K, V> {
         V: Drop,
         requires table { IsTable self.old }
         requires room { self.old.len < length self.old.nodes.items }
-        ensures pairs { pairs_of self.new.nodes.items ≡ slice_set (pairs_of self.old.nodes.items) self.old.len (Some (key, value)) }
-        ensures hashes { hashes_of self.new.nodes.items ≡ slice_set (hashes_of self.old.nodes.items) self.old.len hash }
+        ensures pairs { pairs_of self.new.nodes.items ≡ slice_set (pairs_of self.old.nodes.items) (next_place self.old) (Some (key, value)) }
+        ensures hashes { hashes_of self.new.nodes.items ≡ slice_set (hashes_of self.old.nodes.items) (next_place self.old) hash }
         ensures len { self.new.len ≡ self.old.len + 1 }
+        ensures places { length self.new.nodes.items ≡ length self.old.nodes.items }
         ensures table { IsTable self.new }
     {
-        put(&mut self.nodes, self.len, hash, key, value);
+        let place = self.free - 1;
+        self.free = self.nodes[place].next;
+        put(&mut self.nodes, place, hash, key, value);
         self.len += 1;
+    }
+
+    /// Takes the pair of a taken place, which is then the next free one.
+    #[inline(always)]
+    pub fn take(&mut self, position: usize) -> (K, V)
+        requires table { IsTable self.old }
+        requires taken { IsSome (place (pairs_of self.old.nodes.items) position) }
+        requires some { 0 < self.old.len }
+        ensures old { place (pairs_of self.old.nodes.items) position ≡ Some result }
+        ensures pairs { pairs_of self.new.nodes.items ≡ slice_set (pairs_of self.old.nodes.items) position None }
+        ensures hashes { hashes_of self.new.nodes.items ≡ hashes_of self.old.nodes.items }
+        ensures len { self.new.len + 1 ≡ self.old.len }
+        ensures places { length self.new.nodes.items ≡ length self.old.nodes.items }
+        ensures table { IsTable self.new }
+    {
+        let pair = take(&mut self.nodes, position, self.free);
+        self.free = position + 1;
+        self.len -= 1;
+        pair
     }
 
     /// Makes `count` places of what there are, which takes memory.
@@ -246,10 +194,11 @@ impl<K, V> Table<K, V> {
         ensures len { self.new.len ≡ self.old.len }
         ensures table { IsTable self.new }
     {
-        let more = count - self.nodes.len();
-        self.nodes.reserve_exact(more)?;
-        push_blanks(&mut self.nodes, more);
-        link_all(&mut self.nodes, self.len);
+        let start = self.nodes.len();
+        self.nodes.reserve_exact(count - start)?;
+        push_blanks(&mut self.nodes, count - start);
+        self.free = free_from(&mut self.nodes, start, self.free);
+        link_all(&mut self.nodes);
         Ok(())
     }
 

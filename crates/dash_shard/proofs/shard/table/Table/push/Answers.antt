@@ -1,19 +1,12 @@
-use Rattle.std.proofs.Common.{◌+◌, ap, sym, ◌∙◌, subst, set, Some}
-use Rattle.dash_shard.specs.Table.{pairs_of, hashes_of, IsFilled}
-use Rattle.dash_shard.proofs.Nodes.{written}
+use Rattle.std.proofs.Common.{refl, sym, ap, ◌∙◌}
+use Rattle.dash_shard.specs.Table.{node, next_place}
+use Rattle.dash_shard.proofs.Nodes.{written, part_read}
+use Rattle.dash_shard.proofs.Tables.{table_pushed, next_free}
 use Rattle.dash_shard.proofs.shard.table.Table.push.Goals as goal
-
-pub returns-clause-pairs : goal.returns-clause-pairs
-returns-clause-pairs g c =
-    let whole = written c.args.self.now.nodes.len c.put.new.nodes _ (c.put.auto.nodes ∙ c.deref_mut.ensures.len) in
-    ap pairs_of whole ∙ c.put.ensures.pairs ∙ ap (λ ns. set (pairs_of ns) c.args.self.now.len (Some (c.args.key, c.args.value))) c.deref_mut.ensures.value
-
-pub returns-clause-hashes : goal.returns-clause-hashes
-returns-clause-hashes g c =
-    let whole = written c.args.self.now.nodes.len c.put.new.nodes _ (c.put.auto.nodes ∙ c.deref_mut.ensures.len) in
-    ap hashes_of whole ∙ c.put.ensures.hashes ∙ ap (λ ns. set (hashes_of ns) c.args.self.now.len c.args.hash) c.deref_mut.ensures.value
 
 pub returns-clause-table : goal.returns-clause-table
 returns-clause-table g c =
     let whole = written c.args.self.now.nodes.len c.put.new.nodes _ (c.put.auto.nodes ∙ c.deref_mut.ensures.len) in
-    subst (λ ns. IsFilled ns (c.args.self.now.len + 1)) (sym whole) c.put.ensures.filled
+    let here = next_free c.args.self.now c.requires.table c.requires.room in
+    let read = ap (λ n. n.next) c.index.ensures ∙ part_read (λ n. n.next) c.args.self.now.nodes.items (next_place c.args.self.now) _ here.0 ∙ ap (λ ns. (node ns (next_place c.args.self.now)).next) (sym c.deref_mut.ensures.value) in
+    table_pushed c.args.self.now _ _ _ _ c.requires.table c.requires.room c.deref_mut.ensures.value whole c.put.ensures.chained c.put.ensures.frees c.put.ensures.pairs c.put.auto.nodes refl read
