@@ -1,7 +1,7 @@
 -- The contents of a row of places, and after a write to one place.
 use Rattle.std.proofs.Common.{◌≡◌, ◌≢◌, ℕ, zero, suc, ◌+◌, ◌<◌, true, false, cond, List, [], ◌∷◌, ◌++◌, length, set, Option, Some, None, refl, sym, ap, subst, ◌∙◌, inl, inr, arith, get_or-set_same, get_or-set_other}
 use Rattle.std.specs.Cmp.{IsEquivalence}
-use Rattle.std.proofs.lemmas.Bool.{cases_Bool, both_ways}
+use Rattle.std.proofs.lemmas.Bool.{cases_Bool, cases_eq, both_ways}
 use Rattle.std.proofs.Math.ListN.{replicate}
 use Rattle.std.proofs.lemmas.Option.{none-some, same_Some}
 use Rattle.dash_shard.specs.Contents.{Keys, at, Distinct, IsOnShard}
@@ -31,6 +31,13 @@ module _ {A : Type 0} where
   length-taken-replace (Some r ∷ xs) zero p q e = refl
   length-taken-replace (None ∷ xs) (suc i) p q e = length-taken-replace xs i p q e
   length-taken-replace (Some r ∷ xs) (suc i) p q e = ap suc (length-taken-replace xs i p q e)
+
+  pub length-taken-clear : (xs : List (Option A)) (i : ℕ) (q : A) → place xs i ≡ Some q → length (taken xs) ≡ length (taken (set xs i None)) + 1
+  length-taken-clear [] i q e = absurd (none-some q e)
+  length-taken-clear (None ∷ xs) zero q e = absurd (none-some q e)
+  length-taken-clear (Some r ∷ xs) zero q e = omega arith
+  length-taken-clear (None ∷ xs) (suc i) q e = length-taken-clear xs i q e
+  length-taken-clear (Some r ∷ xs) (suc i) q e = ap suc (length-taken-clear xs i q e) ∙ omega arith
 
 module _ {K V : Type 0} (w : Keys K) where
   -- no place has a key equal to k
@@ -143,3 +150,14 @@ module _ {K V : Type 0} (w : Keys K) where
         | inr fails ↦ rw fails (h.routed j away)
       ];
     }
+
+    -- each pair stays in its place, after such a write of what f makes of the pair at i
+    pub stays-written : (xs : List (Option (K × V))) (k : K) (i : ℕ) (o : Option (K × V)) (f : Option (K × V) → Option (K × V)) → i < length xs → Equal k (place xs i) → NoOther xs k i
+        → ((p : K × V) → place xs i ≡ Some p → o ≡ f (Some p)) → (j : ℕ) (p : K × V) → place xs j ≡ Some p → place (set xs i o) j ≡ cond (w.eq k p.0) (f (Some p)) (Some p)
+    stays-written xs k i o f within here others makes j p e = elim (cases_eq j i) as (λ _. place (set xs i o) j ≡ cond (w.eq k p.0) (f (Some p)) (Some p)) [
+      | inl same ↦
+          let at_i : place xs i ≡ Some p = subst (λ m. place xs m ≡ Some p) same e in
+          subst (λ m. place (set xs i o) m ≡ cond (w.eq k p.0) (f (Some p)) (Some p)) (sym same)
+          (get_or-set_same xs i o None within ∙ makes p at_i ∙ sym (rw (laws.symm k p.0 ∙ here p at_i) refl))
+      | inr other ↦ get_or-set_other xs i j o None other ∙ e ∙ sym (rw (laws.symm k p.0 ∙ others j p other e) refl)
+    ]

@@ -11,14 +11,14 @@ use Rattle.std.proofs.lemmas.Option.{none-some, same_Some}
 use Rattle.std.proofs.Math.ListN.{replicate}
 use Rattle.dash_shard.specs.Hashing.{IsAmount, hash_of, route_of_hash}
 use Rattle.dash_shard.specs.Contents.{Keys, at, IsOnShard}
-use Rattle.dash_shard.specs.Steps.{Insert, Old, after, key_or}
-use Rattle.dash_shard.specs.Shard.{ShardState, place, taken, pairs, keys_of, Routes, IsShard, TakesExactly}
+use Rattle.dash_shard.specs.Steps.{Insert, Remove, Old, Pair, after, key_or}
+use Rattle.dash_shard.specs.Shard.{ShardState, place, taken, pairs, keys_of, Routes, IsShard, TakesExactly, StaysInPlace}
 use Rattle.dash_shard.specs.declared.shard.table.Node.{Node}
 use Rattle.dash_shard.specs.declared.shard.table.Table.{Table}
 use Rattle.dash_shard.specs.Table.{pairs_of, hashes_of, next_place, Holds, IsAbsent, IsHashed, IsGrown, IsTable, IsInside}
 use Rattle.dash_shard.proofs.Equals.{at-equal}
 use Rattle.dash_shard.proofs.Tables.{next_free}
-use Rattle.dash_shard.proofs.Places.{NoOther, Equal, at-absent, absent-at, at-sole, at-written, others-fail, on_shard-written, taken-empties, length-taken-fill, length-taken-replace}
+use Rattle.dash_shard.proofs.Places.{NoOther, Equal, at-absent, absent-at, at-sole, at-written, others-fail, on_shard-written, taken-empties, length-taken-fill, length-taken-replace, length-taken-clear, stays-written}
 
 -- empty places behind
 place-empties : {A : Type 0} (xs : List (Option A)) (n i : ℕ) → place (xs ++ replicate n None) i ≡ place xs i
@@ -71,6 +71,12 @@ module _ {K V : Type 0} (hash : K → ℕ) where
     | inr other ↦ h j q (sym (get_or-set_other xs i j (Some (p.0, v)) None other) ∙ e)
   ]
 
+  hashed-clear : (xs : List (Option (K × V))) (hs : List ℕ) (i : ℕ) → i < length xs → IsHashed hash xs hs → IsHashed hash (set xs i None) hs
+  hashed-clear xs hs i within h j p e = elim (cases_eq j i) as (λ _. get_or hs j 0 ≡ hash p.0) [
+    | inl same ↦ absurd (none-some p (sym (get_or-set_same xs i None None within) ∙ ap (λ m. place (set xs i None) m) (sym same) ∙ e))
+    | inr other ↦ h j p (sym (get_or-set_other xs i j None None other) ∙ e)
+  ]
+
 -- as many hashes as places
 columns : {K V : Type 0} (nodes : List (Node K V)) → length (hashes_of nodes) ≡ length (pairs_of nodes)
 columns nodes = length-map nodes (λ n. n.hash) ∙ sym (length-map nodes (λ n. n.pair))
@@ -89,6 +95,14 @@ module _ {K V S H : Type 0} (eq : K → K → Bool) (b : builder.Ghosts S H) (h 
     pub inside : Inside new
     pub takes : TakesExactly eq b h input (state old) (state new) (Insert k v) (Old o)
     pub len : length (pairs (state new)) ≡ length (pairs (state old)) + cond (is_some o) 0 1
+    pub stays : StaysInPlace eq b h input (state old) (state new) (Insert k v)
+
+  -- what a removal leaves, where o is the pair that it answers
+  pub record Removed (old new : Table K V) (k : K) (o : Option (K × V)) : Type 0 where
+    pub inside : Inside new
+    pub takes : TakesExactly eq b h input (state old) (state new) (Remove k) (Pair o)
+    pub len : length (pairs (state old)) ≡ length (pairs (state new)) + cond (is_some o) 1 0
+    pub stays : StaysInPlace eq b h input (state old) (state new) (Remove k)
 
   -- the same as contracts see it, where the state before is written z
   module _ (old new : Table K V) (k : K) (v : V) (o : Option V) (z : ShardState K V S) (view : state old ≡ z) (i : Inserted old new k v o) where
@@ -97,6 +111,9 @@ module _ {K V S H : Type 0} (eq : K → K → Bool) (b : builder.Ghosts S H) (h 
 
     pub shown-len : length (pairs (state new)) ≡ length (pairs z) + cond (is_some o) 0 1
     shown-len = subst (λ x. length (pairs (state new)) ≡ length (pairs x) + cond (is_some o) 0 1) view i.len
+
+    pub shown-stays : StaysInPlace eq b h input z (state new) (Insert k v)
+    shown-stays = subst (λ x. StaysInPlace eq b h input x (state new) (Insert k v)) view i.stays
 
   module _ (t : Table K V) (inside : Inside t) (k : K) where
     abbrev w : Keys K
@@ -180,6 +197,9 @@ module _ {K V S H : Type 0} (eq : K → K → Bool) (b : builder.Ghosts S H) (h 
           inside = replaced-inside;
           takes = replaced-takes;
           len = ap (λ xs. length (taken xs)) now ∙ length-taken-replace _ i _ found.pair found.is ∙ sym (add-zero _);
+          stays = λ j p e. ap (λ xs. place xs j) now
+              ∙ stays-written w laws (pairs_of t.nodes.items) k i _ (λ o. Some (key_or k o, v)) within (equal-found i found) (others-found i found)
+              (λ q there. ap (λ r. Some (r.0, v)) (same_Some found.pair q (sym found.is ∙ there))) j p e;
         }
 
       -- a new pair on a free place
@@ -235,7 +255,87 @@ module _ {K V S H : Type 0} (eq : K → K → Bool) (b : builder.Ghosts S H) (h 
             put j (inr other) = rw other refl
 
         pub filled : Inserted t new k v None
-        filled = record { inside = filled-inside; takes = filled-takes; len = filled-len }
+        filled = record {
+          inside = filled-inside;
+          takes = filled-takes;
+          len = filled-len;
+          stays = λ j p e. ap (λ xs. place xs j) places
+              ∙ stays-written w laws (pairs_of t.nodes.items) k i _ (λ o. Some (key_or k o, v)) room equal-before no-other (λ q there. absurd (none-some q (sym empty ∙ there))) j p e;
+        }
+
+    module _ (z : ShardState K V S) (view : state t ≡ z) (here : Routes eq b h input z k) where
+      -- the pair goes, and its place is empty
+      module _ (new : Table K V) (i : ℕ) (found : Holds eq t.nodes.items k i) (places : pairs_of new.nodes.items ≡ set (pairs_of t.nodes.items) i None)
+          (hashes : hashes_of new.nodes.items ≡ hashes_of t.nodes.items) (len : new.len + 1 ≡ t.len) (table : IsTable new) where
+        spot : i < length (pairs_of t.nodes.items)
+        spot = omega (arith, found.within, length-map t.nodes.items (λ n. n.pair))
+
+        equal-none : Equal {V = V} w k None
+        equal-none p e = absurd (none-some p e)
+
+        removed-shard : IsShard eq b h input (state new)
+        removed-shard = record {
+          contents = subst (λ xs. IsOnShard w number (taken xs)) (sym places)
+              (on_shard-written w laws number (pairs_of t.nodes.items) k i None (routes-equal (subst (λ x. Routes eq b h input x k) (sym view) here)) spot (equal-found i found) equal-none (others-found i found)
+              inside.shard.contents);
+          number = inside.shard.number;
+          amount = inside.shard.amount;
+        }
+
+        removed-len : length (pairs (state t)) ≡ length (pairs (state new)) + 1
+        removed-len = length-taken-clear (pairs_of t.nodes.items) i found.pair found.is ∙ ap (λ xs. length (taken xs) + 1) (sym places)
+
+        pub removed : Removed t new k (Some found.pair)
+        removed = record {
+          inside = record {
+            shard = removed-shard;
+            table = table;
+            hashed = subst (λ xs. IsHashed (λ j. hash_of b h s (input j)) xs (hashes_of new.nodes.items)) (sym places)
+                (subst (λ hs. IsHashed (λ j. hash_of b h s (input j)) (set (pairs_of t.nodes.items) i None) hs) (sym hashes)
+                (hashed-clear (λ j. hash_of b h s (input j)) _ _ i spot inside.hashed));
+            counted = omega (arith, len, inside.counted, removed-len);
+          };
+          takes = record {
+            replies = ap Pair (sym (at-found i found));
+            becomes = λ j. ap (λ xs. at w (taken xs) j) places
+                ∙ at-written w laws (pairs_of t.nodes.items) k i None spot (equal-found i found) equal-none (others-found i found) j;
+            stays = record { number = refl; amount = refl; hasher = refl };
+            lawful = removed-shard;
+          };
+          len = removed-len;
+          stays = λ j p e. ap (λ xs. place xs j) places
+              ∙ stays-written w laws (pairs_of t.nodes.items) k i None (λ _. None) spot (equal-found i found) (others-found i found) (λ _ _. refl) j p e;
+        }
+
+        pub removed-takes : TakesExactly eq b h input z (state new) (Remove k) (Pair (Some found.pair))
+        removed-takes = subst (λ x. TakesExactly eq b h input x (state new) (Remove k) (Pair (Some found.pair))) view removed.takes
+
+        pub removed-shown : length (pairs z) ≡ length (pairs (state new)) + 1
+        removed-shown = subst (λ x. length (pairs x) ≡ length (pairs (state new)) + 1) view removed-len
+
+        pub removed-stays : StaysInPlace eq b h input z (state new) (Remove k)
+        removed-stays = subst (λ x. StaysInPlace eq b h input x (state new) (Remove k)) view removed.stays
+
+    -- a pair that stands somewhere is counted
+    pub some-found : (i : ℕ) → Holds eq t.nodes.items k i → 0 < t.len
+    some-found i found = omega (arith, inside.counted, length-taken-clear (pairs_of t.nodes.items) i found.pair found.is)
+
+    -- nothing goes where no key is equal
+    module _ (hash : ℕ) (is : hash ≡ hash_of b h s (input k)) (absent : IsAbsent eq t.nodes.items hash k) where
+      pub unmoved-takes : TakesExactly eq b h input (state t) (state t) (Remove k) (Pair None)
+      unmoved-takes = record {
+        replies = ap Pair (sym (at-missing hash is absent));
+        becomes = λ j. gone j (cases_Bool (eq k j));
+        stays = record { number = refl; amount = refl; hasher = refl };
+        lawful = inside.shard;
+      }
+        where
+          gone : (j : K) → (eq k j ≡ true) ⊎ (eq k j ≡ false) → at w (pairs (state t)) j ≡ after w (Remove k) j (at w (pairs (state t)) j)
+          gone j (inl same) = rw same (sym (at-equal w laws (pairs (state t)) k j same) ∙ at-missing hash is absent)
+          gone j (inr other) = rw other refl
+
+      pub unmoved-stays : StaysInPlace eq b h input (state t) (state t) (Remove k)
+      unmoved-stays i p e = e ∙ sym (rw (laws.symm k p.0 ∙ missing hash is absent i p e) refl)
 
   -- a table with no pairs
   module _ (t : Table K V) (table : IsTable t) (empty : taken (pairs_of t.nodes.items) ≡ []) (len : t.len ≡ 0) where
@@ -284,6 +384,7 @@ module _ {K V S H : Type 0} (eq : K → K → Bool) (b : builder.Ghosts S H) (h 
         lawful = i.takes.lawful;
       };
       len = i.len ∙ ap (λ ps. length ps + cond (is_some o) 0 1) grown-pairs;
+      stays = λ j p e. i.stays j p (ap (λ xs. place xs j) grown.pairs ∙ place-empties (pairs_of t.nodes.items) grown.more j ∙ e);
     }
 
     -- a new pair, in the room that was made

@@ -1,12 +1,12 @@
--- A shard behind a lock: what its lock is made for, and what an insert through a hold promises.
-use Rattle.std.specs.Prelude.{◌≡◌, ◌+◌, ◌<◌, Bool, Option, None, Result, IfOk, IfErr, OnErr, is_some, if◌then◌else◌}
+-- A shard behind a lock: what its lock is made for, and what an insert or a removal through a hold promises.
+use Rattle.std.specs.Prelude.{◌≡◌, ◌+◌, ◌<◌, Bool, Option, None, Result, IfOk, OnOk, IfErr, OnErr, is_some, if◌then◌else◌}
 use Rattle.std.specs.Hash.{HashWrites}
 use Rattle.std.specs.declared.hash.Hasher as hasher
 use Rattle.std.specs.declared.hash.BuildHasher as builder
 use Rattle.dash_shard.specs.Hashing.{HashAlike}
 use Rattle.dash_shard.specs.Contents.{at}
-use Rattle.dash_shard.specs.Steps.{Insert, Old}
-use Rattle.dash_shard.specs.Shard.{ShardState, pairs, shard_len, keys_of, IsShard, TakesExactly}
+use Rattle.dash_shard.specs.Steps.{Insert, Remove, Old, Pair}
+use Rattle.dash_shard.specs.Shard.{ShardState, pairs, shard_len, keys_of, IsShard, TakesExactly, StaysInPlace}
 use Rattle.dash_shard.specs.declared.shard.InsertRefused.{InsertRefused}
 use Rattle.dash_shard.specs.declared.shard.held.ShardTag.{ShardTag}
 
@@ -24,6 +24,14 @@ module _ {K V S H : Type 0} (eq : K → K → Bool) (b : builder.Ghosts S H) (h 
     pub taken : IfOk result (λ o. TakesExactly eq b h input old new (Insert key value) (Old o))
     pub len : IfOk result (λ o. shard_len new ≡ shard_len old + (if is_some o then 0 else 1))
     pub room : shard_len old < old.capacity → new.capacity ≡ old.capacity
+    pub places : OnOk result (new.capacity ≡ old.capacity → StaysInPlace eq b h input old new (Insert key value))
     pub refused : IfErr result (λ e. (e.key ≡ key) × (e.value ≡ value) × (new ≡ old))
     pub absent : OnErr result (at (keys_of eq b h input old) (pairs old) key ≡ None)
     pub full : OnErr result (shard_len old ≡ old.capacity)
+
+  -- all that a removal promises
+  pub record Removes (old new : ShardState K V S) (key : K) (result : Option (K × V)) : Type 0 where
+    pub taken : TakesExactly eq b h input old new (Remove key) (Pair result)
+    pub len : shard_len old ≡ shard_len new + (if is_some result then 1 else 0)
+    pub room : new.capacity ≡ old.capacity
+    pub places : StaysInPlace eq b h input old new (Remove key)

@@ -6,7 +6,7 @@ use Rattle.std.specs.declared.hash.Hasher as hasher
 use Rattle.std.specs.declared.hash.BuildHasher as builder
 use Rattle.dash_shard.specs.Hashing.{IsAmount, route_by}
 use Rattle.dash_shard.specs.Contents.{Keys, keys, IsOnShard}
-use Rattle.dash_shard.specs.Steps.{Step, Reply, Replies, Becomes}
+use Rattle.dash_shard.specs.Steps.{Step, Reply, Replies, Becomes, after}
 
 pub record ShardState (K V S : Type 0) : Type 0 where
   pub places : List (Option (K × V))
@@ -74,3 +74,7 @@ module _ {K V S : Type 0} where
       pub becomes : Becomes (keys_of old) step (pairs old) (pairs new)
       pub stays : SameShard old new
       pub lawful : IsShard new
+
+    -- each pair stays in its place, where the place has afterwards what the table makes of the pair
+    abbrev pub StaysInPlace : ShardState K V S → ShardState K V S → Step K V → Type 0
+    StaysInPlace old new step = (i : ℕ) (p : K × V) → place old.places i ≡ Some p → place new.places i ≡ after (keys_of old) step p.0 (Some p)

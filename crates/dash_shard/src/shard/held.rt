@@ -1,11 +1,11 @@
 //! A shard that is held for writing, changed in place behind its lock.
-ghost use Rattle.std.specs.Prelude.{◌≡◌, ℕ, ◌<◌, ◌≤◌, ◌+◌, ◌↔◌, IsTrue, IfOk, IfErr, OnErr, IsSome, IfSome, IsNone, is_some, Some, None, if◌then◌else◌};
+ghost use Rattle.std.specs.Prelude.{◌≡◌, ℕ, ◌<◌, ◌≤◌, ◌+◌, ◌↔◌, IsTrue, IfOk, OnOk, IfErr, OnErr, IsSome, IfSome, IsNone, is_some, Some, None, if◌then◌else◌};
 ghost use Rattle.std.specs.Option.{option_map};
 ghost use Rattle.std.specs.Map.Iter.{deref_pair};
 ghost use Rattle.dash_shard.specs.Contents.{at};
-ghost use Rattle.dash_shard.specs.Steps.{Get, Insert, Pair, Old, Replies};
-ghost use Rattle.dash_shard.specs.Shard.{place, pairs, shard_len, HasKey, keys_of, Routes, IsShard, TakesExactly};
-ghost use Rattle.dash_shard.specs.Held.{FitsPlace, Inserts};
+ghost use Rattle.dash_shard.specs.Steps.{Get, Insert, Remove, Pair, Old, Replies};
+ghost use Rattle.dash_shard.specs.Shard.{place, pairs, shard_len, HasKey, keys_of, Routes, IsShard, TakesExactly, StaysInPlace};
+ghost use Rattle.dash_shard.specs.Held.{FitsPlace, Inserts, Removes};
 
 use crate::lock::{RwLockWriteGuard, Tagged};
 use crate::shard::{InsertRefused, Shard};
@@ -120,6 +120,7 @@ impl<K: Eq + Hash, V, S: BuildHasher> ShardMut<'_, K, V, S> {
         ensures taken { IfOk result (λ old. TakesExactly K.eq S.BuildHasher S.Hasher.Hasher K.hash_input self.old self.new (Insert key value) (Old old)) }
         ensures len { IfOk result (λ old. shard_len self.new ≡ shard_len self.old + (if is_some old then 0 else 1)) }
         ensures room { shard_len self.old < self.old.capacity → self.new.capacity ≡ self.old.capacity }
+        ensures places { OnOk result (self.new.capacity ≡ self.old.capacity → StaysInPlace K.eq S.BuildHasher S.Hasher.Hasher K.hash_input self.old self.new (Insert key value)) }
 
         // A refusal hands the pair back, and comes only for a new key in a full shard.
         ensures refused { IfErr result (λ e. (e.key ≡ key) × (e.value ≡ value) × (self.new ≡ self.old)) }
@@ -131,6 +132,25 @@ impl<K: Eq + Hash, V, S: BuildHasher> ShardMut<'_, K, V, S> {
                 requires { Routes K.eq S.BuildHasher S.Hasher.Hasher K.hash_input shard.old key }
                 ensures { Inserts K.eq S.BuildHasher S.Hasher.Hasher K.hash_input shard.old shard.new key value result }
             { shard.insert(key, value) },
+        )
+    }
+
+    /// Takes the pair whose key equals `key` out, and answers it. It takes no memory, and can't be refused.
+    ///
+    /// The room stays, for pairs that come later.
+    #[inline]
+    pub fn remove(&mut self, key: &K) -> Option<(K, V)>
+        requires { Routes K.eq S.BuildHasher S.Hasher.Hasher K.hash_input self.old key.now }
+        ensures taken { TakesExactly K.eq S.BuildHasher S.Hasher.Hasher K.hash_input self.old self.new (Remove key.now) (Pair result) }
+        ensures len { shard_len self.old ≡ shard_len self.new + (if is_some result then 1 else 0) }
+        ensures room { self.new.capacity ≡ self.old.capacity }
+        ensures places { StaysInPlace K.eq S.BuildHasher S.Hasher.Hasher K.hash_input self.old self.new (Remove key.now) }
+    {
+        self.guard.change(
+            |shard: &mut Shard<K, V, S>| -> Option<(K, V)>
+                requires { Routes K.eq S.BuildHasher S.Hasher.Hasher K.hash_input shard.old key.now }
+                ensures { Removes K.eq S.BuildHasher S.Hasher.Hasher K.hash_input shard.old shard.new key.entry.now result }
+            { shard.remove(key) },
         )
     }
 

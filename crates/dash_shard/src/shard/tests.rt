@@ -1,6 +1,7 @@
 //! One shard's calls, as worked by hand.
 use super::*;
 use crate::hash::{PlaceState, is_shard_amount};
+use std::hash::Hasher;
 use std::test::Fail;
 
 #[test]
@@ -80,5 +81,78 @@ fn the_stored_key_stays(rt: HostRuntime) -> Result<(), Fail> {
     assert_eq!(rt; key.note, 1);
     assert_eq!(rt; *value, 200);
     assert_eq!(rt; shard.len(), 1);
+    Ok(())
+}
+
+// A hasher that gives everything the hash 0.
+#[derive(Drop)]
+struct OneState;
+
+#[derive(Drop)]
+struct OneHasher;
+
+impl Hasher for OneHasher {
+    ghost write = { λ s _. s };
+
+    ghost finish = { λ _. 0 };
+
+    fn finish(&self) -> u64 {
+        0
+    }
+
+    fn write(&mut self, _bytes: &[u8]) {}
+}
+
+impl BuildHasher for OneState {
+    type Hasher = OneHasher;
+
+    ghost build_hasher = { λ _. record {} };
+
+    fn build_hasher(&self) -> OneHasher {
+        OneHasher
+    }
+}
+
+#[test]
+fn one_chain_loses_every_second_pair(rt: HostRuntime) -> Result<(), Fail> {
+    assert!(rt; is_shard_amount(4));
+    let mut shard = Shard::<u64, u64, OneState>::new(rt.alloc(), OneState, 0, 4, 0)?;
+    for key in 0..200u64 {
+        assert!(rt; shard.routes(&key), "{key}");
+        assert_eq!(rt; shard.insert(key, 10 * key)?, None, "{key}");
+    }
+    for i in 0..100u64 {
+        let key = 2 * i;
+        assert!(rt; shard.routes(&key), "{key}");
+        assert_eq!(rt; shard.remove(&key), Some((key, 10 * key)), "{key}");
+    }
+    assert_eq!(rt; shard.len(), 100);
+    for i in 0..100u64 {
+        assert_eq!(rt; shard.get(&(2 * i)), None);
+        let key = 2 * i + 1;
+        assert_eq!(rt; shard.get(&key), Some((&key, &(10 * key))), "{key}");
+    }
+    Ok(())
+}
+
+#[test]
+fn a_place_is_taken_again(rt: HostRuntime) -> Result<(), Fail> {
+    assert!(rt; is_shard_amount(4));
+    let mut shard = Shard::<u64, u64, PlaceState>::new(rt.alloc(), PlaceState, 1, 4, 4)?;
+    let room = shard.capacity();
+    for i in 0..1000u64 {
+        let key = 4 * i + 1;
+        assert!(rt; shard.routes(&key), "{key}");
+        assert_eq!(rt; shard.insert(key, i)?, None, "{key}");
+        if i < 3 {
+            continue;
+        }
+        let old = 4 * (i - 3) + 1;
+        assert!(rt; shard.routes(&old), "{old}");
+        assert_eq!(rt; shard.remove(&old), Some((old, i - 3)), "{old}");
+        assert_eq!(rt; shard.remove(&old), None, "{old}");
+    }
+    assert_eq!(rt; shard.len(), 3);
+    assert_eq!(rt; shard.capacity(), room);
     Ok(())
 }

@@ -24,6 +24,10 @@ fn a_held_shard_is_changed_in_place(rt: HostRuntime) -> Result<(), Fail> {
         return Err(Fail::from("no place"));
     };
     assert_eq!(rt; held.at(position), (&1, &11));
+    assert!(rt; held.routes(&5));
+    assert_eq!(rt; held.insert(5, 50)?, None);
+    assert!(rt; held.routes(&5));
+    assert_eq!(rt; held.remove(&5), Some((5, 50)));
     assert_eq!(rt; held.len(), 1);
     assert!(rt; lock.try_read().is_none(), "a writer has the shard");
     drop(held);

@@ -3,7 +3,7 @@ use Rattle.std.specs.Option.{option_map}
 use Rattle.dash_shard.specs.Hashing.{hash_of}
 use Rattle.dash_shard.specs.Contents.{at}
 use Rattle.dash_shard.specs.Shard.{ShardState, pairs, keys_of}
-use Rattle.dash_shard.proofs.Shards.{at-missing, replaced, pushed, shown-takes, shown-len, grown-inside}
+use Rattle.dash_shard.proofs.Shards.{at-missing, replaced, pushed, shown-takes, shown-len, shown-stays, grown-inside}
 use Rattle.dash_shard.proofs.shard.Shard.insert.Goals as goal
 
 pub invariant_of-self : goal.invariant_of-self
@@ -61,3 +61,18 @@ returns-clause-len g c =
     let i = pushed _ _ _ _ g.met.K.Eq.laws g.met.K.Hash.respects_eq _ _ _ c.self.inside.table c.make_room.new.self c.self.invariant m.grown m.len m.table
     c.args.key _ c.self.view_is c.requires c.args.value c.push.new.self c.hash_one-hash.result m.ok c.hash_one-hash.ensures c.in_default.ensures.absent p.pairs p.hashes p.len p.table in
     shown-len _ _ _ _ g.met.K.Eq.laws g.met.K.Hash.respects_eq _ _ _ _ _ _ _ _ _ c.self.view_is i
+
+pub returns-in-Some-clause-places : goal.returns-in-Some-clause-places
+returns-in-Some-clause-places g c =
+    let r = c.replace.ensures in
+    let i = replaced _ _ _ _ g.met.K.Eq.laws g.met.K.Hash.respects_eq _ _ _ c.self.inside.table c.self.invariant _ _ c.self.view_is c.requires c.args.value c.replace.new.self _ c.in-Some.ensures.found r.pairs r.hashes r.len r.table in
+    λ _. shown-stays _ _ _ _ g.met.K.Eq.laws g.met.K.Hash.respects_eq _ _ _ _ _ _ _ _ _ c.self.view_is i
+
+pub returns-clause-places : goal.returns-clause-places
+unfolding hash_of
+returns-clause-places g c =
+    let m = c.in-Ok.ensures in
+    let p = c.push.ensures in
+    let i = pushed _ _ _ _ g.met.K.Eq.laws g.met.K.Hash.respects_eq _ _ _ c.self.inside.table c.make_room.new.self c.self.invariant m.grown m.len m.table
+    c.args.key _ c.self.view_is c.requires c.args.value c.push.new.self c.hash_one-hash.result m.ok c.hash_one-hash.ensures c.in_default.ensures.absent p.pairs p.hashes p.len p.table in
+    λ _. shown-stays _ _ _ _ g.met.K.Eq.laws g.met.K.Hash.respects_eq _ _ _ _ _ _ _ _ _ c.self.view_is i
