@@ -269,19 +269,19 @@ module _ {K V : Type 0} where
       let longer : length new ≡ length mid = ap length e ∙ length-set mid i n in
       let long : length new ≡ length old = longer ∙ same_length old mid k in
       let now : node new i ≡ n = ap (λ l. node l i) e ∙ get_or-set_same mid i n blank inside in
-      let else_ : (j : ℕ) → j ≢ i → node new j ≡ node mid j = λ j other. ap (λ l. node l j) e ∙ get_or-set_other mid i j n blank other in
+      let elsewhere : (j : ℕ) → j ≢ i → node new j ≡ node mid j = λ j other. ap (λ l. node l j) e ∙ get_or-set_other mid i j n blank other in
       chained_long new (length mid) longer (chained_same (length mid)
       (λ a j x. elim x as (λ _. InBucket new a j) [
         | inl y ↦
             let other : j ≢ i = λ z. true≢false (sym (subst (λ m. IsSome (node old m).pair) z y.taken) ∙ free) in
-            moved old new a j long (ap (λ x. x.hash) (else_ j other) ∙ same_hash old mid j k) (ap (λ x. is_some x.pair) (else_ j other) ∙ ap is_some (same_pair old mid j k)) y
+            moved old new a j long (ap (λ x. x.hash) (elsewhere j other) ∙ same_hash old mid j k) (ap (λ x. is_some x.pair) (elsewhere j other) ∙ ap is_some (same_pair old mid j k)) y
         | inr y ↦
             subst (λ m. InBucket new a m) (sym y.0)
             (record { taken = ap (λ x. is_some x.pair) now; bucket = ap (λ m. bucket_of m (node new i).hash) long ∙ ap (λ x. bucket_of (length old) x.hash) now ∙ sym is ∙ sym y.1 })
       ])
       (λ a j x. elim (cases_eq j i) as (λ _. With old i b a j) [
         | inl same ↦ inr (same, sym (subst (λ m. InBucket new a m) same x).bucket ∙ ap (λ m. bucket_of m (node new i).hash) long ∙ ap (λ x. bucket_of (length old) x.hash) now ∙ sym is)
-        | inr other ↦ inl (moved new old a j (sym long) (sym (ap (λ x. x.hash) (else_ j other) ∙ same_hash old mid j k)) (sym (ap (λ x. is_some x.pair) (else_ j other) ∙ ap is_some (same_pair old mid j k))) x)
+        | inr other ↦ inl (moved new old a j (sym long) (sym (ap (λ x. x.hash) (elsewhere j other) ∙ same_hash old mid j k)) (sym (ap (λ x. is_some x.pair) (elsewhere j other) ∙ ap is_some (same_pair old mid j k))) x)
       ])
       (λ a. ap (λ l. (node l a).head) e ∙ part_kept (λ x. x.head) mid i a n inside refl)
       (λ a j _. ap (λ l. (node l j).next) e ∙ part_kept (λ x. x.next) mid i j n inside refl)
@@ -295,14 +295,14 @@ module _ {K V : Type 0} where
       let longer : length new ≡ length mid = ap length e ∙ length-set mid i n in
       let long : length new ≡ length old = longer ∙ same_length old mid k in
       let now : node new i ≡ n = ap (λ l. node l i) e ∙ get_or-set_same mid i n blank inside in
-      let else_ : (j : ℕ) → j ≢ i → node new j ≡ node mid j = λ j other. ap (λ l. node l j) e ∙ get_or-set_other mid i j n blank other in
+      let elsewhere : (j : ℕ) → j ≢ i → node new j ≡ node mid j = λ j other. ap (λ l. node l j) e ∙ get_or-set_other mid i j n blank other in
       chained_long new (length mid) longer (chained_same (length mid)
-      (λ a j x. moved old new a j long (ap (λ x. x.hash) (else_ j x.1) ∙ same_hash old mid j k) (ap (λ x. is_some x.pair) (else_ j x.1) ∙ ap is_some (same_pair old mid j k)) x.0)
+      (λ a j x. moved old new a j long (ap (λ x. x.hash) (elsewhere j x.1) ∙ same_hash old mid j k) (ap (λ x. is_some x.pair) (elsewhere j x.1) ∙ ap is_some (same_pair old mid j k)) x.0)
       (λ a j x.
       let other : j ≢ i = λ z. true≢false (sym (subst (λ m. IsSome (node new m).pair) z x.taken) ∙ ap (λ x. is_some x.pair) now ∙ none) in
-      (moved new old a j (sym long) (sym (ap (λ x. x.hash) (else_ j other) ∙ same_hash old mid j k)) (sym (ap (λ x. is_some x.pair) (else_ j other) ∙ ap is_some (same_pair old mid j k))) x, other))
+      (moved new old a j (sym long) (sym (ap (λ x. x.hash) (elsewhere j other) ∙ same_hash old mid j k)) (sym (ap (λ x. is_some x.pair) (elsewhere j other) ∙ ap is_some (same_pair old mid j k))) x, other))
       (λ a. ap (λ l. (node l a).head) e ∙ part_kept (λ x. x.head) mid i a n inside head)
-      (λ a j x. ap (λ x. x.next) (else_ j x.1))
+      (λ a j x. ap (λ x. x.next) (elsewhere j x.1))
       h)
 
   -- another value under the stored key of a taken place

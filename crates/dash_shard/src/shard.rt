@@ -169,7 +169,7 @@ impl<K: Eq + Hash, V, S: BuildHasher> Shard<K, V, S> {
     }
 
     /// The place of the pair whose key equals `key`, for `at`. It is good while the shard isn't changed.
-    #[inline]
+    #[inline(always)]
     pub fn position_of(&self, key: &K) -> Option<usize>
         ensures position { (i : ℕ) → (result ≡ Some i) ↔ HasKey K.eq self.now key.now i }
         ensures pair { IfSome result (λ i. place self.now.places i ≡ at (keys_of K.eq S.BuildHasher S.Hasher.Hasher K.hash_input self.now) (pairs self.now) key.now) }
@@ -180,7 +180,7 @@ impl<K: Eq + Hash, V, S: BuildHasher> Shard<K, V, S> {
     }
 
     /// The pair of a taken place, without a look at any other.
-    #[inline]
+    #[inline(always)]
     pub fn at(&self, position: usize) -> (&K, &V)
         requires { IsSome (place self.now.places position) }
         ensures pair { place self.now.places position ≡ Some (deref_pair result) }
