@@ -1,0 +1,4 @@
+//! References into the shards of a sharded hash map: each is a hold of a shard's lock and a position in the shard that is held.
+#![tactic(auto)]
+
+pub mod mapref;

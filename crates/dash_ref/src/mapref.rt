@@ -1,0 +1,2 @@
+//! References to the pairs of a map.
+pub mod one;

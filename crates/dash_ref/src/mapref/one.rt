@@ -1,0 +1,146 @@
+//! A reference to one pair.
+ghost use Rattle.std.specs.Prelude.{◌≡◌, ◌↔◌, IsTrue, IsSome, IfSome, IsNone, None};
+ghost use Rattle.std.specs.Option.{option_map};
+ghost use Rattle.std.specs.Map.Iter.{deref_pair};
+ghost use Rattle.dash_shard.specs.Contents.{at};
+ghost use Rattle.dash_shard.specs.Steps.{Get, Pair, Replies};
+ghost use Rattle.dash_shard.specs.Shard.{place, pairs, keys_of, IsShard};
+ghost use Rattle.dash_ref.specs.Ref.{Stands, pair_of};
+
+use dash_shard::lock::RwLockReadGuard;
+use dash_shard::shard::Shard;
+use std::fmt;
+use std::hash::{BuildHasher, Hash};
+use std::marker::Model;
+use std::ops::Deref;
+use std::snapshot::Snapshot;
+
+/// A pair of a map, and a hold of its shard's lock for reading, as the original's `Ref`: the hold ends when this is dropped, and till
+/// then the pair stays as it is.
+///
+/// The original points to key and value. This has the pair's position in the held shard, and reads the pair there without a look-up; the
+/// snapshots have no bytes. No call takes memory or waits, nor does the drop. Meanwhile others may read the shard, and whoever wants to
+/// write it waits: a thread that has this and waits to write a key of the same shard waits for itself. A contract sees it as the held
+/// shard, the position, and the key and value there.
+pub struct Ref<'a, K: Eq + Hash, V, S: BuildHasher> {
+    guard: RwLockReadGuard<'a, Shard<K, V, S>>,
+    position: usize,
+    key: Snapshot<K>,
+    value: Snapshot<V>,
+}
+
+impl<'a, K: Eq + Hash, V, S: BuildHasher> Model for Ref<'a, K, V, S> {
+    ghost use Rattle.std.specs.Prelude.{◌≡◌, Some};
+    ghost use Rattle.dash_shard.specs.Shard.{place};
+    ghost use Rattle.dash_ref.specs.Ref.{RefState, ref_code};
+
+    ghost Value = { RefState K V S };
+
+    ghost coded = { ref_code K.code V.code S.code };
+
+    ghost view = { λ s. record { shard = s.guard.value; position = s.position; key = s.key.value; value = s.value.value } };
+
+    ghost invariant = { λ s. place s.guard.value.places s.position ≡ Some (s.key.value, s.value.value) };
+}
+
+impl<K: Eq + Hash, V, S: BuildHasher> Drop for Ref<'_, K, V, S> {
+    #[inline]
+    fn drop(self) {
+        let Self {
+            guard,
+            position: _,
+            key: _,
+            value: _,
+        } = self;
+        drop(guard);
+    }
+}
+
+impl<'a, K: Eq + Hash, V, S: BuildHasher> Ref<'a, K, V, S> {
+    /// The pair at a taken place of the shard that the guard holds.
+    #[inline]
+    pub fn new(guard: RwLockReadGuard<'a, Shard<K, V, S>>, position: usize) -> Ref<'a, K, V, S>
+        requires { IsSome (place guard.value.places position) }
+        ensures shard { result.shard ≡ guard.entry.value }
+        ensures position { result.position ≡ position }
+        ensures stands { Stands result }
+    {
+        let (key, value) = guard.at(position);
+        let key = Snapshot::of(key);
+        let value = Snapshot::of(value);
+        Ref {
+            guard,
+            position,
+            key,
+            value,
+        }
+    }
+
+    /// The pair whose key equals `key`, in the shard that the guard holds. Where there is none, the hold ends.
+    #[inline]
+    pub fn find(guard: RwLockReadGuard<'a, Shard<K, V, S>>, key: &K) -> Option<Ref<'a, K, V, S>>
+        ensures pair { Replies (keys_of K.eq S.BuildHasher S.Hasher.Hasher K.hash_input guard.entry.value) (Get key.now) (pairs guard.entry.value) (Pair (option_map pair_of result)) }
+        ensures absent { IsNone result ↔ (at (keys_of K.eq S.BuildHasher S.Hasher.Hasher K.hash_input guard.entry.value) (pairs guard.entry.value) key.now ≡ None) }
+        ensures equal { IfSome result (λ found. IsTrue (K.eq found.key key.now)) }
+        ensures shard { IfSome result (λ found. found.shard ≡ guard.entry.value) }
+        ensures stands { IfSome result Stands }
+    {
+        let position = guard.position_of(key)?;
+        Some(Ref::new(guard, position))
+    }
+
+    /// The key that is stored.
+    #[inline]
+    pub fn key(&self) -> &K
+        ensures key { result.now ≡ self.now.key }
+        ensures stands { Stands self.now }
+        ensures lawful { IsShard K.eq S.BuildHasher S.Hasher.Hasher K.hash_input self.now.shard }
+    {
+        self.pair().0
+    }
+
+    /// The value.
+    #[inline]
+    pub fn value(&self) -> &V
+        ensures value { result.now ≡ self.now.value }
+        ensures stands { Stands self.now }
+        ensures lawful { IsShard K.eq S.BuildHasher S.Hasher.Hasher K.hash_input self.now.shard }
+    {
+        self.pair().1
+    }
+
+    /// Key and value, of one read of the place.
+    #[inline]
+    pub fn pair(&self) -> (&K, &V)
+        ensures pair { deref_pair result ≡ pair_of self.now }
+        ensures stands { Stands self.now }
+        ensures lawful { IsShard K.eq S.BuildHasher S.Hasher.Hasher K.hash_input self.now.shard }
+    {
+        self.guard.at(self.position)
+    }
+}
+
+impl<K: Eq + Hash, V, S: BuildHasher> Deref for Ref<'_, K, V, S> {
+    type Target = V;
+
+    ghost deref_gives = { λ found value. value ≡ found.value };
+
+    #[inline]
+    fn deref(&self) -> &V {
+        self.value()
+    }
+}
+
+/// `Ref { k: 1, v: 2 }`: the names are the original's, which prints pointers there.
+impl<K: Eq + Hash + fmt::Debug, V: fmt::Debug, S: BuildHasher> fmt::Debug for Ref<'_, K, V, S> {
+    fn fmt<W: fmt::Write>(&self, f: &mut fmt::Formatter<W>) -> fmt::Result {
+        let (key, value) = self.pair();
+        f.debug_struct("Ref")
+            .field("k", key)
+            .field("v", value)
+            .finish()
+    }
+}
+
+#[cfg(test)]
+mod tests;
