@@ -76,7 +76,7 @@ impl<'a, K: Eq + Hash, V, S: BuildHasher> Ref<'a, K, V, S> {
         }
     }
 
-    /// The pair whose key equals `key`, in the shard that the guard holds. Where there is none, the hold ends.
+    /// The pair whose key equals `key`, in the shard that the guard holds. It hashes once. Where there is no such pair, the hold ends.
     #[inline]
     pub fn find(guard: RwLockReadGuard<'a, Shard<K, V, S>>, key: &K) -> Option<Ref<'a, K, V, S>>
         ensures pair { Replies (keys_of K.eq S.BuildHasher S.Hasher.Hasher K.hash_input guard.entry.value) (Get key.now) (pairs guard.entry.value) (Pair (option_map pair_of result)) }
