@@ -7,4 +7,3 @@ mod Logging
 mod Maps
 mod Plains
 mod Recording
-mod Rows

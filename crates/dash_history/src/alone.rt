@@ -1,5 +1,5 @@
 //! A recorded map of one owner, without locks.
-ghost use Rattle.std.specs.Prelude.{◌≡◌, ◌+◌, ◌-◌, ◌<◌, ◌≤◌, ◌^◌, ◌↔◌, ℕ, max, IsTrue, IsErrOf, IsSomeAnd, IfOk, IfErr, OnOk, length, slice_get};
+ghost use Rattle.std.specs.Prelude.{◌≡◌, ◌+◌, ◌-◌, ◌<◌, ◌≤◌, ◌^◌, ◌↔◌, ◌⊎◌, ℕ, max, IsTrue, IsErrOf, IsSomeAnd, IfOk, IfErr, OnOk, length, slice_get};
 ghost use Rattle.dash_shard.specs.Hashing.{IsAmount, HashAlike};
 ghost use Rattle.dash_history.specs.History.{last_or, place_of};
 ghost use Rattle.dash_history.specs.Alone.{IsCallers, IsFresh, IsAlone, IsPlaced, Applied, fresh_logs, last_at, rules_in};
@@ -89,9 +89,10 @@ impl<K: KeptKey + Drop, V: Kept + Drop, S: BuildHasher> RecAlone<K, V, S> {
         ensures logs { IfOk result (λ m. m.1.items ≡ fresh_logs callers) }
         ensures lawful { IfOk result (λ m. IsAlone S.BuildHasher S.Hasher.Hasher m.0) }
 
-        // In the order of the refusals' numbers; else there was no memory.
+        // In the order of the refusals' numbers.
         ensures bad_amount { IsErrOf result ConstructError.ShardAmount ↔ (IsAmount amount → ⊥) }
         ensures bad_callers { IsErrOf result ConstructError.Callers ↔ (IsAmount amount × (IsCallers callers → ⊥)) }
+        ensures kinds { IfErr result (λ e. (e ≡ ConstructError.ShardAmount) ⊎ (e ≡ ConstructError.Callers) ⊎ (e ≡ ConstructError.Memory)) }
     {
         if !is_shard_amount(amount) {
             return Err(ConstructError::ShardAmount);

@@ -1,6 +1,6 @@
--- What stands in a row that was moved.
-use Rattle.std.proofs.Common.{◌≡◌, ℕ, zero, suc, ◌+◌, List, [], ◌∷◌, length, Some, slice_get, refl, ap, subst, arith}
-use Rattle.std.proofs.lemmas.Option.{same_Some}
+-- What stands in a row that was moved, or that grew by one.
+use Rattle.std.proofs.Common.{◌≡◌, ℕ, zero, suc, ◌+◌, List, [], ◌∷◌, ◌++◌, length, Some, slice_get, refl, ap, subst, arith}
+use Rattle.std.proofs.lemmas.Option.{none-some, same_Some}
 use Rattle.dash_shard.specs.Rows.{Moved}
 
 module _ {A B : Type 0} (R : ℕ → A → B → Type 0) where
@@ -24,3 +24,12 @@ module _ {A B : Type 0} (R : ℕ → A → B → Type 0) where
   moved-from xs ys m j y e =
       let r = moved-at 0 xs ys m j y e in
       (r.0, r.1, subst (λ n. R n r.0 y) (omega arith) r.2)
+
+module _ {A : Type 0} where
+  -- what holds of each place holds with one more behind
+  pub each-more : (P : ℕ → A → Type 0) (xs : List A) (x : A) → ((i : ℕ) (y : A) → slice_get xs i ≡ Some y → P i y) → P (length xs) x
+      → (i : ℕ) (y : A) → slice_get (xs ++ x ∷ []) i ≡ Some y → P i y
+  each-more P [] x each here zero y e = subst (P zero) (same_Some x y e) here
+  each-more P [] x each here (suc i) y e = absurd (none-some y e)
+  each-more P (z ∷ xs) x each here zero y e = each zero y e
+  each-more P (z ∷ xs) x each here (suc i) y e = each-more (λ n. P (suc n)) xs x (λ j. each (suc j)) here i y e

@@ -7,6 +7,12 @@ pub enum ConstructError {
     /// The amount of shards is no power of two above 1.
     #[error("shard amount (5)")]
     ShardAmount,
+    /// The parallelism is 0 or above 2^61.
+    #[error("parallelism (6)")]
+    Parallelism,
+    /// The capacity, rounded up to a multiple of the amount, has more than 64 bits.
+    #[error("capacity overflow (7)")]
+    CapacityOverflow,
     /// There is no memory.
     #[error("no memory (8)")]
     Memory,
@@ -24,6 +30,8 @@ mod tests {
     fn texts(rt: HostRuntime) -> Result<(), Fail> {
         for (error, text) in [
             (ConstructError::ShardAmount, "shard amount (5)"),
+            (ConstructError::Parallelism, "parallelism (6)"),
+            (ConstructError::CapacityOverflow, "capacity overflow (7)"),
             (ConstructError::Memory, "no memory (8)"),
             (ConstructError::Callers, "callers (17)"),
         ] {

@@ -1,6 +1,6 @@
 -- What a recorded map answers.
-use Rattle.std.proofs.Common.{◌≡◌, ℕ, Ok, Err, refl, ap, ◌∙◌, arith}
-use Rattle.std.specs.Prelude.{◌↔◌, Result, IfOk, IfErr, IsErrAnd, IsErrOf, MatchResult, nat_eq}
+use Rattle.std.proofs.Common.{◌≡◌, ℕ, Ok, Err, refl, ap, subst, ◌∙◌, inl, inr, arith}
+use Rattle.std.specs.Prelude.{◌↔◌, ◌⊎◌, Result, IfOk, IfErr, IsErrAnd, IsErrOf, MatchResult, nat_eq}
 use Rattle.dash_shard.specs.Contents.{keys}
 use Rattle.dash_shard.specs.Hashing.{IsAmount}
 use Rattle.dash_shard.specs.declared.error.ConstructError.{ConstructError}
@@ -20,17 +20,21 @@ replied route n l l' step (Ok reply) s P told logged = rw told (route, n, logged
 replied route n l l' step (Err e) (Ok reply) s told logged = absurd told
 replied route n l l' step (Err e) (Err f) P told logged = tt
 
--- a map of four shards and one caller is refused only for want of memory
-only-memory : (e : ConstructError) → (e ≡ ShardAmount → ⊥) → (e ≡ Callers → ⊥) → e ≡ Memory
-only-memory ShardAmount amount callers = absurd (amount refl)
-only-memory Memory amount callers = refl
-only-memory Callers amount callers = absurd (callers refl)
+-- why a recorded map isn't made
+abbrev Kinds : ConstructError → Type 0
+Kinds e = (e ≡ ShardAmount) ⊎ (e ≡ Callers) ⊎ (e ≡ Memory)
 
+only-memory : (e : ConstructError) → Kinds e → (e ≡ ShardAmount → ⊥) → (e ≡ Callers → ⊥) → e ≡ Memory
+only-memory e (inl s) amount callers = absurd (amount s)
+only-memory e (inr (inl s)) amount callers = absurd (callers s)
+only-memory e (inr (inr s)) amount callers = s
+
+-- a map of four shards and one caller is refused only for want of memory
 pub refused : {T R : Type 0} (e : ConstructError) (made : Result T ConstructError) (r : Result R ConstructError) → made ≡ Err e
-    → (IsErrOf made ShardAmount ↔ (IsAmount 4 → ⊥)) → (IsErrOf made Callers ↔ (IsAmount 4 × (IsCallers 1 → ⊥)))
+    → (IsErrOf made ShardAmount ↔ (IsAmount 4 → ⊥)) → (IsErrOf made Callers ↔ (IsAmount 4 × (IsCallers 1 → ⊥))) → IfErr made Kinds
     → IsErrAnd r (λ f. f ≡ e) → IfErr r (λ f. f ≡ Memory)
-refused e made (Ok x) is amount callers told = tt
-refused e made (Err f) is amount callers told =
+refused e made (Ok x) is amount callers kinds told = tt
+refused e made (Err f) is amount callers kinds told =
     let four : IsAmount 4 = record { power = (2, refl); several = omega arith; fits = omega arith } in
     let one : IsCallers 1 = record { some = omega arith; few = omega arith } in
-    told ∙ only-memory e (λ s. amount.0 (is ∙ ap (λ x. Err x) s) four) (λ s. (callers.0 (is ∙ ap (λ x. Err x) s)).1 one)
+    told ∙ only-memory e (subst (λ m. IfErr m Kinds) is kinds) (λ s. amount.0 (is ∙ ap (λ x. Err x) s) four) (λ s. (callers.0 (is ∙ ap (λ x. Err x) s)).1 one)

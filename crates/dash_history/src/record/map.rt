@@ -1,5 +1,5 @@
 //! A recorded map that threads share, and its two moves: shards out of their locks, and behind them again.
-ghost use Rattle.std.specs.Prelude.{◌≡◌, ◌<◌, ◌↔◌, IsErrOf, IfOk, length};
+ghost use Rattle.std.specs.Prelude.{◌≡◌, ◌<◌, ◌↔◌, ◌⊎◌, IsErrOf, IfOk, IfErr, length};
 ghost use Rattle.crossbeam_utils.specs.Padded.{padded_value};
 ghost use Rattle.dash_shard.specs.Hashing.{IsAmount, HashAlike};
 ghost use Rattle.dash_history.specs.Alone.{IsAlone, IsCallers, IsPlaced, fresh_logs};
@@ -66,9 +66,10 @@ impl<K: KeptKey + Drop, V: Kept + Drop, S: BuildHasher> RecordedMap<K, V, S> {
         ensures made { IfOk result (λ m. m.0 ≡ record { hasher = hasher; callers = callers; amount = amount }) }
         ensures logs { IfOk result (λ m. m.1.items ≡ fresh_logs callers) }
 
-        // In the order of the refusals' numbers; else there was no memory.
+        // In the order of the refusals' numbers.
         ensures bad_amount { IsErrOf result ConstructError.ShardAmount ↔ (IsAmount amount → ⊥) }
         ensures bad_callers { IsErrOf result ConstructError.Callers ↔ (IsAmount amount × (IsCallers callers → ⊥)) }
+        ensures kinds { IfErr result (λ e. (e ≡ ConstructError.ShardAmount) ⊎ (e ≡ ConstructError.Callers) ⊎ (e ≡ ConstructError.Memory)) }
     {
         let (alone, logs) = RecAlone::new(alloc, hasher, amount, callers)?;
         Ok((alone.end(), logs))

@@ -2,7 +2,7 @@ use Rattle.std.proofs.Common.{◌≡◌, ◌∙◌, sym, subst, arith, Some, sli
 use Rattle.dash_shard.specs.Hashing.{HashAlike}
 use Rattle.dash_history.specs.History.{RecState}
 use Rattle.dash_history.specs.Alone.{IsPlaced, IsFresh}
-use Rattle.dash_history.proofs.Rows.{each-more}
+use Rattle.dash_shard.proofs.Rows.{each-more}
 use Rattle.dash_history.proofs.alone.fresh_row.Goals as goal
 
 pub loop-number-preserved : goal.loop-number-preserved

@@ -1,0 +1,46 @@
+-- The shards of a map, in their two homes: behind locks, and in the row of one owner.
+use Rattle.std.proofs.Common.{◌≡◌, ℕ, Bool, List, length, Some, slice_get, sym, subst, ◌∙◌}
+use Rattle.std.specs.Hash.{HashWrites}
+use Rattle.std.specs.declared.hash.Hasher as hasher
+use Rattle.std.specs.declared.hash.BuildHasher as builder
+use Rattle.crossbeam_utils.specs.declared.cache_padded.CachePadded.{CachePadded}
+use Rattle.crossbeam_utils.specs.Padded.{padded_value}
+use Rattle.dash_shard.specs.Hashing.{IsAmount, HashAlike}
+use Rattle.dash_shard.specs.Held.{FitsPlace}
+use Rattle.dash_shard.specs.Rows.{Moved}
+use Rattle.dash_shard.specs.Shard.{ShardState}
+use Rattle.dash_shard.specs.declared.shard.held.ShardTag.{ShardTag}
+use Rattle.dash_shard.proofs.Rows.{moved-length, moved-from}
+use Rattle.dash_map.specs.Alone.{IsPlaced, IsAlone}
+use Rattle.dash_map.specs.Map.{MapState, IsAt, IsMap}
+
+module _ {K V S H : Type 0} (eq : K → K → Bool) (b : builder.Ghosts S H) (h : hasher.Ghosts H) (input : K → HashWrites) where
+  -- what fits a lock that stands in a place, stands in that place
+  pub placed-behind : (m : MapState S) (i : ℕ) (lock : CachePadded (ShardTag S)) (s : ShardState K V S) → IsAt m i lock → FitsPlace eq b h input (padded_value lock) s → IsPlaced eq b h input m.hasher m.amount i s
+  placed-behind m i lock s at p = record {
+    number = p.number ∙ at.number;
+    amount = p.amount ∙ at.amount;
+    hashes = subst (λ x. HashAlike b h x s.hasher) at.hasher p.hashes;
+    shard = p.lawful;
+  }
+
+  pub alone-of_map : (base : S) (locks : List (CachePadded (ShardTag S))) (row : List (ShardState K V S)) → IsMap (record { hasher = base; amount = length locks }) locks
+      → Moved (λ _ lock s. FitsPlace eq b h input (padded_value lock) s) 0 locks row → IsAlone eq b h input (record { hasher = base; row = row })
+  alone-of_map base locks row m moved =
+      let long : length row ≡ length locks = moved-length (λ _ lock s. FitsPlace eq b h input (padded_value lock) s) 0 locks row moved in
+      record {
+        amount = subst IsAmount (sym long) m.amount;
+        placed = λ i s e.
+            let from = moved-from (λ _ lock s. FitsPlace eq b h input (padded_value lock) s) locks row moved i s e in
+            subst (λ n. IsPlaced eq b h input base n i s) (sym long) (placed-behind (record { hasher = base; amount = length locks }) i from.0 s (m.placed i from.0 from.1) from.2);
+      }
+
+  pub map-of_alone : (base : S) (n : ℕ) (row : List (ShardState K V S)) (locks : List (CachePadded (ShardTag S))) → n ≡ length row → IsAlone eq b h input (record { hasher = base; row = row })
+      → Moved (λ i (_ : ShardState K V S) lock. IsAt (record { hasher = base; amount = n }) i lock) 0 row locks → IsMap (record { hasher = base; amount = length locks }) locks
+  map-of_alone base n row locks count a moved =
+      let R : ℕ → ShardState K V S → CachePadded (ShardTag S) → Type 0 = λ i s lock. IsAt (record { hasher = base; amount = n }) i lock in
+      let long : length locks ≡ length row = moved-length R 0 row locks moved in
+      record {
+        amount = subst IsAmount (sym long) a.amount;
+        placed = λ i lock e. subst (λ k. IsAt (record { hasher = base; amount = k }) i lock) (count ∙ sym long) (moved-from R row locks moved i lock e).2;
+      }

@@ -1,0 +1,35 @@
+-- A map of one owner: a row of shards, and what its calls do to all of its pairs.
+use Rattle.std.specs.Prelude.{ℕ, ◌≡◌, Bool, List, length, flat_map, Some, slice_get}
+use Rattle.std.specs.Hash.{HashWrites}
+use Rattle.std.specs.declared.hash.Hasher as hasher
+use Rattle.std.specs.declared.hash.BuildHasher as builder
+use Rattle.dash_shard.specs.Hashing.{IsAmount, HashAlike, route_by}
+use Rattle.dash_shard.specs.Contents.{Keys, keys}
+use Rattle.dash_shard.specs.Shard.{ShardState, pairs, IsShard}
+
+-- what contracts see of the map
+pub record AloneState (K V S : Type 0) : Type 0 where
+  pub hasher : S
+  pub row : List (ShardState K V S)
+
+module _ {K V S : Type 0} where
+  -- the contents of a map: those of its shards
+  abbrev pub contents : AloneState K V S → List (K × V)
+  contents a = flat_map pairs a.row
+
+  module _ {H : Type 0} (eq : K → K → Bool) (b : builder.Ghosts S H) (h : hasher.Ghosts H) (input : K → HashWrites) where
+    -- the shard i of n, of a map with a hasher of this meaning
+    pub record IsPlaced (meaning : S) (n i : ℕ) (s : ShardState K V S) : Type 0 where
+      pub number : s.number ≡ i
+      pub amount : s.amount ≡ n
+      pub hashes : HashAlike b h meaning s.hasher
+      pub shard : IsShard eq b h input s
+
+    -- each shard stands in its place
+    pub record IsAlone (a : AloneState K V S) : Type 0 where
+      pub amount : IsAmount (length a.row)
+      pub placed : (i : ℕ) (s : ShardState K V S) → slice_get a.row i ≡ Some s → IsPlaced a.hasher (length a.row) i s
+
+    -- what the map knows of its keys
+    abbrev pub keys_in : AloneState K V S → Keys K
+    keys_in a = keys eq (route_by b h input a.hasher (length a.row)) (length a.row)

@@ -1,0 +1,3 @@
+pub mod Amounts
+pub mod Map
+pub mod Alone

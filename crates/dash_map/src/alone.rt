@@ -1,0 +1,171 @@
+//! A map of one owner, without locks.
+ghost use Rattle.std.specs.Prelude.{◌≡◌, ◌⊎◌, ℕ, ◌+◌, ◌<◌, ◌≤◌, ◌↔◌, IsErrOf, IfOk, IfErr, OnOk, Some, length, slice_get};
+ghost use Rattle.crossbeam_utils.specs.Padded.{padded_value};
+ghost use Rattle.dash_shard.specs.Hashing.{IsAmount, HashAlike};
+ghost use Rattle.dash_shard.specs.Shard.{shard_len};
+ghost use Rattle.dash_shard.specs.Held.{FitsPlace};
+ghost use Rattle.dash_map.specs.Amounts.{Overflows, share};
+ghost use Rattle.dash_map.specs.Alone.{IsAlone, IsPlaced, contents};
+ghost use Rattle.dash_map.specs.Map.{IsAt};
+
+use crate::map::{DashMap, Locked};
+use crossbeam_utils::CachePadded;
+use dash_shard::error::ConstructError;
+use dash_shard::hash::is_shard_amount;
+use dash_shard::lock::RwLock;
+use dash_shard::row::move_all;
+use dash_shard::shard::Shard;
+use dash_shard::shard::held::ShardTag;
+use std::alloc::Global;
+use std::hash::{BuildHasher, Hash};
+use std::marker::Model;
+use std::snapshot::Snapshot;
+
+/// A map of one owner: its shards without locks. The original lends the map by `&mut` for this.
+///
+/// A contract sees its hasher and the row of its shards.
+#[derive(Drop)]
+pub struct Alone<K: Eq + Hash, V, S: BuildHasher> {
+    pub(crate) hasher: S,
+    pub(crate) row: Vec<Shard<K, V, S>>,
+    // Empty, with room for all locks.
+    pub(crate) locks: Vec<Locked<K, V, S>>,
+}
+
+impl<K: Eq + Hash, V, S: BuildHasher> Model for Alone<K, V, S> {
+    ghost use Rattle.std.specs.Prelude.{◌≡◌, ◌≤◌, [], vec_len, vec_capacity};
+    ghost use Rattle.dash_map.specs.Alone.{AloneState, IsAlone};
+
+    ghost Value = { AloneState K V S };
+
+    ghost view = { λ a. record { hasher = a.hasher; row = a.row.items } };
+
+    ghost invariant = { λ a. IsAlone K.eq S.BuildHasher S.Hasher.Hasher K.hash_input (record { hasher = a.hasher; row = a.row.items }) × (a.locks.items ≡ []) × (vec_len a.row ≤ vec_capacity a.locks) };
+}
+
+// The row of a map with no pairs, each shard with room for `capacity`.
+fn fresh_row<K: Eq + Hash + Drop, V: Drop, S: BuildHasher + Clone + Drop>(
+    alloc: Global,
+    hasher: &S,
+    amount: usize,
+    capacity: usize,
+) -> Result<Vec<Shard<K, V, S>>, ConstructError>
+    requires amount { IsAmount amount }
+    requires alike { (s t : S) → S.is_clone s t → HashAlike S.BuildHasher S.Hasher.Hasher s t }
+    ensures len { IfOk result (λ row. length row.items ≡ amount) }
+    ensures placed { IfOk result (λ row. (i : ℕ) (s : _) → slice_get row.items i ≡ Some s → IsPlaced K.eq S.BuildHasher S.Hasher.Hasher K.hash_input hasher.now amount i s) }
+    ensures fresh { IfOk result (λ row. (i : ℕ) (s : _) → slice_get row.items i ≡ Some s → (shard_len s ≡ 0) × (capacity ≤ s.capacity)) }
+    ensures memory { IfErr result (λ e. e ≡ ConstructError.Memory) }
+{
+    let Ok(mut row) = Vec::with_capacity(alloc, amount) else {
+        return Err(ConstructError::Memory);
+    };
+    for number in 0..amount {
+        let Ok(hasher) = hasher.clone() else {
+            return Err(ConstructError::Memory);
+        };
+        row.push_reserved(Shard::new(alloc, hasher, number, amount, capacity)?);
+    }
+    Ok(row)
+}
+
+impl<K: Eq + Hash + Drop, V: Drop, S: BuildHasher> Alone<K, V, S> {
+    // A map with no pairs, and room in each shard for its share of the capacity.
+    pub(crate) fn new(
+        alloc: Global,
+        capacity: usize,
+        hasher: S,
+        amount: usize,
+    ) -> Result<Alone<K, V, S>, ConstructError>
+    where
+        S: Clone + Drop,
+        requires { (s t : S) → S.is_clone s t → HashAlike S.BuildHasher S.Hasher.Hasher s t }
+        ensures hasher { IfOk result (λ a. a.hasher ≡ hasher) }
+        ensures amount { IfOk result (λ a. length a.row ≡ amount) }
+        ensures fresh { IfOk result (λ a. (i : ℕ) (s : _) → slice_get a.row i ≡ Some s → (shard_len s ≡ 0) × (share capacity amount ≤ s.capacity)) }
+        ensures bad_amount { IsErrOf result ConstructError.ShardAmount ↔ (IsAmount amount → ⊥) }
+        ensures overflow { IsErrOf result ConstructError.CapacityOverflow ↔ (IsAmount amount × Overflows capacity amount) }
+        ensures kinds { IfErr result (λ e. (e ≡ ConstructError.ShardAmount) ⊎ (e ≡ ConstructError.CapacityOverflow) ⊎ (e ≡ ConstructError.Memory)) }
+    {
+        if !is_shard_amount(amount) {
+            return Err(ConstructError::ShardAmount);
+        }
+        let Some(rounded) = capacity.checked_add(amount - 1) else {
+            return Err(ConstructError::CapacityOverflow);
+        };
+        let row = fresh_row(alloc, &hasher, amount, rounded / amount)?;
+        let Ok(locks) = Vec::with_capacity(alloc, amount) else {
+            return Err(ConstructError::Memory);
+        };
+        Ok(Alone { hasher, row, locks })
+    }
+
+    /// How many shards the map has.
+    #[inline]
+    pub fn shard_count(&self) -> usize
+        ensures count { result ≡ length self.now.row }
+        ensures lawful { IsAlone K.eq S.BuildHasher S.Hasher.Hasher K.hash_input self.now }
+    {
+        let _ = &self.hasher;
+        self.row.len()
+    }
+
+    /// The map behind its locks again. It takes no memory.
+    pub fn end(self) -> DashMap<K, V, S>
+        ensures { result ≡ record { hasher = self.hasher; amount = length self.row } }
+    {
+        let Alone {
+            hasher,
+            mut row,
+            mut locks,
+        } = self;
+        let amount = row.len();
+        move_all(
+            &mut row,
+            &mut locks,
+            |number: usize, shard: Shard<K, V, S>| -> Locked<K, V, S>
+                requires { IsPlaced K.eq S.BuildHasher S.Hasher.Hasher K.hash_input hasher amount number shard }
+                ensures { IsAt (record { hasher = hasher; amount = amount }) number result }
+            {
+                let tag = ShardTag {
+                    number,
+                    amount,
+                    hasher: Snapshot::of(&hasher),
+                };
+                CachePadded::new(RwLock::new(shard, &tag))
+            },
+        );
+        DashMap {
+            hasher,
+            row: locks,
+            shards: row,
+        }
+    }
+}
+
+impl<K: Eq + Hash, V, S: BuildHasher> DashMap<K, V, S> {
+    /// The map without its locks. It takes no memory, and waits for nobody, even where a hold was leaked.
+    pub fn alone(self) -> Alone<K, V, S>
+        ensures hasher { result.hasher ≡ self.hasher }
+        ensures amount { length result.row ≡ self.amount }
+        ensures lawful { IsAlone K.eq S.BuildHasher S.Hasher.Hasher K.hash_input result }
+    {
+        let DashMap {
+            hasher,
+            mut row,
+            mut shards,
+        } = self;
+        move_all(
+            &mut row,
+            &mut shards,
+            |_: usize, lock: Locked<K, V, S>| -> Shard<K, V, S>
+                ensures { FitsPlace K.eq S.BuildHasher S.Hasher.Hasher K.hash_input (padded_value lock) result }
+            { lock.into_inner().into_inner() },
+        );
+        Alone {
+            hasher,
+            row: shards,
+            locks: row,
+        }
+    }
+}

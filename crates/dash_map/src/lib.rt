@@ -1,0 +1,5 @@
+//! A hash map cut into shards, each behind its own lock, and the same map of one owner.
+#![tactic(auto)]
+
+pub mod alone;
+pub mod map;

@@ -1,0 +1,230 @@
+//! The map that threads share.
+ghost use Rattle.std.specs.Prelude.{◌≡◌, ◌⊎◌, ℕ, ◌<◌, ◌↔◌, IsErrOf, IfOk, IfErr, OnOk};
+ghost use Rattle.dash_shard.specs.Hashing.{IsAmount, HashAlike, hash_of, route_of_hash, route_by};
+ghost use Rattle.dash_map.specs.Amounts.{IsParallelism, IsDefault, Overflows};
+
+use crate::alone::Alone;
+use crossbeam_utils::CachePadded;
+use dash_shard::error::ConstructError;
+use dash_shard::hash::{FixedState, determine_shard};
+use dash_shard::lock::RwLock;
+use dash_shard::shard::Shard;
+use std::alloc::Global;
+use std::hash::{BuildHasher, Hash};
+use std::marker::Model;
+
+/// A shard behind its lock, on cache lines of its own.
+pub(crate) type Locked<K, V, S> = CachePadded<RwLock<Shard<K, V, S>>>;
+
+/// A hash map that threads share: its shards behind locks.
+///
+/// A contract sees its hasher and the number of its shards. What is behind a lock is known to whom holds it.
+#[derive(Drop)]
+pub struct DashMap<K: Eq + Hash, V, S: BuildHasher = FixedState> {
+    pub(crate) hasher: S,
+    pub(crate) row: Vec<Locked<K, V, S>>,
+    // Empty, with room for all shards.
+    pub(crate) shards: Vec<Shard<K, V, S>>,
+}
+
+impl<K: Eq + Hash, V, S: BuildHasher> Model for DashMap<K, V, S> {
+    ghost use Rattle.std.specs.Prelude.{◌≡◌, ◌≤◌, [], length, vec_len, vec_capacity};
+    ghost use Rattle.dash_map.specs.Map.{MapState, IsMap};
+
+    ghost Value = { MapState S };
+
+    ghost view = { λ m. record { hasher = m.hasher; amount = length m.row.items } };
+
+    ghost invariant = { λ m. IsMap (record { hasher = m.hasher; amount = length m.row.items }) m.row.items × (m.shards.items ≡ []) × (vec_len m.row ≤ vec_capacity m.shards) };
+}
+
+/// The number of shards for so many processors: four for each, rounded up to a power of two.
+fn default_shard_amount(parallelism: usize) -> Result<usize, ConstructError>
+    ensures default { IfOk result (IsDefault parallelism) }
+    ensures lawful { IfOk result IsAmount }
+    ensures good { OnOk result (IsParallelism parallelism) }
+    ensures bad { IsErrOf result ConstructError.Parallelism ↔ (IsParallelism parallelism → ⊥) }
+    ensures kinds { IfErr result (λ e. e ≡ ConstructError.Parallelism) }
+{
+    if parallelism == 0 || parallelism > 1 << 61 {
+        return Err(ConstructError::Parallelism);
+    }
+    Ok((parallelism * 4).next_power_of_two())
+}
+
+impl<K: Eq + Hash + Drop, V: Drop> DashMap<K, V, FixedState> {
+    /// A map with no pairs and the default hasher, of the default number of shards for so many processors.
+    ///
+    /// It is refused where the parallelism is 0 or above 2^61 (6), then where there is no memory (8). The original reads the parallelism
+    /// from the system.
+    pub fn new(alloc: Global, parallelism: usize) -> Result<Self, ConstructError>
+        ensures amount { IfOk result (λ m. IsDefault parallelism m.amount) }
+        ensures bad_parallelism { IsErrOf result ConstructError.Parallelism ↔ (IsParallelism parallelism → ⊥) }
+        ensures kinds { IfErr result (λ e. (e ≡ ConstructError.Parallelism) ⊎ (e ≡ ConstructError.Memory)) }
+    {
+        Self::with_hasher(alloc, FixedState, parallelism)
+    }
+
+    /// As `new`, with room for so many pairs if they spread evenly. Where the capacity can't be rounded up it is refused too (7).
+    pub fn with_capacity(
+        alloc: Global,
+        capacity: usize,
+        parallelism: usize,
+    ) -> Result<Self, ConstructError>
+        ensures amount { IfOk result (λ m. IsDefault parallelism m.amount) }
+        ensures bad_parallelism { IsErrOf result ConstructError.Parallelism ↔ (IsParallelism parallelism → ⊥) }
+        ensures overflow { IsErrOf result ConstructError.CapacityOverflow ↔ (IsParallelism parallelism × (n : ℕ) × IsDefault parallelism n × Overflows capacity n) }
+        ensures kinds { IfErr result (λ e. (e ≡ ConstructError.Parallelism) ⊎ (e ≡ ConstructError.CapacityOverflow) ⊎ (e ≡ ConstructError.Memory)) }
+    {
+        Self::with_capacity_and_hasher(alloc, capacity, FixedState, parallelism)
+    }
+
+    /// A map with no pairs and the default hasher, of so many shards.
+    ///
+    /// It is refused where the amount is no power of two above 1 (5), then where there is no memory (8).
+    pub fn with_shard_amount(alloc: Global, amount: usize) -> Result<Self, ConstructError>
+        ensures amount { IfOk result (λ m. m.amount ≡ amount) }
+        ensures bad_amount { IsErrOf result ConstructError.ShardAmount ↔ (IsAmount amount → ⊥) }
+        ensures kinds { IfErr result (λ e. (e ≡ ConstructError.ShardAmount) ⊎ (e ≡ ConstructError.Memory)) }
+    {
+        Self::with_hasher_and_shard_amount(alloc, FixedState, amount)
+    }
+
+    /// As `with_shard_amount`, with room for so many pairs if they spread evenly. Where the capacity can't be rounded up it is refused
+    /// too (7).
+    pub fn with_capacity_and_shard_amount(
+        alloc: Global,
+        capacity: usize,
+        amount: usize,
+    ) -> Result<Self, ConstructError>
+        ensures amount { IfOk result (λ m. m.amount ≡ amount) }
+        ensures bad_amount { IsErrOf result ConstructError.ShardAmount ↔ (IsAmount amount → ⊥) }
+        ensures overflow { IsErrOf result ConstructError.CapacityOverflow ↔ (IsAmount amount × Overflows capacity amount) }
+        ensures kinds { IfErr result (λ e. (e ≡ ConstructError.ShardAmount) ⊎ (e ≡ ConstructError.CapacityOverflow) ⊎ (e ≡ ConstructError.Memory)) }
+    {
+        Self::with_capacity_and_hasher_and_shard_amount(alloc, capacity, FixedState, amount)
+    }
+
+    /// As `new`.
+    pub fn default(alloc: Global, parallelism: usize) -> Result<Self, ConstructError>
+        ensures amount { IfOk result (λ m. IsDefault parallelism m.amount) }
+        ensures bad_parallelism { IsErrOf result ConstructError.Parallelism ↔ (IsParallelism parallelism → ⊥) }
+        ensures kinds { IfErr result (λ e. (e ≡ ConstructError.Parallelism) ⊎ (e ≡ ConstructError.Memory)) }
+    {
+        Self::new(alloc, parallelism)
+    }
+}
+
+impl<K: Eq + Hash + Drop, V: Drop, S: BuildHasher + Clone + Drop> DashMap<K, V, S> {
+    /// A map with no pairs, of the default number of shards for so many processors.
+    ///
+    /// It is refused where the parallelism is 0 or above 2^61 (6), then where the capacity can't be rounded up (7), then where there is no
+    /// memory (8). The original reads the parallelism from the system.
+    pub fn with_hasher(
+        alloc: Global,
+        hasher: S,
+        parallelism: usize,
+    ) -> Result<Self, ConstructError>
+        requires { (s t : S) → S.is_clone s t → HashAlike S.BuildHasher S.Hasher.Hasher s t }
+        ensures hasher { IfOk result (λ m. m.hasher ≡ hasher) }
+        ensures amount { IfOk result (λ m. IsDefault parallelism m.amount) }
+        ensures bad_parallelism { IsErrOf result ConstructError.Parallelism ↔ (IsParallelism parallelism → ⊥) }
+        ensures kinds { IfErr result (λ e. (e ≡ ConstructError.Parallelism) ⊎ (e ≡ ConstructError.Memory)) }
+    {
+        Self::with_capacity_and_hasher(alloc, 0, hasher, parallelism)
+    }
+
+    /// As `with_hasher`, with room for so many pairs if they spread evenly.
+    pub fn with_capacity_and_hasher(
+        alloc: Global,
+        capacity: usize,
+        hasher: S,
+        parallelism: usize,
+    ) -> Result<Self, ConstructError>
+        requires { (s t : S) → S.is_clone s t → HashAlike S.BuildHasher S.Hasher.Hasher s t }
+        ensures hasher { IfOk result (λ m. m.hasher ≡ hasher) }
+        ensures amount { IfOk result (λ m. IsDefault parallelism m.amount) }
+        ensures bad_parallelism { IsErrOf result ConstructError.Parallelism ↔ (IsParallelism parallelism → ⊥) }
+        ensures overflow { IsErrOf result ConstructError.CapacityOverflow ↔ (IsParallelism parallelism × (n : ℕ) × IsDefault parallelism n × Overflows capacity n) }
+        ensures kinds { IfErr result (λ e. (e ≡ ConstructError.Parallelism) ⊎ (e ≡ ConstructError.CapacityOverflow) ⊎ (e ≡ ConstructError.Memory)) }
+    {
+        let amount = default_shard_amount(parallelism)?;
+        Self::with_capacity_and_hasher_and_shard_amount(alloc, capacity, hasher, amount)
+    }
+
+    /// A map with no pairs, of so many shards.
+    ///
+    /// It is refused where the amount is no power of two above 1 (5), then where there is no memory (8).
+    pub fn with_hasher_and_shard_amount(
+        alloc: Global,
+        hasher: S,
+        amount: usize,
+    ) -> Result<Self, ConstructError>
+        requires { (s t : S) → S.is_clone s t → HashAlike S.BuildHasher S.Hasher.Hasher s t }
+        ensures made { IfOk result (λ m. m ≡ record { hasher = hasher; amount = amount }) }
+        ensures bad_amount { IsErrOf result ConstructError.ShardAmount ↔ (IsAmount amount → ⊥) }
+        ensures kinds { IfErr result (λ e. (e ≡ ConstructError.ShardAmount) ⊎ (e ≡ ConstructError.Memory)) }
+    {
+        Self::with_capacity_and_hasher_and_shard_amount(alloc, 0, hasher, amount)
+    }
+
+    /// As `with_hasher_and_shard_amount`, with room for so many pairs if they spread evenly.
+    ///
+    /// It is refused where the amount is no power of two above 1 (5), then where the capacity, rounded up to a multiple of the amount, has
+    /// more than 64 bits (7), then where there is no memory (8).
+    pub fn with_capacity_and_hasher_and_shard_amount(
+        alloc: Global,
+        capacity: usize,
+        hasher: S,
+        amount: usize,
+    ) -> Result<Self, ConstructError>
+        requires { (s t : S) → S.is_clone s t → HashAlike S.BuildHasher S.Hasher.Hasher s t }
+        ensures made { IfOk result (λ m. m ≡ record { hasher = hasher; amount = amount }) }
+        ensures bad_amount { IsErrOf result ConstructError.ShardAmount ↔ (IsAmount amount → ⊥) }
+        ensures overflow { IsErrOf result ConstructError.CapacityOverflow ↔ (IsAmount amount × Overflows capacity amount) }
+        ensures kinds { IfErr result (λ e. (e ≡ ConstructError.ShardAmount) ⊎ (e ≡ ConstructError.CapacityOverflow) ⊎ (e ≡ ConstructError.Memory)) }
+    {
+        Ok(Alone::new(alloc, capacity, hasher, amount)?.end())
+    }
+}
+
+impl<K: Eq + Hash, V, S: BuildHasher> DashMap<K, V, S> {
+    /// The hash of an item by the map's hasher.
+    #[inline]
+    pub fn hash_usize<T: Hash>(&self, item: &T) -> usize
+        ensures { result ≡ hash_of S.BuildHasher S.Hasher.Hasher self.now.hasher (T.hash_input item.now) }
+    {
+        self.hasher.hash_one(item) as usize
+    }
+
+    /// The number of the shard that a key goes to.
+    #[inline]
+    pub fn determine_map(&self, key: &K) -> usize
+        ensures route { result ≡ route_by S.BuildHasher S.Hasher.Hasher K.hash_input self.now.hasher self.now.amount key.now }
+        ensures below { result < self.now.amount }
+    {
+        self.determine_shard(self.hash_usize(key))
+    }
+
+    /// The number of the shard that a hash goes to. Its top seven bits don't matter.
+    #[inline]
+    pub fn determine_shard(&self, hash: usize) -> usize
+        ensures route { result ≡ route_of_hash self.now.amount hash }
+        ensures below { result < self.now.amount }
+    {
+        determine_shard(hash as u64, self.row.len())
+    }
+
+    /// The map's hasher.
+    #[inline]
+    pub fn hasher(&self) -> &S
+        ensures hasher { result.now ≡ self.now.hasher }
+        ensures lawful { IsAmount self.now.amount }
+    {
+        let _ = &self.row;
+        &self.hasher
+    }
+}
+
+#[cfg(test)]
+mod tests;
