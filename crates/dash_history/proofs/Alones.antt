@@ -9,6 +9,7 @@ use Rattle.std.specs.declared.hash.BuildHasher as builder
 use Rattle.std.proofs.lemmas.Bool.{cases_eq}
 use Rattle.std.proofs.lemmas.Option.{slice_get-get_or, slice_get_within, get_or_from_slice_get, same_Some}
 use Rattle.std.proofs.Math.ListN.{length-set}
+use Rattle.dash_shard.proofs.Rows.{slice_get-set_same, slice_get-set_other}
 use Rattle.dash_shard.specs.Contents.{keys}
 use Rattle.dash_shard.specs.Hashing.{IsAmount, HashAlike, hash_of, route_by, route_of_hash}
 use Rattle.dash_shard.specs.Shard.{SameShard}
@@ -19,16 +20,6 @@ use Rattle.dash_history.specs.Steps.{step_of}
 use Rattle.dash_history.specs.Takes.{rules}
 use Rattle.dash_history.specs.History.{RecState, LogState, Recorded, rules_of, place_of}
 use Rattle.dash_history.specs.Alone.{AloneState, IsPlaced, IsAlone, Applied, last_at, rules_in}
-
-module _ {A : Type 0} where
-  -- an element after a write
-  pub slice_get-set_same : (xs : List A) (i : ℕ) (x : A) → i < length xs → slice_get (slice_set xs i x) i ≡ Some x
-  slice_get-set_same xs i x lt = slice_get-get_or (slice_set xs i x) i x (omega (arith, lt, length-set xs i x)) ∙ ap Some (get_or-set_same xs i x x lt)
-
-  pub slice_get-set_other : (xs : List A) (i j : ℕ) (x y : A) → (j ≡ i → ⊥) → slice_get (slice_set xs i x) j ≡ Some y → slice_get xs j ≡ Some y
-  slice_get-set_other xs i j x y other e =
-      let lt = slice_get_within (slice_set xs i x) j y e in
-      slice_get-get_or xs j y (omega (arith, lt, length-set xs i x)) ∙ ap Some (sym (get_or-set_other xs i j x y other) ∙ get_or_from_slice_get (slice_set xs i x) j y y e)
 
 module _ {K V S H : Type 0} (b : builder.Ghosts S H) (h : hasher.Ghosts H) where
   pub placed-moved : (base : S) (n c i : ℕ) (s t : RecState K V S) → IsPlaced b h base n c i s → SameShard s.shard t.shard → t.callers ≡ s.callers → IsPlaced b h base n c i t

@@ -1,2 +1,4 @@
+mod Lifting
 mod Moves
 mod Refusals
+mod Union

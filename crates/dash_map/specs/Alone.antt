@@ -5,6 +5,7 @@ use Rattle.std.specs.declared.hash.Hasher as hasher
 use Rattle.std.specs.declared.hash.BuildHasher as builder
 use Rattle.dash_shard.specs.Hashing.{IsAmount, HashAlike, route_by}
 use Rattle.dash_shard.specs.Contents.{Keys, keys}
+use Rattle.dash_shard.specs.Steps.{Step, Reply, Replies, Becomes}
 use Rattle.dash_shard.specs.Shard.{ShardState, pairs, IsShard}
 
 -- what contracts see of the map
@@ -33,3 +34,11 @@ module _ {K V S : Type 0} where
     -- what the map knows of its keys
     abbrev pub keys_in : AloneState K V S → Keys K
     keys_in a = keys eq (route_by b h input a.hasher (length a.row)) (length a.row)
+
+    -- takes, on the whole map and to the letter: the step gets the reply of the table, and the contents become what the table says
+    pub record TakesAlone (old new : AloneState K V S) (step : Step K V) (reply : Reply K V) : Type 0 where
+      pub replies : Replies (keys_in old) step (contents old) reply
+      pub becomes : Becomes (keys_in old) step (contents old) (contents new)
+      pub hasher : new.hasher ≡ old.hasher
+      pub amount : length new.row ≡ length old.row
+      pub lawful : IsAlone new

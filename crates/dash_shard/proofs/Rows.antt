@@ -1,6 +1,7 @@
--- What stands in a row that was moved, or that grew by one.
-use Rattle.std.proofs.Common.{◌≡◌, ℕ, zero, suc, ◌+◌, List, [], ◌∷◌, ◌++◌, length, Some, slice_get, refl, ap, subst, arith}
-use Rattle.std.proofs.lemmas.Option.{none-some, same_Some}
+-- What stands in a row that was moved, that grew by one, or that was written to.
+use Rattle.std.proofs.Common.{◌≡◌, ℕ, zero, suc, ◌+◌, List, [], ◌∷◌, ◌++◌, length, Some, slice_get, slice_set, get_or-set_same, get_or-set_other, refl, sym, ap, subst, ◌∙◌, ◌<◌, arith}
+use Rattle.std.proofs.lemmas.Option.{none-some, same_Some, slice_get-get_or, slice_get_within, get_or_from_slice_get}
+use Rattle.std.proofs.Math.ListN.{length-set}
 use Rattle.dash_shard.specs.Rows.{Moved}
 
 module _ {A B : Type 0} (R : ℕ → A → B → Type 0) where
@@ -33,3 +34,13 @@ module _ {A : Type 0} where
   each-more P [] x each here (suc i) y e = absurd (none-some y e)
   each-more P (z ∷ xs) x each here zero y e = each zero y e
   each-more P (z ∷ xs) x each here (suc i) y e = each-more (λ n. P (suc n)) xs x (λ j. each (suc j)) here i y e
+
+module _ {A : Type 0} where
+  -- an element after a write
+  pub slice_get-set_same : (xs : List A) (i : ℕ) (x : A) → i < length xs → slice_get (slice_set xs i x) i ≡ Some x
+  slice_get-set_same xs i x lt = slice_get-get_or (slice_set xs i x) i x (omega (arith, lt, length-set xs i x)) ∙ ap Some (get_or-set_same xs i x x lt)
+
+  pub slice_get-set_other : (xs : List A) (i j : ℕ) (x y : A) → (j ≡ i → ⊥) → slice_get (slice_set xs i x) j ≡ Some y → slice_get xs j ≡ Some y
+  slice_get-set_other xs i j x y other e =
+      let lt = slice_get_within (slice_set xs i x) j y e in
+      slice_get-get_or xs j y (omega (arith, lt, length-set xs i x)) ∙ ap Some (sym (get_or-set_other xs i j x y other) ∙ get_or_from_slice_get (slice_set xs i x) j y y e)

@@ -1,0 +1,92 @@
+-- A step on the shard of its key is a step on the whole map.
+use Rattle.std.proofs.Common.{◌≡◌, ◌≢◌, ℕ, ◌+◌, ◌<◌, cond, Bool, true, false, List, length, Option, Some, slice_get, slice_set, flat_map, get_or, sym, ap, subst, ◌∙◌, inl, inr, arith}
+use mathlib.Core.Path.{fun_ext}
+use Rattle.std.specs.Cmp.{IsEquivalence}
+use Rattle.std.specs.Hash.{HashWrites}
+use Rattle.std.specs.declared.hash.Hasher as hasher
+use Rattle.std.specs.declared.hash.BuildHasher as builder
+use Rattle.std.proofs.lemmas.Bool.{cases_Bool, cases_eq}
+use Rattle.std.proofs.lemmas.Option.{slice_get-get_or, slice_get_within, same_Some}
+use Rattle.std.proofs.Math.ListN.{length-set}
+use Rattle.dash_shard.proofs.Rows.{slice_get-set_same, slice_get-set_other}
+use Rattle.dash_shard.proofs.Routing.{route_below}
+use Rattle.dash_shard.specs.Hashing.{IsAmount, HashAlike, hash_of, route_by, route_of_hash}
+use Rattle.dash_shard.specs.Contents.{Keys, keys, at, IsOnShard}
+use Rattle.dash_shard.specs.Steps.{Step, Reply, line_after, LineReplies, at_key}
+use Rattle.dash_shard.specs.Shard.{ShardState, SameShard, IsShard, pairs, keys_of}
+use Rattle.dash_map.specs.Alone.{AloneState, IsPlaced, IsAlone, contents, keys_in}
+use Rattle.dash_map.proofs.Union.{OnShards, at-union}
+
+module _ {K V S H : Type 0} (eq : K → K → Bool) (b : builder.Ghosts S H) (h : hasher.Ghosts H) (input : K → HashWrites) where
+  -- a shard knows of its keys what the map knows
+  pub keys-same : (base : S) (n i : ℕ) (s : ShardState K V S) → IsPlaced eq b h input base n i s → keys_of eq b h input s ≡ keys eq (route_by b h input base n) n
+  keys-same base n i s p =
+      let route = fun_ext (λ (x : K). ap (λ a. route_of_hash a (hash_of b h s.hasher (input x))) p.amount ∙ ap (route_of_hash n) (p.hashes (input x))) in
+      ap (λ r. keys eq r s.amount) route ∙ ap (λ a. keys eq (route_by b h input base n) a) p.amount
+
+  on-shard : (base : S) (n i : ℕ) (s : ShardState K V S) → IsPlaced eq b h input base n i s → IsOnShard (keys eq (route_by b h input base n) n) i (pairs s)
+  on-shard base n i s p = subst (λ w. IsOnShard w i (pairs s)) (keys-same base n i s p) (subst (λ j. IsOnShard (keys_of eq b h input s) j (pairs s)) p.number p.shard.contents)
+
+  on-shards : (base : S) (row : List (ShardState K V S)) → IsAlone eq b h input (record { hasher = base; row = row }) → OnShards (keys eq (route_by b h input base (length row)) (length row)) 0 row
+  on-shards base row a = λ j s e. subst (λ i. IsOnShard (keys eq (route_by b h input base (length row)) (length row)) i (pairs s)) (omega arith) (on-shard base (length row) j s (a.placed j s e))
+
+  placed-moved : (base : S) (n i : ℕ) (s t : ShardState K V S) → IsPlaced eq b h input base n i s → SameShard s t → IsShard eq b h input t → IsPlaced eq b h input base n i t
+  placed-moved base n i s t p stays new = record {
+    number = stays.number ∙ p.number;
+    amount = stays.amount ∙ p.amount;
+    hashes = subst (λ x. HashAlike b h base x) (sym stays.hasher) p.hashes;
+    shard = new;
+  }
+
+  -- one shard changed in its place
+  pub alone-set : (base : S) (i : ℕ) (row : List (ShardState K V S)) (s t : ShardState K V S) → IsAlone eq b h input (record { hasher = base; row = row }) → slice_get row i ≡ Some s
+      → SameShard s t → IsShard eq b h input t → IsAlone eq b h input (record { hasher = base; row = slice_set row i t })
+  alone-set base i row s t a here stays new =
+      let long : length (slice_set row i t) ≡ length row = length-set row i t in
+      record {
+        amount = subst IsAmount (sym long) a.amount;
+        placed = λ j x e. subst (λ n. IsPlaced eq b h input base n j x) (sym long) (elim (cases_eq j i) as (λ _. IsPlaced eq b h input base (length row) j x) [
+          | inl same ↦
+              let put : t ≡ x = same_Some t x (sym (slice_get-set_same row i t (slice_get_within row i s here)) ∙ ap (λ n. slice_get (slice_set row i t) n) (sym same) ∙ e) in
+              subst (λ n. IsPlaced eq b h input base (length row) n x) (sym same) (subst (λ y. IsPlaced eq b h input base (length row) i y) put (placed-moved base (length row) i s t (a.placed i s here) stays new))
+          | inr other ↦ a.placed j x (slice_get-set_other row i j t x other e)
+        ]);
+      }
+
+  module _ (laws : IsEquivalence eq) (respects : (i j : K) → eq i j ≡ true → input i ≡ input j) (base : S) (row : List (ShardState K V S)) (a : IsAlone eq b h input (record { hasher = base; row = row }))
+      (k : K) (s t : ShardState K V S) (here : slice_get row (route_by b h input base (length row) k) ≡ Some s) (stays : SameShard s t) (new : IsShard eq b h input t) where
+    abbrev w : Keys K
+    w = keys eq (route_by b h input base (length row)) (length row)
+
+    abbrev row' : List (ShardState K V S)
+    row' = slice_set row (w.route k) t
+
+    on : OnShards w 0 row
+    on = on-shards base row a
+
+    on' : OnShards w 0 row'
+    on' = subst (λ n. OnShards (keys eq (route_by b h input base n) n) 0 row') (length-set row (w.route k) t) (on-shards base row' (alone-set base (w.route k) row s t a here stays new))
+
+    -- what stands at a key of the step's shard
+    pub at-here : (j : K) → w.route j ≡ w.route k → at w (flat_map pairs row) j ≡ at w (pairs s) j
+    at-here j same = at-union w row j s on (ap (slice_get row) same ∙ here)
+
+    at-after : (j : K) → w.route j ≡ w.route k → at w (flat_map pairs row') j ≡ at w (pairs t) j
+    at-after j same = at-union w row' j t on' (ap (slice_get row') same ∙ slice_get-set_same row (w.route k) t (slice_get_within row (w.route k) s here))
+
+    at-other : (j : K) → w.route j ≢ w.route k → at w (flat_map pairs row') j ≡ at w (flat_map pairs row) j
+    at-other j other =
+        let u = get_or row' (w.route j) t in
+        let there : slice_get row' (w.route j) ≡ Some u = slice_get-get_or row' (w.route j) t (omega (arith, length-set row (w.route k) t, route_below (hash_of b h base (input j)) (length row) (omega (arith, a.amount.several)))) in
+        at-union w row' j u on' there ∙ sym (at-union w row j u on (slice_get-set_other row (w.route k) (w.route j) t u other there))
+
+    -- a step at the key k that became so on its shard became so on the map
+    pub lifted : (f : Option (K × V) → Option (K × V)) (g : Option (K × V) → Reply K V) → ((j : K) → at w (pairs t) j ≡ line_after w (at_key k f g) j (at w (pairs s) j))
+        → (j : K) → at w (flat_map pairs row') j ≡ line_after w (at_key k f g) j (at w (flat_map pairs row) j)
+    lifted f g became j = elim (cases_eq (w.route j) (w.route k)) as (λ _. at w (flat_map pairs row') j ≡ line_after w (at_key k f g) j (at w (flat_map pairs row) j)) [
+      | inl same ↦ at-after j same ∙ became j ∙ ap (λ o. line_after w (at_key k f g) j o) (sym (at-here j same))
+      | inr other ↦ at-other j other ∙ sym (elim (cases_Bool (eq k j)) as (λ _. line_after w (at_key k f g) j (at w (flat_map pairs row) j) ≡ at w (flat_map pairs row) j) [
+        | inl equal ↦ absurd (other (ap (λ x. route_of_hash (length row) (hash_of b h base x)) (sym (respects k j equal))))
+        | inr apart ↦ ap (λ c. cond c (f (at w (flat_map pairs row) j)) (at w (flat_map pairs row) j)) apart
+      ])
+    ]
