@@ -6,7 +6,7 @@ use Rattle.std.proofs.lemmas.Bool.{and_parts, and_from}
 use Rattle.dash_shard.specs.Contents.{at, on, Distinct, EachOnce}
 use Rattle.dash_shard.specs.Steps.{Line, at_key, on_shard, Step, Reply, line, line_place, line_after, LineReplies, place, after, Becomes, Pair, Old, key_or, value}
 use Rattle.dash_history.specs.declared.step.ShardStep.{ShardStep}
-use Rattle.dash_history.specs.declared.step.ShardStep.TheVariants.{Get, Insert}
+use Rattle.dash_history.specs.declared.step.ShardStep.TheVariants.{Get, Insert, Remove}
 use Rattle.dash_history.specs.Alike.{alike_option, alike_pair, alike_reply}
 use Rattle.dash_history.specs.Steps.{step_of, alike_step}
 use Rattle.dash_history.specs.Takes.{Rules, AlikeAt, Answers, Takes}
@@ -97,4 +97,5 @@ module _ {K V : Type 0} (m : Rules K V) (laws : Lawful m) where
       put : m.alike_key j k ≡ true → m.alike_value u v ≡ true → (o : Option (K × V)) → AlikeAt m (Some (key_or j o, u)) (Some (key_or k o, v))
       put key value None = and_from _ _ key value
       put key value (Some p) = and_from _ _ (laws.key.refl p.0) value
+  line-alike (Remove j) (Remove k) h = (h, λ _. refl, λ o. reply_laws.refl (Pair o))
   line-alike s t h = cc

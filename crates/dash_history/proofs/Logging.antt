@@ -3,7 +3,7 @@ use Rattle.std.proofs.Common.{◌≡◌, ℕ, Bool, true, sym, ◌∙◌, arith,
 use Rattle.std.proofs.lemmas.Bool.{and_parts, and_from}
 use Rattle.std.specs.Cmp.{IsEquivalence}
 use Rattle.dash_history.specs.declared.step.ShardStep.{ShardStep}
-use Rattle.dash_history.specs.declared.step.ShardStep.TheVariants.{Get, Insert}
+use Rattle.dash_history.specs.declared.step.ShardStep.TheVariants.{Get, Insert, Remove}
 use Rattle.dash_history.specs.declared.step.Reply as program
 use Rattle.dash_history.specs.declared.step.Record.{Record}
 use Rattle.dash_history.specs.Steps.{reply_of, alike_step, alike_record}
@@ -19,6 +19,7 @@ module _ {K V : Type 0} {k : K → K → Bool} {v : V → V → Bool} (lk : IsEq
       let p = and_parts (k i j) (v u t) h in
       let q = and_parts (k j l) (v t w) g in
       and_from _ _ (chained lk i j l p.0 q.0) (chained lv u t w p.1 q.1)
+  step-chained (Remove i) (Remove j) (Remove l) h g = chained lk i j l h g
   step-chained x y z h g = cc
 
   -- what a record says, the same record says

@@ -1,12 +1,12 @@
 -- A list of pairs, where the first with an equal key is found by looking at each.
-use Rattle.std.proofs.Common.{◌≡◌, ℕ, zero, suc, ◌<◌, true, false, cond, List, [], ◌∷◌, length, get_or, set, Some, None, refl, sym, ap, subst, ◌∙◌, inl, inr, arith}
+use Rattle.std.proofs.Common.{◌≡◌, ℕ, zero, suc, ◌<◌, true, false, cond, List, [], ◌∷◌, length, get_or, set, Option, Some, None, refl, sym, ap, subst, ◌∙◌, inl, inr, arith}
 use Rattle.std.specs.Cmp.{IsEquivalence}
-use Rattle.std.specs.List.{position, position_or_len}
+use Rattle.std.specs.List.{position, position_or_len, remove}
 use Rattle.std.proofs.lemmas.Bool.{cases_Bool, cases_lt, lt-ltb, le-ltb}
 use Rattle.std.proofs.lemmas.Option.{none-some, same_Some}
 use Rattle.dash_shard.specs.Contents.{Keys, at, Distinct}
 use Rattle.dash_shard.proofs.Equals.{along, apart, at-equal}
-use Rattle.dash_shard.specs.Steps.{Get, Insert, after, Becomes}
+use Rattle.dash_shard.specs.Steps.{Get, Insert, Remove, key_or, after, Becomes}
 
 module _ {K V : Type 0} (w : Keys K) (k : K) where
   -- x is the first pair with a key equal to k, and stands at i
@@ -52,8 +52,10 @@ module _ {K V : Type 0} (w : Keys K) (k : K) where
       | inr other ↦ rw (other, apart laws p.0 k j here other) refl
     ]
 
-    at-tail : (p : K × V) (ps qs : List (K × V)) (v : V) → w.eq p.0 k ≡ false → (j : K) → at w qs j ≡ after w (Insert k v) j (at w ps j) → at w (p ∷ qs) j ≡ after w (Insert k v) j (at w (p ∷ ps) j)
-    at-tail p ps qs v fails j e = elim (cases_Bool (w.eq k j)) as (λ _. at w (p ∷ qs) j ≡ after w (Insert k v) j (at w (p ∷ ps) j)) [
+    -- what a step makes of the pair at k, behind a pair with another key
+    at-tail : (b : Option (K × V) → Option (K × V)) (p : K × V) (ps qs : List (K × V)) → w.eq p.0 k ≡ false → (j : K) → at w qs j ≡ cond (w.eq k j) (b (at w ps j)) (at w ps j)
+        → at w (p ∷ qs) j ≡ cond (w.eq k j) (b (at w (p ∷ ps) j)) (at w (p ∷ ps) j)
+    at-tail b p ps qs fails j e = elim (cases_Bool (w.eq k j)) as (λ _. at w (p ∷ qs) j ≡ cond (w.eq k j) (b (at w (p ∷ ps) j)) (at w (p ∷ ps) j)) [
       | inl same ↦ rw (same, sym (along laws p.0 k j same) ∙ fails) (e ∙ rw same refl)
       | inr other ↦ rw other (ap (cond (w.eq p.0 j) (Some p)) (e ∙ rw other refl))
     ]
@@ -62,7 +64,7 @@ module _ {K V : Type 0} (w : Keys K) (k : K) where
     pub at-revalued : (ps : List (K × V)) (i : ℕ) (x : K × V) (v : V) → IsFirst ps i x → (j : K) → at w (set ps i (x.0, v)) j ≡ after w (Insert k v) j (at w ps j)
     at-revalued [] i x v f j = absurd f
     at-revalued (p ∷ ps) zero x v f j = subst (λ y. at w ((y.0, v) ∷ ps) j ≡ after w (Insert k v) j (at w (p ∷ ps) j)) f.0 (at-head p ps v f.1 j)
-    at-revalued (p ∷ ps) (suc i) x v f j = at-tail p ps (set ps i (x.0, v)) v f.0 j (at-revalued ps i x v f.1 j)
+    at-revalued (p ∷ ps) (suc i) x v f j = at-tail (λ o. Some (key_or k o, v)) p ps (set ps i (x.0, v)) f.0 j (at-revalued ps i x v f.1 j)
 
     pub distinct-revalued : (ps : List (K × V)) (i : ℕ) (x : K × V) (v : V) → IsFirst ps i x → Distinct w ps → Distinct w (set ps i (x.0, v))
     distinct-revalued [] i x v f d = absurd f
@@ -70,6 +72,29 @@ module _ {K V : Type 0} (w : Keys K) (k : K) where
     distinct-revalued (p ∷ ps) (suc i) x v f d =
         let fails : w.eq k p.0 ≡ false = laws.symm k p.0 ∙ f.0 in
         (at-revalued ps i x v f.1 p.0 ∙ rw fails d.0, distinct-revalued ps i x v f.1 d.1)
+
+    -- the first such pair taken out
+    pub at-removed : (ps : List (K × V)) (i : ℕ) (x : K × V) → IsFirst ps i x → Distinct w ps → Becomes w (Remove k) ps (remove ps i)
+    at-removed [] i x f d j = absurd f
+    at-removed (p ∷ ps) zero x f d j = elim (cases_Bool (w.eq k j)) as (λ _. at w ps j ≡ after w (Remove k) j (at w (p ∷ ps) j)) [
+      | inl same ↦ rw same (sym (at-equal w laws ps p.0 j (sym (along laws p.0 k j same) ∙ f.1)) ∙ d.0)
+      | inr other ↦ rw (other, apart laws p.0 k j f.1 other) refl
+    ]
+    at-removed (p ∷ ps) (suc i) x f d j = at-tail (λ _. None) p ps (remove ps i) f.0 j (at-removed ps i x f.1 d.1 j)
+
+    pub distinct-removed : (ps : List (K × V)) (i : ℕ) (x : K × V) → IsFirst ps i x → Distinct w ps → Distinct w (remove ps i)
+    distinct-removed [] i x f d = absurd f
+    distinct-removed (p ∷ ps) zero x f d = d.1
+    distinct-removed (p ∷ ps) (suc i) x f d =
+        let fails : w.eq k p.0 ≡ false = laws.symm k p.0 ∙ f.0 in
+        (at-removed ps i x f.1 d.1 p.0 ∙ rw fails d.0, distinct-removed ps i x f.1 d.1)
+
+    -- nothing to take out
+    pub absent : (ps : List (K × V)) → at w ps k ≡ None → Becomes w (Remove k) ps ps
+    absent ps none j = elim (cases_Bool (w.eq k j)) as (λ _. at w ps j ≡ after w (Remove k) j (at w ps j)) [
+      | inl same ↦ rw same (sym (at-equal w laws ps k j same) ∙ none)
+      | inr other ↦ rw other refl
+    ]
 
     -- a new pair in front
     pub at-pushed : (ps : List (K × V)) (v : V) → at w ps k ≡ None → (j : K) → at w ((k, v) ∷ ps) j ≡ after w (Insert k v) j (at w ps j)
@@ -89,6 +114,9 @@ module _ {K V : Type 0} (w : Keys K) (k : K) where
         let same : f.0 ≡ y = sym (read ∙ read-first ps i f.0 y f.1) in
         subst (λ x. ((j : K) → at w (set ps i (x.0, v)) j ≡ after w (Insert k v) j (at w ps j)) × (Distinct w ps → Distinct w (set ps i (x.0, v)))) same
         (at-revalued ps i f.0 v f.1, distinct-revalued ps i f.0 v f.1)
+
+    pub removed : (ps : List (K × V)) (i : ℕ) → position (λ p. w.eq p.0 k) ps ≡ Some i → Distinct w ps → Becomes w (Remove k) ps (remove ps i) × Distinct w (remove ps i)
+    removed ps i e d = let f = first ps i e in (at-removed ps i f.0 f.1 d, distinct-removed ps i f.0 f.1 d)
 
   -- a look-up changes nothing
   pub looked : (ps : List (K × V)) → Becomes w (Get k) ps ps

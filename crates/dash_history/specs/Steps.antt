@@ -3,7 +3,7 @@ use Rattle.std.specs.Prelude.{◌==◌, ◌&&◌, Bool, false}
 use Rattle.dash_shard.specs.Steps as table
 use Rattle.dash_history.specs.Alike.{alike_reply}
 use Rattle.dash_history.specs.declared.step.ShardStep.{ShardStep}
-use Rattle.dash_history.specs.declared.step.ShardStep.TheVariants.{Get, Insert}
+use Rattle.dash_history.specs.declared.step.ShardStep.TheVariants.{Get, Insert, Remove}
 use Rattle.dash_history.specs.declared.step.Reply.{Reply}
 use Rattle.dash_history.specs.declared.step.Reply.TheVariants.{Pair, Old}
 use Rattle.dash_history.specs.declared.step.Record.{Record}
@@ -13,6 +13,7 @@ module _ {K V : Type 0} where
   abbrev pub step_of : ShardStep K V → table.Step K V
   step_of (Get k) = table.Get k
   step_of (Insert k v) = table.Insert k v
+  step_of (Remove k) = table.Remove k
 
   -- the reply that the table speaks of
   abbrev pub reply_of : Reply K V → table.Reply K V
@@ -27,6 +28,7 @@ module _ {K V : Type 0} (k : K → K → Bool) (v : V → V → Bool) where
   abbrev pub alike_step : ShardStep K V → ShardStep K V → Bool
   alike_step (Get x) (Get y) = k x y
   alike_step (Insert x u) (Insert y t) = k x y && v u t
+  alike_step (Remove x) (Remove y) = k x y
   alike_step _ _ = false
 
   abbrev pub alike_record : Record K V → Record K V → Bool

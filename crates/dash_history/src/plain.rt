@@ -2,7 +2,7 @@
 ghost use Rattle.std.specs.Prelude.{◌≡◌, [], IsTrue, IfOk, OnOk, IfErr, position};
 ghost use Rattle.dash_shard.specs.Hashing.{IsAmount};
 ghost use Rattle.dash_shard.specs.Contents.{at, Distinct};
-ghost use Rattle.dash_shard.specs.Steps.{Insert, Old, Replies, Becomes};
+ghost use Rattle.dash_shard.specs.Steps.{Insert, Remove, Pair, Old, Replies, Becomes};
 ghost use Rattle.dash_history.specs.Alike.{alike_option, alike_pair};
 ghost use Rattle.dash_history.specs.Steps.{step_of, reply_of};
 ghost use Rattle.dash_history.specs.Takes.{Takes};
@@ -86,6 +86,17 @@ impl<K: KeptKey + Drop, V: Kept + Drop, S: BuildHasher> Plain<K, V, S> {
         }
     }
 
+    // Takes the pair whose key equals `key` out.
+    fn remove(&mut self, key: &K) -> Option<(K, V)>
+        ensures pair { Replies (plain_rules K.eq S.BuildHasher S.Hasher.Hasher K.hash_input K.alike V.alike self.old).keys (Remove key.now) self.old.pairs (Pair result) }
+        ensures pairs { Becomes (plain_rules K.eq S.BuildHasher S.Hasher.Hasher K.hash_input K.alike V.alike self.old).keys (Remove key.now) self.old.pairs self.new.pairs }
+        ensures distinct { Distinct (plain_rules K.eq S.BuildHasher S.Hasher.Hasher K.hash_input K.alike V.alike self.old).keys self.new.pairs }
+        ensures stays { (self.new.hasher ≡ self.old.hasher) × (self.new.amount ≡ self.old.amount) }
+    {
+        let i = find(&self.pairs, key)?;
+        Some(self.pairs.remove(i))
+    }
+
     /// Takes a step as the step table says, or hands it back where there is no memory.
     pub fn take(&mut self, step: ShardStep<K, V>) -> Result<Reply<K, V>, ShardStep<K, V>>
         ensures ok { IfOk result (λ reply. Takes (plain_rules K.eq S.BuildHasher S.Hasher.Hasher K.hash_input K.alike V.alike self.old) self.old.pairs (step_of step) (reply_of reply) self.new.pairs) }
@@ -102,6 +113,7 @@ impl<K: KeptKey + Drop, V: Kept + Drop, S: BuildHasher> Plain<K, V, S> {
                 Ok(old) => Ok(Reply::Old(old)),
                 Err((key, value)) => Err(ShardStep::Insert(key, value)),
             },
+            ShardStep::Remove(key) => Ok(Reply::Pair(self.remove(&key))),
         }
     }
 }

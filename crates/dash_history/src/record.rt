@@ -119,7 +119,7 @@ fn answer<K: KeptKey + Drop, V: Kept + Drop, S: BuildHasher>(
     ensures { IfOk result (λ reply. Answers (rules_of K.eq S.BuildHasher S.Hasher.Hasher K.hash_input K.alike V.alike shard.now) (pairs shard.now) (step_of step.now) (reply_of reply)) }
 {
     match step {
-        ShardStep::Get(key) => match shard.get(key) {
+        ShardStep::Get(key) | ShardStep::Remove(key) => match shard.get(key) {
             Some((key, value)) => {
                 let key = key.copy()?;
                 Ok(Reply::Pair(Some((key, value.copy()?))))
@@ -178,6 +178,10 @@ fn take<K: KeptKey + Drop, V: Kept + Drop, S: BuildHasher>(
             Ok(_) => Ok(()),
             Err(InsertRefused { key, value }) => Err(ShardStep::Insert(key, value)),
         },
+        ShardStep::Remove(key) => {
+            drop(shard.remove(&key));
+            Ok(())
+        }
     }
 }
 

@@ -13,6 +13,8 @@ pub enum ShardStep<K, V> {
     Get(K),
     /// Puts the pair, or the value under a stored key that is equal.
     Insert(K, V),
+    /// Takes the pair whose key equals the key out.
+    Remove(K),
 }
 
 /// What a step answers.
@@ -49,7 +51,7 @@ impl<K, V> ShardStep<K, V> {
         ensures { result ≡ place (keys K.eq (route_by S.BuildHasher S.Hasher.Hasher K.hash_input hasher.now amount) amount) (step_of self.now) }
     {
         match self {
-            ShardStep::Get(key) | ShardStep::Insert(key, _) => {
+            ShardStep::Get(key) | ShardStep::Insert(key, _) | ShardStep::Remove(key) => {
                 determine_shard(hasher.hash_one(key), amount)
             }
         }
@@ -68,6 +70,7 @@ impl<K, V> ShardStep<K, V> {
                 let key = key.copy()?;
                 Ok(ShardStep::Insert(key, value.copy()?))
             }
+            ShardStep::Remove(key) => Ok(ShardStep::Remove(key.copy()?)),
         }
     }
 }
@@ -107,6 +110,12 @@ mod tests {
                 ShardStep::Insert(1, 10)
             )
         );
+        assert!(rt;
+            matches!(
+                ShardStep::<u64, u64>::Remove(1).copy()?,
+                ShardStep::Remove(1)
+            )
+        );
         assert!(rt; matches!(Reply::<u64, u64>::Pair(None).copy()?, Reply::Pair(None)));
         assert!(rt;
             matches!(
@@ -132,5 +141,6 @@ mod tests {
             ShardStep::<u64, u64>::Insert(7, 1).place(&PlaceState, 4),
             3
         );
+        assert_eq!(rt; ShardStep::<u64, u64>::Remove(9).place(&PlaceState, 4), 1);
     }
 }

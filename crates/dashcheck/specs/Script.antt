@@ -6,7 +6,7 @@ use Rattle.dash_shard.specs.Contents.{keys}
 use Rattle.dash_history.specs.Steps.{step_of, reply_of}
 use Rattle.dash_history.specs.Takes.{Answers, rules}
 use Rattle.dash_history.specs.declared.step.ShardStep.{ShardStep}
-use Rattle.dash_history.specs.declared.step.ShardStep.TheVariants.{Get, Insert}
+use Rattle.dash_history.specs.declared.step.ShardStep.TheVariants.{Get, Insert, Remove}
 use Rattle.dash_history.specs.declared.step.Reply.{Reply}
 use Rattle.dash_history.specs.declared.step.Reply.TheVariants.{Pair, Old}
 use Rattle.dash_history.specs.declared.record.RecordFault.{RecordFault}
@@ -26,22 +26,27 @@ pub record IsFirst (text word rest : List ℕ) : Type 0 where
   pub parts : text ≡ word ++ 32 ∷ rest
   pub free : (i : ℕ) → i < length word → slice_index_or word i 0 ≡ 32 → ⊥
 
--- the words `get` and `insert`
+-- the words `get`, `insert` and `remove`
 abbrev pub get : List ℕ
 get = 103 ∷ 101 ∷ 116 ∷ []
 
 abbrev pub insert : List ℕ
 insert = 105 ∷ 110 ∷ 115 ∷ 101 ∷ 114 ∷ 116 ∷ []
 
+abbrev pub remove : List ℕ
+remove = 114 ∷ 101 ∷ 109 ∷ 111 ∷ 118 ∷ 101 ∷ []
+
 -- the numbers of a step have 64 bits
 abbrev pub HasWords : ShardStep ℕ ℕ → Type 0
 HasWords (Get k) = k < 2 ^ 64
 HasWords (Insert k v) = (k < 2 ^ 64) × (v < 2 ^ 64)
+HasWords (Remove k) = k < 2 ^ 64
 
 -- the line of a step
 abbrev pub line_of : ShardStep ℕ ℕ → List ℕ
 line_of (Get k) = get ++ 32 ∷ decimal k
 line_of (Insert k v) = insert ++ 32 ∷ decimal k ++ 32 ∷ decimal v
+line_of (Remove k) = remove ++ 32 ∷ decimal k
 
 -- a reply as it is printed: `pair none`, `pair K V`, `old none` or `old V`
 abbrev pub text_of : Reply ℕ ℕ → List ℕ

@@ -21,6 +21,7 @@ pub fn parse(line: &[u8]) -> Option<ShardStep<u64, u64>>
             let (key, value) = numbers(rest)?;
             Some(ShardStep::Insert(key, value))
         }
+        "remove" => Some(ShardStep::Remove(number(rest)?)),
         _ => None,
     }
 }

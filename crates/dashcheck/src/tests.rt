@@ -102,6 +102,13 @@ fn prints_replies(rt: HostRuntime) -> Result<(), Fail> {
         "old none\nold 10\npair 1 11\n",
         "",
     )?;
+    check(
+        &rt,
+        rt.alloc(),
+        b"insert 5 50\nremove 5\nremove 5\nget 5\n",
+        "old none\npair 5 50\npair none\npair none\n",
+        "",
+    )?;
     check(&rt, rt.alloc(), b"get 1", "pair none\n", "")?;
     check(
         &rt,
@@ -121,7 +128,7 @@ fn prints_replies(rt: HostRuntime) -> Result<(), Fail> {
 
 #[test]
 fn refuses_bad_steps(rt: HostRuntime) -> Result<(), Fail> {
-    let bad: [&[u8]; 26] = [
+    let bad: [&[u8]; 29] = [
         b"\n",
         b" get 1\n",
         b"get 1 \n",
@@ -145,6 +152,9 @@ fn refuses_bad_steps(rt: HostRuntime) -> Result<(), Fail> {
         b"get 1 2\n",
         b"insert 1\n",
         b"insert 1 2 3\n",
+        b"remove\n",
+        b"remove 1 2\n",
+        b"remove  1\n",
         b"put 1 2\n",
         b"Get 1\n",
         b"contains 1\n",

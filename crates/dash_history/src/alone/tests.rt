@@ -101,6 +101,32 @@ fn stamps_follow_shard_and_caller(rt: HostRuntime) -> Result<(), Fail> {
     Ok(())
 }
 
+#[test]
+fn a_removed_pair_is_gone(rt: HostRuntime) -> Result<(), Fail> {
+    let (mut alone, mut logs) = Alone::new(rt.alloc(), PlaceState, 4, 1)?;
+    assert_eq!(rt; logs.len(), 1);
+    let log = &mut logs[0];
+    for (step, reply) in [
+        (ShardStep::Insert(1, 10), Reply::Old(None)),
+        (ShardStep::Insert(5, 50), Reply::Old(None)),
+        (ShardStep::Get(1), Reply::Pair(Some((1, 10)))),
+        (ShardStep::Remove(1), Reply::Pair(Some((1, 10)))),
+        (ShardStep::Get(1), Reply::Pair(None)),
+        (ShardStep::Remove(1), Reply::Pair(None)),
+        (ShardStep::Get(5), Reply::Pair(Some((5, 50)))),
+    ] {
+        let got = apply(&rt, &mut alone, log, step)?;
+        let stamp = log.last_stamp();
+        assert!(rt;
+            same(&got, &reply),
+            "at {stamp}: {got:?}, and not {reply:?}"
+        );
+    }
+    assert_eq!(rt; last_of(&rt, &alone, 1), 7);
+    assert_eq!(rt; log.entries().len(), 7);
+    Ok(())
+}
+
 // The next of a fixed row of numbers.
 fn next(state: &mut u64) -> u64 {
     *state = state
@@ -129,10 +155,10 @@ fn replies_as_the_plain_map(rt: HostRuntime) -> Result<(), Fail> {
     for i in 0..300u64 {
         let number = next(&mut state);
         let key = number % 8;
-        let step = if number / 8 % 3 == 0 {
-            ShardStep::Get(key)
-        } else {
-            ShardStep::Insert(key, i)
+        let step = match number / 8 % 4 {
+            0 => ShardStep::Get(key),
+            1 => ShardStep::Remove(key),
+            _ => ShardStep::Insert(key, i),
         };
         let copy = step.copy()?;
         let reply = apply(&rt, &mut alone, log, step)?;

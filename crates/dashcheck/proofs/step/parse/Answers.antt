@@ -16,4 +16,8 @@ pub returns-in_default-clause-none : goal.returns-in_default-clause-none
 returns-in_default-clause-none c step words is =
     let f = first-kind step in
     let same = (alone (line_of step) c.in_ok-kind.kind.now c.in_ok-kind.rest.now f.0 f.1 (subst (λ t. IsFirst t c.in_ok-kind.kind.now c.in_ok-kind.rest.now) (c.in_ok-text.ensures.some ∙ is) c.in_ok-kind.ensures.some) f.2).0 in
-    elim f.3 [ inl get ↦ c.in_default.not-get (same ∙ get) | inr insert ↦ c.in_default.not-insert (same ∙ insert) ]
+    elim f.3 [
+      | inl get ↦ c.in_default.not-get (same ∙ get)
+      | inr (inl insert) ↦ c.in_default.not-insert (same ∙ insert)
+      | inr (inr remove) ↦ c.in_default.not-remove (same ∙ remove)
+    ]

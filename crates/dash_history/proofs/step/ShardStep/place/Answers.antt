@@ -6,4 +6,4 @@ pub returns : goal.returns
 unfolding hash_of
 returns g c =
     let route = c.determine_shard.ensures.route ∙ ap (route_of_hash c.args.amount) c.hash_one.ensures in
-    ⊎_elim (λ is. rw is route) (λ is. rw is.1 route) c.in-Get.is
+    ⊎_elim (λ is. rw is route) (⊎_elim (λ is. rw is.1 route) (λ is. rw is route)) c.in-Get.is
