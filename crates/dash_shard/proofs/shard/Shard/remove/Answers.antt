@@ -1,4 +1,4 @@
-use Rattle.std.proofs.Common.{◌≡◌, None, subst, sym, ap, ◌∙◌}
+use Rattle.std.proofs.Common.{None, subst, sym, ◌∙◌}
 use Rattle.dash_shard.specs.Hashing.{hash_of}
 use Rattle.dash_shard.specs.Steps.{Remove, Pair}
 use Rattle.dash_shard.specs.Shard.{ShardState, TakesExactly, StaysInPlace}
