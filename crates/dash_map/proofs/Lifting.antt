@@ -1,5 +1,5 @@
 -- A step on the shard of its key is a step on the whole map.
-use Rattle.std.proofs.Common.{◌≡◌, ◌≢◌, ℕ, ◌+◌, ◌<◌, cond, Bool, true, false, List, length, Option, Some, slice_get, slice_set, flat_map, get_or, sym, ap, subst, ◌∙◌, inl, inr, arith}
+use Rattle.std.proofs.Common.{◌≡◌, ◌≢◌, ℕ, ◌+◌, ◌<◌, cond, Bool, true, false, List, length, Option, Some, slice_get, slice_set, flat_map, get_or, Result, Ok, Err, refl, sym, ap, subst, ◌∙◌, inl, inr, arith}
 use mathlib.Core.Path.{fun_ext}
 use Rattle.std.specs.Cmp.{IsEquivalence}
 use Rattle.std.specs.Hash.{HashWrites}
@@ -12,9 +12,12 @@ use Rattle.dash_shard.proofs.Rows.{slice_get-set_same, slice_get-set_other}
 use Rattle.dash_shard.proofs.Routing.{route_below}
 use Rattle.dash_shard.specs.Hashing.{IsAmount, HashAlike, hash_of, route_by, route_of_hash}
 use Rattle.dash_shard.specs.Contents.{Keys, keys, at, IsOnShard}
-use Rattle.dash_shard.specs.Steps.{Step, Reply, line_after, LineReplies, at_key}
-use Rattle.dash_shard.specs.Shard.{ShardState, SameShard, IsShard, pairs, keys_of}
-use Rattle.dash_map.specs.Alone.{AloneState, IsPlaced, IsAlone, contents, keys_in}
+use Rattle.std.proofs.lemmas.List.{set-get_or}
+use Rattle.dash_shard.specs.Steps.{Step, Reply, Insert, Old, Becomes, line, line_after, LineReplies, at_key}
+use Rattle.std.specs.Prelude.{IfOk, IfErr}
+use Rattle.dash_shard.specs.declared.shard.InsertRefused.{InsertRefused}
+use Rattle.dash_shard.specs.Shard.{ShardState, SameShard, IsShard, TakesExactly, pairs, keys_of}
+use Rattle.dash_map.specs.Alone.{AloneState, IsPlaced, IsAlone, TakesAlone, contents, keys_in}
 use Rattle.dash_map.proofs.Union.{OnShards, at-union}
 
 module _ {K V S H : Type 0} (eq : K → K → Bool) (b : builder.Ghosts S H) (h : hasher.Ghosts H) (input : K → HashWrites) where
@@ -90,3 +93,53 @@ module _ {K V S H : Type 0} (eq : K → K → Bool) (b : builder.Ghosts S H) (h 
         | inr apart ↦ ap (λ c. cond c (f (at w (flat_map pairs row) j)) (at w (flat_map pairs row) j)) apart
       ])
     ]
+
+  -- an insert leaves a shard of the same place, whether it is refused or not
+  pub settled : (r : Result (Option V) (InsertRefused K V)) (s t : ShardState K V S) (k : K) (v : V) → IfOk r (λ o. TakesExactly eq b h input s t (Insert k v) (Old o)) → IfErr r (λ e. (e.key ≡ k) × (e.value ≡ v) × (t ≡ s))
+      → IsShard eq b h input s → SameShard s t × IsShard eq b h input t
+  settled (Ok o) s t k v taken refused shard = (taken.stays, taken.lawful)
+  settled (Err e) s t k v taken refused shard = rw refused.2 (record { number = refl; amount = refl; hasher = refl }, shard)
+
+  -- The map, the place that was computed, and the shard that an index lends there.
+  module _ (laws : IsEquivalence eq) (respects : (i j : K) → eq i j ≡ true → input i ≡ input j) (base : S) (row : List (ShardState K V S)) (z : AloneState K V S) (view : record { hasher = base; row = row } ≡ z)
+      (a : IsAlone eq b h input (record { hasher = base; row = row })) (k : K) (p : ℕ) (computed : p ≡ (keys_in eq b h input z).route k) (s : ShardState K V S) (within : p < length row) (read : s ≡ get_or row p s) where
+    abbrev known : Keys K
+    known = keys eq (route_by b h input base (length row)) (length row)
+
+    route_is : p ≡ known.route k
+    route_is = computed ∙ sym (ap (λ x. (keys_in eq b h input x).route k) view)
+
+    pub here : slice_get row p ≡ Some s
+    here = slice_get-get_or row p s within ∙ ap Some (sym read)
+
+    there : slice_get row (known.route k) ≡ Some s
+    there = subst (λ i. slice_get row i ≡ Some s) route_is here
+
+    -- the key goes to that shard
+    pub goes_there : (keys_of eq b h input s).route k ≡ s.number
+    goes_there = ap (λ x. x.route k) (keys-same base (length row) p s (a.placed p s here)) ∙ sym route_is ∙ sym (a.placed p s here).number
+
+    -- what stands at the key stands on that shard
+    pub stands : at (keys_in eq b h input z) (contents z) k ≡ at (keys_of eq b h input s) (pairs s) k
+    stands = subst (λ x. at (keys_in eq b h input x) (contents x) k ≡ at known (pairs s) k) view (at-union known row k s (on-shards base row a) there)
+
+    -- a step at the key that was taken on that shard was taken on the map
+    pub taken : (t : ShardState K V S) → SameShard s t → IsShard eq b h input t → (f : Option (K × V) → Option (K × V)) (g : Option (K × V) → Reply K V) (step : Step K V) (reply : Reply K V) → line step ≡ at_key k f g
+        → reply ≡ g (at known (pairs s) k) → ((j : K) → at known (pairs t) j ≡ line_after known (at_key k f g) j (at known (pairs s) j))
+        → TakesAlone eq b h input z (record { hasher = base; row = slice_set row p t }) step reply
+    taken t stays new f g step reply kind replies becomes =
+        let old : AloneState K V S = record { hasher = base; row = row } in
+        let moved = lifted laws respects base row a k s t there stays new f g becomes in
+        record {
+          replies = subst (λ l. LineReplies (keys_in eq b h input z) l (contents z) reply) (sym kind) (replies ∙ ap g (sym stands));
+          becomes = subst (λ x. Becomes (keys_in eq b h input x) step (contents x) (flat_map pairs (slice_set row p t))) view
+              (subst (λ i. Becomes (keys_in eq b h input old) step (contents old) (flat_map pairs (slice_set row i t))) (sym route_is)
+              (λ j. subst (λ l. at known (flat_map pairs (slice_set row (known.route k) t)) j ≡ line_after known l j (at known (flat_map pairs row) j)) (sym kind) (moved j)));
+          hasher = ap (λ x. x.hasher) view;
+          amount = length-set row p t ∙ ap (λ x. length x.row) view;
+          lawful = alone-set base p row s t a here stays new;
+        }
+
+    -- the shard was put back as it was
+    pub unchanged : (t : ShardState K V S) → t ≡ s → record { hasher = base; row = slice_set row p t } ≡ z
+    unchanged t e = ap (λ x. record { hasher = base; row = slice_set row p x }) (e ∙ read) ∙ ap (λ x. record { hasher = base; row = x }) (set-get_or row p s) ∙ view

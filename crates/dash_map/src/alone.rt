@@ -1,20 +1,24 @@
 //! A map of one owner, without locks.
-ghost use Rattle.std.specs.Prelude.{◌≡◌, ◌⊎◌, ℕ, ◌+◌, ◌<◌, ◌≤◌, ◌↔◌, IsErrOf, IfOk, IfErr, OnOk, Some, length, slice_get};
+ghost use Rattle.std.specs.Prelude.{◌≡◌, ◌⊎◌, ℕ, ◌+◌, ◌<◌, ◌≤◌, ◌↔◌, IsErrOf, IfOk, IfErr, OnOk, Some, None, length, slice_get, OnErr, is_some};
 ghost use Rattle.crossbeam_utils.specs.Padded.{padded_value};
 ghost use Rattle.dash_shard.specs.Hashing.{IsAmount, HashAlike};
 ghost use Rattle.dash_shard.specs.Shard.{shard_len};
 ghost use Rattle.dash_shard.specs.Held.{FitsPlace};
 ghost use Rattle.dash_map.specs.Amounts.{Overflows, share};
-ghost use Rattle.dash_map.specs.Alone.{IsAlone, IsPlaced, contents};
+ghost use Rattle.std.specs.Option.{option_map};
+ghost use Rattle.std.specs.Map.Iter.{deref_pair};
+ghost use Rattle.dash_shard.specs.Contents.{at};
+ghost use Rattle.dash_shard.specs.Steps.{Get, Contains, Insert, Remove, Pair, Found, Old, Replies};
+ghost use Rattle.dash_map.specs.Alone.{IsAlone, IsPlaced, TakesAlone, contents, keys_in};
 ghost use Rattle.dash_map.specs.Map.{IsAt};
 
 use crate::map::{DashMap, Locked};
 use crossbeam_utils::CachePadded;
 use dash_shard::error::ConstructError;
-use dash_shard::hash::is_shard_amount;
+use dash_shard::hash::{determine_shard, is_shard_amount};
 use dash_shard::lock::RwLock;
 use dash_shard::row::move_all;
-use dash_shard::shard::Shard;
+use dash_shard::shard::{InsertRefused, Shard};
 use dash_shard::shard::held::ShardTag;
 use std::alloc::Global;
 use std::hash::{BuildHasher, Hash};
@@ -110,6 +114,55 @@ impl<K: Eq + Hash + Drop, V: Drop, S: BuildHasher> Alone<K, V, S> {
         self.row.len()
     }
 
+    // The number of the shard that a key goes to.
+    #[inline]
+    fn place_of(&self, key: &K) -> usize
+        ensures place { result ≡ (keys_in K.eq S.BuildHasher S.Hasher.Hasher K.hash_input self.now).route key.now }
+        ensures below { result < length self.now.row }
+    {
+        determine_shard(self.hasher.hash_one(key), self.row.len())
+    }
+
+    /// Puts the pair, or where an equal key is there the value under the stored key, and answers the old value.
+    ///
+    /// Takes memory for a new key where its shard is full, and is refused (1) only then. It waits for nobody.
+    #[inline]
+    pub fn insert(&mut self, key: K, value: V) -> Result<Option<V>, InsertRefused<K, V>>
+        ensures taken { IfOk result (λ old. TakesAlone K.eq S.BuildHasher S.Hasher.Hasher K.hash_input self.old self.new (Insert key value) (Old old)) }
+        ensures refused { IfErr result (λ e. (e.key ≡ key) × (e.value ≡ value) × (self.new ≡ self.old)) }
+        ensures absent { OnErr result (at (keys_in K.eq S.BuildHasher S.Hasher.Hasher K.hash_input self.old) (contents self.old) key ≡ None) }
+    {
+        let place = self.place_of(&key);
+        self.row[place].insert(key, value)
+    }
+
+    /// Takes the pair whose key equals `key` out, and answers it. It takes no memory, and can't be refused.
+    #[inline]
+    pub fn remove(&mut self, key: &K) -> Option<(K, V)>
+        ensures { TakesAlone K.eq S.BuildHasher S.Hasher.Hasher K.hash_input self.old self.new (Remove key.now) (Pair result) }
+    {
+        let place = self.place_of(key);
+        self.row[place].remove(key)
+    }
+
+    /// The pair whose key equals `key`.
+    #[inline]
+    pub fn get(&self, key: &K) -> Option<(&K, &V)>
+        ensures pair { Replies (keys_in K.eq S.BuildHasher S.Hasher.Hasher K.hash_input self.now) (Get key.now) (contents self.now) (Pair (option_map deref_pair result)) }
+        ensures lawful { IsAlone K.eq S.BuildHasher S.Hasher.Hasher K.hash_input self.now }
+    {
+        self.row[self.place_of(key)].get(key)
+    }
+
+    /// Whether there is a pair whose key equals `key`.
+    #[inline]
+    pub fn contains_key(&self, key: &K) -> bool
+        ensures found { Replies (keys_in K.eq S.BuildHasher S.Hasher.Hasher K.hash_input self.now) (Contains key.now) (contents self.now) (Found result) }
+        ensures lawful { IsAlone K.eq S.BuildHasher S.Hasher.Hasher K.hash_input self.now }
+    {
+        self.get(key).is_some()
+    }
+
     /// The map behind its locks again. It takes no memory.
     pub fn end(self) -> DashMap<K, V, S>
         ensures { result ≡ record { hasher = self.hasher; amount = length self.row } }
@@ -169,3 +222,6 @@ impl<K: Eq + Hash, V, S: BuildHasher> DashMap<K, V, S> {
         }
     }
 }
+
+#[cfg(test)]
+mod tests;
