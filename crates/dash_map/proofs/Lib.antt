@@ -1,3 +1,4 @@
+mod Found
 mod Lifting
 mod Moves
 mod Refusals

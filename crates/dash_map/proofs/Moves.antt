@@ -1,5 +1,5 @@
 -- The shards of a map, in their two homes: behind locks, and in the row of one owner.
-use Rattle.std.proofs.Common.{◌≡◌, ℕ, Bool, List, length, Some, slice_get, sym, subst, ◌∙◌}
+use Rattle.std.proofs.Common.{◌≡◌, ℕ, Bool, List, length, sym, subst, ◌∙◌}
 use Rattle.std.specs.Hash.{HashWrites}
 use Rattle.std.specs.declared.hash.Hasher as hasher
 use Rattle.std.specs.declared.hash.BuildHasher as builder

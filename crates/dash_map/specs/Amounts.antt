@@ -1,5 +1,5 @@
 -- How many shards a map has, and how many pairs each shard has room for.
-use Rattle.std.specs.Prelude.{ℕ, ◌≡◌, ◌+◌, ◌-◌, ◌*◌, ◌/◌, ◌^◌, ◌<◌, ◌≤◌}
+use Rattle.std.specs.Prelude.{ℕ, ◌+◌, ◌-◌, ◌*◌, ◌/◌, ◌^◌, ◌<◌, ◌≤◌}
 use Rattle.std.specs.Int.{IsPowerOfTwo}
 
 -- what a caller may hand in as the number of its processors

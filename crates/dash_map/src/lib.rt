@@ -2,4 +2,5 @@
 #![tactic(auto)]
 
 pub mod alone;
+mod calls;
 pub mod map;

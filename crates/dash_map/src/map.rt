@@ -120,11 +120,7 @@ impl<K: Eq + Hash + Drop, V: Drop, S: BuildHasher + Clone + Drop> DashMap<K, V, 
     ///
     /// It is refused where the parallelism is 0 or above 2^61 (6), then where the capacity can't be rounded up (7), then where there is no
     /// memory (8). The original reads the parallelism from the system.
-    pub fn with_hasher(
-        alloc: Global,
-        hasher: S,
-        parallelism: usize,
-    ) -> Result<Self, ConstructError>
+    pub fn with_hasher(alloc: Global, hasher: S, parallelism: usize) -> Result<Self, ConstructError>
         requires { (s t : S) → S.is_clone s t → HashAlike S.BuildHasher S.Hasher.Hasher s t }
         ensures hasher { IfOk result (λ m. m.hasher ≡ hasher) }
         ensures amount { IfOk result (λ m. IsDefault parallelism m.amount) }

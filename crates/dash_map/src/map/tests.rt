@@ -14,11 +14,19 @@ fn refusal(made: Result<Map, ConstructError>) -> Option<ConstructError> {
 fn amounts_that_are_refused(rt: HostRuntime) {
     for amount in [0, 1, 3] {
         let refused = refusal(Map::with_shard_amount(rt.alloc(), amount));
-        assert_eq!(rt; refused, Some(ConstructError::ShardAmount), "{amount} shards");
+        assert_eq!(rt;
+            refused,
+            Some(ConstructError::ShardAmount),
+            "{amount} shards"
+        );
     }
     for parallelism in [0, (1 << 61) + 1] {
         let refused = refusal(Map::new(rt.alloc(), parallelism));
-        assert_eq!(rt; refused, Some(ConstructError::Parallelism), "{parallelism} processors");
+        assert_eq!(rt;
+            refused,
+            Some(ConstructError::Parallelism),
+            "{parallelism} processors"
+        );
     }
 }
 
@@ -28,9 +36,17 @@ fn amounts_that_are_taken(rt: HostRuntime) -> Result<(), Fail> {
     assert_eq!(rt; map.alone().shard_count(), 2);
     for (parallelism, amount) in [(1, 4), (3, 16)] {
         let map = Map::new(rt.alloc(), parallelism)?;
-        assert_eq!(rt; map.alone().shard_count(), amount, "{parallelism} processors");
+        assert_eq!(rt;
+            map.alone().shard_count(),
+            amount,
+            "{parallelism} processors"
+        );
         let map = Map::default(rt.alloc(), parallelism)?;
-        assert_eq!(rt; map.alone().shard_count(), amount, "{parallelism} processors");
+        assert_eq!(rt;
+            map.alone().shard_count(),
+            amount,
+            "{parallelism} processors"
+        );
     }
     Ok(())
 }
@@ -63,7 +79,11 @@ fn routes(rt: HostRuntime) -> Result<(), Fail> {
     assert_eq!(rt; two.determine_shard((1 << 56) - 1), 0);
     assert_eq!(rt; two.determine_shard(1 << 56), 1);
 
-    let places = DashMap::<u64, u64, PlaceState>::with_hasher_and_shard_amount(rt.alloc(), PlaceState, 4)?;
+    let places = DashMap::<u64, u64, PlaceState>::with_hasher_and_shard_amount(
+        rt.alloc(),
+        PlaceState,
+        4,
+    )?;
     for key in 0..16u64 {
         assert_eq!(rt; places.determine_map(&key) as u64, key % 4, "of {key}");
     }

@@ -12,10 +12,11 @@ pub invariant_of-result : goal.invariant_of-result
 invariant_of-result g c =
     let row = c.self.inside.row in
     let made = c.move_all.new in
-    let long : length made.to.items ≡ length row.items = moved-length _ 0 row.items made.to.items c.move_all.ensures.moved in
-    (map-of_alone g.K.PartialEq.eq g.S.BuildHasher g.S.Hasher.Hasher g.K.Hash.hash_input c.self.inside.hasher c.len-amount.result row.items made.to.items (c.len-amount.ensures ∙ row.ok.0) c.self.invariant.0 c.move_all.ensures.moved,
-    c.move_all.ensures.empty,
-    omega (arith, long, row.ok, made.to.ok, c.move_all.ensures.from_room))
+    let long : length made.to.items ≡ length row.items = moved-length _ 0 row.items made.to.items c.move_all.ensures.moved in (
+      map-of_alone g.K.PartialEq.eq g.S.BuildHasher g.S.Hasher.Hasher g.K.Hash.hash_input c.self.inside.hasher c.len-amount.result row.items made.to.items (c.len-amount.ensures ∙ row.ok.0) c.self.invariant.0 c.move_all.ensures.moved,
+      c.move_all.ensures.empty,
+      omega (arith, long, row.ok, made.to.ok, c.move_all.ensures.from_room),
+    )
 
 pub returns : goal.returns
 returns g c =

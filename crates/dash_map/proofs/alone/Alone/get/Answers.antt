@@ -1,4 +1,4 @@
-use Rattle.std.proofs.Common.{◌≡◌, ◌<◌, ◌∙◌, ap, sym, length, arith}
+use Rattle.std.proofs.Common.{◌<◌, ◌∙◌, ap, sym, length, arith}
 use Rattle.dash_shard.specs.Steps.{Pair}
 use Rattle.dash_map.proofs.Lifting.{stands}
 use Rattle.dash_map.proofs.alone.Alone.get.Goals as goal

@@ -1,4 +1,4 @@
-use Rattle.std.proofs.Common.{◌≡◌, ◌<◌, ◌∙◌, Some, refl, ap, length, arith}
+use Rattle.std.proofs.Common.{◌<◌, ◌∙◌, Some, refl, ap, length, arith}
 use Rattle.std.proofs.lemmas.Result.{IfOk-weaker, MatchResult-weaker}
 use Rattle.dash_shard.specs.Steps.{Insert, Old, key_or, value}
 use Rattle.dash_shard.specs.Shard.{TakesExactly}

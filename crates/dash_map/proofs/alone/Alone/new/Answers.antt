@@ -1,4 +1,4 @@
-use Rattle.std.proofs.Common.{rules, ℕ, ◌≡◌, ◌≤◌, ◌/◌, arith, subst, sym}
+use Rattle.std.proofs.Common.{rules, ◌≤◌, ◌/◌, arith, subst, sym}
 use Rattle.dash_shard.specs.Hashing.{IsAmount}
 use Rattle.dash_map.specs.Alone.{IsPlaced}
 use Rattle.dash_map.proofs.alone.Alone.new.Goals as goal
@@ -6,11 +6,14 @@ use Rattle.dash_map.proofs.alone.Alone.new.Goals as goal
 pub invariant_of-result : goal.invariant_of-result
 invariant_of-result g c =
     let lawful : IsAmount c.args.amount = c.is_shard_amount.ensures.0 c.if-not-is_shard_amount.false in
-    let made = c.in_ok-row.ensures in
-    (record {
-      amount = subst IsAmount (sym made.len) lawful;
-      placed = λ i s e. subst (λ n. IsPlaced g.K.PartialEq.eq g.S.BuildHasher g.S.Hasher.Hasher g.K.Hash.hash_input c.args.hasher n i s) (sym made.len) (made.placed i s e);
-    }, c.in-Ok.ensures.items, omega (arith, made.len, c.in_ok-row.row.ok, c.in-Ok.ensures.capacity))
+    let made = c.in_ok-row.ensures in (
+      record {
+        amount = subst IsAmount (sym made.len) lawful;
+        placed = λ i s e. subst (λ n. IsPlaced g.K.PartialEq.eq g.S.BuildHasher g.S.Hasher.Hasher g.K.Hash.hash_input c.args.hasher n i s) (sym made.len) (made.placed i s e);
+      },
+      c.in-Ok.ensures.items,
+      omega (arith, made.len, c.in_ok-row.row.ok, c.in-Ok.ensures.capacity),
+    )
 
 pub returns-clause-fresh : goal.returns-clause-fresh
 returns-clause-fresh g c = λ i s e.

@@ -1,4 +1,4 @@
-use Rattle.std.proofs.Common.{◌≡◌, ◌∙◌, ap, length}
+use Rattle.std.proofs.Common.{◌∙◌, ap, length}
 use Rattle.dash_shard.specs.Hashing.{hash_of, route_of_hash, route_by}
 use Rattle.dash_map.proofs.alone.Alone.place_of.Goals as goal
 

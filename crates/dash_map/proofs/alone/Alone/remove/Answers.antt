@@ -1,4 +1,4 @@
-use Rattle.std.proofs.Common.{◌≡◌, ◌<◌, None, refl, ap, length, arith}
+use Rattle.std.proofs.Common.{◌<◌, None, refl, ap, length, arith}
 use Rattle.dash_shard.specs.Steps.{Remove, Pair}
 use Rattle.dash_map.proofs.Lifting.{goes_there, here, alone-set, taken}
 use Rattle.dash_map.proofs.alone.Alone.remove.Goals as goal

@@ -9,10 +9,11 @@ pub invariant_of-result : goal.invariant_of-result
 invariant_of-result g c =
     let row = c.self.inside.row in
     let made = c.move_all.new in
-    let long : length made.to.items ≡ length row.items = moved-length (λ _ lock s. FitsPlace g.K.PartialEq.eq g.S.BuildHasher g.S.Hasher.Hasher g.K.Hash.hash_input (padded_value lock) s) 0 row.items made.to.items c.move_all.ensures.moved in
-    (alone-of_map g.K.PartialEq.eq g.S.BuildHasher g.S.Hasher.Hasher g.K.Hash.hash_input c.self.inside.hasher row.items made.to.items c.self.invariant.0 c.move_all.ensures.moved,
-    c.move_all.ensures.empty,
-    omega (arith, long, row.ok, made.to.ok, c.move_all.ensures.from_room))
+    let long : length made.to.items ≡ length row.items = moved-length (λ _ lock s. FitsPlace g.K.PartialEq.eq g.S.BuildHasher g.S.Hasher.Hasher g.K.Hash.hash_input (padded_value lock) s) 0 row.items made.to.items c.move_all.ensures.moved in (
+      alone-of_map g.K.PartialEq.eq g.S.BuildHasher g.S.Hasher.Hasher g.K.Hash.hash_input c.self.inside.hasher row.items made.to.items c.self.invariant.0 c.move_all.ensures.moved,
+      c.move_all.ensures.empty,
+      omega (arith, long, row.ok, made.to.ok, c.move_all.ensures.from_room),
+    )
 
 pub returns-clause-amount : goal.returns-clause-amount
 returns-clause-amount g c =

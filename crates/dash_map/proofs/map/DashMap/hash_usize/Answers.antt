@@ -1,4 +1,4 @@
-use Rattle.std.proofs.Common.{◌≡◌, ◌∙◌, ap}
+use Rattle.std.proofs.Common.{◌∙◌, ap}
 use Rattle.dash_shard.specs.Hashing.{hash_of}
 use Rattle.dash_map.proofs.map.DashMap.hash_usize.Goals as goal
 

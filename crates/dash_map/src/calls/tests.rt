@@ -1,0 +1,94 @@
+//! A map that threads share: what is put is found, and taken once.
+use super::*;
+use dash_shard::hash::{FixedState, PlaceState};
+use std::alloc::Global;
+use std::process::Abort;
+use std::sync::Arc;
+use std::test::Fail;
+use std::thread;
+
+// The value at a key.
+fn value_at<R: Abort + Wait + Clock, S: BuildHasher>(
+    rt: &R,
+    map: &DashMap<u64, u64, S>,
+    key: u64,
+) -> Option<u64> {
+    let found = map.get(rt, &key)?;
+    assert_eq!(rt; *found.key(), key);
+    Some(*found.value())
+}
+
+#[test]
+fn a_hundred_keys(rt: HostRuntime) -> Result<(), Fail> {
+    let map = DashMap::<u64, u64, FixedState>::new(rt.alloc(), 1)?;
+    for i in 0..100 {
+        map.insert(&rt, 0, i)?;
+        map.insert(&rt, i, i)?;
+    }
+    assert_eq!(rt; value_at(&rt, &map, 0), Some(99));
+    for i in 1..100 {
+        assert_eq!(rt; value_at(&rt, &map, i), Some(i));
+    }
+    assert_eq!(rt; map.remove(&rt, &7), Some((7, 7)));
+    assert_eq!(rt; map.remove(&rt, &7), None);
+    assert_eq!(rt; value_at(&rt, &map, 7), None);
+    let alone = map.alone();
+    assert_eq!(rt; alone.get(&8), Some((&8, &8)));
+    assert!(rt; !alone.contains_key(&7));
+    Ok(())
+}
+
+// Sixteen keys of its own for each thread.
+fn insert_all<R: Wait + Clock>(
+    rt: &R,
+    map: &Arc<DashMap<u64, u64, PlaceState>, Global>,
+    thread: u64,
+) {
+    for i in 0..16u64 {
+        if map
+            .insert(rt, thread.wrapping_mul(16).wrapping_add(i), thread)
+            .is_err()
+        {
+            return;
+        }
+    }
+}
+
+#[test]
+fn four_threads_share_a_map(rt: HostRuntime) -> Result<(), Fail> {
+    let map = DashMap::<u64, u64, PlaceState>::with_hasher_and_shard_amount(
+        rt.alloc(),
+        PlaceState,
+        4,
+    )?;
+    let map = Arc::new(rt.alloc(), map)?;
+    let mut threads = [0, 1, 2, 3];
+    thread::for_each_mut(
+        &rt,
+        threads.as_mut_slice(),
+        4,
+        &|_, thread: &mut u64| { insert_all(&rt, &map, *thread) },
+    );
+    for key in 0..64 {
+        assert_eq!(rt; value_at(&rt, &map, key), Some(key / 16), "at {key}");
+    }
+    assert_eq!(rt; value_at(&rt, &map, 37), Some(2));
+    assert_eq!(rt; value_at(&rt, &map, 64), None);
+    Ok(())
+}
+
+#[test]
+fn a_held_shard_leaves_the_others_free(rt: HostRuntime) -> Result<(), Fail> {
+    let map = DashMap::<u64, u64, PlaceState>::with_hasher_and_shard_amount(
+        rt.alloc(),
+        PlaceState,
+        4,
+    )?;
+    map.insert(&rt, 0, 5)?;
+    let held = map.get(&rt, &0).ok_or("no pair")?;
+    assert_eq!(rt; map.insert(&rt, 1, 10)?, None);
+    assert_eq!(rt; value_at(&rt, &map, 1), Some(10));
+    assert_eq!(rt; value_at(&rt, &map, 0), Some(5));
+    assert_eq!(rt; *held.value(), 5);
+    Ok(())
+}
