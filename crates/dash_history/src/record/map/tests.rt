@@ -170,3 +170,28 @@ fn stamps_rise_above_the_shards_and_the_callers_last(rt: HostRuntime) -> Result<
     assert_eq!(rt; alone.last_of(1), 1);
     Ok(())
 }
+
+#[test]
+fn a_stamp_is_above_both_lasts(rt: HostRuntime) -> Result<(), Fail> {
+    let (map, mut logs) = Map::new(rt.alloc(), PlaceState, 4, 2)?;
+    for (caller, key, value, stamp) in [
+        (0, 0, 0, 1),
+        (0, 4, 1, 2),
+        (0, 8, 2, 3),
+        (0, 12, 3, 4),
+        (0, 16, 4, 5),
+        (0, 20, 5, 6),
+        (0, 24, 6, 7),
+        (1, 1, 7, 1),
+        (1, 5, 8, 2),
+        (1, 9, 9, 3),
+        (1, 13, 10, 4),
+        (0, 1, 11, 8),
+    ] {
+        let log = logs.get_mut(caller).ok_or("no log")?;
+        apply(&rt, &map, log, ShardStep::Insert(key, value))?;
+        assert_eq!(rt; log.last_stamp(), stamp, "of key {key}");
+    }
+    assert_eq!(rt; map.alone().last_of(1), 8);
+    Ok(())
+}
