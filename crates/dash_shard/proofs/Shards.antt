@@ -81,6 +81,10 @@ module _ {K V : Type 0} (hash : K → ℕ) where
 columns : {K V : Type 0} (nodes : List (Node K V)) → length (hashes_of nodes) ≡ length (pairs_of nodes)
 columns nodes = length-map nodes (λ n. n.hash) ∙ sym (length-map nodes (λ n. n.pair))
 
+-- the hash by the hasher of a state is that by the hasher of the same state
+pub hash-same : {K V S H : Type 0} (b : builder.Ghosts S H) (h : hasher.Ghosts H) (writes : HashWrites) (s t : ShardState K V S) → s ≡ t → (hash : ℕ) → hash ≡ hash_of b h t.hasher writes → hash ≡ hash_of b h s.hasher writes
+hash-same b h writes s t same hash is = is ∙ sym (ap (λ x. hash_of b h x.hasher writes) same)
+
 module _ {K V S H : Type 0} (eq : K → K → Bool) (b : builder.Ghosts S H) (h : hasher.Ghosts H) (input : K → HashWrites)
     (laws : IsEquivalence eq) (respects : (x y : K) → eq x y ≡ true → input x ≡ input y) (s : S) (number amount : ℕ) where
   -- the state of the shard that has this table

@@ -1,12 +1,12 @@
 -- A shard behind a lock: what its lock is made for, and what an insert or a removal through a hold promises.
-use Rattle.std.specs.Prelude.{◌≡◌, ◌+◌, ◌<◌, Bool, Option, None, Result, IfOk, OnOk, IfErr, OnErr, is_some, if◌then◌else◌}
+use Rattle.std.specs.Prelude.{◌≡◌, ℕ, ◌+◌, ◌<◌, ◌↔◌, Bool, Option, Some, None, IfSome, IsNone, Result, IfOk, OnOk, IfErr, OnErr, is_some, if◌then◌else◌}
 use Rattle.std.specs.Hash.{HashWrites}
 use Rattle.std.specs.declared.hash.Hasher as hasher
 use Rattle.std.specs.declared.hash.BuildHasher as builder
 use Rattle.dash_shard.specs.Hashing.{HashAlike}
 use Rattle.dash_shard.specs.Contents.{at}
 use Rattle.dash_shard.specs.Steps.{Insert, Remove, Old, Pair}
-use Rattle.dash_shard.specs.Shard.{ShardState, pairs, shard_len, keys_of, IsShard, TakesExactly, StaysInPlace}
+use Rattle.dash_shard.specs.Shard.{ShardState, place, pairs, shard_len, HasKey, keys_of, IsShard, TakesExactly, StaysInPlace}
 use Rattle.dash_shard.specs.declared.shard.InsertRefused.{InsertRefused}
 use Rattle.dash_shard.specs.declared.shard.held.ShardTag.{ShardTag}
 
@@ -35,3 +35,10 @@ module _ {K V S H : Type 0} (eq : K → K → Bool) (b : builder.Ghosts S H) (h 
     pub len : shard_len old ≡ shard_len new + (if is_some result then 1 else 0)
     pub room : new.capacity ≡ old.capacity
     pub places : StaysInPlace eq b h input old new (Remove key)
+
+  -- all that a search for a key's place promises
+  pub record Finds (s : ShardState K V S) (key : K) (result : Option ℕ) : Type 0 where
+    pub position : (i : ℕ) → (result ≡ Some i) ↔ HasKey eq s key i
+    pub pair : IfSome result (λ i. place s.places i ≡ at (keys_of eq b h input s) (pairs s) key)
+    pub absent : IsNone result ↔ (at (keys_of eq b h input s) (pairs s) key ≡ None)
+    pub lawful : IsShard eq b h input s

@@ -133,6 +133,30 @@ impl<K: Eq + Hash, V, S: BuildHasher> Shard<K, V, S> {
         ensures full { OnErr result (shard_len self.old ≡ self.old.capacity) }
     {
         let hash = self.hasher.hash_one(&key);
+        self.insert_hashed(hash, key, value)
+    }
+
+    /// As `insert`, for a caller who has the key's hash.
+    #[inline]
+    pub fn insert_hashed(
+        &mut self,
+        hash: u64,
+        key: K,
+        value: V,
+    ) -> Result<Option<V>, InsertRefused<K, V>>
+    where
+        K: Drop,
+        V: Drop,
+        requires hash { hash ≡ hash_of S.BuildHasher S.Hasher.Hasher self.old.hasher (K.hash_input key) }
+        requires route { Routes K.eq S.BuildHasher S.Hasher.Hasher K.hash_input self.old key }
+        ensures taken { IfOk result (λ old. TakesExactly K.eq S.BuildHasher S.Hasher.Hasher K.hash_input self.old self.new (Insert key value) (Old old)) }
+        ensures len { IfOk result (λ old. shard_len self.new ≡ shard_len self.old + (if is_some old then 0 else 1)) }
+        ensures room { shard_len self.old < self.old.capacity → self.new.capacity ≡ self.old.capacity }
+        ensures places { OnOk result (self.new.capacity ≡ self.old.capacity → StaysInPlace K.eq S.BuildHasher S.Hasher.Hasher K.hash_input self.old self.new (Insert key value)) }
+        ensures refused { IfErr result (λ e. (e.key ≡ key) × (e.value ≡ value) × (self.new ≡ self.old)) }
+        ensures absent { OnErr result (at (keys_of K.eq S.BuildHasher S.Hasher.Hasher K.hash_input self.old) (pairs self.old) key ≡ None) }
+        ensures full { OnErr result (shard_len self.old ≡ self.old.capacity) }
+    {
         if let Some(place) = self.table.find(hash, &key) {
             return Ok(Some(self.table.replace(place, value)));
         }
@@ -154,7 +178,21 @@ impl<K: Eq + Hash, V, S: BuildHasher> Shard<K, V, S> {
         ensures room { self.new.capacity ≡ self.old.capacity }
         ensures places { StaysInPlace K.eq S.BuildHasher S.Hasher.Hasher K.hash_input self.old self.new (Remove key.now) }
     {
-        let position = self.table.find(self.hasher.hash_one(key), key)?;
+        let hash = self.hasher.hash_one(key);
+        self.remove_hashed(hash, key)
+    }
+
+    /// As `remove`, for a caller who has the key's hash.
+    #[inline]
+    pub fn remove_hashed(&mut self, hash: u64, key: &K) -> Option<(K, V)>
+        requires hash { hash ≡ hash_of S.BuildHasher S.Hasher.Hasher self.old.hasher (K.hash_input key.now) }
+        requires route { Routes K.eq S.BuildHasher S.Hasher.Hasher K.hash_input self.old key.now }
+        ensures taken { TakesExactly K.eq S.BuildHasher S.Hasher.Hasher K.hash_input self.old self.new (Remove key.now) (Pair result) }
+        ensures len { shard_len self.old ≡ shard_len self.new + (if is_some result then 1 else 0) }
+        ensures room { self.new.capacity ≡ self.old.capacity }
+        ensures places { StaysInPlace K.eq S.BuildHasher S.Hasher.Hasher K.hash_input self.old self.new (Remove key.now) }
+    {
+        let position = self.table.find(hash, key)?;
         Some(self.table.take(position))
     }
 
@@ -176,7 +214,19 @@ impl<K: Eq + Hash, V, S: BuildHasher> Shard<K, V, S> {
         ensures absent { IsNone result ↔ (at (keys_of K.eq S.BuildHasher S.Hasher.Hasher K.hash_input self.now) (pairs self.now) key.now ≡ None) }
         ensures lawful { IsShard K.eq S.BuildHasher S.Hasher.Hasher K.hash_input self.now }
     {
-        self.table.find(self.hasher.hash_one(key), key)
+        self.position_of_hashed(self.hasher.hash_one(key), key)
+    }
+
+    /// As `position_of`, for a caller who has the key's hash.
+    #[inline(always)]
+    pub fn position_of_hashed(&self, hash: u64, key: &K) -> Option<usize>
+        requires { hash ≡ hash_of S.BuildHasher S.Hasher.Hasher self.now.hasher (K.hash_input key.now) }
+        ensures position { (i : ℕ) → (result ≡ Some i) ↔ HasKey K.eq self.now key.now i }
+        ensures pair { IfSome result (λ i. place self.now.places i ≡ at (keys_of K.eq S.BuildHasher S.Hasher.Hasher K.hash_input self.now) (pairs self.now) key.now) }
+        ensures absent { IsNone result ↔ (at (keys_of K.eq S.BuildHasher S.Hasher.Hasher K.hash_input self.now) (pairs self.now) key.now ≡ None) }
+        ensures lawful { IsShard K.eq S.BuildHasher S.Hasher.Hasher K.hash_input self.now }
+    {
+        self.table.find(hash, key)
     }
 
     /// The pair of a taken place, without a look at any other.

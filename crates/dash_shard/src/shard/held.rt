@@ -2,10 +2,11 @@
 ghost use Rattle.std.specs.Prelude.{◌≡◌, ℕ, ◌<◌, ◌≤◌, ◌+◌, ◌↔◌, IsTrue, IfOk, OnOk, IfErr, OnErr, IsSome, IfSome, IsNone, is_some, Some, None, if◌then◌else◌};
 ghost use Rattle.std.specs.Option.{option_map};
 ghost use Rattle.std.specs.Map.Iter.{deref_pair};
+ghost use Rattle.dash_shard.specs.Hashing.{hash_of};
 ghost use Rattle.dash_shard.specs.Contents.{at};
 ghost use Rattle.dash_shard.specs.Steps.{Get, Insert, Remove, Pair, Old, Replies};
 ghost use Rattle.dash_shard.specs.Shard.{place, pairs, shard_len, HasKey, keys_of, Routes, IsShard, TakesExactly, StaysInPlace};
-ghost use Rattle.dash_shard.specs.Held.{FitsPlace, Inserts, Removes};
+ghost use Rattle.dash_shard.specs.Held.{FitsPlace, Inserts, Removes, Finds};
 
 use crate::lock::{RwLockWriteGuard, Tagged};
 use crate::shard::{InsertRefused, Shard};
@@ -135,6 +136,30 @@ impl<K: Eq + Hash, V, S: BuildHasher> ShardMut<'_, K, V, S> {
         )
     }
 
+    /// As `insert`, for a caller who has the key's hash.
+    #[inline]
+    pub fn insert_hashed(
+        &mut self,
+        hash: u64,
+        key: K,
+        value: V,
+    ) -> Result<Option<V>, InsertRefused<K, V>>
+    where
+        K: Drop,
+        V: Drop,
+        requires hash { hash ≡ hash_of S.BuildHasher S.Hasher.Hasher self.old.hasher (K.hash_input key) }
+        requires route { Routes K.eq S.BuildHasher S.Hasher.Hasher K.hash_input self.old key }
+        ensures { Inserts K.eq S.BuildHasher S.Hasher.Hasher K.hash_input self.old self.new key value result }
+    {
+        self.guard.change(
+            |shard: &mut Shard<K, V, S>| -> Result<Option<V>, InsertRefused<K, V>>
+                requires hash { hash ≡ hash_of S.BuildHasher S.Hasher.Hasher shard.old.hasher (K.hash_input key) }
+                requires route { Routes K.eq S.BuildHasher S.Hasher.Hasher K.hash_input shard.old key }
+                ensures { Inserts K.eq S.BuildHasher S.Hasher.Hasher K.hash_input shard.old shard.new key value result }
+            { shard.insert_hashed(hash, key, value) },
+        )
+    }
+
     /// Takes the pair whose key equals `key` out, and answers it. It takes no memory, and can't be refused.
     ///
     /// The room stays, for pairs that come later.
@@ -151,6 +176,22 @@ impl<K: Eq + Hash, V, S: BuildHasher> ShardMut<'_, K, V, S> {
                 requires { Routes K.eq S.BuildHasher S.Hasher.Hasher K.hash_input shard.old key.now }
                 ensures { Removes K.eq S.BuildHasher S.Hasher.Hasher K.hash_input shard.old shard.new key.entry.now result }
             { shard.remove(key) },
+        )
+    }
+
+    /// As `remove`, for a caller who has the key's hash.
+    #[inline]
+    pub fn remove_hashed(&mut self, hash: u64, key: &K) -> Option<(K, V)>
+        requires hash { hash ≡ hash_of S.BuildHasher S.Hasher.Hasher self.old.hasher (K.hash_input key.now) }
+        requires route { Routes K.eq S.BuildHasher S.Hasher.Hasher K.hash_input self.old key.now }
+        ensures { Removes K.eq S.BuildHasher S.Hasher.Hasher K.hash_input self.old self.new key.now result }
+    {
+        self.guard.change(
+            |shard: &mut Shard<K, V, S>| -> Option<(K, V)>
+                requires hash { hash ≡ hash_of S.BuildHasher S.Hasher.Hasher shard.old.hasher (K.hash_input key.now) }
+                requires route { Routes K.eq S.BuildHasher S.Hasher.Hasher K.hash_input shard.old key.now }
+                ensures { Removes K.eq S.BuildHasher S.Hasher.Hasher K.hash_input shard.old shard.new key.entry.now result }
+            { shard.remove_hashed(hash, key) },
         )
     }
 
@@ -172,6 +213,15 @@ impl<K: Eq + Hash, V, S: BuildHasher> ShardMut<'_, K, V, S> {
         ensures lawful { IsShard K.eq S.BuildHasher S.Hasher.Hasher K.hash_input self.now }
     {
         self.guard.position_of(key)
+    }
+
+    /// As `position_of`, for a caller who has the key's hash.
+    #[inline]
+    pub fn position_of_hashed(&self, hash: u64, key: &K) -> Option<usize>
+        requires { hash ≡ hash_of S.BuildHasher S.Hasher.Hasher self.now.hasher (K.hash_input key.now) }
+        ensures { Finds K.eq S.BuildHasher S.Hasher.Hasher K.hash_input self.now key.now result }
+    {
+        self.guard.position_of_hashed(hash, key)
     }
 
     /// The pair of a taken place, without a look at any other.

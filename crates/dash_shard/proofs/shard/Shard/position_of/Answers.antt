@@ -1,18 +1,7 @@
+use Rattle.std.proofs.Common.{ap, ◌∙◌}
 use Rattle.dash_shard.specs.Hashing.{hash_of}
-use Rattle.dash_shard.proofs.Positions.{located}
 use Rattle.dash_shard.proofs.shard.Shard.position_of.Goals as goal
 
-pub returns-clause-position : goal.returns-clause-position
+pub position_of_hashed-requires : goal.position_of_hashed-requires
 unfolding hash_of
-returns-clause-position g c =
-    (located _ _ _ _ g.met.K.Eq.laws g.met.K.Hash.respects_eq _ _ _ _ c.self.invariant _ _ c.hash_one.ensures _ c.self.view_is _ c.find.ensures.found c.find.ensures.absent).position
-
-pub returns-clause-pair : goal.returns-clause-pair
-unfolding hash_of
-returns-clause-pair g c =
-    (located _ _ _ _ g.met.K.Eq.laws g.met.K.Hash.respects_eq _ _ _ _ c.self.invariant _ _ c.hash_one.ensures _ c.self.view_is _ c.find.ensures.found c.find.ensures.absent).pair
-
-pub returns-clause-absent : goal.returns-clause-absent
-unfolding hash_of
-returns-clause-absent g c =
-    (located _ _ _ _ g.met.K.Eq.laws g.met.K.Hash.respects_eq _ _ _ _ c.self.invariant _ _ c.hash_one.ensures _ c.self.view_is _ c.find.ensures.found c.find.ensures.absent).absent
+position_of_hashed-requires g c = c.hash_one.ensures ∙ ap (λ s. hash_of g.S.BuildHasher g.S.Hasher.Hasher s.hasher (g.K.Hash.hash_input c.args.key.now)) c.self.view_is
