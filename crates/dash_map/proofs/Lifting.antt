@@ -119,6 +119,10 @@ module _ {K V S H : Type 0} (eq : K → K → Bool) (b : builder.Ghosts S H) (h 
     pub goes_there : (keys_of eq b h input s).route k ≡ s.number
     goes_there = ap (λ x. x.route k) (keys-same base (length row) p s (a.placed p s here)) ∙ sym route_is ∙ sym (a.placed p s here).number
 
+    -- the key has one hash there and by the map's hasher
+    pub hashed_there : (hash : ℕ) → hash ≡ hash_of b h z.hasher (input k) → hash ≡ hash_of b h s.hasher (input k)
+    hashed_there hash is = is ∙ sym (ap (λ x. hash_of b h x.hasher (input k)) view) ∙ sym ((a.placed p s here).hashes (input k))
+
     -- what stands at the key stands on that shard
     pub stands : at (keys_in eq b h input z) (contents z) k ≡ at (keys_of eq b h input s) (pairs s) k
     stands = subst (λ x. at (keys_in eq b h input x) (contents x) k ≡ at known (pairs s) k) view (at-union known row k s (on-shards base row a) there)

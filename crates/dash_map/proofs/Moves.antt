@@ -1,5 +1,6 @@
 -- The shards of a map, in their two homes: behind locks, and in the row of one owner.
-use Rattle.std.proofs.Common.{◌≡◌, ℕ, Bool, List, length, sym, subst, ◌∙◌}
+use Rattle.std.proofs.Common.{◌≡◌, ℕ, ◌<◌, Bool, List, length, Some, slice_get, get_or, ap, sym, subst, ◌∙◌}
+use Rattle.std.proofs.lemmas.Option.{slice_get-get_or}
 use Rattle.std.specs.Hash.{HashWrites}
 use Rattle.std.specs.declared.hash.Hasher as hasher
 use Rattle.std.specs.declared.hash.BuildHasher as builder
@@ -23,6 +24,13 @@ module _ {K V S H : Type 0} (eq : K → K → Bool) (b : builder.Ghosts S H) (h 
     hashes = subst (λ x. HashAlike b h x s.hasher) at.hasher p.hashes;
     shard = p.lawful;
   }
+
+  -- what is held through the lock that an index lends stands in that place of the map, whose state is written z
+  pub placed-held : (m z : MapState S) → m ≡ z → (locks : List (CachePadded (ShardTag S))) → IsMap m locks → (i : ℕ) → i < length locks → (lock : CachePadded (ShardTag S)) → lock ≡ get_or locks i lock
+      → (tag : ShardTag S) → tag ≡ padded_value lock → (s : ShardState K V S) → FitsPlace eq b h input tag s → IsPlaced eq b h input z.hasher z.amount i s
+  placed-held m z view locks is i within lock read tag same s fits =
+      let here : slice_get locks i ≡ Some lock = slice_get-get_or locks i lock within ∙ ap Some (sym read) in
+      subst (λ x. IsPlaced eq b h input x.hasher x.amount i s) view (placed-behind m i lock s (is.placed i lock here) (subst (λ t. FitsPlace eq b h input t s) same fits))
 
   pub alone-of_map : (base : S) (locks : List (CachePadded (ShardTag S))) (row : List (ShardState K V S)) → IsMap (record { hasher = base; amount = length locks }) locks
       → Moved (λ _ lock s. FitsPlace eq b h input (padded_value lock) s) 0 locks row → IsAlone eq b h input (record { hasher = base; row = row })

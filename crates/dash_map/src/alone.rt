@@ -1,7 +1,7 @@
 //! A map of one owner, without locks.
 ghost use Rattle.std.specs.Prelude.{◌≡◌, ◌⊎◌, ℕ, ◌+◌, ◌<◌, ◌≤◌, ◌↔◌, IsErrOf, IfOk, IfErr, OnOk, Some, None, length, slice_get, OnErr, is_some};
 ghost use Rattle.crossbeam_utils.specs.Padded.{padded_value};
-ghost use Rattle.dash_shard.specs.Hashing.{IsAmount, HashAlike};
+ghost use Rattle.dash_shard.specs.Hashing.{IsAmount, HashAlike, hash_of};
 ghost use Rattle.dash_shard.specs.Shard.{shard_len};
 ghost use Rattle.dash_shard.specs.Held.{FitsPlace};
 ghost use Rattle.dash_map.specs.Amounts.{Overflows, share};
@@ -114,13 +114,15 @@ impl<K: Eq + Hash + Drop, V: Drop, S: BuildHasher> Alone<K, V, S> {
         self.row.len()
     }
 
-    // The number of the shard that a key goes to.
+    // The key's hash, and the number of the shard that it goes to.
     #[inline]
-    fn place_of(&self, key: &K) -> usize
-        ensures place { result ≡ (keys_in K.eq S.BuildHasher S.Hasher.Hasher K.hash_input self.now).route key.now }
-        ensures below { result < length self.now.row }
+    fn place_of(&self, key: &K) -> (u64, usize)
+        ensures hash { result.0 ≡ hash_of S.BuildHasher S.Hasher.Hasher self.now.hasher (K.hash_input key.now) }
+        ensures place { result.1 ≡ (keys_in K.eq S.BuildHasher S.Hasher.Hasher K.hash_input self.now).route key.now }
+        ensures below { result.1 < length self.now.row }
     {
-        determine_shard(self.hasher.hash_one(key), self.row.len())
+        let hash = self.hasher.hash_one(key);
+        (hash, determine_shard(hash, self.row.len()))
     }
 
     /// Puts the pair, or where an equal key is there the value under the stored key, and answers the old value.
@@ -132,8 +134,8 @@ impl<K: Eq + Hash + Drop, V: Drop, S: BuildHasher> Alone<K, V, S> {
         ensures refused { IfErr result (λ e. (e.key ≡ key) × (e.value ≡ value) × (self.new ≡ self.old)) }
         ensures absent { OnErr result (at (keys_in K.eq S.BuildHasher S.Hasher.Hasher K.hash_input self.old) (contents self.old) key ≡ None) }
     {
-        let place = self.place_of(&key);
-        self.row[place].insert(key, value)
+        let (hash, place) = self.place_of(&key);
+        self.row[place].insert_hashed(hash, key, value)
     }
 
     /// Takes the pair whose key equals `key` out, and answers it. It takes no memory, and can't be refused.
@@ -141,8 +143,8 @@ impl<K: Eq + Hash + Drop, V: Drop, S: BuildHasher> Alone<K, V, S> {
     pub fn remove(&mut self, key: &K) -> Option<(K, V)>
         ensures { TakesAlone K.eq S.BuildHasher S.Hasher.Hasher K.hash_input self.old self.new (Remove key.now) (Pair result) }
     {
-        let place = self.place_of(key);
-        self.row[place].remove(key)
+        let (hash, place) = self.place_of(key);
+        self.row[place].remove_hashed(hash, key)
     }
 
     /// The pair whose key equals `key`.
@@ -151,7 +153,10 @@ impl<K: Eq + Hash + Drop, V: Drop, S: BuildHasher> Alone<K, V, S> {
         ensures pair { Replies (keys_in K.eq S.BuildHasher S.Hasher.Hasher K.hash_input self.now) (Get key.now) (contents self.now) (Pair (option_map deref_pair result)) }
         ensures lawful { IsAlone K.eq S.BuildHasher S.Hasher.Hasher K.hash_input self.now }
     {
-        self.row[self.place_of(key)].get(key)
+        let (hash, place) = self.place_of(key);
+        let shard = &self.row[place];
+        let position = shard.position_of_hashed(hash, key)?;
+        Some(shard.at(position))
     }
 
     /// Whether there is a pair whose key equals `key`.

@@ -1,6 +1,6 @@
 //! Calls of threads on a map that they share. Each takes one lock.
 ghost use Rattle.std.specs.Prelude.{◌≡◌, ◌<◌, IsTrue, IfSome, IfErr};
-ghost use Rattle.dash_shard.specs.Hashing.{route_by};
+ghost use Rattle.dash_shard.specs.Hashing.{hash_of, route_by};
 ghost use Rattle.dash_map.specs.Alone.{IsPlaced};
 ghost use Rattle.dash_ref.specs.Ref.{Stands};
 
@@ -13,6 +13,17 @@ use std::rt::Clock;
 use std::sync::Wait;
 
 impl<K: Eq + Hash, V, S: BuildHasher> DashMap<K, V, S> {
+    // The key's hash, and the number of the shard that it goes to.
+    #[inline]
+    fn place_of(&self, key: &K) -> (u64, usize)
+        ensures hash { result.0 ≡ hash_of S.BuildHasher S.Hasher.Hasher self.now.hasher (K.hash_input key.now) }
+        ensures route { result.1 ≡ route_by S.BuildHasher S.Hasher.Hasher K.hash_input self.now.hasher self.now.amount key.now }
+        ensures below { result.1 < self.now.amount }
+    {
+        let hash = self.hash_usize(key);
+        (hash as u64, self.determine_shard(hash))
+    }
+
     /// Waits until nobody has the shard, and holds it for writing. The original lends the row of locks.
     #[inline]
     pub fn shards_mut<R: Wait + Clock>(&self, rt: &R, shard: usize) -> ShardMut<'_, K, V, S>
@@ -37,8 +48,8 @@ impl<K: Eq + Hash, V, S: BuildHasher> DashMap<K, V, S> {
         V: Drop,
         ensures refused { IfErr result (λ e. (e.key ≡ key) × (e.value ≡ value)) }
     {
-        let place = self.determine_map(&key);
-        self.shards_mut(rt, place).insert(key, value)
+        let (hash, place) = self.place_of(&key);
+        self.shards_mut(rt, place).insert_hashed(hash, key, value)
     }
 
     /// Takes the pair whose key equals `key` out, and answers it. Waits for the key's shard. It takes no memory.
@@ -46,7 +57,8 @@ impl<K: Eq + Hash, V, S: BuildHasher> DashMap<K, V, S> {
     pub fn remove<R: Wait + Clock>(&self, rt: &R, key: &K) -> Option<(K, V)>
         ensures equal { IfSome result (λ pair. IsTrue (K.eq pair.0 key.now)) }
     {
-        self.shards_mut(rt, self.determine_map(key)).remove(key)
+        let (hash, place) = self.place_of(key);
+        self.shards_mut(rt, place).remove_hashed(hash, key)
     }
 
     /// The pair whose key equals `key`, with a hold of its shard for reading. Waits until no writer has the shard.
@@ -58,7 +70,8 @@ impl<K: Eq + Hash, V, S: BuildHasher> DashMap<K, V, S> {
         ensures stands { IfSome result Stands }
         ensures placed { IfSome result (λ found. IsPlaced K.eq S.BuildHasher S.Hasher.Hasher K.hash_input self.now.hasher self.now.amount (route_by S.BuildHasher S.Hasher.Hasher K.hash_input self.now.hasher self.now.amount key.now) found.shard) }
     {
-        Ref::find(self.row[self.determine_map(key)].read(rt), key)
+        let (hash, place) = self.place_of(key);
+        Ref::find(self.row[place].read(rt), hash, key)
     }
 }
 

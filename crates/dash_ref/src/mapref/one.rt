@@ -2,6 +2,7 @@
 ghost use Rattle.std.specs.Prelude.{◌≡◌, ◌↔◌, IsTrue, IsSome, IfSome, IsNone, None};
 ghost use Rattle.std.specs.Option.{option_map};
 ghost use Rattle.std.specs.Map.Iter.{deref_pair};
+ghost use Rattle.dash_shard.specs.Hashing.{hash_of};
 ghost use Rattle.dash_shard.specs.Contents.{at};
 ghost use Rattle.dash_shard.specs.Steps.{Get, Pair, Replies};
 ghost use Rattle.dash_shard.specs.Shard.{place, pairs, keys_of, IsShard};
@@ -76,16 +77,22 @@ impl<'a, K: Eq + Hash, V, S: BuildHasher> Ref<'a, K, V, S> {
         }
     }
 
-    /// The pair whose key equals `key`, in the shard that the guard holds. It hashes once. Where there is no such pair, the hold ends.
+    /// The pair whose key equals `key`, in the shard that the guard holds, for a caller who has the key's hash. Where there is no such
+    /// pair, the hold ends.
     #[inline]
-    pub fn find(guard: RwLockReadGuard<'a, Shard<K, V, S>>, key: &K) -> Option<Ref<'a, K, V, S>>
+    pub fn find(
+        guard: RwLockReadGuard<'a, Shard<K, V, S>>,
+        hash: u64,
+        key: &K,
+    ) -> Option<Ref<'a, K, V, S>>
+        requires { hash ≡ hash_of S.BuildHasher S.Hasher.Hasher guard.value.hasher (K.hash_input key.now) }
         ensures pair { Replies (keys_of K.eq S.BuildHasher S.Hasher.Hasher K.hash_input guard.entry.value) (Get key.now) (pairs guard.entry.value) (Pair (option_map pair_of result)) }
         ensures absent { IsNone result ↔ (at (keys_of K.eq S.BuildHasher S.Hasher.Hasher K.hash_input guard.entry.value) (pairs guard.entry.value) key.now ≡ None) }
         ensures equal { IfSome result (λ found. IsTrue (K.eq found.key key.now)) }
         ensures shard { IfSome result (λ found. found.shard ≡ guard.entry.value) }
         ensures stands { IfSome result Stands }
     {
-        let position = guard.position_of(key)?;
+        let position = guard.position_of_hashed(hash, key)?;
         Some(Ref::new(guard, position))
     }
 

@@ -30,6 +30,25 @@ fn one_key_after_another(rt: HostRuntime) -> Result<(), Fail> {
 }
 
 #[test]
+#[tactic(auto, unfolding(crate::specs::Hashing::hash_of))]
+fn takes_a_hash_from_its_caller(rt: HostRuntime) -> Result<(), Fail> {
+    assert!(rt; is_shard_amount(4));
+    let mut shard = Shard::<u64, u64, PlaceState>::new(rt.alloc(), PlaceState, 1, 4, 0)?;
+    let hash = PlaceState.hash_one(&5u64);
+    assert!(rt; shard.routes(&5));
+    assert_eq!(rt; shard.insert_hashed(hash, 5, 50)?, None);
+    assert_eq!(rt; shard.get(&5), Some((&5, &50)));
+    let Some(position) = shard.position_of_hashed(hash, &5) else {
+        return Err(Fail::from("no place"));
+    };
+    assert_eq!(rt; shard.at(position), (&5, &50));
+    assert!(rt; shard.routes(&5));
+    assert_eq!(rt; shard.remove_hashed(hash, &5), Some((5, 50)));
+    assert_eq!(rt; shard.len(), 0);
+    Ok(())
+}
+
+#[test]
 fn grows(rt: HostRuntime) -> Result<(), Fail> {
     assert!(rt; is_shard_amount(4));
     let mut shard = Shard::<u64, u64, PlaceState>::new(rt.alloc(), PlaceState, 1, 4, 0)?;

@@ -5,6 +5,8 @@ use dash_shard::lock::RwLock;
 use dash_shard::shard::held::ShardTag;
 use std::alloc::Global;
 use std::process::Abort;
+use std::rt::Clock;
+use std::sync::Wait;
 use std::test::Fail;
 
 type OneShard<V> = RwLock<Shard<u64, V, PlaceState>>;
@@ -25,11 +27,21 @@ fn locked<V: fmt::Debug + Drop, const N: usize>(
     Ok(RwLock::new(shard, &tag))
 }
 
+// The pair of a key, in a hold of its own.
+#[tactic(auto, unfolding(dash_shard::specs::Hashing::hash_of))]
+fn find<'a, V, R: Wait + Clock>(
+    rt: &R,
+    lock: &'a OneShard<V>,
+    key: u64,
+) -> Option<Ref<'a, u64, V, PlaceState>> {
+    Ref::find(lock.read(rt), PlaceState.hash_one(&key), &key)
+}
+
 #[test]
 fn lends_the_pair_of_a_key(rt: HostRuntime) -> Result<(), Fail> {
     let lock = locked(&rt, rt.alloc(), [(1, 10), (5, 50), (9, 90)])?;
     for (key, value) in [(1, 10), (5, 50), (9, 90)] {
-        let Some(found) = Ref::find(lock.read(&rt), &key) else {
+        let Some(found) = find(&rt, &lock, key) else {
             return Err(Fail::from("no pair"));
         };
         assert_eq!(rt; found.key(), &key);
@@ -39,7 +51,7 @@ fn lends_the_pair_of_a_key(rt: HostRuntime) -> Result<(), Fail> {
     }
     // Of this shard, and of another one.
     for absent in [13, 4] {
-        assert!(rt; Ref::find(lock.read(&rt), &absent).is_none(), "{absent}");
+        assert!(rt; find(&rt, &lock, absent).is_none(), "{absent}");
     }
     assert!(rt; lock.try_write().is_some(), "all holds are ended");
     Ok(())
@@ -53,7 +65,7 @@ fn holds_the_shard_for_reading(rt: HostRuntime) -> Result<(), Fail> {
         return Err(Fail::from("no place"));
     };
     let five = Ref::new(guard, position);
-    let Some(one) = Ref::find(lock.read(&rt), &1) else {
+    let Some(one) = find(&rt, &lock, 1) else {
         return Err(Fail::from("no pair"));
     };
     assert_eq!(rt; five.pair(), (&5, &50));
@@ -70,7 +82,7 @@ fn holds_the_shard_for_reading(rt: HostRuntime) -> Result<(), Fail> {
 #[test]
 fn prints_key_and_value(rt: HostRuntime) -> Result<(), Fail> {
     let lock = locked(&rt, rt.alloc(), [(1, 2)])?;
-    let Some(found) = Ref::find(lock.read(&rt), &1) else {
+    let Some(found) = find(&rt, &lock, 1) else {
         return Err(Fail::from("no pair"));
     };
     assert_eq!(rt;
@@ -84,7 +96,7 @@ fn prints_key_and_value(rt: HostRuntime) -> Result<(), Fail> {
         rt.alloc(),
         [(5, String::from_str(rt.alloc(), "five")?)],
     )?;
-    let Some(found) = Ref::find(lock.read(&rt), &5) else {
+    let Some(found) = find(&rt, &lock, 5) else {
         return Err(Fail::from("no pair"));
     };
     assert_eq!(rt; found.as_str(), "five");

@@ -39,6 +39,27 @@ fn a_held_shard_is_changed_in_place(rt: HostRuntime) -> Result<(), Fail> {
 }
 
 #[test]
+#[tactic(auto, unfolding(crate::specs::Hashing::hash_of))]
+fn a_held_shard_takes_a_hash_from_its_caller(rt: HostRuntime) -> Result<(), Fail> {
+    assert!(rt; is_shard_amount(4));
+    let shard = Shard::<u64, u64, PlaceState>::new(rt.alloc(), PlaceState, 1, 4, 0)?;
+    let tag = ShardTag::of(&shard);
+    let lock = RwLock::new(shard, &tag);
+    let mut held = lock.write(&rt).shard();
+    let hash = PlaceState.hash_one(&5u64);
+    assert!(rt; held.routes(&5));
+    assert_eq!(rt; held.insert_hashed(hash, 5, 50)?, None);
+    let Some(position) = held.position_of_hashed(hash, &5) else {
+        return Err(Fail::from("no place"));
+    };
+    assert_eq!(rt; held.at(position), (&5, &50));
+    assert!(rt; held.routes(&5));
+    assert_eq!(rt; held.remove_hashed(hash, &5), Some((5, 50)));
+    assert_eq!(rt; held.len(), 0);
+    Ok(())
+}
+
+#[test]
 fn a_leaked_hold_leaves_a_shard(rt: HostRuntime) -> Result<(), Fail> {
     assert!(rt; is_shard_amount(4));
     let shard = Shard::<u64, u64, PlaceState>::new(rt.alloc(), PlaceState, 1, 4, 0)?;

@@ -3,4 +3,4 @@ use Rattle.dash_map.proofs.Found.{taken-equal}
 use Rattle.dash_map.proofs.map.DashMap.remove.Goals as goal
 
 pub returns : goal.returns
-returns g c = record { equal = taken-equal (keys_of g.K.PartialEq.eq g.S.BuildHasher g.S.Hasher.Hasher g.K.Hash.hash_input c.shards_mut.result) (pairs c.shards_mut.result) c.args.key.now c.remove.result c.remove.ensures.taken.replies }
+returns g c = record { equal = taken-equal (keys_of g.K.PartialEq.eq g.S.BuildHasher g.S.Hasher.Hasher g.K.Hash.hash_input c.shards_mut.result) (pairs c.shards_mut.result) c.args.key.now c.remove_hashed.result c.remove_hashed.ensures.taken.replies }
