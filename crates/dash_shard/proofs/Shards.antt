@@ -12,7 +12,7 @@ use Rattle.std.proofs.Math.ListN.{replicate}
 use Rattle.dash_shard.specs.Hashing.{IsAmount, hash_of, route_of_hash}
 use Rattle.dash_shard.specs.Contents.{Keys, at, IsOnShard}
 use Rattle.dash_shard.specs.Steps.{Insert, Remove, Old, Pair, after, key_or}
-use Rattle.dash_shard.specs.Shard.{ShardState, place, taken, pairs, keys_of, Routes, IsShard, TakesExactly, StaysInPlace}
+use Rattle.dash_shard.specs.Shard.{ShardState, place, taken, pairs, shard_len, keys_of, Routes, IsShard, TakesExactly, StaysInPlace}
 use Rattle.dash_shard.specs.declared.shard.table.Node.{Node}
 use Rattle.dash_shard.specs.declared.shard.table.Table.{Table}
 use Rattle.dash_shard.specs.Table.{pairs_of, hashes_of, next_place, Holds, IsAbsent, IsHashed, IsGrown, IsTable, IsInside}
@@ -266,6 +266,18 @@ module _ {K V S H : Type 0} (eq : K → K → Bool) (b : builder.Ghosts S H) (h 
           stays = λ j p e. ap (λ xs. place xs j) places
               ∙ stays-written w laws (pairs_of t.nodes.items) k i _ (λ o. Some (key_or k o, v)) room equal-before no-other (λ q there. absurd (none-some q (sym empty ∙ there))) j p e;
         }
+
+      -- a new pair on the next free place, where there is room
+      module _ (hash : ℕ) (room : shard_len z < z.capacity) (places : pairs_of new.nodes.items ≡ set (pairs_of t.nodes.items) (next_place t) (Some (k, v))) where
+        next : (next_place t < length t.nodes.items) × (place (pairs_of t.nodes.items) (next_place t) ≡ None)
+        next = next_free t inside.table (omega (arith, inside.counted, subst (λ x. shard_len x < x.capacity) (sym view) room))
+
+        pub filled-next : hash ≡ hash_of b h s (input k) → at (keys_of eq b h input z) (pairs z) k ≡ None → hashes_of new.nodes.items ≡ set (hashes_of t.nodes.items) (next_place t) hash → new.len ≡ t.len + 1
+            → IsTable new → Inserted t new k v None
+        filled-next is none hashes len table = filled (next_place t) hash next.0 next.1 is (subst (λ x. at (keys_of eq b h input x) (pairs x) k ≡ None) (sym view) none) places hashes len table
+
+        pub filled-place : place (pairs_of new.nodes.items) (next_place t) ≡ Some (k, v)
+        filled-place = ap (λ xs. place xs (next_place t)) places ∙ get_or-set_same (pairs_of t.nodes.items) (next_place t) (Some (k, v)) None (omega (arith, next.0, length-map t.nodes.items (λ n. n.pair)))
 
     module _ (z : ShardState K V S) (view : state t ≡ z) (here : Routes eq b h input z k) where
       -- the pair goes, and its place is empty

@@ -1,5 +1,5 @@
 -- What contracts see of a shard: a row of places, each with a pair or none, and where the shard stands among the others.
-use Rattle.std.specs.Prelude.{◌≡◌, ℕ, ◌<◌, Bool, IsTrue, List, [], ◌∷◌, length, Option, Some, None, IsSomeAnd, slice_index_or, refl}
+use Rattle.std.specs.Prelude.{◌≡◌, ℕ, ◌<◌, ◌≤◌, Bool, IsTrue, List, [], ◌∷◌, length, Option, Some, None, IsSome, IsSomeAnd, slice_index_or, refl}
 use Rattle.std.specs.Coded.{Coded, code_by, coded×, coded_ℕ, coded_list, coded_option}
 use Rattle.std.specs.Hash.{HashWrites}
 use Rattle.std.specs.declared.hash.Hasher as hasher
@@ -33,6 +33,11 @@ module _ {A : Type 0} where
   taken [] = []
   taken (None ∷ places) = taken places
   taken (Some p ∷ places) = p ∷ taken places
+
+  -- r is the lowest taken place not below i, or none
+  abbrev pub IsNextTaken : List (Option A) → ℕ → Option ℕ → Type 0
+  IsNextTaken places i None = (j : ℕ) → i ≤ j → place places j ≡ None
+  IsNextTaken places i (Some r) = (i ≤ r) × IsSome (place places r) × ((j : ℕ) → i ≤ j → j < r → place places j ≡ None)
 
 module _ {K V S : Type 0} where
   -- the contents of a shard

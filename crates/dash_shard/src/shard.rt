@@ -4,8 +4,8 @@ ghost use Rattle.std.specs.Option.{option_map};
 ghost use Rattle.std.specs.Map.Iter.{deref_pair};
 ghost use Rattle.dash_shard.specs.Hashing.{IsAmount, hash_of};
 ghost use Rattle.dash_shard.specs.Contents.{at};
-ghost use Rattle.dash_shard.specs.Steps.{Get, Insert, Remove, Pair, Old, Replies};
-ghost use Rattle.dash_shard.specs.Shard.{place, pairs, shard_len, HasKey, keys_of, Routes, IsShard, TakesExactly, StaysInPlace};
+ghost use Rattle.dash_shard.specs.Steps.{Get, Contains, Insert, Remove, Pair, Found, Old, Replies};
+ghost use Rattle.dash_shard.specs.Shard.{place, pairs, shard_len, HasKey, IsNextTaken, keys_of, Routes, IsShard, TakesExactly, StaysInPlace};
 ghost use Rattle.dash_shard.specs.declared.error.ConstructError.TheVariants.{Memory};
 
 use crate::error::ConstructError;
@@ -206,6 +206,15 @@ impl<K: Eq + Hash, V, S: BuildHasher> Shard<K, V, S> {
         Some(self.at(position))
     }
 
+    /// Whether there is a pair whose key equals `key`.
+    #[inline]
+    pub fn contains_key(&self, key: &K) -> bool
+        ensures found { Replies (keys_of K.eq S.BuildHasher S.Hasher.Hasher K.hash_input self.now) (Contains key.now) (pairs self.now) (Found result) }
+        ensures lawful { IsShard K.eq S.BuildHasher S.Hasher.Hasher K.hash_input self.now }
+    {
+        self.get(key).is_some()
+    }
+
     /// The place of the pair whose key equals `key`, for `at`. It is good while the shard isn't changed.
     #[inline(always)]
     pub fn position_of(&self, key: &K) -> Option<usize>
@@ -237,6 +246,34 @@ impl<K: Eq + Hash, V, S: BuildHasher> Shard<K, V, S> {
         ensures lawful { IsShard K.eq S.BuildHasher S.Hasher.Hasher K.hash_input self.now }
     {
         self.table.at(position)
+    }
+
+    /// Puts a pair whose key is new in room that is there, and answers its place. It takes no memory, and can't be refused.
+    #[inline]
+    pub fn insert_new(&mut self, key: K, value: V) -> usize
+    where
+        K: Drop,
+        V: Drop,
+        requires route { Routes K.eq S.BuildHasher S.Hasher.Hasher K.hash_input self.old key }
+        requires absent { at (keys_of K.eq S.BuildHasher S.Hasher.Hasher K.hash_input self.old) (pairs self.old) key ≡ None }
+        requires room { shard_len self.old < self.old.capacity }
+        ensures taken { TakesExactly K.eq S.BuildHasher S.Hasher.Hasher K.hash_input self.old self.new (Insert key value) (Old None) }
+        ensures place { place self.new.places result ≡ Some (key, value) }
+        ensures len { shard_len self.new ≡ shard_len self.old + 1 }
+        ensures room { self.new.capacity ≡ self.old.capacity }
+        ensures places { StaysInPlace K.eq S.BuildHasher S.Hasher.Hasher K.hash_input self.old self.new (Insert key value) }
+    {
+        let hash = self.hasher.hash_one(&key);
+        self.table.push(hash, key, value)
+    }
+
+    /// The lowest taken place not below `position`, for `at`: a walk over the pairs goes on behind it.
+    #[inline]
+    pub fn next_taken(&self, position: usize) -> Option<usize>
+        ensures next { IsNextTaken self.now.places position result }
+        ensures lawful { IsShard K.eq S.BuildHasher S.Hasher.Hasher K.hash_input self.now }
+    {
+        self.table.next_taken(position)
     }
 
     /// How many pairs there are.

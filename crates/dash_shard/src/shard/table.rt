@@ -1,7 +1,7 @@
 //! A table of pairs, found by the buckets of their hashes.
 ghost use Rattle.std.specs.Prelude.{ℕ, ◌≡◌, ◌+◌, ◌-◌, ◌<◌, ◌≤◌, ◌==◌, ◌++◌, IfSome, IfNone, IsOk, IfOk, OnOk, OnErr, IsSome, IsNone, length, map, false, [], ◌∷◌, if◌then◌else◌, vec_len, vec_capacity, slice_set, replicate, max};
 ghost use Rattle.dash_shard.specs.Table.{IsTable, Holds, IsAbsent, blank, pairs_of, hashes_of, next_place, IsGrown};
-ghost use Rattle.dash_shard.specs.Shard.{place, taken};
+ghost use Rattle.dash_shard.specs.Shard.{place, taken, IsNextTaken};
 ghost use Rattle.std.specs.Option.{option_map};
 ghost use Rattle.std.specs.Map.Iter.{deref_pair};
 
@@ -145,14 +145,15 @@ impl<K, V> Table<K, V> {
         }
     }
 
-    /// Puts a pair on the next free place.
+    /// Puts a pair on the next free place, and answers the place.
     #[inline(always)]
-    pub fn push(&mut self, hash: u64, key: K, value: V)
+    pub fn push(&mut self, hash: u64, key: K, value: V) -> usize
     where
         K: Drop,
         V: Drop,
         requires table { IsTable self.old }
         requires room { self.old.len < length self.old.nodes.items }
+        ensures place { result ≡ next_place self.old }
         ensures pairs { pairs_of self.new.nodes.items ≡ slice_set (pairs_of self.old.nodes.items) (next_place self.old) (Some (key, value)) }
         ensures hashes { hashes_of self.new.nodes.items ≡ slice_set (hashes_of self.old.nodes.items) (next_place self.old) hash }
         ensures len { self.new.len ≡ self.old.len + 1 }
@@ -163,6 +164,7 @@ impl<K, V> Table<K, V> {
         self.free = self.nodes[place].next;
         put(&mut self.nodes, place, hash, key, value);
         self.len += 1;
+        place
     }
 
     /// Takes the pair of a taken place, which is then the next free one.
@@ -182,6 +184,19 @@ impl<K, V> Table<K, V> {
         self.free = position + 1;
         self.len -= 1;
         pair
+    }
+
+    /// The lowest taken place not below `position`.
+    #[inline]
+    pub fn next_taken(&self, position: usize) -> Option<usize>
+        ensures { IsNextTaken (pairs_of self.now.nodes.items) position result }
+    {
+        for place in position..self.nodes.len() {
+            if self.nodes[place].pair.is_some() {
+                return Some(place);
+            }
+        }
+        None
     }
 
     /// Makes `count` places of what there are, which takes memory.
