@@ -9,7 +9,8 @@ use Rattle.std.proofs.lemmas.Bool.{cases_eq, both_ways, true≢false}
 use Rattle.std.proofs.lemmas.Option.{none-some, same_Some}
 use Rattle.dash_shard.specs.Hashing.{hash_of}
 use Rattle.dash_shard.specs.Contents.{at}
-use Rattle.dash_shard.specs.Shard.{ShardState, place, pairs, keys_of, HasKey}
+use Rattle.dash_shard.specs.Shard.{ShardState, place, keys_of, HasKey}
+use Rattle.dash_shard.specs.Held.{Finds}
 use Rattle.dash_shard.specs.declared.shard.table.Table.{Table}
 use Rattle.dash_shard.specs.Table.{Holds, IsAbsent, pairs_of}
 use Rattle.dash_shard.proofs.Shards.{state, Inside, at-found, at-missing, others-found, missing}
@@ -20,15 +21,9 @@ held None h = absurd h
 held (Some p) h = (p, refl, h)
 
 module _ {K V S H : Type 0} (eq : K → K → Bool) (b : builder.Ghosts S H) (h : hasher.Ghosts H) (input : K → HashWrites) where
-  -- the answer r to a search for the key k
-  pub record Located (z : ShardState K V S) (k : K) (r : Option ℕ) : Type 0 where
-    pub position : (i : ℕ) → (r ≡ Some i) ↔ HasKey eq z k i
-    pub pair : IfSome r (λ i. place z.places i ≡ at (keys_of eq b h input z) (pairs z) k)
-    pub absent : IsNone r ↔ (at (keys_of eq b h input z) (pairs z) k ≡ None)
-
   module _ (laws : IsEquivalence eq) (respects : (x y : K) → eq x y ≡ true → input x ≡ input y) (s : S) (number amount : ℕ)
       (t : Table K V) (inside : Inside eq b h input laws respects s number amount t) (k : K) (hash : ℕ) (is : hash ≡ hash_of b h s (input k)) where
-    finds : (m : ℕ) → Holds eq t.nodes.items k m → Located (state eq b h input laws respects s number amount t) k (Some m)
+    finds : (m : ℕ) → Holds eq t.nodes.items k m → Finds eq b h input (state eq b h input laws respects s number amount t) k (Some m)
     finds m found = record {
       position = λ i. (
         λ e. subst (λ j. HasKey eq (state eq b h input laws respects s number amount t) k j) (same_Some m i e) (rw found.is found.equal),
@@ -39,9 +34,10 @@ module _ {K V S H : Type 0} (eq : K → K → Bool) (b : builder.Ghosts S H) (h 
       );
       pair = found.is ∙ sym (at-found eq b h input laws respects s number amount t inside k m found);
       absent = (λ none. absurd (true≢false none), λ none. absurd (none-some found.pair (sym none ∙ at-found eq b h input laws respects s number amount t inside k m found)));
+      lawful = inside.shard;
     }
 
-    misses : IsAbsent eq t.nodes.items hash k → Located (state eq b h input laws respects s number amount t) k None
+    misses : IsAbsent eq t.nodes.items hash k → Finds eq b h input (state eq b h input laws respects s number amount t) k None
     misses absent = record {
       position = λ i. (
         λ e. absurd (none-some i e),
@@ -50,8 +46,9 @@ module _ {K V S H : Type 0} (eq : K → K → Bool) (b : builder.Ghosts S H) (h 
       );
       pair = tt;
       absent = (λ _. at-missing eq b h input laws respects s number amount t inside k hash is absent, λ _. refl);
+      lawful = inside.shard;
     }
 
-    pub located : (z : ShardState K V S) → state eq b h input laws respects s number amount t ≡ z → (r : Option ℕ) → IfSome r (Holds eq t.nodes.items k) → IfNone r (IsAbsent eq t.nodes.items hash k) → Located z k r
-    located z view None some none = subst (λ x. Located x k None) view (misses none)
-    located z view (Some m) some none = subst (λ x. Located x k (Some m)) view (finds m some)
+    pub located : (z : ShardState K V S) → state eq b h input laws respects s number amount t ≡ z → (r : Option ℕ) → IfSome r (Holds eq t.nodes.items k) → IfNone r (IsAbsent eq t.nodes.items hash k) → Finds eq b h input z k r
+    located z view None some none = subst (λ x. Finds eq b h input x k None) view (misses none)
+    located z view (Some m) some none = subst (λ x. Finds eq b h input x k (Some m)) view (finds m some)

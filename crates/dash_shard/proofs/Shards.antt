@@ -1,5 +1,5 @@
 -- A shard's state after each change of its table.
-use Rattle.std.proofs.Common.{◌≡◌, ◌⊎◌, ℕ, zero, suc, ◌+◌, ◌<◌, Bool, true, false, cond, List, [], ◌∷◌, ◌++◌, length, get_or, set, Option, Some, None, refl, sym, ap, subst, ◌∙◌, inl, inr, arith, add-zero, is_some, get_or-set_same, get_or-set_other}
+use Rattle.std.proofs.Common.{◌≡◌, ◌⊎◌, ℕ, zero, suc, ◌+◌, ◌<◌, Bool, true, false, cond, List, [], ◌∷◌, ◌++◌, length, get_or, set, Option, Some, None, refl, sym, ap, subst, ◌∙◌, inl, inr, arith, add-zero, is_some, Result, Ok, Err, get_or-set_same, get_or-set_other}
 use Rattle.std.specs.Cmp.{IsEquivalence}
 use Rattle.std.specs.Hash.{HashWrites}
 use Rattle.std.specs.Option.{option_map}
@@ -8,11 +8,12 @@ use Rattle.std.specs.declared.hash.BuildHasher as builder
 use Rattle.std.proofs.lemmas.Bool.{cases_Bool, cases_eq}
 use Rattle.std.proofs.lemmas.List.{length-map}
 use Rattle.std.proofs.lemmas.Option.{none-some, same_Some}
-use Rattle.std.proofs.Math.ListN.{replicate}
+use Rattle.std.proofs.Math.ListN.{replicate, length-set}
 use Rattle.dash_shard.specs.Hashing.{IsAmount, hash_of, route_of_hash}
 use Rattle.dash_shard.specs.Contents.{Keys, at, IsOnShard}
 use Rattle.dash_shard.specs.Steps.{Insert, Remove, Old, Pair, after, key_or}
 use Rattle.dash_shard.specs.Shard.{ShardState, place, taken, pairs, shard_len, keys_of, Routes, IsShard, TakesExactly, StaysInPlace}
+use Rattle.dash_shard.specs.Held.{Inserts, Removes}
 use Rattle.dash_shard.specs.declared.shard.table.Node.{Node}
 use Rattle.dash_shard.specs.declared.shard.table.Table.{Table}
 use Rattle.dash_shard.specs.Table.{pairs_of, hashes_of, next_place, Holds, IsAbsent, IsHashed, IsGrown, IsTable, IsInside}
@@ -110,14 +111,32 @@ module _ {K V S H : Type 0} (eq : K → K → Bool) (b : builder.Ghosts S H) (h 
 
   -- the same as contracts see it, where the state before is written z
   module _ (old new : Table K V) (k : K) (v : V) (o : Option V) (z : ShardState K V S) (view : state old ≡ z) (i : Inserted old new k v o) where
-    pub shown-takes : TakesExactly eq b h input z (state new) (Insert k v) (Old o)
-    shown-takes = subst (λ x. TakesExactly eq b h input x (state new) (Insert k v) (Old o)) view i.takes
+    pub inserts : (shard_len z < z.capacity → length new.nodes.items ≡ z.capacity) → Inserts eq b h input z (state new) k v (Ok o)
+    inserts room = record {
+      taken = subst (λ x. TakesExactly eq b h input x (state new) (Insert k v) (Old o)) view i.takes;
+      len = subst (λ x. shard_len (state new) ≡ shard_len x + cond (is_some o) 0 1) view i.len;
+      room = room;
+      places = λ _. subst (λ x. StaysInPlace eq b h input x (state new) (Insert k v)) view i.stays;
+      refused = tt;
+      absent = tt;
+      full = tt;
+    }
 
-    pub shown-len : length (pairs (state new)) ≡ length (pairs z) + cond (is_some o) 0 1
-    shown-len = subst (λ x. length (pairs (state new)) ≡ length (pairs x) + cond (is_some o) 0 1) view i.len
-
-    pub shown-stays : StaysInPlace eq b h input z (state new) (Insert k v)
-    shown-stays = subst (λ x. StaysInPlace eq b h input x (state new) (Insert k v)) view i.stays
+  -- what an insert that finds no memory leaves
+  pub refuses : (old new : Table K V) (k : K) (v : V) (z : ShardState K V S) → state old ≡ z → Inside old → (new.nodes.items ≡ old.nodes.items) × (old.len ≡ length old.nodes.items) → at (keys_of eq b h input (state old)) (pairs (state old)) k ≡ None
+      → Inserts eq b h input z (state new) k v (Err (record { key = k; value = v }))
+  refuses old new k v z view inside same none =
+      let of : List (Node K V) → ShardState K V S = λ ns. record { places = pairs_of ns; number = number; amount = amount; hasher = s; capacity = length ns } in
+      let back : state new ≡ z = ap of same.0 ∙ view in
+      record {
+        taken = tt;
+        len = tt;
+        room = λ _. ap (λ x. x.capacity) back;
+        places = tt;
+        refused = (refl, refl, back);
+        absent = subst (λ x. at (keys_of eq b h input x) (pairs x) k ≡ None) view none;
+        full = subst (λ x. shard_len x ≡ x.capacity) view (sym inside.counted ∙ same.1);
+      }
 
   module _ (t : Table K V) (inside : Inside t) (k : K) where
     abbrev w : Keys K
@@ -323,14 +342,13 @@ module _ {K V S H : Type 0} (eq : K → K → Bool) (b : builder.Ghosts S H) (h 
               ∙ stays-written w laws (pairs_of t.nodes.items) k i None (λ _. None) spot (equal-found i found) (others-found i found) (λ _ _. refl) j p e;
         }
 
-        pub removed-takes : TakesExactly eq b h input z (state new) (Remove k) (Pair (Some found.pair))
-        removed-takes = subst (λ x. TakesExactly eq b h input x (state new) (Remove k) (Pair (Some found.pair))) view removed.takes
-
-        pub removed-shown : length (pairs z) ≡ length (pairs (state new)) + 1
-        removed-shown = subst (λ x. length (pairs x) ≡ length (pairs (state new)) + 1) view removed-len
-
-        pub removed-stays : StaysInPlace eq b h input z (state new) (Remove k)
-        removed-stays = subst (λ x. StaysInPlace eq b h input x (state new) (Remove k)) view removed.stays
+        pub removes : Removes eq b h input z (state new) k (Some found.pair)
+        removes = subst (λ x. Removes eq b h input x (state new) k (Some found.pair)) view (record {
+          taken = removed.takes;
+          len = removed-len;
+          room = sym (length-map new.nodes.items (λ n. n.pair)) ∙ ap length places ∙ length-set (pairs_of t.nodes.items) i None ∙ length-map t.nodes.items (λ n. n.pair);
+          places = removed.stays;
+        })
 
     -- a pair that stands somewhere is counted
     pub some-found : (i : ℕ) → Holds eq t.nodes.items k i → 0 < t.len
@@ -338,7 +356,7 @@ module _ {K V S H : Type 0} (eq : K → K → Bool) (b : builder.Ghosts S H) (h 
 
     -- nothing goes where no key is equal
     module _ (hash : ℕ) (is : hash ≡ hash_of b h s (input k)) (absent : IsAbsent eq t.nodes.items hash k) where
-      pub unmoved-takes : TakesExactly eq b h input (state t) (state t) (Remove k) (Pair None)
+      unmoved-takes : TakesExactly eq b h input (state t) (state t) (Remove k) (Pair None)
       unmoved-takes = record {
         replies = ap Pair (sym (at-missing hash is absent));
         becomes = λ j. gone j (cases_Bool (eq k j));
@@ -350,8 +368,16 @@ module _ {K V S H : Type 0} (eq : K → K → Bool) (b : builder.Ghosts S H) (h 
           gone j (inl same) = rw same (sym (at-equal w laws (pairs (state t)) k j same) ∙ at-missing hash is absent)
           gone j (inr other) = rw other refl
 
-      pub unmoved-stays : StaysInPlace eq b h input (state t) (state t) (Remove k)
+      unmoved-stays : StaysInPlace eq b h input (state t) (state t) (Remove k)
       unmoved-stays i p e = e ∙ sym (rw (laws.symm k p.0 ∙ missing hash is absent i p e) refl)
+
+      pub unmoved : (z : ShardState K V S) → state t ≡ z → Removes eq b h input z z k None
+      unmoved z view = subst (λ x. Removes eq b h input x x k None) view (record {
+        taken = unmoved-takes;
+        len = sym (add-zero _);
+        room = refl;
+        places = unmoved-stays;
+      })
 
   -- a table with no pairs
   module _ (t : Table K V) (table : IsTable t) (empty : taken (pairs_of t.nodes.items) ≡ []) (len : t.len ≡ 0) where

@@ -29,6 +29,14 @@ module _ {K V S H : Type 0} (eq : K → K → Bool) (b : builder.Ghosts S H) (h 
     pub absent : OnErr result (at (keys_of eq b h input old) (pairs old) key ≡ None)
     pub full : OnErr result (shard_len old ≡ old.capacity)
 
+  -- all that an insert of a new key in room that is there promises
+  pub record InsertsNew (old new : ShardState K V S) (key : K) (value : V) (result : ℕ) : Type 0 where
+    pub taken : TakesExactly eq b h input old new (Insert key value) (Old None)
+    pub place : place new.places result ≡ Some (key, value)
+    pub len : shard_len new ≡ shard_len old + 1
+    pub room : new.capacity ≡ old.capacity
+    pub places : StaysInPlace eq b h input old new (Insert key value)
+
   -- all that a removal promises
   pub record Removes (old new : ShardState K V S) (key : K) (result : Option (K × V)) : Type 0 where
     pub taken : TakesExactly eq b h input old new (Remove key) (Pair result)

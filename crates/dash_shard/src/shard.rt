@@ -6,6 +6,7 @@ ghost use Rattle.dash_shard.specs.Hashing.{IsAmount, hash_of};
 ghost use Rattle.dash_shard.specs.Contents.{at};
 ghost use Rattle.dash_shard.specs.Steps.{Get, Contains, Insert, Remove, Pair, Found, Old, Replies};
 ghost use Rattle.dash_shard.specs.Shard.{place, pairs, shard_len, HasKey, IsNextTaken, keys_of, Routes, IsShard, TakesExactly, StaysInPlace};
+ghost use Rattle.dash_shard.specs.Held.{Inserts, InsertsNew, Removes, Finds};
 ghost use Rattle.dash_shard.specs.declared.error.ConstructError.TheVariants.{Memory};
 
 use crate::error::ConstructError;
@@ -149,13 +150,7 @@ impl<K: Eq + Hash, V, S: BuildHasher> Shard<K, V, S> {
         V: Drop,
         requires hash { hash ≡ hash_of S.BuildHasher S.Hasher.Hasher self.old.hasher (K.hash_input key) }
         requires route { Routes K.eq S.BuildHasher S.Hasher.Hasher K.hash_input self.old key }
-        ensures taken { IfOk result (λ old. TakesExactly K.eq S.BuildHasher S.Hasher.Hasher K.hash_input self.old self.new (Insert key value) (Old old)) }
-        ensures len { IfOk result (λ old. shard_len self.new ≡ shard_len self.old + (if is_some old then 0 else 1)) }
-        ensures room { shard_len self.old < self.old.capacity → self.new.capacity ≡ self.old.capacity }
-        ensures places { OnOk result (self.new.capacity ≡ self.old.capacity → StaysInPlace K.eq S.BuildHasher S.Hasher.Hasher K.hash_input self.old self.new (Insert key value)) }
-        ensures refused { IfErr result (λ e. (e.key ≡ key) × (e.value ≡ value) × (self.new ≡ self.old)) }
-        ensures absent { OnErr result (at (keys_of K.eq S.BuildHasher S.Hasher.Hasher K.hash_input self.old) (pairs self.old) key ≡ None) }
-        ensures full { OnErr result (shard_len self.old ≡ self.old.capacity) }
+        ensures { Inserts K.eq S.BuildHasher S.Hasher.Hasher K.hash_input self.old self.new key value result }
     {
         if let Some(place) = self.table.find(hash, &key) {
             return Ok(Some(self.table.replace(place, value)));
@@ -187,10 +182,7 @@ impl<K: Eq + Hash, V, S: BuildHasher> Shard<K, V, S> {
     pub fn remove_hashed(&mut self, hash: u64, key: &K) -> Option<(K, V)>
         requires hash { hash ≡ hash_of S.BuildHasher S.Hasher.Hasher self.old.hasher (K.hash_input key.now) }
         requires route { Routes K.eq S.BuildHasher S.Hasher.Hasher K.hash_input self.old key.now }
-        ensures taken { TakesExactly K.eq S.BuildHasher S.Hasher.Hasher K.hash_input self.old self.new (Remove key.now) (Pair result) }
-        ensures len { shard_len self.old ≡ shard_len self.new + (if is_some result then 1 else 0) }
-        ensures room { self.new.capacity ≡ self.old.capacity }
-        ensures places { StaysInPlace K.eq S.BuildHasher S.Hasher.Hasher K.hash_input self.old self.new (Remove key.now) }
+        ensures { Removes K.eq S.BuildHasher S.Hasher.Hasher K.hash_input self.old self.new key.now result }
     {
         let position = self.table.find(hash, key)?;
         Some(self.table.take(position))
@@ -230,10 +222,7 @@ impl<K: Eq + Hash, V, S: BuildHasher> Shard<K, V, S> {
     #[inline(always)]
     pub fn position_of_hashed(&self, hash: u64, key: &K) -> Option<usize>
         requires { hash ≡ hash_of S.BuildHasher S.Hasher.Hasher self.now.hasher (K.hash_input key.now) }
-        ensures position { (i : ℕ) → (result ≡ Some i) ↔ HasKey K.eq self.now key.now i }
-        ensures pair { IfSome result (λ i. place self.now.places i ≡ at (keys_of K.eq S.BuildHasher S.Hasher.Hasher K.hash_input self.now) (pairs self.now) key.now) }
-        ensures absent { IsNone result ↔ (at (keys_of K.eq S.BuildHasher S.Hasher.Hasher K.hash_input self.now) (pairs self.now) key.now ≡ None) }
-        ensures lawful { IsShard K.eq S.BuildHasher S.Hasher.Hasher K.hash_input self.now }
+        ensures { Finds K.eq S.BuildHasher S.Hasher.Hasher K.hash_input self.now key.now result }
     {
         self.table.find(hash, key)
     }
@@ -257,11 +246,7 @@ impl<K: Eq + Hash, V, S: BuildHasher> Shard<K, V, S> {
         requires route { Routes K.eq S.BuildHasher S.Hasher.Hasher K.hash_input self.old key }
         requires absent { at (keys_of K.eq S.BuildHasher S.Hasher.Hasher K.hash_input self.old) (pairs self.old) key ≡ None }
         requires room { shard_len self.old < self.old.capacity }
-        ensures taken { TakesExactly K.eq S.BuildHasher S.Hasher.Hasher K.hash_input self.old self.new (Insert key value) (Old None) }
-        ensures place { place self.new.places result ≡ Some (key, value) }
-        ensures len { shard_len self.new ≡ shard_len self.old + 1 }
-        ensures room { self.new.capacity ≡ self.old.capacity }
-        ensures places { StaysInPlace K.eq S.BuildHasher S.Hasher.Hasher K.hash_input self.old self.new (Insert key value) }
+        ensures { InsertsNew K.eq S.BuildHasher S.Hasher.Hasher K.hash_input self.old self.new key value result }
     {
         let hash = self.hasher.hash_one(&key);
         self.table.push(hash, key, value)

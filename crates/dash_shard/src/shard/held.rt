@@ -1,12 +1,12 @@
 //! A shard that is held for writing, changed in place behind its lock.
-ghost use Rattle.std.specs.Prelude.{◌≡◌, ℕ, ◌<◌, ◌≤◌, ◌+◌, ◌↔◌, IsTrue, IfOk, OnOk, IfErr, OnErr, IsSome, IfSome, IsNone, is_some, Some, None, if◌then◌else◌};
+ghost use Rattle.std.specs.Prelude.{◌≡◌, ◌<◌, ◌≤◌, ◌↔◌, IsTrue, IsSome, Some, None};
 ghost use Rattle.std.specs.Option.{option_map};
 ghost use Rattle.std.specs.Map.Iter.{deref_pair};
 ghost use Rattle.dash_shard.specs.Hashing.{hash_of};
 ghost use Rattle.dash_shard.specs.Contents.{at};
-ghost use Rattle.dash_shard.specs.Steps.{Get, Insert, Remove, Pair, Old, Replies};
-ghost use Rattle.dash_shard.specs.Shard.{place, pairs, shard_len, HasKey, keys_of, Routes, IsShard, TakesExactly, StaysInPlace};
-ghost use Rattle.dash_shard.specs.Held.{FitsPlace, Inserts, Removes, Finds};
+ghost use Rattle.dash_shard.specs.Steps.{Get, Contains, Pair, Found, Replies};
+ghost use Rattle.dash_shard.specs.Shard.{place, pairs, shard_len, IsNextTaken, keys_of, Routes, IsShard};
+ghost use Rattle.dash_shard.specs.Held.{FitsPlace, Inserts, InsertsNew, Removes, Finds};
 
 use crate::lock::{RwLockWriteGuard, Tagged};
 use crate::shard::{InsertRefused, Shard};
@@ -118,15 +118,7 @@ impl<K: Eq + Hash, V, S: BuildHasher> ShardMut<'_, K, V, S> {
         K: Drop,
         V: Drop,
         requires { Routes K.eq S.BuildHasher S.Hasher.Hasher K.hash_input self.old key }
-        ensures taken { IfOk result (λ old. TakesExactly K.eq S.BuildHasher S.Hasher.Hasher K.hash_input self.old self.new (Insert key value) (Old old)) }
-        ensures len { IfOk result (λ old. shard_len self.new ≡ shard_len self.old + (if is_some old then 0 else 1)) }
-        ensures room { shard_len self.old < self.old.capacity → self.new.capacity ≡ self.old.capacity }
-        ensures places { OnOk result (self.new.capacity ≡ self.old.capacity → StaysInPlace K.eq S.BuildHasher S.Hasher.Hasher K.hash_input self.old self.new (Insert key value)) }
-
-        // A refusal hands the pair back, and comes only for a new key in a full shard.
-        ensures refused { IfErr result (λ e. (e.key ≡ key) × (e.value ≡ value) × (self.new ≡ self.old)) }
-        ensures absent { OnErr result (at (keys_of K.eq S.BuildHasher S.Hasher.Hasher K.hash_input self.old) (pairs self.old) key ≡ None) }
-        ensures full { OnErr result (shard_len self.old ≡ self.old.capacity) }
+        ensures { Inserts K.eq S.BuildHasher S.Hasher.Hasher K.hash_input self.old self.new key value result }
     {
         self.guard.change(
             |shard: &mut Shard<K, V, S>| -> Result<Option<V>, InsertRefused<K, V>>
@@ -166,10 +158,7 @@ impl<K: Eq + Hash, V, S: BuildHasher> ShardMut<'_, K, V, S> {
     #[inline]
     pub fn remove(&mut self, key: &K) -> Option<(K, V)>
         requires { Routes K.eq S.BuildHasher S.Hasher.Hasher K.hash_input self.old key.now }
-        ensures taken { TakesExactly K.eq S.BuildHasher S.Hasher.Hasher K.hash_input self.old self.new (Remove key.now) (Pair result) }
-        ensures len { shard_len self.old ≡ shard_len self.new + (if is_some result then 1 else 0) }
-        ensures room { self.new.capacity ≡ self.old.capacity }
-        ensures places { StaysInPlace K.eq S.BuildHasher S.Hasher.Hasher K.hash_input self.old self.new (Remove key.now) }
+        ensures { Removes K.eq S.BuildHasher S.Hasher.Hasher K.hash_input self.old self.new key.now result }
     {
         self.guard.change(
             |shard: &mut Shard<K, V, S>| -> Option<(K, V)>
@@ -204,13 +193,19 @@ impl<K: Eq + Hash, V, S: BuildHasher> ShardMut<'_, K, V, S> {
         self.guard.get(key)
     }
 
+    /// Whether there is a pair whose key equals `key`.
+    #[inline]
+    pub fn contains_key(&self, key: &K) -> bool
+        ensures found { Replies (keys_of K.eq S.BuildHasher S.Hasher.Hasher K.hash_input self.now) (Contains key.now) (pairs self.now) (Found result) }
+        ensures lawful { IsShard K.eq S.BuildHasher S.Hasher.Hasher K.hash_input self.now }
+    {
+        self.guard.contains_key(key)
+    }
+
     /// The place of the pair whose key equals `key`, for `at`. It is good while the shard isn't changed.
     #[inline]
     pub fn position_of(&self, key: &K) -> Option<usize>
-        ensures position { (i : ℕ) → (result ≡ Some i) ↔ HasKey K.eq self.now key.now i }
-        ensures pair { IfSome result (λ i. place self.now.places i ≡ at (keys_of K.eq S.BuildHasher S.Hasher.Hasher K.hash_input self.now) (pairs self.now) key.now) }
-        ensures absent { IsNone result ↔ (at (keys_of K.eq S.BuildHasher S.Hasher.Hasher K.hash_input self.now) (pairs self.now) key.now ≡ None) }
-        ensures lawful { IsShard K.eq S.BuildHasher S.Hasher.Hasher K.hash_input self.now }
+        ensures { Finds K.eq S.BuildHasher S.Hasher.Hasher K.hash_input self.now key.now result }
     {
         self.guard.position_of(key)
     }
@@ -232,6 +227,36 @@ impl<K: Eq + Hash, V, S: BuildHasher> ShardMut<'_, K, V, S> {
         ensures lawful { IsShard K.eq S.BuildHasher S.Hasher.Hasher K.hash_input self.now }
     {
         self.guard.at(position)
+    }
+
+    /// Puts a pair whose key is new in room that is there, and answers its place. It takes no memory, and can't be refused.
+    #[inline]
+    pub fn insert_new(&mut self, key: K, value: V) -> usize
+    where
+        K: Drop,
+        V: Drop,
+        requires route { Routes K.eq S.BuildHasher S.Hasher.Hasher K.hash_input self.old key }
+        requires absent { at (keys_of K.eq S.BuildHasher S.Hasher.Hasher K.hash_input self.old) (pairs self.old) key ≡ None }
+        requires room { shard_len self.old < self.old.capacity }
+        ensures { InsertsNew K.eq S.BuildHasher S.Hasher.Hasher K.hash_input self.old self.new key value result }
+    {
+        self.guard.change(
+            |shard: &mut Shard<K, V, S>| -> usize
+                requires route { Routes K.eq S.BuildHasher S.Hasher.Hasher K.hash_input shard.old key }
+                requires absent { at (keys_of K.eq S.BuildHasher S.Hasher.Hasher K.hash_input shard.old) (pairs shard.old) key ≡ None }
+                requires room { shard_len shard.old < shard.old.capacity }
+                ensures { InsertsNew K.eq S.BuildHasher S.Hasher.Hasher K.hash_input shard.old shard.new key value result }
+            { shard.insert_new(key, value) },
+        )
+    }
+
+    /// The lowest taken place not below `position`, for `at`: a walk over the pairs goes on behind it.
+    #[inline]
+    pub fn next_taken(&self, position: usize) -> Option<usize>
+        ensures next { IsNextTaken self.now.places position result }
+        ensures lawful { IsShard K.eq S.BuildHasher S.Hasher.Hasher K.hash_input self.now }
+    {
+        self.guard.next_taken(position)
     }
 
     /// How many pairs there are.

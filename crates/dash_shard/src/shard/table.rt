@@ -137,6 +137,7 @@ impl<K, V> Table<K, V> {
         ensures pairs { pairs_of self.new.nodes.items ≡ slice_set (pairs_of self.old.nodes.items) position (option_map (λ p. (p.0, value)) (place (pairs_of self.old.nodes.items) position)) }
         ensures hashes { hashes_of self.new.nodes.items ≡ hashes_of self.old.nodes.items }
         ensures len { self.new.len ≡ self.old.len }
+        ensures places { length self.new.nodes.items ≡ length self.old.nodes.items }
         ensures table { IsTable self.new }
     {
         match &mut self.nodes[position].pair {

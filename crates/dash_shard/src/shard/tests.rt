@@ -30,6 +30,28 @@ fn one_key_after_another(rt: HostRuntime) -> Result<(), Fail> {
 }
 
 #[test]
+fn a_walk_by_places_passes_over_what_is_free(rt: HostRuntime) -> Result<(), Fail> {
+    assert!(rt; is_shard_amount(4));
+    let mut shard = Shard::<u64, u64, PlaceState>::new(rt.alloc(), PlaceState, 1, 4, 4)?;
+    for key in [1, 5, 9] {
+        assert!(rt; shard.routes(&key) && !shard.contains_key(&key) && shard.len() < shard.capacity());
+        let position = shard.insert_new(key, key + 1);
+        assert_eq!(rt; shard.at(position), (&key, &(key + 1)));
+        assert!(rt; shard.contains_key(&key));
+    }
+    assert!(rt; shard.routes(&5));
+    shard.remove(&5);
+    let mut sum = 0;
+    let mut position = 0;
+    while let Some(taken) = shard.next_taken(position) {
+        sum += shard.at(taken).0;
+        position = taken + 1;
+    }
+    assert_eq!(rt; sum, 10);
+    Ok(())
+}
+
+#[test]
 #[tactic(auto, unfolding(crate::specs::Hashing::hash_of))]
 fn takes_a_hash_from_its_caller(rt: HostRuntime) -> Result<(), Fail> {
     assert!(rt; is_shard_amount(4));
