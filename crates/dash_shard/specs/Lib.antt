@@ -7,3 +7,4 @@ pub mod Table
 pub mod Held
 pub mod Guarded
 pub mod Holding
+pub mod Closures

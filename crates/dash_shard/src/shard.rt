@@ -7,6 +7,7 @@ ghost use Rattle.dash_shard.specs.Contents.{at};
 ghost use Rattle.dash_shard.specs.Steps.{Get, Contains, Insert, Remove, Pair, Found, Old, Replies};
 ghost use Rattle.dash_shard.specs.Shard.{place, pairs, shard_len, HasKey, IsNextTaken, keys_of, Routes, IsShard, TakesExactly, StaysInPlace};
 ghost use Rattle.dash_shard.specs.Held.{Inserts, InsertsNew, Removes, Finds};
+ghost use Rattle.dash_shard.specs.Closures.{MayAsk, Viewed};
 ghost use Rattle.dash_shard.specs.declared.error.ConstructError.TheVariants.{Memory};
 
 use crate::error::ConstructError;
@@ -205,6 +206,18 @@ impl<K: Eq + Hash, V, S: BuildHasher> Shard<K, V, S> {
         ensures lawful { IsShard K.eq S.BuildHasher S.Hasher.Hasher K.hash_input self.now }
     {
         self.get(key).is_some()
+    }
+
+    /// What `f` answers on the pair whose key equals `key`.
+    #[inline]
+    pub fn view<R, F: FnOnce(&K, &V) -> R>(&self, key: &K, f: F) -> Option<R>
+        requires { IfSome (at (keys_of K.eq S.BuildHasher S.Hasher.Hasher K.hash_input self.now) (pairs self.now) key.now) (MayAsk F.FnOnce f) }
+        ensures viewed { Viewed F.FnOnce f (at (keys_of K.eq S.BuildHasher S.Hasher.Hasher K.hash_input self.now) (pairs self.now) key.now) result }
+        ensures lawful { IsShard K.eq S.BuildHasher S.Hasher.Hasher K.hash_input self.now }
+    {
+        let place = self.position_of(key)?;
+        let (key, value) = self.at(place);
+        Some(f(key, value))
     }
 
     /// The place of the pair whose key equals `key`, for `at`. It is good while the shard isn't changed.

@@ -1,11 +1,12 @@
 //! A shard that is held for writing, changed in place behind its lock.
-ghost use Rattle.std.specs.Prelude.{◌≡◌, ◌<◌, ◌≤◌, ◌↔◌, IsTrue, IsSome, Some, None};
+ghost use Rattle.std.specs.Prelude.{◌≡◌, ◌<◌, ◌≤◌, ◌↔◌, IsTrue, IsSome, IfSome, Some, None};
 ghost use Rattle.std.specs.Option.{option_map};
 ghost use Rattle.std.specs.Map.Iter.{deref_pair};
 ghost use Rattle.dash_shard.specs.Hashing.{hash_of};
 ghost use Rattle.dash_shard.specs.Contents.{at};
 ghost use Rattle.dash_shard.specs.Steps.{Get, Contains, Pair, Found, Replies};
 ghost use Rattle.dash_shard.specs.Shard.{place, pairs, shard_len, IsNextTaken, keys_of, Routes, IsShard};
+ghost use Rattle.dash_shard.specs.Closures.{MayAsk, Viewed};
 ghost use Rattle.dash_shard.specs.Held.{FitsPlace, Inserts, InsertsNew, Removes, Finds};
 
 use crate::lock::{RwLockWriteGuard, Tagged};
@@ -200,6 +201,16 @@ impl<K: Eq + Hash, V, S: BuildHasher> ShardMut<'_, K, V, S> {
         ensures lawful { IsShard K.eq S.BuildHasher S.Hasher.Hasher K.hash_input self.now }
     {
         self.guard.contains_key(key)
+    }
+
+    /// What `f` answers on the pair whose key equals `key`.
+    #[inline]
+    pub fn view<R, F: FnOnce(&K, &V) -> R>(&self, key: &K, f: F) -> Option<R>
+        requires { IfSome (at (keys_of K.eq S.BuildHasher S.Hasher.Hasher K.hash_input self.now) (pairs self.now) key.now) (MayAsk F.FnOnce f) }
+        ensures viewed { Viewed F.FnOnce f (at (keys_of K.eq S.BuildHasher S.Hasher.Hasher K.hash_input self.now) (pairs self.now) key.now) result }
+        ensures lawful { IsShard K.eq S.BuildHasher S.Hasher.Hasher K.hash_input self.now }
+    {
+        self.guard.view(key, f)
     }
 
     /// The place of the pair whose key equals `key`, for `at`. It is good while the shard isn't changed.

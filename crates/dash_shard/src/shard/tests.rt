@@ -30,6 +30,17 @@ fn one_key_after_another(rt: HostRuntime) -> Result<(), Fail> {
 }
 
 #[test]
+fn views_the_pair_of_a_key(rt: HostRuntime) -> Result<(), Fail> {
+    assert!(rt; is_shard_amount(4));
+    let mut shard = Shard::<u64, u64, PlaceState>::new(rt.alloc(), PlaceState, 1, 4, 0)?;
+    assert!(rt; shard.routes(&5));
+    shard.insert(5, 50)?;
+    assert_eq!(rt; shard.view(&5, |key: &u64, value: &u64| key.wrapping_add(*value)), Some(55));
+    assert_eq!(rt; shard.view(&9, |key: &u64, _: &u64| *key), None);
+    Ok(())
+}
+
+#[test]
 fn a_walk_by_places_passes_over_what_is_free(rt: HostRuntime) -> Result<(), Fail> {
     assert!(rt; is_shard_amount(4));
     let mut shard = Shard::<u64, u64, PlaceState>::new(rt.alloc(), PlaceState, 1, 4, 4)?;
