@@ -1,5 +1,5 @@
 //! A map of one owner, without locks.
-ghost use Rattle.std.specs.Prelude.{◌≡◌, ◌⊎◌, ℕ, ◌+◌, ◌<◌, ◌≤◌, ◌↔◌, IsErrOf, IfOk, IfErr, OnOk, Some, None, length, slice_get, OnErr, is_some};
+ghost use Rattle.std.specs.Prelude.{◌≡◌, ◌⊎◌, ℕ, ◌+◌, ◌-◌, ◌^◌, ◌<◌, ◌≤◌, ◌↔◌, min, IsErrOf, IfOk, IfErr, OnOk, Some, None, length, slice_get, OnErr, is_some};
 ghost use Rattle.crossbeam_utils.specs.Padded.{padded_value};
 ghost use Rattle.dash_shard.specs.Hashing.{IsAmount, HashAlike, hash_of};
 ghost use Rattle.dash_shard.specs.Shard.{shard_len};
@@ -166,6 +166,18 @@ impl<K: Eq + Hash + Drop, V: Drop, S: BuildHasher> Alone<K, V, S> {
         ensures lawful { IsAlone K.eq S.BuildHasher S.Hasher.Hasher K.hash_input self.now }
     {
         self.get(key).is_some()
+    }
+
+    /// How many pairs there are, held at 2^64 - 1. It asks each shard once. The original's `len` locks shard after shard for this.
+    pub fn len(&self) -> usize
+        ensures len { result ≡ min (length (contents self.now)) (2 ^ 64 - 1) }
+        ensures lawful { IsAlone K.eq S.BuildHasher S.Hasher.Hasher K.hash_input self.now }
+    {
+        let mut len: usize = 0;
+        for shard in &self.row {
+            len = len.saturating_add(shard.len());
+        }
+        len
     }
 
     /// The map behind its locks again. It takes no memory.

@@ -16,6 +16,7 @@ fn a_pair_comes_and_goes(rt: HostRuntime) -> Result<(), Fail> {
     assert_eq!(rt; alone.remove(&1), None);
     assert!(rt; !alone.contains_key(&1));
     assert!(rt; alone.contains_key(&5));
+    assert_eq!(rt; alone.len(), 1);
 
     let alone = alone.end().alone();
     assert_eq!(rt; alone.get(&5), Some((&5, &50)));
@@ -30,6 +31,7 @@ fn a_hundred_keys(rt: HostRuntime) -> Result<(), Fail> {
         alone.insert(i, i)?;
     }
     let alone = alone.end().alone();
+    assert_eq!(rt; alone.len(), 100);
     assert_eq!(rt; alone.get(&0), Some((&0, &99)));
     for i in 1..100 {
         assert_eq!(rt; alone.get(&i), Some((&i, &i)));
