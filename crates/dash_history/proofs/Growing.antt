@@ -30,7 +30,8 @@ module _ {K V : Type 0} where
   })
 
   module _ (m : Rules K V) where
-    runs-more : (P M Q : List (K × V)) (ds : List (Step K V × Reply K V)) (d : Step K V × Reply K V) → Runs m P ds M → Takes m M d.0 d.1 Q → Runs m P (ds ++ d ∷ []) Q
+    -- a run with one more step
+    pub runs-more : (P M Q : List (K × V)) (ds : List (Step K V × Reply K V)) (d : Step K V × Reply K V) → Runs m P ds M → Takes m M d.0 d.1 Q → Runs m P (ds ++ d ∷ []) Q
     runs-more P M Q [] d r t = (Q, subst (λ z. Takes m z d.0 d.1 Q) (sym r) t, refl)
     runs-more P M Q (e ∷ ds) d r t = (r.0, r.1, runs-more r.0 M Q ds d r.2 t)
 

@@ -1,9 +1,9 @@
 mod AlikeLaws
 mod Alones
-mod Copies
+pub mod Copies
 mod Faults
-mod Growing
+pub mod Growing
 mod Logging
 mod Maps
-mod Plains
-mod Recording
+pub mod Plains
+pub mod Recording

@@ -30,7 +30,7 @@ module _ {K V S H : Type 0} (eq : K → K → Bool) (b : builder.Ghosts S H) (h 
   on-shard : (base : S) (n i : ℕ) (s : ShardState K V S) → IsPlaced eq b h input base n i s → IsOnShard (keys eq (route_by b h input base n) n) i (pairs s)
   on-shard base n i s p = subst (λ w. IsOnShard w i (pairs s)) (keys-same base n i s p) (subst (λ j. IsOnShard (keys_of eq b h input s) j (pairs s)) p.number p.shard.contents)
 
-  on-shards : (base : S) (row : List (ShardState K V S)) → IsAlone eq b h input (record { hasher = base; row = row }) → OnShards (keys eq (route_by b h input base (length row)) (length row)) 0 row
+  pub on-shards : (base : S) (row : List (ShardState K V S)) → IsAlone eq b h input (record { hasher = base; row = row }) → OnShards (keys eq (route_by b h input base (length row)) (length row)) 0 row
   on-shards base row a = λ j s e. subst (λ i. IsOnShard (keys eq (route_by b h input base (length row)) (length row)) i (pairs s)) (omega arith) (on-shard base (length row) j s (a.placed j s e))
 
   placed-moved : (base : S) (n i : ℕ) (s t : ShardState K V S) → IsPlaced eq b h input base n i s → SameShard s t → IsShard eq b h input t → IsPlaced eq b h input base n i t

@@ -6,7 +6,7 @@ use Rattle.dash_shard.specs.Contents.{Keys, at, IsOnShard}
 use Rattle.dash_shard.specs.Shard.{ShardState, pairs}
 
 module _ {K V : Type 0} (w : Keys K) where
-  at-append : (ps qs : List (K × V)) (k : K) → at w ps k ≡ None → at w (ps ++ qs) k ≡ at w qs k
+  pub at-append : (ps qs : List (K × V)) (k : K) → at w ps k ≡ None → at w (ps ++ qs) k ≡ at w qs k
   at-append [] qs k none = refl
   at-append (p ∷ ps) qs k none = elim (cases_Bool (w.eq p.0 k)) as (λ _. at w (p ∷ ps ++ qs) k ≡ at w qs k) [
     | inl same ↦ absurd (none-some p (sym none ∙ ap (λ b. cond b (Some p) (at w ps k)) same))
@@ -22,11 +22,11 @@ module _ {K V : Type 0} (w : Keys K) where
     abbrev pub OnShards : ℕ → List (ShardState K V S) → Type 0
     OnShards i row = (j : ℕ) (s : ShardState K V S) → slice_get row j ≡ Some s → IsOnShard w (i + j) (pairs s)
 
-    abbrev behind : (i : ℕ) (s : ShardState K V S) (row : List (ShardState K V S)) → OnShards i (s ∷ row) → OnShards (i + 1) row
+    abbrev pub behind : (i : ℕ) (s : ShardState K V S) (row : List (ShardState K V S)) → OnShards i (s ∷ row) → OnShards (i + 1) row
     behind i s row on = λ j t e. subst (λ n. IsOnShard w n (pairs t)) (omega arith) (on (suc j) t e)
 
     -- a key that goes to a shard in front stands in none of the row
-    nowhere : (i : ℕ) (row : List (ShardState K V S)) (k : K) → OnShards i row → w.route k < i → at w (flat_map pairs row) k ≡ None
+    pub nowhere : (i : ℕ) (row : List (ShardState K V S)) (k : K) → OnShards i row → w.route k < i → at w (flat_map pairs row) k ≡ None
     nowhere i [] k on lt = refl
     nowhere i (s ∷ row) k on lt =
         at-append (pairs s) (flat_map pairs row) k ((on zero s refl).routed k (λ e. absurd (omega (arith, lt, e))))

@@ -1,3 +1,4 @@
 pub mod Amounts
 pub mod Map
 pub mod Alone
+pub mod Run

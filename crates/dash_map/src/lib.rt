@@ -4,3 +4,4 @@
 pub mod alone;
 mod calls;
 pub mod map;
+pub mod run;
