@@ -1,4 +1,4 @@
--- A shard behind a lock: what its lock is made for, and what an insert or a removal through a hold promises.
+-- A shard behind a lock: what its lock is made for, and what calls promise that say the same of a shard and through a hold.
 use Rattle.std.specs.Prelude.{◌≡◌, ℕ, ◌+◌, ◌<◌, ◌↔◌, Bool, Option, Some, None, IfSome, IsNone, Result, IfOk, OnOk, IfErr, OnErr, is_some, if◌then◌else◌}
 use Rattle.std.specs.Hash.{HashWrites}
 use Rattle.std.specs.declared.hash.Hasher as hasher
