@@ -1,7 +1,5 @@
 use Rattle.std.proofs.Common.{ap, sym, subst, length, arith, ◌<◌, ◌∙◌}
 use Rattle.std.specs.Option.{option_map}
-use Rattle.std.proofs.Math.ListN.{length-set}
-use Rattle.std.proofs.lemmas.List.{length-map}
 use Rattle.dash_shard.specs.Shard.{shard_len}
 use Rattle.dash_shard.proofs.Shards.{hash-same, at-missing, replaced, pushed, inserts, refuses, grown-inside}
 use Rattle.dash_shard.proofs.shard.Shard.insert_hashed.Goals as goal
