@@ -1,4 +1,4 @@
-use Rattle.std.proofs.Common.{◌≡◌, ◌<◌, ◌∙◌, ap, sym, subst, length, arith}
+use Rattle.std.proofs.Common.{◌<◌, ◌∙◌, ap, sym, subst, length, arith}
 use Rattle.std.proofs.lemmas.Option.{IfSome_then}
 use Rattle.dash_map.specs.Alone.{IsPlaced}
 use Rattle.dash_map.proofs.Moves.{placed-held}
