@@ -1,5 +1,6 @@
 -- A list of pairs, where the first with an equal key is found by looking at each.
-use Rattle.std.proofs.Common.{◌≡◌, ℕ, zero, suc, ◌<◌, true, false, cond, List, [], ◌∷◌, length, get_or, set, Option, Some, None, refl, sym, ap, subst, ◌∙◌, inl, inr, arith}
+use Rattle.std.proofs.Common.{◌≡◌, ℕ, zero, suc, ◌<◌, true, false, cond, List, [], ◌∷◌, length, get_or, set, Option, Some, None, Result, Ok, Err, refl, sym, ap, subst, ◌∙◌, inl, inr, arith}
+use Rattle.std.specs.Prelude.{OnErr}
 use Rattle.std.specs.Cmp.{IsEquivalence}
 use Rattle.std.specs.List.{position, position_or_len, remove}
 use Rattle.std.proofs.lemmas.Bool.{cases_Bool, cases_lt, lt-ltb, le-ltb}
@@ -139,3 +140,8 @@ module _ {K V : Type 0} (w : Keys K) (k : K) where
             absurd (none-some (position_or_len (λ q. w.eq q.0 k) (p ∷ ps)) (sym e ∙ rw (lt-ltb _ _ lt) refl))
         | inr more ↦ rw (le-ltb _ _ more) refl
       ]
+
+-- what holds anyway holds where there is an error
+pub always : {A B P : Type 0} (r : Result A B) → P → OnErr r P
+always (Ok x) p = tt
+always (Err e) p = p

@@ -1,11 +1,13 @@
 -- What contracts see of the plain map.
-use Rattle.std.specs.Prelude.{ℕ, List, Bool}
+use Rattle.std.specs.Prelude.{◌≡◌, ℕ, List, Bool, None, IsSome}
 use Rattle.std.specs.Hash.{HashWrites}
 use Rattle.std.specs.declared.hash.Hasher as hasher
 use Rattle.std.specs.declared.hash.BuildHasher as builder
-use Rattle.dash_shard.specs.Contents.{keys, Distinct}
+use Rattle.dash_shard.specs.Contents.{keys, at, Distinct}
 use Rattle.dash_shard.specs.Hashing.{IsAmount, route_by}
 use Rattle.dash_history.specs.Takes.{Rules, rules}
+use Rattle.dash_history.specs.declared.step.ShardStep.{ShardStep}
+use Rattle.dash_history.specs.declared.step.ShardStep.TheVariants.{Get, Insert, Remove}
 
 pub record PlainState (K V S : Type 0) : Type 0 where
   pub hasher : S
@@ -21,3 +23,9 @@ module _ {K V S H : Type 0} (eq : K → K → Bool) (b : builder.Ghosts S H) (h 
 pub record IsPlain {K V S : Type 0} (eq : K → K → Bool) (route : S → ℕ → K → ℕ) (m : PlainState K V S) : Type 0 where
   pub distinct : Distinct (keys eq (route m.hasher m.amount) m.amount) m.pairs
   pub amount : IsAmount m.amount
+
+-- the step takes memory at the contents P: for a copy of the pair that is found, or for a new pair
+abbrev pub TakesMemory : {K V : Type 0} → Rules K V → List (K × V) → ShardStep K V → Type 0
+TakesMemory m P (Get k) = IsSome (at m.keys P k)
+TakesMemory m P (Insert k v) = at m.keys P k ≡ None
+TakesMemory m P (Remove k) = ⊥

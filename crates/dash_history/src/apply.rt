@@ -1,5 +1,5 @@
 //! Steps of callers on a map that threads share.
-ghost use Rattle.std.specs.Prelude.{◌≡◌, ◌<◌, ◌≤◌, ◌↔◌, IfOk, IfErr};
+ghost use Rattle.std.specs.Prelude.{◌≡◌, ◌-◌, ◌^◌, ◌<◌, ◌≤◌, ◌↔◌, IfOk, IfErr};
 ghost use Rattle.dash_history.specs.History.{place_of};
 ghost use Rattle.dash_history.specs.Map.{Logged, rules_on};
 
@@ -26,6 +26,9 @@ impl<K: KeptKey + Drop, V: Kept + Drop, S: BuildHasher> RecordedMap<K, V, S> {
         ensures ok { IfOk result (λ reply. Logged (rules_on S.BuildHasher S.Hasher.Hasher K.eq K.hash_input K.alike V.alike self.now) log.old log.new step reply) }
         ensures refused { IfErr result (λ e. (e.0 ≡ step) × (log.new ≡ log.old)) }
         ensures no_such_shard { (result ≡ Err (step, RecordFault.NoSuchShard)) ↔ (self.now.amount ≤ place_of (rules_on S.BuildHasher S.Hasher.Hasher K.eq K.hash_input K.alike V.alike self.now) step) }
+
+        // The shard's last stamp is not known here, the log's is.
+        ensures last_stamp { (place_of (rules_on S.BuildHasher S.Hasher.Hasher K.eq K.hash_input K.alike V.alike self.now) step < self.now.amount) × (log.old.last ≡ 2 ^ 64 - 1) → result ≡ Err (step, RecordFault.LastStamp) }
     {
         let place = self.place(&step);
         if place >= self.shard_count() {

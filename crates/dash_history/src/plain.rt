@@ -1,12 +1,12 @@
 //! A plain, slow map whose contract is the step table: a list that is scanned.
-ghost use Rattle.std.specs.Prelude.{◌≡◌, [], IsTrue, IfOk, OnOk, IfErr, position};
+ghost use Rattle.std.specs.Prelude.{◌≡◌, [], None, IsTrue, IsSome, IfOk, OnOk, IfErr, OnErr, position};
 ghost use Rattle.dash_shard.specs.Hashing.{IsAmount};
 ghost use Rattle.dash_shard.specs.Contents.{at, Distinct};
 ghost use Rattle.dash_shard.specs.Steps.{Insert, Remove, Pair, Old, Replies, Becomes};
 ghost use Rattle.dash_history.specs.Alike.{alike_option, alike_pair};
 ghost use Rattle.dash_history.specs.Steps.{step_of, reply_of};
 ghost use Rattle.dash_history.specs.Takes.{Takes};
-ghost use Rattle.dash_history.specs.Plain.{plain_rules};
+ghost use Rattle.dash_history.specs.Plain.{plain_rules, TakesMemory};
 
 use crate::kept::{Kept, KeptKey};
 use crate::step::{Reply, ShardStep};
@@ -56,7 +56,8 @@ impl<K: KeptKey + Drop, V: Kept + Drop, S: BuildHasher> Plain<K, V, S> {
 
     // A copy of the pair whose key equals `key`.
     fn copy_at(&self, key: &K) -> Result<Option<(K, V)>, AllocError>
-        ensures { IfOk result (λ copy. IsTrue (alike_option (alike_pair K.alike V.alike) (at (plain_rules K.eq S.BuildHasher S.Hasher.Hasher K.hash_input K.alike V.alike self.now).keys self.now.pairs key.now) copy)) }
+        ensures copy { IfOk result (λ copy. IsTrue (alike_option (alike_pair K.alike V.alike) (at (plain_rules K.eq S.BuildHasher S.Hasher.Hasher K.hash_input K.alike V.alike self.now).keys self.now.pairs key.now) copy)) }
+        ensures found { OnErr result (IsSome (at (plain_rules K.eq S.BuildHasher S.Hasher.Hasher K.hash_input K.alike V.alike self.now).keys self.now.pairs key.now)) }
     {
         match find(&self.pairs, key) {
             Some(i) => {
@@ -75,6 +76,7 @@ impl<K: KeptKey + Drop, V: Kept + Drop, S: BuildHasher> Plain<K, V, S> {
         ensures distinct { OnOk result (Distinct (plain_rules K.eq S.BuildHasher S.Hasher.Hasher K.hash_input K.alike V.alike self.old).keys self.new.pairs) }
         ensures stays { (self.new.hasher ≡ self.old.hasher) × (self.new.amount ≡ self.old.amount) }
         ensures refused { IfErr result (λ back. (back ≡ (key, value)) × (self.new ≡ self.old)) }
+        ensures absent { OnErr result (at (plain_rules K.eq S.BuildHasher S.Hasher.Hasher K.hash_input K.alike V.alike self.old).keys self.old.pairs key ≡ None) }
     {
         if let Some(i) = find(&self.pairs, &key) {
             let old = mem::replace(&mut self.pairs[i].1, value);
@@ -102,6 +104,7 @@ impl<K: KeptKey + Drop, V: Kept + Drop, S: BuildHasher> Plain<K, V, S> {
         ensures ok { IfOk result (λ reply. Takes (plain_rules K.eq S.BuildHasher S.Hasher.Hasher K.hash_input K.alike V.alike self.old) self.old.pairs (step_of step) (reply_of reply) self.new.pairs) }
         ensures stays { (self.new.hasher ≡ self.old.hasher) × (self.new.amount ≡ self.old.amount) }
         ensures refused { IfErr result (λ back. (back ≡ step) × (self.new ≡ self.old)) }
+        ensures memory { OnErr result (TakesMemory (plain_rules K.eq S.BuildHasher S.Hasher.Hasher K.hash_input K.alike V.alike self.old) self.old.pairs step) }
     {
         let _ = &self.amount;
         match step {

@@ -139,6 +139,7 @@ impl<K: KeptKey + Drop, V: Kept + Drop, S: BuildHasher> RecShardMut<'_, K, V, S>
         ensures ok { IfOk result (λ reply. Recorded (rules_of K.eq S.BuildHasher S.Hasher.Hasher K.hash_input K.alike V.alike self.old.shard) self.old self.new log.old log.new step reply) }
         ensures refused { IfErr result (λ e. (e.0 ≡ step) × (self.new ≡ self.old) × (log.new ≡ log.old)) }
         ensures last_stamp { (result ≡ Err (step, RecordFault.LastStamp)) ↔ (max self.old.last log.old.last ≡ 2 ^ 64 - 1) }
+        ensures log_last { log.old.last ≡ 2 ^ 64 - 1 → result ≡ Err (step, RecordFault.LastStamp) }
         ensures faults { IfErr result (λ e. (e.1 ≡ RecordFault.LastStamp) ⊎ (e.1 ≡ RecordFault.Memory)) }
     {
         let last = self.last_stamp().max(log.last);

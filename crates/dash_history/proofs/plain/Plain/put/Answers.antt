@@ -72,3 +72,9 @@ returns-clause-distinct g c =
       | in-Ok w ↦ rw (w.result-is, w.in-Ok.ensures.items, ← c.self.view_is) (none, c.self.invariant.distinct)
       | in-Err w ↦ rw w.result-is tt
     ]
+
+pub returns-clause-absent : goal.returns-clause-absent
+returns-clause-absent g c =
+    let m = plain_rules g.K.PartialEq.eq g.S.BuildHasher g.S.Hasher.Hasher g.K.Hash.hash_input g.K.Kept.alike g.V.Kept.alike c.args.self.now in
+    let none = missing m.keys c.args.key c.self.inside.pairs.items (subst (λ ps. position (λ p. g.K.PartialEq.eq p.0 c.args.key) ps ≡ None) c.deref.ensures.value (sym c.in_default.ensures)) in
+    elim c.match-insert.branch [ in-Ok w ↦ rw w.result-is tt | in-Err w ↦ rw (w.result-is, ← c.self.view_is) none ]

@@ -16,7 +16,7 @@ returns-in-Ok-clause-ok g c =
     let laws = lawful-by _ g.S.BuildHasher g.S.Hasher.Hasher _ _ _ g.met.K.Eq.laws g.met.K.Hash.respects_eq g.met.K.Kept.alike_laws g.met.V.Kept.alike_laws g.met.K.KeptKey.alike_equal c.args.self.now.hasher c.args.self.now.amount in
     let plain = subst (λ (x : PlainState g.row.K.Denot g.row.V.Denot g.row.S.Denot). IsPlain g.K.PartialEq.eq (route_by g.S.BuildHasher g.S.Hasher.Hasher g.K.Hash.hash_input) x) c.self.view_is c.self.invariant in
     rw c.in-Get.is (takes-exactly m laws c.args.self.now.pairs c.args.self.now.pairs (table.Get c.in-Get.key) (Pair c.in-Ok.pair) (route_below _ _ (omega (arith, plain.amount.several)))
-    (record { told = Pair (at m.keys c.args.self.now.pairs c.in-Get.key); replies = refl; alike = c.in-Ok.ensures }) (looked m.keys c.in-Get.key c.args.self.now.pairs) plain.distinct)
+    (record { told = Pair (at m.keys c.args.self.now.pairs c.in-Get.key); replies = refl; alike = c.in-Ok.ensures.copy }) (looked m.keys c.in-Get.key c.args.self.now.pairs) plain.distinct)
 
 pub returns-in-Ok-put-clause-ok : goal.returns-in-Ok-put-clause-ok
 returns-in-Ok-put-clause-ok g c =
