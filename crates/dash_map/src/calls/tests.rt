@@ -1,7 +1,8 @@
 //! A map that threads share: what is put is found, and taken once.
 use super::*;
 use dash_shard::hash::{FixedState, PlaceState};
-use std::alloc::Global;
+use std::alloc::{AllocError, Global};
+use std::hash::RandomState;
 use std::process::Abort;
 use std::sync::Arc;
 use std::test::Fail;
@@ -35,6 +36,52 @@ fn a_hundred_keys(rt: HostRuntime) -> Result<(), Fail> {
     let alone = map.alone();
     assert_eq!(rt; alone.get(&8), Some((&8, &8)));
     assert!(rt; !alone.contains_key(&7));
+    Ok(())
+}
+
+#[test]
+fn zero_is_a_key_and_a_value(rt: HostRuntime) -> Result<(), Fail> {
+    let map = DashMap::<u64, u64, FixedState>::new(rt.alloc(), 1)?;
+    assert_eq!(rt; map.insert(&rt, 0, 0)?, None);
+    assert_eq!(rt; value_at(&rt, &map, 0), Some(0));
+    Ok(())
+}
+
+// A value that has memory of its own.
+#[derive(Debug, Drop, PartialEq)]
+struct Note {
+    text: String,
+    number: u64,
+}
+
+fn note_of(alloc: Global, number: u64) -> Result<Note, AllocError> {
+    let text = format!(in alloc; "{number}")?;
+    Ok(Note { text, number })
+}
+
+#[test]
+fn structs_are_found_as_they_were_put(rt: HostRuntime) -> Result<(), Fail> {
+    let map = DashMap::<u64, Note, FixedState>::new(rt.alloc(), 1)?;
+    for i in 0..10 {
+        map.insert(&rt, i, note_of(rt.alloc(), i)?)?;
+    }
+    for i in 0..10 {
+        let found = map.get(&rt, &i).ok_or("no pair")?;
+        assert_eq!(rt; *found.value(), note_of(rt.alloc(), i)?);
+    }
+    Ok(())
+}
+
+#[test]
+fn a_random_hasher_finds_each_key(rt: HostRuntime) -> Result<(), Fail> {
+    let hasher = RandomState::new(&rt)?;
+    let map = DashMap::<u64, u64, RandomState>::with_hasher(rt.alloc(), hasher, 1)?;
+    for i in 0..10 {
+        map.insert(&rt, i, i)?;
+    }
+    for i in 0..10 {
+        assert_eq!(rt; value_at(&rt, &map, i), Some(i), "at {i}");
+    }
     Ok(())
 }
 
