@@ -14,9 +14,9 @@ use Rattle.dash_shard.specs.Hashing.{IsAmount, HashAlike, hash_of, route_by, rou
 use Rattle.dash_shard.specs.Contents.{Keys, keys, at, IsOnShard}
 use Rattle.std.proofs.lemmas.List.{set-get_or}
 use Rattle.dash_shard.specs.Steps.{Step, Reply, Insert, Old, Becomes, line, line_after, LineReplies, at_key}
-use Rattle.std.specs.Prelude.{IfOk, IfErr}
+use Rattle.std.specs.Prelude.{IfOk, IfErr, IsSomeAnd}
 use Rattle.dash_shard.specs.declared.shard.InsertRefused.{InsertRefused}
-use Rattle.dash_shard.specs.Shard.{ShardState, SameShard, IsShard, TakesExactly, pairs, keys_of}
+use Rattle.dash_shard.specs.Shard.{ShardState, SameShard, IsShard, TakesExactly, pairs, shard_len, keys_of}
 use Rattle.dash_map.specs.Alone.{AloneState, IsPlaced, IsAlone, TakesAlone, contents, keys_in}
 use Rattle.dash_map.proofs.Union.{OnShards, at-union}
 
@@ -122,6 +122,12 @@ module _ {K V S H : Type 0} (eq : K → K → Bool) (b : builder.Ghosts S H) (h 
     -- the key has one hash there and by the map's hasher
     pub hashed_there : (hash : ℕ) → hash ≡ hash_of b h z.hasher (input k) → hash ≡ hash_of b h s.hasher (input k)
     hashed_there hash is = is ∙ sym (ap (λ x. hash_of b h x.hasher (input k)) view) ∙ sym ((a.placed p s here).hashes (input k))
+
+    -- that shard is the one of the key
+    pub full-there : shard_len s ≡ s.capacity → IsSomeAnd (slice_get z.row ((keys_in eq b h input z).route k)) (λ x. shard_len x ≡ x.capacity)
+    full-there full =
+        let found : slice_get z.row ((keys_in eq b h input z).route k) ≡ Some s = subst (λ i. slice_get z.row i ≡ Some s) computed (subst (λ x. slice_get x.row p ≡ Some s) view here) in
+        rw found full
 
     -- what stands at the key stands on that shard
     pub stands : at (keys_in eq b h input z) (contents z) k ≡ at (keys_of eq b h input s) (pairs s) k

@@ -1,5 +1,5 @@
 //! A map of one owner, without locks.
-ghost use Rattle.std.specs.Prelude.{◌≡◌, ◌⊎◌, ℕ, ◌+◌, ◌-◌, ◌^◌, ◌<◌, ◌≤◌, ◌↔◌, min, IsErrOf, IfOk, IfErr, OnOk, Some, None, length, slice_get, OnErr, is_some};
+ghost use Rattle.std.specs.Prelude.{◌≡◌, ◌⊎◌, ℕ, ◌+◌, ◌-◌, ◌^◌, ◌<◌, ◌≤◌, ◌↔◌, min, IsErrOf, IfOk, IfErr, OnOk, Some, None, length, slice_get, OnErr, is_some, IsSomeAnd};
 ghost use Rattle.crossbeam_utils.specs.Padded.{padded_value};
 ghost use Rattle.dash_shard.specs.Hashing.{IsAmount, HashAlike, hash_of};
 ghost use Rattle.dash_shard.specs.Shard.{shard_len};
@@ -133,6 +133,7 @@ impl<K: Eq + Hash + Drop, V: Drop, S: BuildHasher> Alone<K, V, S> {
         ensures taken { IfOk result (λ old. TakesAlone K.eq S.BuildHasher S.Hasher.Hasher K.hash_input self.old self.new (Insert key value) (Old old)) }
         ensures refused { IfErr result (λ e. (e.key ≡ key) × (e.value ≡ value) × (self.new ≡ self.old)) }
         ensures absent { OnErr result (at (keys_in K.eq S.BuildHasher S.Hasher.Hasher K.hash_input self.old) (contents self.old) key ≡ None) }
+        ensures full { OnErr result (IsSomeAnd (slice_get self.old.row ((keys_in K.eq S.BuildHasher S.Hasher.Hasher K.hash_input self.old).route key)) (λ s. shard_len s ≡ s.capacity)) }
     {
         let (hash, place) = self.place_of(&key);
         self.row[place].insert_hashed(hash, key, value)

@@ -2,7 +2,7 @@ use Rattle.std.proofs.Common.{◌<◌, ◌∙◌, Some, refl, ap, length, arith}
 use Rattle.std.proofs.lemmas.Result.{IfOk-weaker, MatchResult-weaker}
 use Rattle.dash_shard.specs.Steps.{Insert, Old, key_or, value}
 use Rattle.dash_shard.specs.Shard.{TakesExactly}
-use Rattle.dash_map.proofs.Lifting.{goes_there, hashed_there, here, settled, alone-set, taken, stands, unchanged}
+use Rattle.dash_map.proofs.Lifting.{goes_there, hashed_there, here, settled, alone-set, taken, stands, full-there, unchanged}
 use Rattle.dash_map.proofs.alone.Alone.insert.Goals as goal
 
 pub insert_hashed-requires-clause-hash : goal.insert_hashed-requires-clause-hash
@@ -46,3 +46,9 @@ returns-clause-absent g c =
     let row = c.self.inside.row in
     let within : c.place_of-hash.result.1 < length row.items = omega (arith, c.place_of-hash.ensures.below, ap (λ a. length a.row) c.self.view_is) in
     MatchResult-weaker c.insert_hashed.result c.insert_hashed.ensures.absent (λ x p. p) (λ e h. stands g.K.PartialEq.eq g.S.BuildHasher g.S.Hasher.Hasher g.K.Hash.hash_input g.met.K.Eq.laws g.met.K.Hash.respects_eq _ _ _ c.self.view_is c.self.invariant.0 c.args.key c.place_of-hash.result.1 c.place_of-hash.ensures.place c.index_mut.result.now within c.index_mut.ensures.value ∙ h)
+
+pub returns-clause-full : goal.returns-clause-full
+returns-clause-full g c =
+    let row = c.self.inside.row in
+    let within : c.place_of-hash.result.1 < length row.items = omega (arith, c.place_of-hash.ensures.below, ap (λ a. length a.row) c.self.view_is) in
+    MatchResult-weaker c.insert_hashed.result c.insert_hashed.ensures.full (λ x p. p) (λ e h. full-there g.K.PartialEq.eq g.S.BuildHasher g.S.Hasher.Hasher g.K.Hash.hash_input g.met.K.Eq.laws g.met.K.Hash.respects_eq _ _ _ c.self.view_is c.self.invariant.0 c.args.key c.place_of-hash.result.1 c.place_of-hash.ensures.place c.index_mut.result.now within c.index_mut.ensures.value h)
