@@ -7,3 +7,6 @@ module _ {A B : Type 0} (f : A → B) where
   only [] w one first = absurd (omega (arith, one))
   only (x ∷ []) w one first = ap (λ y. f y ∷ []) (sym first)
   only (x ∷ y ∷ words) w one first = absurd (omega (arith, one))
+
+pub first-word : {B : Type 0} {v w : B} → v ∷ [] ≡ w ∷ [] → v ≡ w
+first-word {B} {v} {w} same = ap (λ ws. get_or ws 0 v) same

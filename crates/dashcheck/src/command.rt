@@ -1,8 +1,8 @@
 //! The command line.
-ghost use Rattle.std.specs.Prelude.{◌≡◌, ◌↔◌, ◌++◌, ◌∷◌, [], IfOk, OnOk, codes, map, string_bytes};
+ghost use Rattle.std.specs.Prelude.{◌≡◌, ◌↔◌, ◌++◌, ◌∷◌, [], IsTrue, IfOk, OnOk, map, string_bytes};
 ghost use Rattle.std.specs.Io.KnownBytes.{Appends};
-ghost use Rattle.dashcheck.specs.Command.{IsScript};
-ghost use Rattle.dashcheck.specs.Script.{TakesAll, stop_text};
+ghost use Rattle.dashcheck.specs.Command.{IsScript, usage};
+ghost use Rattle.dashcheck.specs.Script.{TakesAll, Refuses, stop_text};
 
 use crate::script::{self, Stop};
 use std::alloc::Global;
@@ -38,7 +38,7 @@ impl Status {
 /// Runs the words after the program's name.
 ///
 /// The words are checked before anything is read or made. A bad command line prints the usage on `errors`, and leaves the rest.
-/// `script` takes memory for a map, for its steps, and for a buffer on either side.
+/// `script` takes memory for a map, for its steps, and for a buffer on either side. It fails where a write does.
 pub fn run_words<T: Wait + Clock, R: Read, O: Write, E: Write>(
     rt: &T,
     alloc: Global,
@@ -46,21 +46,43 @@ pub fn run_words<T: Wait + Clock, R: Read, O: Write, E: Write>(
     input: &mut R,
     output: &mut O,
     errors: &mut E,
-) -> Status
-    ensures bad { (result ≡ Status.BadCommandLine) ↔ (IsScript (map string_bytes words.now) → ⊥) }
-    ensures untouched { result ≡ Status.BadCommandLine → (input.new ≡ input.old) × (output.new ≡ output.old) }
-    ensures good { result ≡ Status.Good → TakesAll (R.remaining input.old) (O.contents output.old) (O.contents output.new) × (errors.new ≡ errors.old) }
+) -> io::Result<Status>
+    // Whether the words are a command.
+    ensures bad { IfOk result (λ status. (status ≡ Status.BadCommandLine) ↔ (IsScript (map string_bytes words.now) → ⊥)) }
+    ensures usage { result ≡ Ok Status.BadCommandLine → Appends (E.contents errors.old) (E.contents errors.new) (usage ++ 10 ∷ []) }
+    ensures untouched { (IsScript (map string_bytes words.now) → ⊥) → (input.new ≡ input.old) × (output.new ≡ output.old) }
+
+    // How a script ends.
+    ensures good { result ≡ Ok Status.Good → TakesAll (R.remaining input.old) (O.contents output.old) (O.contents output.new) × (errors.new ≡ errors.old) }
+    ensures refused { result ≡ Ok Status.Refused → Refuses (R.remaining input.old) (O.contents output.old) (O.contents output.new) (E.contents errors.old) (E.contents errors.new) }
 {
-    if words.len() == 1 && words[0].as_str() == "script" {
-        return script::run(rt, alloc, input, output, errors).unwrap_or(Status::Refused);
+    if is_script(words) {
+        return script::run(rt, alloc, input, output, errors);
     }
-    // Where the errors can't be written there is nothing left to say.
-    let _ = print_usage(errors);
-    Status::BadCommandLine
+    print_usage(errors)?;
+    Ok(Status::BadCommandLine)
+}
+
+/// How the program ended where `run_words` failed: a bad command line is one also where the usage can't be printed.
+pub fn failed(words: &[String]) -> Status
+    ensures bad { (result ≡ Status.BadCommandLine) ↔ (IsScript (map string_bytes words.now) → ⊥) }
+    ensures refused { (result ≡ Status.Refused) ↔ IsScript (map string_bytes words.now) }
+{
+    if is_script(words) {
+        Status::Refused
+    } else {
+        Status::BadCommandLine
+    }
+}
+
+fn is_script(words: &[String]) -> bool
+    ensures { IsTrue result ↔ IsScript (map string_bytes words.now) }
+{
+    words.len() == 1 && words[0].as_str() == "script"
 }
 
 fn print_usage<E: Write>(errors: &mut E) -> io::Result<()>
-    ensures { OnOk result (Appends (E.contents errors.old) (E.contents errors.new) (USAGE.now ++ 10 ∷ [])) }
+    ensures { OnOk result (Appends (E.contents errors.old) (E.contents errors.new) (usage ++ 10 ∷ [])) }
 {
     writeln!(errors, "{USAGE}")
 }

@@ -8,33 +8,30 @@ mod step;
 #[cfg(test)]
 mod tests;
 
-use command::{Status, refuse_memory, run_words};
+use command::{Status, failed, refuse_memory, run_words};
 use std::process::ExitCode;
 use std::{env, io};
 
 fn main(rt: HostRuntime) -> ExitCode {
     let errors = &mut rt.stderr();
-    let status = match words(&rt) {
-        Ok(words) => run_words(
-            &rt,
-            rt.alloc(),
-            words.as_slice(),
-            &mut rt.stdin(),
-            &mut rt.stdout(),
-            errors,
-        ),
+    let words = match words(&rt) {
+        Ok(words) => words,
         Err(e) if e.kind() == io::ErrorKind::OutOfMemory => {
-            refuse_memory(errors).unwrap_or(Status::Refused)
+            let status = refuse_memory(errors).unwrap_or(Status::Refused);
+            return ExitCode::from(status.code());
         }
-        Err(_) => run_words(
-            &rt,
-            rt.alloc(),
-            &[],
-            &mut rt.stdin(),
-            &mut rt.stdout(),
-            errors,
-        ),
+        // A word that is no text.
+        Err(_) => Vec::new(rt.alloc()),
     };
+    let status = run_words(
+        &rt,
+        rt.alloc(),
+        words.as_slice(),
+        &mut rt.stdin(),
+        &mut rt.stdout(),
+        errors,
+    )
+    .unwrap_or_else(|_| failed(words.as_slice()));
     ExitCode::from(status.code())
 }
 

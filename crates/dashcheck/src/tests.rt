@@ -1,5 +1,5 @@
 //! What `dashcheck` prints, where reads and writes succeed and where they fail.
-use crate::command::{Status, run_words};
+use crate::command::{Status, failed, run_words};
 use std::alloc::{AllocError, Global};
 use std::io::{self, Read, Write};
 use std::process::Abort;
@@ -72,7 +72,7 @@ fn check<T: Abort + Wait + Clock>(
         &mut input,
         &mut printed,
         &mut refused,
-    );
+    )?;
     let want = if errors.is_empty() {
         Status::Good
     } else {
@@ -205,7 +205,7 @@ fn refuses_failed_reads(rt: HostRuntime) -> Result<(), Fail> {
             &mut input,
             &mut printed,
             &mut refused,
-        );
+        )?;
         assert_eq!(rt; printed.as_slice(), output.as_bytes());
         assert_eq!(rt; refused.as_slice(), b"refused: read failed\n".as_slice());
         assert_eq!(rt; status, Status::Refused);
@@ -220,7 +220,7 @@ fn stops_where_a_write_fails(rt: HostRuntime) -> Result<(), Fail> {
         let mut input = b"insert 1 10\nget 1\nbad\n".as_slice();
         let mut output = Full { room };
         let mut refused = Vec::new(rt.alloc());
-        let status = run_words(
+        let ended = run_words(
             &rt,
             rt.alloc(),
             words.as_slice(),
@@ -228,8 +228,9 @@ fn stops_where_a_write_fails(rt: HostRuntime) -> Result<(), Fail> {
             &mut output,
             &mut refused,
         );
+        assert!(rt; ended.is_err());
         assert_eq!(rt; refused.len(), 0);
-        assert_eq!(rt; status, Status::Refused);
+        assert_eq!(rt; failed(words.as_slice()).code(), 1);
     }
     Ok(())
 }
@@ -256,11 +257,32 @@ fn checks_the_command_line_first(rt: HostRuntime) -> Result<(), Fail> {
             &mut input,
             &mut printed,
             &mut usage,
-        );
+        )?;
         assert_eq!(rt; status.code(), 2, "status of {line:?}");
         assert_eq!(rt; input.bytes.len(), 6);
         assert_eq!(rt; printed.len(), 0);
         assert_eq!(rt; usage.as_slice(), USAGE.as_bytes());
+    }
+    Ok(())
+}
+
+#[test]
+fn fails_where_the_errors_cannot_be_written(rt: HostRuntime) -> Result<(), Fail> {
+    for (line, code) in [("threads 4", 2), ("script", 1)] {
+        let words = words(rt.alloc(), line)?;
+        let mut input = b"bad\n".as_slice();
+        let mut printed = Vec::new(rt.alloc());
+        let ended = run_words(
+            &rt,
+            rt.alloc(),
+            words.as_slice(),
+            &mut input,
+            &mut printed,
+            &mut Full { room: 0 },
+        );
+        assert!(rt; ended.is_err(), "end of {line:?}");
+        assert_eq!(rt; printed.len(), 0);
+        assert_eq!(rt; failed(words.as_slice()).code(), code);
     }
     Ok(())
 }
