@@ -4,3 +4,4 @@ mod Reading
 mod Replies
 mod Taking
 mod Texts
+mod Working

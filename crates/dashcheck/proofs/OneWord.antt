@@ -1,5 +1,8 @@
--- A command line of one word.
-use Rattle.std.proofs.Common.{◌≡◌, List, [], ◌∷◌, length, get_or, map, ap, sym, arith}
+-- The words of a command line.
+use Rattle.std.proofs.Common.{◌≡◌, ℕ, ◌*◌, ◌<◌, ◌^◌, List, [], ◌∷◌, length, get_or, map, refl, ap, sym, ◌∙◌, arith}
+use Rattle.std.specs.Fmt.{decimal}
+use Rattle.std.proofs.lemmas.Fmt.{decimal_injective}
+use Rattle.dashcheck.specs.Threads.{IsThreads, threads}
 
 module _ {A B : Type 0} (f : A → B) where
   -- its words are the first
@@ -7,6 +10,27 @@ module _ {A B : Type 0} (f : A → B) where
   only [] w one first = absurd (omega (arith, one))
   only (x ∷ []) w one first = ap (λ y. f y ∷ []) (sym first)
   only (x ∷ y ∷ words) w one first = absurd (omega (arith, one))
+
+  -- its words are these three
+  pub three : (words : List A) (u v w : A) → length words ≡ 3 → u ≡ get_or words 0 u → v ≡ get_or words 1 v → w ≡ get_or words 2 w → map f words ≡ f u ∷ f v ∷ f w ∷ []
+  three [] u v w many a b c = absurd (omega (arith, many))
+  three (x ∷ []) u v w many a b c = absurd (omega (arith, many))
+  three (x ∷ y ∷ []) u v w many a b c = absurd (omega (arith, many))
+  three (x ∷ y ∷ z ∷ []) u v w many a b c = rw a (rw b (rw c refl))
+  three (x ∷ y ∷ z ∷ t ∷ words) u v w many a b c = absurd (omega (arith, many))
+
+-- words say one size
+pub same-size : (words : List (List ℕ)) (t : List ℕ) (c n d m : ℕ) → c < 2 ^ 64 → n < 2 ^ 64 → words ≡ t ∷ decimal c ∷ decimal n ∷ [] → IsThreads words d m → (c ≡ d) × (n ≡ m)
+same-size words t c n d m small few is other =
+    let same : t ∷ decimal c ∷ decimal n ∷ [] ≡ threads ∷ decimal d ∷ decimal m ∷ [] = sym is ∙ other.0 in (
+      decimal_injective c d small (omega (arith, other.1.few)) (ap (λ ws. get_or ws 1 []) same),
+      decimal_injective n m few (omega (arith, other.1.short)) (ap (λ ws. get_or ws 2 []) same),
+    )
+
+pub same-product : (words : List (List ℕ)) (c n d m : ℕ) → IsThreads words c n → IsThreads words d m → c * n ≡ d * m
+same-product words c n d m one other =
+    let same = same-size words threads c n d m (omega (arith, one.1.few)) (omega (arith, one.1.short)) one.0 other in
+    ap (λ k. k * n) same.0 ∙ ap (λ k. d * k) same.1
 
 pub first-word : {B : Type 0} {v w : B} → v ∷ [] ≡ w ∷ [] → v ≡ w
 first-word {B} {v} {w} same = ap (λ ws. get_or ws 0 v) same

@@ -1,5 +1,8 @@
 -- The command line.
-use Rattle.std.specs.Prelude.{◌≡◌, ℕ, List, [], ◌∷◌, codes}
+use Rattle.std.specs.Prelude.{◌≡◌, ◌⊎◌, ℕ, List, [], ◌∷◌, codes}
+use Rattle.dashcheck.specs.Threads.{IsThreads}
+use Rattle.dashcheck.specs.declared.command.Command.{Command}
+use Rattle.dashcheck.specs.declared.command.Command.TheVariants.{Script, Threads}
 
 -- the bytes of `script`
 abbrev pub script : List ℕ
@@ -8,6 +11,15 @@ script = 115 ∷ 99 ∷ 114 ∷ 105 ∷ 112 ∷ 116 ∷ []
 -- the words, as bytes, are the one word `script`
 abbrev pub IsScript : List (List ℕ) → Type 0
 IsScript words = words ≡ script ∷ []
+
+-- the words ask for this
+abbrev pub Asks : List (List ℕ) → Command → Type 0
+Asks words Script = IsScript words
+Asks words (Threads c n) = IsThreads words c n
+
+-- the words are one of the two commands
+abbrev pub IsCommand : List (List ℕ) → Type 0
+IsCommand words = IsScript words ⊎ (c : ℕ) × (n : ℕ) × IsThreads words c n
 
 -- what a bad command line is told
 abbrev pub usage : List ℕ

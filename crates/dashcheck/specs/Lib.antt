@@ -1,3 +1,4 @@
 pub mod Command
 pub mod Lines
 pub mod Script
+pub mod Threads

@@ -1,14 +1,18 @@
 //! The command line.
-ghost use Rattle.std.specs.Prelude.{◌≡◌, ◌↔◌, ◌++◌, ◌∷◌, [], IsTrue, IfOk, OnOk, map, string_bytes};
+ghost use Rattle.std.specs.Prelude.{◌≡◌, ◌↔◌, ℕ, ◌*◌, ◌++◌, ◌∷◌, [], IsTrue, IfSome, IfNone, IfOk, OnOk, map, string_bytes};
 ghost use Rattle.std.specs.Io.KnownBytes.{Appends};
-ghost use Rattle.dashcheck.specs.Command.{IsScript, usage};
+ghost use Rattle.dashcheck.specs.Command.{IsScript, IsCommand, Asks, usage};
 ghost use Rattle.dashcheck.specs.Script.{TakesAll, Refuses, stop_text};
+ghost use Rattle.dashcheck.specs.Threads.{IsThreads, SaysRefusal, entries_line};
 
 use crate::script::{self, Stop};
+use crate::step::number;
+use crate::threads;
 use std::alloc::Global;
 use std::io::{self, Read, Write};
 use std::rt::Clock;
 use std::sync::Wait;
+use std::thread::Threads;
 
 const USAGE: &str = "usage: dashcheck script | dashcheck threads C N";
 
@@ -35,11 +39,19 @@ impl Status {
     }
 }
 
+/// What the words ask for.
+#[derive(Clone, Copy)]
+enum Command {
+    Script,
+    Threads { callers: u32, steps: u64 },
+}
+
 /// Runs the words after the program's name.
 ///
 /// The words are checked before anything is read or made. A bad command line prints the usage on `errors`, and leaves the rest.
-/// `script` takes memory for a map, for its steps, and for a buffer on either side. It fails where a write does.
-pub fn run_words<T: Wait + Clock, R: Read, O: Write, E: Write>(
+/// `script` takes memory for a map, for its steps, and for a buffer on either side; `threads` for a map, its workers and their steps.
+/// It fails where a write does.
+pub fn run_words<T: Threads + Wait + Clock + Sync, R: Read, O: Write, E: Write>(
     rt: &T,
     alloc: Global,
     words: &[String],
@@ -48,37 +60,73 @@ pub fn run_words<T: Wait + Clock, R: Read, O: Write, E: Write>(
     errors: &mut E,
 ) -> io::Result<Status>
     // Whether the words are a command.
-    ensures bad { IfOk result (λ status. (status ≡ Status.BadCommandLine) ↔ (IsScript (map string_bytes words.now) → ⊥)) }
+    ensures bad { IfOk result (λ status. (status ≡ Status.BadCommandLine) ↔ (IsCommand (map string_bytes words.now) → ⊥)) }
     ensures usage { result ≡ Ok Status.BadCommandLine → Appends (E.contents errors.old) (E.contents errors.new) (usage ++ 10 ∷ []) }
-    ensures untouched { (IsScript (map string_bytes words.now) → ⊥) → (input.new ≡ input.old) × (output.new ≡ output.old) }
+    ensures untouched { (IsCommand (map string_bytes words.now) → ⊥) → (input.new ≡ input.old) × (output.new ≡ output.old) }
 
     // How a script ends.
-    ensures good { result ≡ Ok Status.Good → TakesAll (R.remaining input.old) (O.contents output.old) (O.contents output.new) × (errors.new ≡ errors.old) }
-    ensures refused { result ≡ Ok Status.Refused → Refuses (R.remaining input.old) (O.contents output.old) (O.contents output.new) (E.contents errors.old) (E.contents errors.new) }
+    ensures script_good { IsScript (map string_bytes words.now) → result ≡ Ok Status.Good → TakesAll (R.remaining input.old) (O.contents output.old) (O.contents output.new) × (errors.new ≡ errors.old) }
+    ensures script_refused { IsScript (map string_bytes words.now) → result ≡ Ok Status.Refused → Refuses (R.remaining input.old) (O.contents output.old) (O.contents output.new) (E.contents errors.old) (E.contents errors.new) }
+
+    // How threads end.
+    ensures threads_good { (c n : ℕ) → IsThreads (map string_bytes words.now) c n → result ≡ Ok Status.Good → Appends (O.contents output.old) (O.contents output.new) (entries_line (c * n)) × (errors.new ≡ errors.old) }
+    ensures threads_refused { (c n : ℕ) → IsThreads (map string_bytes words.now) c n → result ≡ Ok Status.Refused → SaysRefusal (E.contents errors.old) (E.contents errors.new) × (output.new ≡ output.old) }
+    ensures threads_input { (c n : ℕ) → IsThreads (map string_bytes words.now) c n → input.new ≡ input.old }
 {
-    if is_script(words) {
-        return script::run(rt, alloc, input, output, errors);
+    match asked(words) {
+        Some(Command::Script) => script::run(rt, alloc, input, output, errors),
+        Some(Command::Threads { callers, steps }) => {
+            threads::run(rt, alloc, callers, steps, output, errors)
+        }
+        None => {
+            print_usage(errors)?;
+            Ok(Status::BadCommandLine)
+        }
     }
-    print_usage(errors)?;
-    Ok(Status::BadCommandLine)
 }
 
 /// How the program ended where `run_words` failed: a bad command line is one also where the usage can't be printed.
 pub fn failed(words: &[String]) -> Status
-    ensures bad { (result ≡ Status.BadCommandLine) ↔ (IsScript (map string_bytes words.now) → ⊥) }
-    ensures refused { (result ≡ Status.Refused) ↔ IsScript (map string_bytes words.now) }
+    ensures bad { (result ≡ Status.BadCommandLine) ↔ (IsCommand (map string_bytes words.now) → ⊥) }
+    ensures command { IsCommand (map string_bytes words.now) → result ≡ Status.Refused }
+{
+    match asked(words) {
+        Some(_) => Status::Refused,
+        None => Status::BadCommandLine,
+    }
+}
+
+fn asked(words: &[String]) -> Option<Command>
+    ensures some { IfSome result (Asks (map string_bytes words.now)) }
+    ensures none { IfNone result (IsCommand (map string_bytes words.now) → ⊥) }
 {
     if is_script(words) {
-        Status::Refused
-    } else {
-        Status::BadCommandLine
+        return Some(Command::Script);
     }
+    let (callers, steps) = size(words)?;
+    Some(Command::Threads { callers, steps })
 }
 
 fn is_script(words: &[String]) -> bool
     ensures { IsTrue result ↔ IsScript (map string_bytes words.now) }
 {
     words.len() == 1 && words[0].as_str() == "script"
+}
+
+// The numbers of `threads C N`.
+fn size(words: &[String]) -> Option<(u32, u64)>
+    ensures some { IfSome result (λ p. IsThreads (map string_bytes words.now) p.0 p.1) }
+    ensures none { IfNone result ((c n : ℕ) → IsThreads (map string_bytes words.now) c n → ⊥) }
+{
+    if words.len() != 3 || words[0].as_str() != "threads" {
+        return None;
+    }
+    let callers = number(words[1].as_str())?;
+    let steps = number(words[2].as_str())?;
+    if callers == 0 || callers > 64 || steps > 10_000 {
+        return None;
+    }
+    Some((callers as u32, steps))
 }
 
 fn print_usage<E: Write>(errors: &mut E) -> io::Result<()>

@@ -1,4 +1,4 @@
-//! `dashcheck` takes a script of steps on a recorded map and prints each reply.
+//! `dashcheck` takes a script of steps on a recorded map and prints each reply, or lets threads take steps on one.
 #![tactic(auto)]
 
 pub mod command;
@@ -7,6 +7,7 @@ mod script;
 mod step;
 #[cfg(test)]
 mod tests;
+mod threads;
 
 use command::{Status, failed, refuse_memory, run_words};
 use std::process::ExitCode;

@@ -58,8 +58,8 @@ fn is_plain(word: &[u8]) -> bool
     !word.is_empty() && word[0] >= b'0' && word[0] <= b'9' && (word[0] != b'0' || word.len() == 1)
 }
 
-// A decimal number without sign and without leading zeros.
-fn number(word: &str) -> Option<u64>
+/// A decimal number without sign and without leading zeros.
+pub(crate) fn number(word: &str) -> Option<u64>
     ensures some { IfSome result (λ n. word.now ≡ decimal n) }
     ensures none { IfNone result ((n : ℕ) → n < 2 ^ 64 → word.now ≡ decimal n → ⊥) }
 {

@@ -6,6 +6,7 @@ use std::process::Abort;
 use std::rt::Clock;
 use std::sync::Wait;
 use std::test::Fail;
+use std::thread::Threads;
 
 const USAGE: &str = "usage: dashcheck script | dashcheck threads C N\n";
 
@@ -54,7 +55,7 @@ fn words(alloc: Global, line: &str) -> Result<Vec<String>, AllocError> {
 }
 
 // Runs a script, whose output and errors are to be these.
-fn check<T: Abort + Wait + Clock>(
+fn check<T: Abort + Threads + Wait + Clock + Sync>(
     rt: &T,
     alloc: Global,
     script: &[u8],
@@ -244,6 +245,18 @@ fn checks_the_command_line_first(rt: HostRuntime) -> Result<(), Fail> {
         "script script",
         "threads",
         "threads 4",
+        "threads 0 1",
+        "threads 65 1",
+        "threads 1 10001",
+        "threads 01 1",
+        "threads 1 00",
+        "threads +1 1",
+        "threads 1 -1",
+        "threads 4294967297 1",
+        "threads 18446744073709551617 1",
+        "threads x 1",
+        "threads 4 100 1",
+        "Threads 4 100",
         "--help",
     ] {
         let words = words(rt.alloc(), line)?;
@@ -283,6 +296,34 @@ fn fails_where_the_errors_cannot_be_written(rt: HostRuntime) -> Result<(), Fail>
         assert!(rt; ended.is_err(), "end of {line:?}");
         assert_eq!(rt; printed.len(), 0);
         assert_eq!(rt; failed(words.as_slice()).code(), code);
+    }
+    Ok(())
+}
+
+#[test]
+fn threads_print_how_many_entries_they_logged(rt: HostRuntime) -> Result<(), Fail> {
+    for (line, output) in [
+        ("threads 4 100", "entries 400\n"),
+        ("threads 1 0", "entries 0\n"),
+        ("threads 1 7", "entries 7\n"),
+        ("threads 64 1", "entries 64\n"),
+    ] {
+        let words = words(rt.alloc(), line)?;
+        let mut input = Failing { bytes: b"get 1\n" };
+        let mut printed = Vec::new(rt.alloc());
+        let mut refused = Vec::new(rt.alloc());
+        let status = run_words(
+            &rt,
+            rt.alloc(),
+            words.as_slice(),
+            &mut input,
+            &mut printed,
+            &mut refused,
+        )?;
+        assert_eq!(rt; printed.as_slice(), output.as_bytes(), "output of {line:?}");
+        assert_eq!(rt; refused.len(), 0);
+        assert_eq!(rt; input.bytes.len(), 6);
+        assert_eq!(rt; status, Status::Good);
     }
     Ok(())
 }

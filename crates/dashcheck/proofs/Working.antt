@@ -1,0 +1,128 @@
+-- What threads do on their map.
+use Rattle.std.proofs.Common.{◌≡◌, ℕ, zero, suc, ◌+◌, ◌*◌, ◌^◌, ◌<◌, ◌≤◌, List, [], ◌∷◌, ◌++◌, length, map, take, drop, get_or, None, refl, sym, ap, subst, ◌∙◌, inl, inr, arith, add-one}
+use Rattle.std.specs.Prelude.{nat_eq, IsTrue, IfNone, All, sum_by}
+use Rattle.std.proofs.lemmas.Bool.{eqb-true, and_parts, cases_lt}
+use Rattle.std.proofs.lemmas.List.{map-append, get_or_append_left, get_or_push, length_push, length-map, get_or-map, drop_all, take_all, append-nil}
+use Rattle.std.proofs.lemmas.List.Sums.{sum_by-cons}
+use Rattle.std.proofs.lemmas.Nat.{mul-le}
+use Rattle.dash_shard.specs.Contents.{Keys, keys}
+use Rattle.dash_history.specs.Alone.{fresh_logs}
+use Rattle.dash_history.specs.History.{LogState, place_of}
+use Rattle.dash_history.specs.Map.{Logged}
+use Rattle.dash_history.specs.Steps.{alike_step}
+use Rattle.dash_history.specs.Takes.{rules}
+use Rattle.dash_history.specs.declared.step.ShardStep.{ShardStep}
+use Rattle.dash_history.specs.declared.step.ShardStep.TheVariants.{Get, Insert, Remove}
+use Rattle.dash_history.specs.declared.step.Reply.{Reply}
+use Rattle.dashcheck.specs.declared.threads.Worker.{Worker}
+use Rattle.dashcheck.specs.Threads.{IsSize, LogsStep, HasDone, IsIdle, Works, AllDone, idle, steps_in, thread_step, thread_steps}
+
+-- alike steps of numbers are equal
+same-step : (s t : ShardStep ℕ ℕ) → IsTrue (alike_step nat_eq nat_eq s t) → t ≡ s
+same-step (Get x) (Get y) same = ap (λ k. Get k) (sym (eqb-true x y same))
+same-step (Get x) (Insert y u) same = cc same
+same-step (Get x) (Remove y) same = cc same
+same-step (Insert x t) (Get y) same = cc same
+same-step (Insert x t) (Insert y u) same = let p = and_parts (nat_eq x y) (nat_eq t u) same in rw (eqb-true x y p.0) (rw (eqb-true t u p.1) refl)
+same-step (Insert x t) (Remove y) same = cc same
+same-step (Remove x) (Get y) same = cc same
+same-step (Remove x) (Insert y u) same = cc same
+same-step (Remove x) (Remove y) same = ap (λ k. Remove k) (sym (eqb-true x y same))
+
+-- a step of a key goes to the shard of its key, so to one of the shards
+pub not-outside : (route : ℕ → ℕ) (n : ℕ) (step : ShardStep ℕ ℕ) → ((k : ℕ) → route k < n) → n ≤ place_of (rules nat_eq nat_eq (keys nat_eq route n)) step → ⊥
+not-outside route n (Get k) below outside = omega (arith, below k, outside)
+not-outside route n (Insert k v) below outside = omega (arith, below k, outside)
+not-outside route n (Remove k) below outside = omega (arith, below k, outside)
+
+-- a step that was logged
+pub logged : (w : Keys ℕ) (l l' : LogState ℕ ℕ) (step : ShardStep ℕ ℕ) (reply : Reply ℕ ℕ) → Logged (rules nat_eq nat_eq w) l l' step reply → LogsStep l l' step
+logged w l l' step reply h = record {
+  caller = h.caller;
+  steps = ap (map (λ r. r.step)) h.entries ∙ map-append (λ r. r.step) l.entries (h.entry ∷ []) ∙ ap (λ s. map (λ r. r.step) l.entries ++ s ∷ []) (same-step step h.entry.step h.tells.stepped);
+}
+
+-- thread j took its steps below m since the log was old
+pub record Going (old now : LogState ℕ ℕ) (j m : ℕ) : Type 0 where
+  pub caller : now.caller ≡ old.caller
+  pub thread : j ≡ old.caller
+  pub done : HasDone m now
+
+pub going-none : (l : LogState ℕ ℕ) (j : ℕ) → l.entries ≡ [] → j ≡ l.caller → Going l l j 0
+going-none l j none same = record { caller = refl; thread = same; done = ap (map (λ r. r.step)) none }
+
+-- a step more
+pub going-more : (old l l' : LogState ℕ ℕ) (j m : ℕ) (step : ShardStep ℕ ℕ) → Going old l j m → step ≡ thread_step j m → LogsStep l l' step → Going old l' j (m + 1)
+going-more old l l' j m step so is h =
+    let caller : l'.caller ≡ old.caller = h.caller ∙ so.caller in
+    let steps : steps_in l' ≡ thread_steps old.caller m ++ thread_step old.caller m ∷ [] =
+    h.steps ∙ ap (λ s. s ++ step ∷ []) (so.done ∙ ap (λ i. thread_steps i m) so.caller) ∙ ap (λ t. thread_steps old.caller m ++ t ∷ []) (is ∙ ap (λ i. thread_step i m) so.thread) in
+    let done : steps_in l' ≡ thread_steps l'.caller (m + 1) = rw add-one (steps ∙ ap (λ i. thread_steps i (suc m)) (sym caller)) in
+    record { caller = caller; thread = so.thread; done = done }
+
+-- so many steps have so many entries
+length-steps : (j n : ℕ) → length (thread_steps j n) ≡ n
+length-steps j zero = refl
+length-steps j (suc n) = length_push (thread_steps j n) (thread_step j n) ∙ rw (length-steps j n) (add-one n)
+
+pub length-done : (n : ℕ) (l : LogState ℕ ℕ) → HasDone n l → length l.entries ≡ n
+length-done n l done = sym (length-map l.entries (λ r. r.step)) ∙ ap length done ∙ length-steps l.caller n
+
+-- the log of caller i
+length-fresh : (c : ℕ) → length (fresh_logs {K = ℕ} {V = ℕ} c) ≡ c
+length-fresh zero = refl
+length-fresh (suc c) = length_push (fresh_logs c) _ ∙ rw (length-fresh c) (add-one c)
+
+pub fresh-log : (c i : ℕ) (d : LogState ℕ ℕ) → i < c → get_or (fresh_logs c) i d ≡ record { caller = i; last = 0; entries = [] }
+fresh-log zero i d inside = absurd (omega (arith, inside))
+fresh-log (suc c) i d inside = elim (cases_lt i c) [
+  | inl lower ↦ get_or_append_left (fresh_logs c) _ d i (omega (arith, lower, length-fresh c)) ∙ fresh-log c i d lower
+  | inr last ↦ let same : i ≡ c = omega (arith, inside, last) in get_or_push (fresh_logs c) _ d i (length-fresh c ∙ sym same) ∙ ap (λ j. record { caller = j; last = 0; entries = [] }) (sym same)
+]
+
+-- the same number at each place
+pub sum-same : {X : Type 0} (f : X → ℕ) (n : ℕ) (xs : List X) → ((i : ℕ) (d : X) → i < length xs → f (get_or xs i d) ≡ n) → sum_by f xs ≡ length xs * n
+sum-same f n [] same = omega arith
+sum-same f n (x ∷ xs) same =
+    let first : f x ≡ n = same 0 x (omega arith) in
+    let rest : sum_by f xs ≡ length xs * n = sum-same f n xs (λ i d inside. same (suc i) d (omega (arith, inside))) in
+    sum_by-cons f x xs ∙ rw first (rw rest (omega arith))
+
+-- a slice that was written back as a whole
+pub written : {X : Type 0} (xs items : List X) (n : ℕ) → length xs ≡ n → length items ≡ n → take n (xs ++ drop (length xs) items) ≡ xs
+written xs items n long wide = rw (drop_all (length xs) items (omega (arith, long, wide))) (rw (append-nil xs) (take_all n xs (omega (arith, long))))
+
+-- a worker for each of the fresh logs
+pub logs-idle : (ws : List Worker) (ls : List (LogState ℕ ℕ)) → ws ≡ map idle ls → map (λ w. w.log) ws ≡ ls
+logs-idle ws ls is = ap (map (λ w. w.log)) is ∙ back ls where
+  back : (ls : List (LogState ℕ ℕ)) → map (λ w. w.log) (map idle ls) ≡ ls
+  back [] = refl
+  back (l ∷ ls) = ap (λ rest. l ∷ rest) (back ls)
+
+pub many : (c : ℕ) (ws : List Worker) → map (λ w. w.log) ws ≡ fresh_logs c → length ws ≡ c
+many c ws is = sym (length-map ws (λ w. w.log)) ∙ ap length is ∙ length-fresh c
+
+pub idle-at : (c i : ℕ) (w : Worker) (ws : List Worker) → map (λ w. w.log) ws ≡ fresh_logs c → i < length ws → (get_or ws i w).log ≡ record { caller = i; last = 0; entries = [] }
+idle-at c i w ws is inside =
+    sym (get_or-map (λ w. w.log) ws i w w.log inside) ∙ ap (λ ls. get_or ls i w.log) is ∙ fresh-log c i w.log (omega (arith, inside, many c ws is))
+
+pub all-idle : (c : ℕ) (ws : List Worker) → map (λ w. w.log) ws ≡ fresh_logs c → All (IsIdle c) ws
+all-idle c ws is i w inside =
+    let log = idle-at c i w ws is inside in
+    record { caller = rw log (omega (arith, inside, many c ws is)); entries = ap (λ l. l.entries) log }
+
+-- what the workers did, where none was refused
+pub all-done : (c n : ℕ) (ws vs : List Worker) → map (λ w. w.log) ws ≡ fresh_logs c → length vs ≡ length ws → ((i : ℕ) (d : Worker) → i < length ws → Works n (get_or ws i d) (get_or vs i d)) → All (λ w. w.refused ≡ None) vs → AllDone n vs
+all-done c n ws vs is long works none i d inside =
+    let within : i < length ws = omega (arith, inside, long) in
+    let did = works i d within in (
+      did.caller ∙ ap (λ l. l.caller) (idle-at c i d ws is within),
+      subst (λ r. IfNone r (HasDone n (get_or vs i d).log)) (none i d inside) did.done,
+    )
+
+-- how many entries they logged
+pub total : (c n : ℕ) (ws : List Worker) → length ws ≡ c → AllDone n ws → sum_by (λ w. length w.log.entries) ws ≡ c * n
+total c n ws long done = sum-same (λ w. length w.log.entries) n ws (λ i d inside. length-done n (get_or ws i d).log (done i d inside).1) ∙ ap (λ m. m * n) long
+
+pub few-entries : (c n : ℕ) → IsSize c n → c * n < 2 ^ 64
+few-entries c n size = omega (arith, mul-le c n 64 10000 size.few size.short)

@@ -1,0 +1,20 @@
+use Rattle.std.proofs.Common.{◌≡◌, length, ap, subst, None, ◌∙◌, arith}
+use Rattle.std.specs.Prelude.{All}
+use Rattle.dashcheck.proofs.Working.{written, logs-idle, many, all-idle, all-done}
+use Rattle.dashcheck.proofs.threads.work.Goals as goal
+
+pub take_all-requires-clause-idle : goal.take_all-requires-clause-idle
+take_all-requires-clause-idle g c κs within =
+    rw c.as_mut_slice.ensures.value (rw (ap (λ m. m.callers) c.in-Ok.ensures.made) (all-idle _ _ (logs-idle _ _ c.in-Ok-idle_workers.ensures ∙ c.in-Ok.ensures.logs)))
+
+pub returns-clause-len : goal.returns-clause-len
+returns-clause-len g c = omega (arith, c.in-Ok-idle_workers.workers.ok, many c.args.callers c.in-Ok-idle_workers.workers.items (logs-idle _ _ c.in-Ok-idle_workers.ensures ∙ c.in-Ok.ensures.logs))
+
+pub returns-clause-done : goal.returns-clause-done
+returns-clause-done g c =
+    let items = c.in-Ok-idle_workers.workers.items in
+    let vs = c.take_all.new.workers in
+    let long : length vs ≡ length items = c.take_all.ensures.len ∙ ap length c.as_mut_slice.ensures.value in
+    let whole = written vs items c.in-Ok-idle_workers.workers.len (omega (arith, long, c.in-Ok-idle_workers.workers.ok)) (omega (arith, c.in-Ok-idle_workers.workers.ok)) in
+    let none = subst (All (λ w. w.refused ≡ None)) (c.as_slice.ensures.value ∙ whole) c.in-None.ensures in
+    rw whole (all-done c.args.callers c.args.steps items vs (logs-idle _ _ c.in-Ok-idle_workers.ensures ∙ c.in-Ok.ensures.logs) long (rw (← c.as_mut_slice.ensures.value) c.take_all.ensures.each) none)

@@ -1,0 +1,249 @@
+//! `dashcheck threads`: threads that take steps on one recorded map, and the count of what they logged.
+ghost use Rattle.std.specs.Prelude.{◌≡◌, ◌≢◌, ℕ, ◌+◌, ◌*◌, ◌%◌, ◌^◌, ◌<◌, ◌≤◌, ◌∷◌, [], All, IfOk, IfNone, OnOk, OnErr, length, map, sum_by, slice_index_or, vec_len};
+ghost use Rattle.std.specs.Io.KnownBytes.{Appends};
+ghost use Rattle.dash_history.specs.Alone.{fresh_logs};
+ghost use Rattle.dashcheck.specs.Threads.{IsSize, LogsStep, HasDone, IsIdle, Works, AllDone, idle, SaysRefusal, thread_step, entries_line};
+
+use crate::command::Status;
+use dash_history::record::map::RecordedMap;
+use dash_history::record::{CallerLog, RecordFault};
+use dash_history::step::ShardStep;
+use dash_shard::hash::PlaceState;
+use std::alloc::{AllocError, Global};
+use std::fmt;
+use std::io::{self, Write};
+use std::rt::Clock;
+use std::sync::Wait;
+use std::thread::{self, Threads};
+
+const SHARDS: usize = 4;
+
+type Map = RecordedMap<u64, u64, PlaceState>;
+
+type Log = CallerLog<u64, u64>;
+
+/// Why not all steps of the threads are taken.
+#[derive(Clone, Copy, Debug, PartialEq, Eq)]
+pub enum Refusal {
+    /// There is no memory for the map, or for its workers.
+    Map,
+    /// No stamp is left for a step.
+    LastStamp,
+    /// There is no memory for a step.
+    Memory,
+}
+
+impl fmt::Display for Refusal {
+    ghost use Rattle.std.specs.Prelude.{Some};
+    ghost use Rattle.dashcheck.specs.Threads.{refusal_text};
+
+    ghost output = { λ refusal. Some (refusal_text refusal) };
+
+    fn fmt<W: fmt::Write>(&self, f: &mut fmt::Formatter<W>) -> fmt::Result {
+        match self {
+            Refusal::Map => write!(f, "refused: no memory (8)"),
+            Refusal::LastStamp => write!(f, "refused: last stamp (18)"),
+            Refusal::Memory => write!(f, "refused: no memory (19)"),
+        }
+    }
+}
+
+// The log of a thread, and why it stopped before its last step.
+#[derive(Drop)]
+struct Worker {
+    log: Log,
+    refused: Option<Refusal>,
+}
+
+/// Takes the steps of `callers` threads, `steps` of each, on one map, and prints how many entries their logs have. The first
+/// refusal, in the order of the threads, is printed on `errors` instead. It fails where a write does.
+pub fn run<T: Threads + Wait + Clock + Sync, O: Write, E: Write>(
+    rt: &T,
+    alloc: Global,
+    callers: u32,
+    steps: u64,
+    output: &mut O,
+    errors: &mut E,
+) -> io::Result<Status>
+    requires { IsSize callers steps }
+    ensures status { IfOk result (λ status. status ≢ Status.BadCommandLine) }
+    ensures good { result ≡ Ok Status.Good → Appends (O.contents output.old) (O.contents output.new) (entries_line (callers * steps)) × (errors.new ≡ errors.old) }
+    ensures refused { result ≡ Ok Status.Refused → SaysRefusal (E.contents errors.old) (E.contents errors.new) × (output.new ≡ output.old) }
+{
+    match work(rt, alloc, callers, steps) {
+        Ok(workers) => {
+            writeln!(output, "entries {}", entries(workers.as_slice()))?;
+            output.flush()?;
+            Ok(Status::Good)
+        }
+        Err(refusal) => {
+            writeln!(errors, "{refusal}")?;
+            Ok(Status::Refused)
+        }
+    }
+}
+
+// Makes the map and its workers, and lets them take their steps.
+fn work<T: Threads + Wait + Clock + Sync>(
+    rt: &T,
+    alloc: Global,
+    callers: u32,
+    steps: u64,
+) -> Result<Vec<Worker>, Refusal>
+    requires { IsSize callers steps }
+    ensures len { IfOk result (λ workers. vec_len workers ≡ callers) }
+    ensures done { IfOk result (λ workers. AllDone steps workers.items) }
+{
+    let Ok((map, logs)) = Map::new(alloc, PlaceState, SHARDS, callers) else {
+        return Err(Refusal::Map);
+    };
+    let Ok(mut workers) = idle_workers(alloc, logs) else {
+        return Err(Refusal::Map);
+    };
+    take_all(rt, &map, workers.as_mut_slice(), steps);
+    match first_refusal(workers.as_slice()) {
+        Some(refusal) => Err(refusal),
+        None => Ok(workers),
+    }
+}
+
+// Takes the steps of each worker, in a thread of its own where one can be started.
+fn take_all<T: Threads + Wait + Clock + Sync>(rt: &T, map: &Map, workers: &mut [Worker], steps: u64)
+    requires size { IsSize map.now.callers steps }
+    requires shards { map.now.amount ≡ 4 }
+    requires some { 0 < length workers.old }
+    requires idle { All (IsIdle map.now.callers) workers.old }
+    ensures len { length workers.new ≡ length workers.old }
+    ensures each { (i : ℕ) (d : _) → i < length workers.old → Works steps (slice_index_or workers.old i d) (slice_index_or workers.new i d) }
+{
+    let threads = workers.len();
+    thread::for_each_mut(
+        rt,
+        workers,
+        threads,
+        &|_, worker| worker.take_steps(rt, map, steps),
+    );
+}
+
+// A worker for each log.
+fn idle_workers(alloc: Global, logs: Vec<Log>) -> Result<Vec<Worker>, AllocError>
+    ensures { IfOk result (λ workers. workers.items ≡ map idle logs.items) }
+{
+    logs.into_iter()
+        .map(|log| Worker { log, refused: None })
+        .collect(alloc)
+}
+
+fn first_refusal(workers: &[Worker]) -> Option<Refusal>
+    ensures { IfNone result (All (λ w. w.refused ≡ None) workers.now) }
+{
+    workers.iter().find_map(|worker| worker.refused)
+}
+
+// How many entries the logs have.
+fn entries(workers: &[Worker]) -> usize
+    requires { sum_by (λ w. length w.log.entries) workers.now < 2 ^ 64 }
+    ensures { result ≡ sum_by (λ w. length w.log.entries) workers.now }
+{
+    workers
+        .iter()
+        .map(|worker| worker.log.entries().len())
+        .sum()
+}
+
+impl Worker {
+    // Takes the first steps of the thread whose number the log has, up to the first refusal.
+    fn take_steps<T: Wait + Clock>(&mut self, rt: &T, map: &Map, steps: u64)
+        requires size { IsSize map.now.callers steps }
+        requires shards { map.now.amount ≡ 4 }
+        requires idle { IsIdle map.now.callers self.old }
+        ensures { Works steps self.old self.new }
+    {
+        self.refused = take_steps(rt, map, &mut self.log, steps).err();
+    }
+}
+
+// Takes the first steps of the thread whose number the log has.
+fn take_steps<T: Wait + Clock>(rt: &T, map: &Map, log: &mut Log, steps: u64) -> Result<(), Refusal>
+    requires size { IsSize map.now.callers steps }
+    requires shards { map.now.amount ≡ 4 }
+    requires caller { log.old.caller < map.now.callers }
+    requires idle { log.old.entries ≡ [] }
+    ensures caller { log.new.caller ≡ log.old.caller }
+    ensures done { OnOk result (HasDone steps log.new) }
+{
+    let thread = u64::from(log.caller());
+    for number in 0..steps {
+        take(rt, map, log, step(thread, number))?;
+    }
+    Ok(())
+}
+
+// Takes one step.
+fn take<T: Wait + Clock>(
+    rt: &T,
+    map: &Map,
+    log: &mut Log,
+    step: ShardStep<u64, u64>,
+) -> Result<(), Refusal>
+    requires shards { map.now.amount ≡ 4 }
+    requires caller { log.old.caller < map.now.callers }
+    ensures taken { OnOk result (LogsStep log.old log.new step) }
+    ensures refused { OnErr result (log.new ≡ log.old) }
+{
+    match map.apply(rt, log, step) {
+        Ok(_) => Ok(()),
+        Err((_, RecordFault::LastStamp)) => Err(Refusal::LastStamp),
+        Err((_, RecordFault::Memory)) => Err(Refusal::Memory),
+        Err((_, RecordFault::NoSuchShard)) => unreachable!(),
+    }
+}
+
+// The step of this number of a thread.
+fn step(thread: u64, number: u64) -> ShardStep<u64, u64>
+    requires thread { thread < 64 }
+    requires number { number < 10000 }
+    ensures { result ≡ thread_step thread number }
+{
+    let key = (thread + number) % 16;
+    match number % 3 {
+        0 => ShardStep::Insert(key, thread * 1_000_000 + number),
+        1 => ShardStep::Get(key),
+        _ => ShardStep::Remove(key),
+    }
+}
+
+#[cfg(test)]
+mod tests {
+    use super::*;
+    use dash_shard::error::ConstructError;
+    use std::test::Fail;
+
+    #[test]
+    fn steps_of_a_thread(rt: HostRuntime) -> Result<(), Fail> {
+        for (thread, number, text) in [
+            (0, 0, "Insert(0, 0)"),
+            (2, 1, "Get(3)"),
+            (63, 2, "Remove(1)"),
+            (63, 9_999, "Insert(14, 63009999)"),
+        ] {
+            let step = step(thread, number);
+            assert_eq!(rt; format!(in rt.alloc(); "{step:?}")?.as_str(), text);
+        }
+        Ok(())
+    }
+
+    #[test]
+    fn texts_are_those_of_the_map(rt: HostRuntime) -> Result<(), Fail> {
+        for (refusal, fault) in [
+            (Refusal::LastStamp, RecordFault::LastStamp),
+            (Refusal::Memory, RecordFault::Memory),
+        ] {
+            let text = format!(in rt.alloc(); "refused: {fault}")?;
+            assert_eq!(rt; format!(in rt.alloc(); "{refusal}")?, text);
+        }
+        let text = format!(in rt.alloc(); "refused: {}", ConstructError::Memory)?;
+        assert_eq!(rt; format!(in rt.alloc(); "{}", Refusal::Map)?, text);
+        Ok(())
+    }
+}
