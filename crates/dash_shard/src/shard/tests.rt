@@ -35,7 +35,10 @@ fn views_the_pair_of_a_key(rt: HostRuntime) -> Result<(), Fail> {
     let mut shard = Shard::<u64, u64, PlaceState>::new(rt.alloc(), PlaceState, 1, 4, 0)?;
     assert!(rt; shard.routes(&5));
     shard.insert(5, 50)?;
-    assert_eq!(rt; shard.view(&5, |key: &u64, value: &u64| key.wrapping_add(*value)), Some(55));
+    assert_eq!(rt;
+        shard.view(&5, |key: &u64, value: &u64| key.wrapping_add(*value)),
+        Some(55)
+    );
     assert_eq!(rt; shard.view(&9, |key: &u64, _: &u64| *key), None);
     Ok(())
 }
@@ -45,7 +48,9 @@ fn a_walk_by_places_passes_over_what_is_free(rt: HostRuntime) -> Result<(), Fail
     assert!(rt; is_shard_amount(4));
     let mut shard = Shard::<u64, u64, PlaceState>::new(rt.alloc(), PlaceState, 1, 4, 4)?;
     for key in [1, 5, 9] {
-        assert!(rt; shard.routes(&key) && !shard.contains_key(&key) && shard.len() < shard.capacity());
+        assert!(rt;
+            shard.routes(&key) && !shard.contains_key(&key) && shard.len() < shard.capacity()
+        );
         let position = shard.insert_new(key, key + 1);
         assert_eq!(rt; shard.at(position), (&key, &(key + 1)));
         assert!(rt; shard.contains_key(&key));
