@@ -2,6 +2,7 @@
 use super::*;
 use crate::hash::{PlaceState, is_shard_amount};
 use std::hash::Hasher;
+use std::process::Abort;
 use std::test::Fail;
 
 #[test]
@@ -43,27 +44,28 @@ fn views_the_pair_of_a_key(rt: HostRuntime) -> Result<(), Fail> {
     Ok(())
 }
 
+// The place of a new pair.
+fn put(rt: &impl Abort, shard: &mut Shard<u64, u64, PlaceState>, key: u64) -> usize {
+    assert!(rt; shard.routes(&key));
+    assert!(rt; shard.len() < shard.capacity());
+    assert!(rt; !shard.contains_key(&key));
+    shard.insert_new(key, key)
+}
+
 #[test]
 fn a_walk_by_places_passes_over_what_is_free(rt: HostRuntime) -> Result<(), Fail> {
     assert!(rt; is_shard_amount(4));
     let mut shard = Shard::<u64, u64, PlaceState>::new(rt.alloc(), PlaceState, 1, 4, 4)?;
-    for key in [1, 5, 9] {
-        assert!(rt;
-            shard.routes(&key) && !shard.contains_key(&key) && shard.len() < shard.capacity()
-        );
-        let position = shard.insert_new(key, key + 1);
-        assert_eq!(rt; shard.at(position), (&key, &(key + 1)));
-        assert!(rt; shard.contains_key(&key));
-    }
-    assert!(rt; shard.routes(&5));
-    shard.remove(&5);
-    let mut sum = 0;
-    let mut position = 0;
-    while let Some(taken) = shard.next_taken(position) {
-        sum += shard.at(taken).0;
-        position = taken + 1;
-    }
-    assert_eq!(rt; sum, 10);
+    let first = put(&rt, &mut shard, 1);
+    assert_eq!(rt; shard.get(&1), Some((&1, &1)));
+    let second = put(&rt, &mut shard, 5);
+    assert!(rt; first != second);
+    assert!(rt; shard.contains_key(&5));
+    assert!(rt; shard.routes(&1));
+    shard.remove(&1);
+    assert_eq!(rt; shard.next_taken(0), Some(second));
+    assert_eq!(rt; shard.next_taken(second), Some(second));
+    assert_eq!(rt; shard.next_taken(shard.capacity()), None);
     Ok(())
 }
 
