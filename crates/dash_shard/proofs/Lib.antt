@@ -1,4 +1,5 @@
 mod Amounts
+mod Asking
 mod Chaining
 mod Changing
 pub mod Equals

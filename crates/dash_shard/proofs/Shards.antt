@@ -1,8 +1,8 @@
 -- A shard's state after each change of its table.
-use Rattle.std.proofs.Common.{◌≡◌, ◌⊎◌, ℕ, zero, suc, ◌+◌, ◌<◌, Bool, true, false, cond, List, [], ◌∷◌, ◌++◌, length, get_or, set, Option, Some, None, refl, sym, ap, subst, ◌∙◌, inl, inr, arith, add-zero, is_some, Ok, Err, get_or-set_same, get_or-set_other}
+use Rattle.std.proofs.Common.{◌≡◌, ◌⊎◌, ℕ, zero, suc, ◌+◌, ◌<◌, Bool, true, false, cond, List, [], ◌∷◌, ◌++◌, length, get_or, set, Option, Some, None, refl, sym, ap, subst, ◌∙◌, inl, inr, arith, add-zero, is_some, IsTrue, Ok, Err, get_or-set_same, get_or-set_other}
 use Rattle.std.specs.Cmp.{IsEquivalence}
 use Rattle.std.specs.Hash.{HashWrites}
-use Rattle.std.specs.Option.{option_map}
+use Rattle.std.specs.Option.{option_map, IsSomeAnd}
 use Rattle.std.specs.declared.hash.Hasher as hasher
 use Rattle.std.specs.declared.hash.BuildHasher as builder
 use Rattle.std.proofs.lemmas.Bool.{cases_Bool, cases_eq}
@@ -77,6 +77,14 @@ module _ {K V : Type 0} (hash : K → ℕ) where
     | inl same ↦ absurd (none-some p (sym (get_or-set_same xs i None None within) ∙ ap (λ m. place (set xs i None) m) (sym same) ∙ e))
     | inr other ↦ h j p (sym (get_or-set_other xs i j None None other) ∙ e)
   ]
+
+-- the pair that stands at a place with an equal key
+pub holds-key : {K V : Type 0} (eq : K → K → Bool) (nodes : List (Node K V)) (k : K) (i : ℕ) → IsSomeAnd (place (pairs_of nodes) i) (λ p. IsTrue (eq p.0 k)) → Holds eq nodes k i
+holds-key {K} {V} eq nodes k i has = from (place (pairs_of nodes) i) refl has
+  where
+    from : (o : Option (K × V)) → place (pairs_of nodes) i ≡ o → IsSomeAnd o (λ p. IsTrue (eq p.0 k)) → Holds eq nodes k i
+    from None e h = absurd h
+    from (Some p) e h = record { within = omega (arith, place-within (pairs_of nodes) i p e, length-map nodes (λ n. n.pair)); pair = p; is = e; equal = h }
 
 -- as many hashes as places
 columns : {K V : Type 0} (nodes : List (Node K V)) → length (hashes_of nodes) ≡ length (pairs_of nodes)

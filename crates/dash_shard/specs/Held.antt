@@ -5,7 +5,7 @@ use Rattle.std.specs.declared.hash.Hasher as hasher
 use Rattle.std.specs.declared.hash.BuildHasher as builder
 use Rattle.dash_shard.specs.Hashing.{HashAlike}
 use Rattle.dash_shard.specs.Contents.{at}
-use Rattle.dash_shard.specs.Steps.{Insert, Remove, Old, Pair}
+use Rattle.dash_shard.specs.Steps.{Insert, Remove, RemoveIf, Old, Pair}
 use Rattle.dash_shard.specs.Shard.{ShardState, place, pairs, shard_len, HasKey, keys_of, IsShard, TakesExactly, StaysInPlace}
 use Rattle.dash_shard.specs.declared.shard.InsertRefused.{InsertRefused}
 use Rattle.dash_shard.specs.declared.shard.held.ShardTag.{ShardTag}
@@ -43,6 +43,17 @@ module _ {K V S H : Type 0} (eq : K → K → Bool) (b : builder.Ghosts S H) (h 
     pub len : shard_len old ≡ shard_len new + (if is_some result then 1 else 0)
     pub room : new.capacity ≡ old.capacity
     pub places : StaysInPlace eq b h input old new (Remove key)
+
+  -- all that a removal promises that was asked first: yes is the answer
+  pub record RemovesIf (yes : Bool) (old new : ShardState K V S) (key : K) (result : Option (K × V)) : Type 0 where
+    pub taken : TakesExactly eq b h input old new (RemoveIf key (λ _ v. (v, yes))) (Pair result)
+    pub len : shard_len old ≡ shard_len new + (if is_some result then 1 else 0)
+    pub room : new.capacity ≡ old.capacity
+    pub places : StaysInPlace eq b h input old new (RemoveIf key (λ _ v. (v, yes)))
+
+  -- the same, where the answer is one that may be given on the pair with an equal key
+  abbrev pub RemovesAsked : (K × V → Bool → Type 0) → ShardState K V S → ShardState K V S → K → Option (K × V) → Type 0
+  RemovesAsked answers old new key result = (yes : Bool) × RemovesIf yes old new key result × IfSome (at (keys_of eq b h input old) (pairs old) key) (λ p. answers p yes)
 
   -- all that a search for a key's place promises
   pub record Finds (s : ShardState K V S) (key : K) (result : Option ℕ) : Type 0 where

@@ -6,8 +6,8 @@ ghost use Rattle.dash_shard.specs.Hashing.{IsAmount, hash_of};
 ghost use Rattle.dash_shard.specs.Contents.{at};
 ghost use Rattle.dash_shard.specs.Steps.{Get, Contains, Insert, Remove, Pair, Found, Old, Replies};
 ghost use Rattle.dash_shard.specs.Shard.{place, pairs, shard_len, HasKey, IsNextTaken, keys_of, Routes, IsShard, TakesExactly, StaysInPlace};
-ghost use Rattle.dash_shard.specs.Held.{Inserts, InsertsNew, Removes, Finds};
-ghost use Rattle.dash_shard.specs.Closures.{MayAsk, Viewed};
+ghost use Rattle.dash_shard.specs.Held.{Inserts, InsertsNew, Removes, RemovesAsked, Finds};
+ghost use Rattle.dash_shard.specs.Closures.{MayAsk, AnswersOn, Viewed};
 ghost use Rattle.dash_shard.specs.declared.error.ConstructError.TheVariants.{Memory};
 
 use crate::error::ConstructError;
@@ -187,6 +187,22 @@ impl<K: Eq + Hash, V, S: BuildHasher> Shard<K, V, S> {
     {
         let position = self.table.find(hash, key)?;
         Some(self.table.take(position))
+    }
+
+    /// Takes the pair whose key equals `key` out if `f` answers yes on it, and answers it. It takes no memory, and can't be refused.
+    #[inline]
+    pub fn remove_if<F: FnOnce(&K, &V) -> bool>(&mut self, key: &K, f: F) -> Option<(K, V)>
+        requires route { Routes K.eq S.BuildHasher S.Hasher.Hasher K.hash_input self.old key.now }
+        requires callable { IfSome (at (keys_of K.eq S.BuildHasher S.Hasher.Hasher K.hash_input self.old) (pairs self.old) key.now) (MayAsk F.FnOnce f) }
+        ensures { RemovesAsked K.eq S.BuildHasher S.Hasher.Hasher K.hash_input (AnswersOn F.FnOnce f) self.old self.new key.now result }
+    {
+        let hash = self.hasher.hash_one(key);
+        let place = self.position_of_hashed(hash, key)?;
+        let (stored, value) = self.at(place);
+        if f(stored, value) {
+            return Some(self.table.take(place));
+        }
+        None
     }
 
     /// The pair whose key equals `key`.

@@ -6,8 +6,8 @@ ghost use Rattle.dash_shard.specs.Hashing.{hash_of};
 ghost use Rattle.dash_shard.specs.Contents.{at};
 ghost use Rattle.dash_shard.specs.Steps.{Get, Contains, Pair, Found, Replies};
 ghost use Rattle.dash_shard.specs.Shard.{place, pairs, shard_len, IsNextTaken, keys_of, Routes, IsShard};
-ghost use Rattle.dash_shard.specs.Closures.{MayAsk, Viewed};
-ghost use Rattle.dash_shard.specs.Held.{FitsPlace, Inserts, InsertsNew, Removes, Finds};
+ghost use Rattle.dash_shard.specs.Closures.{MayAsk, AnswersOn, Viewed};
+ghost use Rattle.dash_shard.specs.Held.{FitsPlace, Inserts, InsertsNew, Removes, RemovesAsked, Finds};
 
 use crate::lock::{RwLockWriteGuard, Tagged};
 use crate::shard::{InsertRefused, Shard};
@@ -182,6 +182,22 @@ impl<K: Eq + Hash, V, S: BuildHasher> ShardMut<'_, K, V, S> {
                 requires route { Routes K.eq S.BuildHasher S.Hasher.Hasher K.hash_input shard.old key.now }
                 ensures { Removes K.eq S.BuildHasher S.Hasher.Hasher K.hash_input shard.old shard.new key.entry.now result }
             { shard.remove_hashed(hash, key) },
+        )
+    }
+
+    /// Takes the pair whose key equals `key` out if `f` answers yes on it, and answers it. It takes no memory, and can't be refused.
+    #[inline]
+    pub fn remove_if<F: FnOnce(&K, &V) -> bool>(&mut self, key: &K, f: F) -> Option<(K, V)>
+        requires route { Routes K.eq S.BuildHasher S.Hasher.Hasher K.hash_input self.old key.now }
+        requires callable { IfSome (at (keys_of K.eq S.BuildHasher S.Hasher.Hasher K.hash_input self.old) (pairs self.old) key.now) (MayAsk F.FnOnce f) }
+        ensures { RemovesAsked K.eq S.BuildHasher S.Hasher.Hasher K.hash_input (AnswersOn F.FnOnce f) self.old self.new key.now result }
+    {
+        self.guard.change(
+            |shard: &mut Shard<K, V, S>| -> Option<(K, V)>
+                requires route { Routes K.eq S.BuildHasher S.Hasher.Hasher K.hash_input shard.old key.now }
+                requires callable { IfSome (at (keys_of K.eq S.BuildHasher S.Hasher.Hasher K.hash_input shard.old) (pairs shard.old) key.now) (MayAsk F.FnOnce f) }
+                ensures { RemovesAsked K.eq S.BuildHasher S.Hasher.Hasher K.hash_input (AnswersOn F.FnOnce f) shard.old shard.new key.entry.now result }
+            { shard.remove_if(key, f) },
         )
     }
 
