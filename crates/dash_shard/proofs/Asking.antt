@@ -7,7 +7,7 @@ use Rattle.std.specs.declared.hash.BuildHasher as builder
 use Rattle.std.proofs.lemmas.Bool.{cases_Bool}
 use Rattle.dash_shard.specs.Contents.{Keys, at}
 use Rattle.dash_shard.specs.Steps.{Remove, RemoveIf, Pair, Replies, Becomes, after}
-use Rattle.dash_shard.specs.Shard.{ShardState, pairs, keys_of, IsShard, StaysInPlace}
+use Rattle.dash_shard.specs.Shard.{ShardState, pairs, keys_of, IsShard}
 use Rattle.dash_shard.specs.Held.{Removes, RemovesIf}
 
 -- what stands there, and nothing

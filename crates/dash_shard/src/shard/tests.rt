@@ -44,6 +44,29 @@ fn views_the_pair_of_a_key(rt: HostRuntime) -> Result<(), Fail> {
     Ok(())
 }
 
+#[test]
+fn a_pair_goes_if_the_answer_is_yes(rt: HostRuntime) -> Result<(), Fail> {
+    assert!(rt; is_shard_amount(4));
+    let mut shard = Shard::<u64, u64, PlaceState>::new(rt.alloc(), PlaceState, 1, 4, 0)?;
+    assert!(rt; shard.routes(&5));
+    shard.insert(5, 50)?;
+    assert!(rt; shard.routes(&5));
+    assert_eq!(rt;
+        shard.remove_if(&5, |_: &u64, value: &u64| *value < 50),
+        None
+    );
+    assert_eq!(rt; shard.get(&5), Some((&5, &50)));
+    assert!(rt; shard.routes(&5));
+    assert_eq!(rt;
+        shard.remove_if(&5, |key: &u64, value: &u64| *key < *value),
+        Some((5, 50))
+    );
+    assert_eq!(rt; shard.get(&5), None);
+    assert!(rt; shard.routes(&5));
+    assert_eq!(rt; shard.remove_if(&5, |_: &u64, _: &u64| true), None);
+    Ok(())
+}
+
 // The place of a new pair.
 fn put(rt: &impl Abort, shard: &mut Shard<u64, u64, PlaceState>, key: u64) -> usize {
     assert!(rt; shard.routes(&key));
