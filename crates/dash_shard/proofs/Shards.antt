@@ -1,6 +1,7 @@
 -- A shard's state after each change of its table.
-use Rattle.std.proofs.Common.{◌≡◌, ◌⊎◌, ℕ, zero, suc, ◌+◌, ◌<◌, Bool, true, false, cond, List, [], ◌∷◌, ◌++◌, length, get_or, set, Option, Some, None, refl, sym, ap, subst, ◌∙◌, inl, inr, arith, add-zero, is_some, IsTrue, Ok, Err, get_or-set_same, get_or-set_other}
+use Rattle.std.proofs.Common.{◌≡◌, ◌⊎◌, ℕ, zero, suc, ◌+◌, ◌<◌, ◌≤◌, Bool, true, false, cond, List, [], ◌∷◌, ◌++◌, length, get_or, set, Option, Some, None, refl, sym, ap, subst, ◌∙◌, inl, inr, arith, add-zero, is_some, IsTrue, Ok, Err, get_or-set_same, get_or-set_other}
 use Rattle.std.specs.Cmp.{IsEquivalence}
+use Rattle.std.specs.Prelude.{Result, OnOk, OnErr}
 use Rattle.std.specs.Hash.{HashWrites}
 use Rattle.std.specs.Option.{option_map, IsSomeAnd}
 use Rattle.std.specs.declared.hash.Hasher as hasher
@@ -13,7 +14,7 @@ use Rattle.dash_shard.specs.Hashing.{IsAmount, hash_of, route_of_hash}
 use Rattle.dash_shard.specs.Contents.{Keys, at, IsOnShard}
 use Rattle.dash_shard.specs.Steps.{Insert, Remove, Old, Pair, after, key_or}
 use Rattle.dash_shard.specs.Shard.{ShardState, place, taken, pairs, shard_len, keys_of, Routes, IsShard, TakesExactly, StaysInPlace}
-use Rattle.dash_shard.specs.Held.{Inserts, Removes}
+use Rattle.dash_shard.specs.Held.{Inserts, Removes, Reserves}
 use Rattle.dash_shard.specs.declared.shard.table.Node.{Node}
 use Rattle.dash_shard.specs.declared.shard.table.Table.{Table}
 use Rattle.dash_shard.specs.Table.{pairs_of, hashes_of, next_place, Holds, IsAbsent, IsHashed, IsGrown, IsTable, IsInside}
@@ -422,6 +423,29 @@ module _ {K V S H : Type 0} (eq : K → K → Bool) (b : builder.Ghosts S H) (h 
           (hashed-empties (λ j. hash_of b h s (input j)) _ _ grown.more (columns t.nodes.items) inside.hashed));
       counted = len ∙ inside.counted ∙ ap length (sym grown-pairs);
     }
+
+    -- what making room leaves, where the state before is written z
+    pub reserved : (z : ShardState K V S) → state t ≡ z → {E : Type 0} → (additional : ℕ) (r : Result (Unit {0}) E) → OnOk r (new.len + additional ≤ length new.nodes.items) → OnErr r (new.nodes.items ≡ t.nodes.items)
+        → Reserves eq b h input additional z (state new) r
+    reserved z view additional r ok err = subst (λ x. Reserves eq b h input additional x (state new) r) view (record {
+      room = on-ok r ok;
+      pairs = grown-pairs;
+      places = λ i p e. ap (λ xs. place xs i) grown.pairs ∙ place-empties (pairs_of t.nodes.items) grown.more i ∙ e;
+      stays = record { number = refl; amount = refl; hasher = refl };
+      lawful = grown-inside.shard;
+      refused = on-err r err;
+    })
+      where
+        on-ok : {E : Type 0} (q : Result (Unit {0}) E) → OnOk q (new.len + additional ≤ length new.nodes.items) → OnOk q (shard_len (state new) + additional ≤ length new.nodes.items)
+        on-ok (Ok x) fits = omega (arith, fits, grown-inside.counted)
+        on-ok (Err e) fits = tt
+
+        of : List (Node K V) → ShardState K V S
+        of ns = record { places = pairs_of ns; number = number; amount = amount; hasher = s; capacity = length ns }
+
+        on-err : {E : Type 0} (q : Result (Unit {0}) E) → OnErr q (new.nodes.items ≡ t.nodes.items) → OnErr q (state new ≡ state t)
+        on-err (Ok x) same = tt
+        on-err (Err e) same = ap of same
 
     -- what an insert leaves of the table before it grew
     pub inserted-grown : (last : Table K V) (k : K) (v : V) (o : Option V) → Inserted new last k v o → Inserted t last k v o

@@ -1,12 +1,12 @@
 -- A shard behind a lock: what its lock is made for, and what calls promise that say the same of a shard and through a hold.
-use Rattle.std.specs.Prelude.{◌≡◌, ℕ, ◌+◌, ◌<◌, ◌↔◌, Bool, Option, Some, None, IfSome, IsNone, Result, IfOk, OnOk, IfErr, OnErr, is_some, if◌then◌else◌}
+use Rattle.std.specs.Prelude.{◌≡◌, ℕ, ◌+◌, ◌<◌, ◌≤◌, ◌↔◌, Bool, Option, Some, None, IfSome, IsNone, Result, IfOk, OnOk, IfErr, OnErr, is_some, if◌then◌else◌}
 use Rattle.std.specs.Hash.{HashWrites}
 use Rattle.std.specs.declared.hash.Hasher as hasher
 use Rattle.std.specs.declared.hash.BuildHasher as builder
 use Rattle.dash_shard.specs.Hashing.{HashAlike}
 use Rattle.dash_shard.specs.Contents.{at}
 use Rattle.dash_shard.specs.Steps.{Insert, Remove, RemoveIf, Old, Pair}
-use Rattle.dash_shard.specs.Shard.{ShardState, place, pairs, shard_len, HasKey, keys_of, IsShard, TakesExactly, StaysInPlace}
+use Rattle.dash_shard.specs.Shard.{ShardState, place, pairs, shard_len, HasKey, keys_of, IsShard, SameShard, TakesExactly, StaysInPlace}
 use Rattle.dash_shard.specs.declared.shard.InsertRefused.{InsertRefused}
 use Rattle.dash_shard.specs.declared.shard.held.ShardTag.{ShardTag}
 
@@ -61,3 +61,12 @@ module _ {K V S H : Type 0} (eq : K → K → Bool) (b : builder.Ghosts S H) (h 
     pub pair : IfSome result (λ i. place s.places i ≡ at (keys_of eq b h input s) (pairs s) key)
     pub absent : IsNone result ↔ (at (keys_of eq b h input s) (pairs s) key ≡ None)
     pub lawful : IsShard eq b h input s
+
+  -- all that making room for so many pairs more promises
+  pub record Reserves (additional : ℕ) (old new : ShardState K V S) {E : Type 0} (result : Result (Unit {0}) E) : Type 0 where
+    pub room : OnOk result (shard_len new + additional ≤ new.capacity)
+    pub pairs : pairs new ≡ pairs old
+    pub places : (i : ℕ) (p : K × V) → place old.places i ≡ Some p → place new.places i ≡ Some p
+    pub stays : SameShard old new
+    pub lawful : IsShard eq b h input new
+    pub refused : OnErr result (new ≡ old)

@@ -1,4 +1,4 @@
-//! Why a map or a shard can't be made.
+//! Why a map or a shard can't be made, or can't grow.
 use thiserror::Error;
 
 /// Why a map or a shard can't be made. Nothing is made then.
@@ -21,6 +21,11 @@ pub enum ConstructError {
     Callers,
 }
 
+/// There is no memory for so many places (11), or they are more than there can be. All pairs are kept.
+#[derive(Clone, Copy, Debug, PartialEq, Eq, Error)]
+#[error("no memory (11)")]
+pub struct TryReserveError {}
+
 #[cfg(test)]
 mod tests {
     use super::*;
@@ -37,6 +42,11 @@ mod tests {
         ] {
             assert_eq!(rt; format!(in rt.alloc(); "{error}")?.as_str(), text);
         }
+        let error = TryReserveError {};
+        assert_eq!(rt;
+            format!(in rt.alloc(); "{error}")?.as_str(),
+            "no memory (11)"
+        );
         Ok(())
     }
 }

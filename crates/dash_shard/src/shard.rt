@@ -6,11 +6,11 @@ ghost use Rattle.dash_shard.specs.Hashing.{IsAmount, hash_of};
 ghost use Rattle.dash_shard.specs.Contents.{at};
 ghost use Rattle.dash_shard.specs.Steps.{Get, Contains, Insert, Remove, Pair, Found, Old, Replies};
 ghost use Rattle.dash_shard.specs.Shard.{place, pairs, shard_len, HasKey, IsNextTaken, keys_of, Routes, IsShard, TakesExactly, StaysInPlace};
-ghost use Rattle.dash_shard.specs.Held.{Inserts, InsertsNew, Removes, RemovesAsked, Finds};
+ghost use Rattle.dash_shard.specs.Held.{Inserts, InsertsNew, Removes, RemovesAsked, Finds, Reserves};
 ghost use Rattle.dash_shard.specs.Closures.{MayAsk, AnswersOn, Viewed};
 ghost use Rattle.dash_shard.specs.declared.error.ConstructError.TheVariants.{Memory};
 
-use crate::error::ConstructError;
+use crate::error::{ConstructError, TryReserveError};
 use crate::hash::determine_shard;
 use std::alloc::Global;
 use std::hash::{BuildHasher, Hash};
@@ -305,6 +305,17 @@ impl<K: Eq + Hash, V, S: BuildHasher> Shard<K, V, S> {
         ensures { result ≡ self.now.capacity }
     {
         self.table.places()
+    }
+
+    /// Makes room for so many pairs more, where there is less. It is refused (11) only where there is no memory for it; the pairs stay, and
+    /// so do their places.
+    pub fn try_reserve(&mut self, additional: usize) -> Result<(), TryReserveError>
+        ensures { Reserves K.eq S.BuildHasher S.Hasher.Hasher K.hash_input additional self.old self.new result }
+    {
+        match self.table.reserve(additional) {
+            Ok(()) => Ok(()),
+            Err(_) => Err(TryReserveError {}),
+        }
     }
 }
 

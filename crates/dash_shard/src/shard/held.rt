@@ -7,8 +7,9 @@ ghost use Rattle.dash_shard.specs.Contents.{at};
 ghost use Rattle.dash_shard.specs.Steps.{Get, Contains, Pair, Found, Replies};
 ghost use Rattle.dash_shard.specs.Shard.{place, pairs, shard_len, IsNextTaken, keys_of, Routes, IsShard};
 ghost use Rattle.dash_shard.specs.Closures.{MayAsk, AnswersOn, Viewed};
-ghost use Rattle.dash_shard.specs.Held.{FitsPlace, Inserts, InsertsNew, Removes, RemovesAsked, Finds};
+ghost use Rattle.dash_shard.specs.Held.{FitsPlace, Inserts, InsertsNew, Removes, RemovesAsked, Finds, Reserves};
 
+use crate::error::TryReserveError;
 use crate::lock::{RwLockWriteGuard, Tagged};
 use crate::shard::{InsertRefused, Shard};
 use std::hash::{BuildHasher, Hash};
@@ -301,6 +302,18 @@ impl<K: Eq + Hash, V, S: BuildHasher> ShardMut<'_, K, V, S> {
         ensures { result ≡ self.now.capacity }
     {
         self.guard.capacity()
+    }
+
+    /// Makes room for so many pairs more, where there is less. It is refused (11) only where there is no memory for it; the pairs stay, and
+    /// so do their places.
+    pub fn try_reserve(&mut self, additional: usize) -> Result<(), TryReserveError>
+        ensures { Reserves K.eq S.BuildHasher S.Hasher.Hasher K.hash_input additional self.old self.new result }
+    {
+        self.guard.change(
+            |shard: &mut Shard<K, V, S>| -> Result<(), TryReserveError>
+                ensures { Reserves K.eq S.BuildHasher S.Hasher.Hasher K.hash_input additional shard.old shard.new result }
+            { shard.try_reserve(additional) },
+        )
     }
 }
 

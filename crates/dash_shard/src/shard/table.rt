@@ -235,6 +235,27 @@ impl<K, V> Table<K, V> {
         self.double()
     }
 
+    /// Makes room for so many pairs more, where there is less.
+    pub fn reserve(&mut self, additional: usize) -> Result<(), AllocError>
+        requires { IsTable self.old }
+        ensures ok { OnOk result (self.new.len + additional ≤ length self.new.nodes.items) }
+        ensures grown { IsGrown self.old.nodes.items self.new.nodes.items }
+        ensures err { OnErr result (self.new.nodes.items ≡ self.old.nodes.items) }
+        ensures len { self.new.len ≡ self.old.len }
+        ensures table { IsTable self.new }
+    {
+        let Some(count) = self.len.checked_add(additional) else {
+            return Err(AllocError);
+        };
+        if count <= self.nodes.len() {
+            return Ok(());
+        }
+        if count > 1 << 63 {
+            return Err(AllocError);
+        }
+        self.grow(count.next_power_of_two().max(4))
+    }
+
     #[cold]
     #[inline(never)]
     fn double(&mut self) -> Result<(), AllocError>
