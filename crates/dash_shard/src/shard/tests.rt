@@ -134,11 +134,11 @@ fn grows(rt: HostRuntime) -> Result<(), Fail> {
 fn makes_room_ahead(rt: HostRuntime) -> Result<(), Fail> {
     assert!(rt; is_shard_amount(2));
     let mut shard = Shard::<u64, u64, PlaceState>::new(rt.alloc(), PlaceState, 0, 2, 0)?;
-    assert!(rt; shard.routes(&2));
-    shard.insert(2, 20)?;
+    assert!(rt; shard.routes(&1));
+    shard.insert(1, 10)?;
     shard.try_reserve(10)?;
     assert!(rt; shard.capacity() >= 11);
-    assert_eq!(rt; shard.get(&2), Some((&2, &20)));
+    assert_eq!(rt; shard.get(&1), Some((&1, &10)));
     assert!(rt; shard.try_reserve(usize::MAX).is_err());
     assert_eq!(rt; shard.len(), 1);
     Ok(())
