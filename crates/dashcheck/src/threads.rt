@@ -1,5 +1,5 @@
 //! `dashcheck threads`: threads that take steps on one recorded map, and the count of what they logged.
-ghost use Rattle.std.specs.Prelude.{◌≡◌, ◌≢◌, ℕ, ◌+◌, ◌*◌, ◌%◌, ◌^◌, ◌<◌, ◌≤◌, ◌∷◌, [], All, IfOk, IfNone, OnOk, OnErr, length, map, sum_by, slice_index_or, vec_len};
+ghost use Rattle.std.specs.Prelude.{◌≡◌, ◌≢◌, ℕ, ◌+◌, ◌*◌, ◌%◌, ◌^◌, ◌<◌, ◌≤◌, ◌∷◌, [], All, Some, IsSomeAnd, IfOk, IfErr, IfSome, IfNone, OnOk, OnErr, length, map, sum_by, slice_get, slice_index_or, vec_len};
 ghost use Rattle.std.specs.Io.KnownBytes.{Appends};
 ghost use Rattle.dash_history.specs.Alone.{fresh_logs};
 ghost use Rattle.dashcheck.specs.Threads.{IsSize, LogsStep, HasDone, IsIdle, Works, AllDone, idle, SaysRefusal, thread_step, entries_line};
@@ -135,7 +135,8 @@ fn idle_workers(alloc: Global, logs: Vec<Log>) -> Result<Vec<Worker>, AllocError
 }
 
 fn first_refusal(workers: &[Worker]) -> Option<Refusal>
-    ensures { IfNone result (All (λ w. w.refused ≡ None) workers.now) }
+    ensures none { IfNone result (All (λ w. w.refused ≡ None) workers.now) }
+    ensures some { IfSome result (λ refusal. (i : ℕ) × IsSomeAnd (slice_get workers.now i) (λ w. w.refused ≡ Some refusal)) }
 {
     workers.iter().find_map(|worker| worker.refused)
 }
@@ -171,6 +172,7 @@ fn take_steps<T: Wait + Clock>(rt: &T, map: &Map, log: &mut Log, steps: u64) -> 
     requires idle { log.old.entries ≡ [] }
     ensures caller { log.new.caller ≡ log.old.caller }
     ensures done { OnOk result (HasDone steps log.new) }
+    ensures kinds { IfErr result (λ refusal. refusal ≢ Refusal.Map) }
 {
     let thread = u64::from(log.caller());
     for number in 0..steps {
@@ -190,6 +192,7 @@ fn take<T: Wait + Clock>(
     requires caller { log.old.caller < map.now.callers }
     ensures taken { OnOk result (LogsStep log.old log.new step) }
     ensures refused { OnErr result (log.new ≡ log.old) }
+    ensures kinds { IfErr result (λ refusal. refusal ≢ Refusal.Map) }
 {
     match map.apply(rt, log, step) {
         Ok(_) => Ok(()),

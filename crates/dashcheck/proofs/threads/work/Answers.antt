@@ -16,5 +16,5 @@ returns-clause-done g c =
     let vs = c.take_all.new.workers in
     let long : length vs ≡ length items = c.take_all.ensures.len ∙ ap length c.as_mut_slice.ensures.value in
     let whole = written vs items c.in-Ok-idle_workers.workers.len (omega (arith, long, c.in-Ok-idle_workers.workers.ok)) (omega (arith, c.in-Ok-idle_workers.workers.ok)) in
-    let none = subst (All (λ w. w.refused ≡ None)) (c.as_slice.ensures.value ∙ whole) c.in-None.ensures in
+    let none = subst (All (λ w. w.refused ≡ None)) (c.as_slice.ensures.value ∙ whole) c.in-None.ensures.none in
     rw whole (all-done c.args.callers c.args.steps items vs (logs-idle _ _ c.in-Ok-idle_workers.ensures ∙ c.in-Ok.ensures.logs) long (rw (← c.as_mut_slice.ensures.value) c.take_all.ensures.each) none)
