@@ -1,12 +1,12 @@
 //! One shard: pairs with distinct keys, all routed to the shard's number.
-ghost use Rattle.std.specs.Prelude.{◌≡◌, ◌≢◌, ℕ, ◌+◌, ◌<◌, ◌≤◌, ◌↔◌, IsTrue, IsOk, IfOk, OnOk, OnErr, IfErr, IsSome, IfSome, IsNone, is_some, Some, None, if◌then◌else◌};
+ghost use Rattle.std.specs.Prelude.{◌≡◌, ◌+◌, ◌<◌, ◌≤◌, ◌↔◌, IsTrue, IsOk, IfOk, OnOk, OnErr, IfErr, IfSome, is_some, Some, None, if◌then◌else◌};
 ghost use Rattle.std.specs.Option.{option_map};
 ghost use Rattle.std.specs.Map.Iter.{deref_pair};
 ghost use Rattle.dash_shard.specs.Hashing.{IsAmount, hash_of};
 ghost use Rattle.dash_shard.specs.Contents.{at};
 ghost use Rattle.dash_shard.specs.Steps.{Get, Contains, Insert, Remove, Pair, Found, Old, Replies};
-ghost use Rattle.dash_shard.specs.Shard.{place, pairs, shard_len, HasKey, IsNextTaken, keys_of, Routes, IsShard, TakesExactly, StaysInPlace};
-ghost use Rattle.dash_shard.specs.Held.{Inserts, InsertsNew, Removes, RemovesAsked, Finds, Reserves};
+ghost use Rattle.dash_shard.specs.Shard.{place, pairs, shard_len, keys_of, Routes, IsShard, TakesExactly, StaysInPlace};
+ghost use Rattle.dash_shard.specs.Held.{Inserts, Removes, RemovesAsked, Reserves};
 ghost use Rattle.dash_shard.specs.Closures.{MayAsk, AnswersOn, Viewed};
 ghost use Rattle.dash_shard.specs.declared.error.ConstructError.TheVariants.{Memory};
 
@@ -18,6 +18,7 @@ use std::marker::Model;
 use table::Table;
 
 pub mod held;
+mod positions;
 mod table;
 
 /// One shard of a map, as the original's table behind a lock: pairs with distinct keys that all go to the shard's number.
@@ -234,60 +235,6 @@ impl<K: Eq + Hash, V, S: BuildHasher> Shard<K, V, S> {
         let place = self.position_of(key)?;
         let (key, value) = self.at(place);
         Some(f(key, value))
-    }
-
-    /// The place of the pair whose key equals `key`, for `at`. It is good while the shard isn't changed.
-    #[inline(always)]
-    pub fn position_of(&self, key: &K) -> Option<usize>
-        ensures position { (i : ℕ) → (result ≡ Some i) ↔ HasKey K.eq self.now key.now i }
-        ensures pair { IfSome result (λ i. place self.now.places i ≡ at (keys_of K.eq S.BuildHasher S.Hasher.Hasher K.hash_input self.now) (pairs self.now) key.now) }
-        ensures absent { IsNone result ↔ (at (keys_of K.eq S.BuildHasher S.Hasher.Hasher K.hash_input self.now) (pairs self.now) key.now ≡ None) }
-        ensures lawful { IsShard K.eq S.BuildHasher S.Hasher.Hasher K.hash_input self.now }
-    {
-        self.position_of_hashed(self.hasher.hash_one(key), key)
-    }
-
-    /// As `position_of`, for a caller who has the key's hash.
-    #[inline(always)]
-    pub fn position_of_hashed(&self, hash: u64, key: &K) -> Option<usize>
-        requires { hash ≡ hash_of S.BuildHasher S.Hasher.Hasher self.now.hasher (K.hash_input key.now) }
-        ensures { Finds K.eq S.BuildHasher S.Hasher.Hasher K.hash_input self.now key.now result }
-    {
-        self.table.find(hash, key)
-    }
-
-    /// The pair of a taken place, without a look at any other.
-    #[inline(always)]
-    pub fn at(&self, position: usize) -> (&K, &V)
-        requires { IsSome (place self.now.places position) }
-        ensures pair { place self.now.places position ≡ Some (deref_pair result) }
-        ensures lawful { IsShard K.eq S.BuildHasher S.Hasher.Hasher K.hash_input self.now }
-    {
-        self.table.at(position)
-    }
-
-    /// Puts a pair whose key is new in room that is there, and answers its place. It takes no memory, and can't be refused.
-    #[inline]
-    pub fn insert_new(&mut self, key: K, value: V) -> usize
-    where
-        K: Drop,
-        V: Drop,
-        requires route { Routes K.eq S.BuildHasher S.Hasher.Hasher K.hash_input self.old key }
-        requires absent { at (keys_of K.eq S.BuildHasher S.Hasher.Hasher K.hash_input self.old) (pairs self.old) key ≡ None }
-        requires room { shard_len self.old < self.old.capacity }
-        ensures { InsertsNew K.eq S.BuildHasher S.Hasher.Hasher K.hash_input self.old self.new key value result }
-    {
-        let hash = self.hasher.hash_one(&key);
-        self.table.push(hash, key, value)
-    }
-
-    /// The lowest taken place not below `position`, for `at`: a walk over the pairs goes on behind it.
-    #[inline]
-    pub fn next_taken(&self, position: usize) -> Option<usize>
-        ensures next { IsNextTaken self.now.places position result }
-        ensures lawful { IsShard K.eq S.BuildHasher S.Hasher.Hasher K.hash_input self.now }
-    {
-        self.table.next_taken(position)
     }
 
     /// How many pairs there are.

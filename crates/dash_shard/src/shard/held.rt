@@ -1,13 +1,13 @@
 //! A shard that is held for writing, changed in place behind its lock.
-ghost use Rattle.std.specs.Prelude.{◌≡◌, ◌<◌, ◌≤◌, ◌↔◌, IsTrue, IsSome, IfSome, Some, None};
+ghost use Rattle.std.specs.Prelude.{◌≡◌, ◌<◌, ◌≤◌, ◌↔◌, IsTrue, IfSome};
 ghost use Rattle.std.specs.Option.{option_map};
 ghost use Rattle.std.specs.Map.Iter.{deref_pair};
 ghost use Rattle.dash_shard.specs.Hashing.{hash_of};
 ghost use Rattle.dash_shard.specs.Contents.{at};
 ghost use Rattle.dash_shard.specs.Steps.{Get, Contains, Pair, Found, Replies};
-ghost use Rattle.dash_shard.specs.Shard.{place, pairs, shard_len, IsNextTaken, keys_of, Routes, IsShard};
+ghost use Rattle.dash_shard.specs.Shard.{place, pairs, shard_len, keys_of, Routes, IsShard};
 ghost use Rattle.dash_shard.specs.Closures.{MayAsk, AnswersOn, Viewed};
-ghost use Rattle.dash_shard.specs.Held.{FitsPlace, Inserts, InsertsNew, Removes, RemovesAsked, Finds, Reserves};
+ghost use Rattle.dash_shard.specs.Held.{FitsPlace, Inserts, Removes, RemovesAsked, Reserves};
 
 use crate::error::TryReserveError;
 use crate::lock::{RwLockWriteGuard, Tagged};
@@ -15,6 +15,8 @@ use crate::shard::{InsertRefused, Shard};
 use std::hash::{BuildHasher, Hash};
 use std::marker::Model;
 use std::snapshot::Snapshot;
+
+mod positions;
 
 /// What a shard's lock is made for: the shard's place among the others, and what its hasher means. The snapshot has no bytes.
 #[derive(Drop)]
@@ -228,63 +230,6 @@ impl<K: Eq + Hash, V, S: BuildHasher> ShardMut<'_, K, V, S> {
         ensures lawful { IsShard K.eq S.BuildHasher S.Hasher.Hasher K.hash_input self.now }
     {
         self.guard.view(key, f)
-    }
-
-    /// The place of the pair whose key equals `key`, for `at`. It is good while the shard isn't changed.
-    #[inline]
-    pub fn position_of(&self, key: &K) -> Option<usize>
-        ensures { Finds K.eq S.BuildHasher S.Hasher.Hasher K.hash_input self.now key.now result }
-    {
-        self.guard.position_of(key)
-    }
-
-    /// As `position_of`, for a caller who has the key's hash.
-    #[inline]
-    pub fn position_of_hashed(&self, hash: u64, key: &K) -> Option<usize>
-        requires { hash ≡ hash_of S.BuildHasher S.Hasher.Hasher self.now.hasher (K.hash_input key.now) }
-        ensures { Finds K.eq S.BuildHasher S.Hasher.Hasher K.hash_input self.now key.now result }
-    {
-        self.guard.position_of_hashed(hash, key)
-    }
-
-    /// The pair of a taken place, without a look at any other.
-    #[inline]
-    pub fn at(&self, position: usize) -> (&K, &V)
-        requires { IsSome (place self.now.places position) }
-        ensures pair { place self.now.places position ≡ Some (deref_pair result) }
-        ensures lawful { IsShard K.eq S.BuildHasher S.Hasher.Hasher K.hash_input self.now }
-    {
-        self.guard.at(position)
-    }
-
-    /// Puts a pair whose key is new in room that is there, and answers its place. It takes no memory, and can't be refused.
-    #[inline]
-    pub fn insert_new(&mut self, key: K, value: V) -> usize
-    where
-        K: Drop,
-        V: Drop,
-        requires route { Routes K.eq S.BuildHasher S.Hasher.Hasher K.hash_input self.old key }
-        requires absent { at (keys_of K.eq S.BuildHasher S.Hasher.Hasher K.hash_input self.old) (pairs self.old) key ≡ None }
-        requires room { shard_len self.old < self.old.capacity }
-        ensures { InsertsNew K.eq S.BuildHasher S.Hasher.Hasher K.hash_input self.old self.new key value result }
-    {
-        self.guard.change(
-            |shard: &mut Shard<K, V, S>| -> usize
-                requires route { Routes K.eq S.BuildHasher S.Hasher.Hasher K.hash_input shard.old key }
-                requires absent { at (keys_of K.eq S.BuildHasher S.Hasher.Hasher K.hash_input shard.old) (pairs shard.old) key ≡ None }
-                requires room { shard_len shard.old < shard.old.capacity }
-                ensures { InsertsNew K.eq S.BuildHasher S.Hasher.Hasher K.hash_input shard.old shard.new key value result }
-            { shard.insert_new(key, value) },
-        )
-    }
-
-    /// The lowest taken place not below `position`, for `at`: a walk over the pairs goes on behind it.
-    #[inline]
-    pub fn next_taken(&self, position: usize) -> Option<usize>
-        ensures next { IsNextTaken self.now.places position result }
-        ensures lawful { IsShard K.eq S.BuildHasher S.Hasher.Hasher K.hash_input self.now }
-    {
-        self.guard.next_taken(position)
     }
 
     /// How many pairs there are.
