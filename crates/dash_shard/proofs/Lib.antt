@@ -1,3 +1,4 @@
+mod Altering
 mod Amounts
 mod Asking
 mod Chaining
@@ -13,6 +14,7 @@ mod Passing
 mod Places
 mod Positions
 mod RoundParts
+mod Rewriting
 mod Rounds
 pub mod Routing
 pub mod Rows

@@ -1,6 +1,5 @@
 -- Rows of nodes after a write to one of them.
 use Rattle.std.proofs.Common.{◌≡◌, ◌≢◌, ℕ, zero, suc, ◌+◌, ◌-◌, ◌<◌, ◌≤◌, ◌==◌, true, cond, List, ◌∷◌, ◌++◌, take, map, length, get_or, set, Some, None, refl, sym, ap, subst, ◌∙◌, inl, inr, arith, eq-eqb, is_some, IsSome, IsNone, get_or-set_same, get_or-set_other}
-use Rattle.std.specs.Option.{option_map}
 use Rattle.std.proofs.lemmas.Bool.{cases_eq, cases_lt, ne_eqb, false≢true, true≢false}
 use Rattle.std.proofs.lemmas.List.{length-map, get_or_default, get_or_past, map-set, map-append}
 use Rattle.std.proofs.Math.ListN.{get_or-map, length-set, replicate}
@@ -305,37 +304,37 @@ module _ {K V : Type 0} where
       (λ a j x. ap (λ x. x.next) (elsewhere j x.1))
       h)
 
-  -- another value under the stored key of a taken place
-  module _ (nodes : List (Node K V)) (i : ℕ) (n : Node K V) (k : K) (u v : V) (within : i < length nodes) (read : n ≡ get_or nodes i n) (stored : n.pair ≡ Some (k, u)) where
+  -- another pair of the same hash on a taken place
+  module _ (nodes : List (Node K V)) (i : ℕ) (n : Node K V) (p q : K × V) (within : i < length nodes) (read : n ≡ get_or nodes i n) (stored : n.pair ≡ Some p) where
     abbrev pub revalued : List (Node K V)
-    revalued = set nodes i (record n { pair = Some (k, v) })
+    revalued = set nodes i (record n { pair = Some q })
 
-    here : node nodes i ≡ n
-    here = sym (read ∙ get_or_default nodes i n blank within)
+    pub node-here : node nodes i ≡ n
+    node-here = sym (read ∙ get_or_default nodes i n blank within)
 
-    pair_here : (node nodes i).pair ≡ Some (k, u)
-    pair_here = ap (λ x. x.pair) here ∙ stored
+    pair_here : (node nodes i).pair ≡ Some p
+    pair_here = ap (λ x. x.pair) node-here ∙ stored
 
-    pub place-here : place (pairs_of nodes) i ≡ Some (k, u)
+    pub place-here : place (pairs_of nodes) i ≡ Some p
     place-here = get_or-map (λ x. x.pair) nodes i blank ∙ pair_here
 
-    pub pairs-revalued : pairs_of revalued ≡ set (pairs_of nodes) i (option_map (λ p. (p.0, v)) (place (pairs_of nodes) i))
-    pairs-revalued = map-set (λ x. x.pair) nodes i _ ∙ ap (λ o. set (pairs_of nodes) i (option_map (λ p. (p.0, v)) o)) (sym place-here)
+    pub pairs-revalued : pairs_of revalued ≡ set (pairs_of nodes) i (Some q)
+    pairs-revalued = map-set (λ x. x.pair) nodes i _
 
     pub hashes-revalued : hashes_of revalued ≡ hashes_of nodes
-    hashes-revalued = map-set_same (λ x. x.hash) nodes i _ blank (ap (λ x. x.hash) (sym here))
+    hashes-revalued = map-set_same (λ x. x.hash) nodes i _ blank (ap (λ x. x.hash) (sym node-here))
 
     taken_same : (j : ℕ) → is_some (node revalued j).pair ≡ is_some (node nodes j).pair
-    taken_same j = part-set (λ x. is_some x.pair) nodes i j (record n { pair = Some (k, v) }) within ∙ elim (cases_eq j i) as (λ _. cond (j == i) true (is_some (node nodes j).pair) ≡ is_some (node nodes j).pair) [
+    taken_same j = part-set (λ x. is_some x.pair) nodes i j (record n { pair = Some q }) within ∙ elim (cases_eq j i) as (λ _. cond (j == i) true (is_some (node nodes j).pair) ≡ is_some (node nodes j).pair) [
       | inl same ↦ rw (eq-eqb j i same) (sym (ap is_some (ap (λ m. (node nodes m).pair) same ∙ pair_here)))
       | inr other ↦ rw (ne_eqb j i other) refl
     ]
 
     next_same : (j : ℕ) → (node revalued j).next ≡ (node nodes j).next
-    next_same j = part_kept (λ x. x.next) nodes i j _ within (ap (λ x. x.next) (sym here))
+    next_same j = part_kept (λ x. x.next) nodes i j _ within (ap (λ x. x.next) (sym node-here))
 
     hash_same : (j : ℕ) → (node revalued j).hash ≡ (node nodes j).hash
-    hash_same j = part_kept (λ x. x.hash) nodes i j _ within (ap (λ x. x.hash) (sym here))
+    hash_same j = part_kept (λ x. x.hash) nodes i j _ within (ap (λ x. x.hash) (sym node-here))
 
     long : length revalued ≡ length nodes
     long = length-set nodes i _
@@ -344,7 +343,7 @@ module _ {K V : Type 0} where
     chained-revalued h = chained_long revalued (length nodes) long (chained_same (length nodes)
         (λ b j x. moved nodes revalued b j long (hash_same j) (taken_same j) x)
         (λ b j x. moved revalued nodes b j (sym long) (sym (hash_same j)) (sym (taken_same j)) x)
-        (λ b. part_kept (λ x. x.head) nodes i b _ within (ap (λ x. x.head) (sym here))) (λ b j _. next_same j) h)
+        (λ b. part_kept (λ x. x.head) nodes i b _ within (ap (λ x. x.head) (sym node-here))) (λ b j _. next_same j) h)
 
     pub stack-revalued : (m link : ℕ) → IsStack nodes (length nodes) link m → IsStack revalued (length revalued) link m
     stack-revalued m link s = stack_same nodes revalued (length nodes) (length revalued) link m (omega (arith, long)) (λ j _. next_same j) (λ j none. taken_same j ∙ none) s

@@ -65,12 +65,12 @@ module _ {K V : Type 0} (hash : K → ℕ) where
     | inr other ↦ get_or-set_other hs i j n 0 other ∙ h j p (sym (get_or-set_other xs i j (Some (k, v)) None other) ∙ e)
   ]
 
-  hashed-replace : (xs : List (Option (K × V))) (hs : List ℕ) (i : ℕ) (p : K × V) (v : V) → i < length xs → place xs i ≡ Some p → IsHashed hash xs hs → IsHashed hash (set xs i (Some (p.0, v))) hs
-  hashed-replace xs hs i p v within there h j q e = elim (cases_eq j i) as (λ _. get_or hs j 0 ≡ hash q.0) [
+  pub hashed-replace : (xs : List (Option (K × V))) (hs : List ℕ) (i : ℕ) (p r : K × V) → i < length xs → place xs i ≡ Some p → hash p.0 ≡ hash r.0 → IsHashed hash xs hs → IsHashed hash (set xs i (Some r)) hs
+  hashed-replace xs hs i p r within there alike h j q e = elim (cases_eq j i) as (λ _. get_or hs j 0 ≡ hash q.0) [
     | inl same ↦
-        let new : (p.0, v) ≡ q = same_Some (p.0, v) q (sym (get_or-set_same xs i (Some (p.0, v)) None within) ∙ ap (λ m. place (set xs i (Some (p.0, v))) m) (sym same) ∙ e) in
-        ap (λ m. get_or hs m 0) same ∙ h i p there ∙ ap (λ r. hash r.0) new
-    | inr other ↦ h j q (sym (get_or-set_other xs i j (Some (p.0, v)) None other) ∙ e)
+        let new : r ≡ q = same_Some r q (sym (get_or-set_same xs i (Some r) None within) ∙ ap (λ m. place (set xs i (Some r)) m) (sym same) ∙ e) in
+        ap (λ m. get_or hs m 0) same ∙ h i p there ∙ alike ∙ ap (λ x. hash x.0) new
+    | inr other ↦ h j q (sym (get_or-set_other xs i j (Some r) None other) ∙ e)
   ]
 
   hashed-clear : (xs : List (Option (K × V))) (hs : List ℕ) (i : ℕ) → i < length xs → IsHashed hash xs hs → IsHashed hash (set xs i None) hs
@@ -152,7 +152,7 @@ module _ {K V S H : Type 0} (eq : K → K → Bool) (b : builder.Ghosts S H) (h 
     w = keys_of eq b h input (state t)
 
     -- a key that goes here takes equal keys with it
-    routes-equal : Routes eq b h input (state t) k → (j : K) → eq k j ≡ true → w.route j ≡ number
+    pub routes-equal : Routes eq b h input (state t) k → (j : K) → eq k j ≡ true → w.route j ≡ number
     routes-equal routes j same = ap (λ writes. route_of_hash amount (hash_of b h s writes)) (sym (respects k j same)) ∙ routes
 
     -- what a look-up found is the pair at the key, and no other pair is
@@ -206,7 +206,7 @@ module _ {K V S H : Type 0} (eq : K → K → Bool) (b : builder.Ghosts S H) (h 
           table = table;
           hashed = subst (λ xs. IsHashed (λ j. hash_of b h s (input j)) xs (hashes_of new.nodes.items)) (sym now)
               (subst (λ hs. IsHashed (λ j. hash_of b h s (input j)) (set (pairs_of t.nodes.items) i (Some (found.pair.0, v))) hs) (sym hashes)
-              (hashed-replace (λ j. hash_of b h s (input j)) _ _ i found.pair v within found.is inside.hashed));
+              (hashed-replace (λ j. hash_of b h s (input j)) _ _ i found.pair (found.pair.0, v) within found.is refl inside.hashed));
           counted = len ∙ inside.counted ∙ sym (ap (λ xs. length (taken xs)) now ∙ length-taken-replace _ i _ found.pair found.is);
         }
 

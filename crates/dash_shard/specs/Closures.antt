@@ -1,7 +1,7 @@
 -- What a closure answers on a pair.
-use Rattle.std.specs.Prelude.{◌≡◌, Option, Some, None, ⊤}
+use Rattle.std.specs.Prelude.{◌≡◌, Bool, Option, Some, None, ⊤}
 use Rattle.std.specs.Fn.{Once}
-use denote.Ref.{Bor}
+use denote.Ref.{Bor, MutBor}
 
 module _ {F K V R : Type 0} (g : Once F (Bor K × (Bor V × Unit {0})) R) (f : F) where
   -- f may be called at the pair
@@ -20,3 +20,28 @@ module _ {F K V R : Type 0} (g : Once F (Bor K × (Bor V × Unit {0})) R) (f : F
   Viewed None None = ⊤
   Viewed (Some p) (Some r) = AnswersOn p r
   Viewed _ _ = ⊥
+
+module _ {F K V : Type 0} (g : Once F (Bor K × (MutBor V × Unit {0})) (Bool × (MutBor V × Unit {0}))) (f : F) where
+  -- f may be called at the pair, and may write its value
+  abbrev pub MayChange : K × V → Type 0
+  MayChange p = (k : Bor K) (v : MutBor V) → k.now ≡ p.0 → v.now ≡ p.1 → g.pre f (k, (v, tt))
+
+  -- and may leave the value d.0 there and answer d.1
+  pub record ChangesOn (p : K × V) (d : V × Bool) : Type 0 where
+    pub key : Bor K
+    pub value : MutBor V
+    pub shows : (key.now ≡ p.0) × (value.now ≡ p.1)
+    pub left : MutBor V
+    pub leaves : left.now ≡ d.0
+    pub says : g.post f (key, (value, tt)) (d.1, (left, tt))
+
+module _ {F K V : Type 0} (g : Once F (Bor K × (V × Unit {0})) V) (f : F) where
+  -- f may be called at the pair, whose value it takes
+  abbrev pub MayGive : K × V → Type 0
+  MayGive p = (k : Bor K) → k.now ≡ p.0 → g.pre f (k, (p.1, tt))
+
+  -- and may give v for it
+  pub record GivesOn (p : K × V) (v : V) : Type 0 where
+    pub key : Bor K
+    pub shows : key.now ≡ p.0
+    pub says : g.post f (key, (p.1, tt)) v

@@ -1,11 +1,11 @@
 -- A shard behind a lock: what its lock is made for, and what calls promise that say the same of a shard and through a hold.
-use Rattle.std.specs.Prelude.{◌≡◌, ℕ, ◌+◌, ◌<◌, ◌≤◌, ◌↔◌, Bool, Option, Some, None, IfSome, IsNone, Result, IfOk, OnOk, IfErr, OnErr, is_some, if◌then◌else◌}
+use Rattle.std.specs.Prelude.{◌≡◌, ◌≢◌, ℕ, ◌+◌, ◌<◌, ◌≤◌, ◌↔◌, Bool, Option, Some, None, IfSome, IsNone, Result, IfOk, OnOk, IfErr, OnErr, is_some, if◌then◌else◌}
 use Rattle.std.specs.Hash.{HashWrites}
 use Rattle.std.specs.declared.hash.Hasher as hasher
 use Rattle.std.specs.declared.hash.BuildHasher as builder
 use Rattle.dash_shard.specs.Hashing.{HashAlike}
 use Rattle.dash_shard.specs.Contents.{at}
-use Rattle.dash_shard.specs.Steps.{Insert, Remove, RemoveIf, Old, Pair}
+use Rattle.dash_shard.specs.Steps.{Act, Insert, Remove, RemoveIf, RemoveIfMut, Alter, Old, Pair, Done}
 use Rattle.dash_shard.specs.Shard.{ShardState, place, pairs, shard_len, HasKey, keys_of, IsShard, SameShard, TakesExactly, StaysInPlace}
 use Rattle.dash_shard.specs.declared.shard.InsertRefused.{InsertRefused}
 use Rattle.dash_shard.specs.declared.shard.held.ShardTag.{ShardTag}
@@ -70,3 +70,36 @@ module _ {K V S H : Type 0} (eq : K → K → Bool) (b : builder.Ghosts S H) (h 
     pub stays : SameShard old new
     pub lawful : IsShard eq b h input new
     pub refused : OnErr result (new ≡ old)
+
+  -- all that a removal promises that was asked first of an action that may write the value: yes is the answer to what it writes
+  pub record RemovesIfMut (act : Act K V) (old new : ShardState K V S) (key : K) (result : Option (K × V)) : Type 0 where
+    pub taken : TakesExactly eq b h input old new (RemoveIfMut key act) (Pair result)
+    pub len : shard_len old ≡ shard_len new + (if is_some result then 1 else 0)
+    pub room : new.capacity ≡ old.capacity
+    pub places : StaysInPlace eq b h input old new (RemoveIfMut key act)
+
+  -- the same, where the action may do on the pair with an equal key what it does
+  abbrev pub RemovesChanged : (K × V → V × Bool → Type 0) → ShardState K V S → ShardState K V S → K → Option (K × V) → Type 0
+  RemovesChanged changes old new key result = (act : Act K V) × RemovesIfMut act old new key result × IfSome (at (keys_of eq b h input old) (pairs old) key) (λ p. changes p (act p.0 p.1))
+
+  -- all that an alteration promises
+  pub record AltersBy (act : Act K V) (old new : ShardState K V S) (key : K) : Type 0 where
+    pub taken : TakesExactly eq b h input old new (Alter key act) Done
+    pub len : shard_len new ≡ shard_len old
+    pub room : new.capacity ≡ old.capacity
+    pub places : StaysInPlace eq b h input old new (Alter key act)
+
+  -- the same, where the action may give on the pair with an equal key the value that it gives
+  abbrev pub Alters : (K × V → V → Type 0) → ShardState K V S → ShardState K V S → K → Type 0
+  Alters gives old new key = (act : Act K V) × AltersBy act old new key × IfSome (at (keys_of eq b h input old) (pairs old) key) (λ p. gives p (act p.0 p.1).0)
+
+  -- all that a new pair promises in the place of one with an equal key
+  pub record Replaces (old new : ShardState K V S) (position : ℕ) (key : K) (value : V) (result : K × V) : Type 0 where
+    pub answers : place old.places position ≡ Some result
+    pub here : place new.places position ≡ Some (key, value)
+    pub others : (i : ℕ) → i ≢ position → place new.places i ≡ place old.places i
+    pub contents : (j : K) → at (keys_of eq b h input old) (pairs new) j ≡ (if eq key j then Some (key, value) else at (keys_of eq b h input old) (pairs old) j)
+    pub len : shard_len new ≡ shard_len old
+    pub room : new.capacity ≡ old.capacity
+    pub stays : SameShard old new
+    pub lawful : IsShard eq b h input new

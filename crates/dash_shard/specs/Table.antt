@@ -1,6 +1,8 @@
 -- A table of pairs, found by the buckets of their hashes. A bucket is a chain of places in falling order, and the free places are a
 -- stack. A link is one more than a place, or 0 at the end.
-use Rattle.std.specs.Prelude.{ℕ, zero, suc, ◌≡◌, ◌≢◌, ◌⊎◌, ◌+◌, ◌-◌, ◌<◌, ◌≤◌, true, false, Bool, List, map, length, slice_index_or, slice_index, ◌++◌, replicate, Option, Some, None, IsSome, IsNone, bit_and, ◌==◌, if◌then◌else◌}
+use Rattle.std.specs.Prelude.{ℕ, zero, suc, ◌≡◌, ◌≢◌, ◌⊎◌, ◌+◌, ◌-◌, ◌<◌, ◌≤◌, true, false, Bool, List, map, length, slice_index_or, slice_index, slice_set, ◌++◌, replicate, Option, Some, None, IsSome, IsNone, bit_and, ◌==◌, if◌then◌else◌}
+use Rattle.std.specs.Option.{option_map}
+use Rattle.std.specs.Vec.{with_item}
 use Rattle.std.specs.Hash.{HashWrites}
 use Rattle.std.specs.declared.hash.Hasher as hasher
 use Rattle.std.specs.declared.hash.BuildHasher as builder
@@ -92,6 +94,14 @@ module _ {K V : Type 0} where
   abbrev pub hashes_of : List (Node K V) → List ℕ
   hashes_of nodes = map (λ n. n.hash) nodes
 
+  -- the node with another value in its pair
+  abbrev pub with_value : Node K V → V → Node K V
+  with_value n w = record n { pair = option_map (λ p. (p.0, w)) n.pair }
+
+  -- the table with another value in the pair of the place i
+  abbrev pub with_value_at : Table K V → ℕ → V → Table K V
+  with_value_at t i w = record t { nodes = with_item t.nodes i (with_value (node t.nodes.items i) w) }
+
   -- the nodes differ in their links alone
   pub record KeepsPairs (old new : List (Node K V)) : Type 0 where
     pub pairs : pairs_of new ≡ pairs_of old
@@ -118,6 +128,14 @@ module _ {K V : Type 0} where
   -- no pair of this hash has an equal key
   abbrev pub IsAbsent : (K → K → Bool) → List (Node K V) → ℕ → K → Type 0
   IsAbsent eq nodes hash k = (i : ℕ) (p : K × V) → place (pairs_of nodes) i ≡ Some p → slice_index (hashes_of nodes) i ≡ hash → eq p.0 k ≡ false
+
+  -- the taken place i has the pair q, whose key has the same hash
+  pub record IsRewritten (i : ℕ) (q : K × V) (old new : Table K V) : Type 0 where
+    pub pairs : pairs_of new.nodes.items ≡ slice_set (pairs_of old.nodes.items) i (Some q)
+    pub hashes : hashes_of new.nodes.items ≡ hashes_of old.nodes.items
+    pub len : new.len ≡ old.len
+    pub places : length new.nodes.items ≡ length old.nodes.items
+    pub table : IsTable new
 
   -- empty places came behind
   pub record IsGrown (old new : List (Node K V)) : Type 0 where

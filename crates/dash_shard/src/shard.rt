@@ -6,8 +6,8 @@ ghost use Rattle.dash_shard.specs.Hashing.{IsAmount, hash_of};
 ghost use Rattle.dash_shard.specs.Contents.{at};
 ghost use Rattle.dash_shard.specs.Steps.{Get, Contains, Insert, Remove, Pair, Found, Old, Replies};
 ghost use Rattle.dash_shard.specs.Shard.{place, pairs, shard_len, keys_of, Routes, IsShard, TakesExactly, StaysInPlace};
-ghost use Rattle.dash_shard.specs.Held.{Inserts, Removes, RemovesAsked, Reserves};
-ghost use Rattle.dash_shard.specs.Closures.{MayAsk, AnswersOn, Viewed};
+ghost use Rattle.dash_shard.specs.Held.{Inserts, Removes, RemovesAsked, RemovesChanged, Alters, Reserves};
+ghost use Rattle.dash_shard.specs.Closures.{MayAsk, AnswersOn, Viewed, MayChange, ChangesOn, MayGive, GivesOn};
 ghost use Rattle.dash_shard.specs.declared.error.ConstructError.TheVariants.{Memory};
 
 use crate::error::{ConstructError, TryReserveError};
@@ -204,6 +204,36 @@ impl<K: Eq + Hash, V, S: BuildHasher> Shard<K, V, S> {
             return Some(self.table.take(place));
         }
         None
+    }
+
+    /// As `remove_if`, where `f` may write the value. On yes the pair is answered as `f` left it, and on no it stays so.
+    #[inline]
+    pub fn remove_if_mut<F: FnOnce(&K, &mut V) -> bool>(&mut self, key: &K, f: F) -> Option<(K, V)>
+        requires route { Routes K.eq S.BuildHasher S.Hasher.Hasher K.hash_input self.old key.now }
+        requires callable { IfSome (at (keys_of K.eq S.BuildHasher S.Hasher.Hasher K.hash_input self.old) (pairs self.old) key.now) (MayChange F.FnOnce f) }
+        ensures { RemovesChanged K.eq S.BuildHasher S.Hasher.Hasher K.hash_input (ChangesOn F.FnOnce f) self.old self.new key.now result }
+    {
+        let hash = self.hasher.hash_one(key);
+        let place = self.position_of_hashed(hash, key)?;
+        let (stored, value) = self.table.pair_mut(place);
+        if f(stored, value) {
+            return Some(self.table.take(place));
+        }
+        None
+    }
+
+    /// Gives the pair whose key equals `key` the value that `f` makes of its own, in its place; without such a pair it does nothing. It takes
+    /// no memory, and can't be refused.
+    #[inline]
+    pub fn alter<F: FnOnce(&K, V) -> V>(&mut self, key: &K, f: F)
+        requires route { Routes K.eq S.BuildHasher S.Hasher.Hasher K.hash_input self.old key.now }
+        requires callable { IfSome (at (keys_of K.eq S.BuildHasher S.Hasher.Hasher K.hash_input self.old) (pairs self.old) key.now) (MayGive F.FnOnce f) }
+        ensures { Alters K.eq S.BuildHasher S.Hasher.Hasher K.hash_input (GivesOn F.FnOnce f) self.old self.new key.now }
+    {
+        let hash = self.hasher.hash_one(key);
+        if let Some(place) = self.position_of_hashed(hash, key) {
+            self.table.alter(place, f);
+        }
     }
 
     /// The pair whose key equals `key`.

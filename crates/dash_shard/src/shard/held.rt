@@ -6,8 +6,8 @@ ghost use Rattle.dash_shard.specs.Hashing.{hash_of};
 ghost use Rattle.dash_shard.specs.Contents.{at};
 ghost use Rattle.dash_shard.specs.Steps.{Get, Contains, Pair, Found, Replies};
 ghost use Rattle.dash_shard.specs.Shard.{place, pairs, shard_len, keys_of, Routes, IsShard};
-ghost use Rattle.dash_shard.specs.Closures.{MayAsk, AnswersOn, Viewed};
-ghost use Rattle.dash_shard.specs.Held.{FitsPlace, Inserts, Removes, RemovesAsked, Reserves};
+ghost use Rattle.dash_shard.specs.Closures.{MayAsk, AnswersOn, Viewed, MayChange, ChangesOn, MayGive, GivesOn};
+ghost use Rattle.dash_shard.specs.Held.{FitsPlace, Inserts, Removes, RemovesAsked, RemovesChanged, Alters, Reserves};
 
 use crate::error::TryReserveError;
 use crate::lock::{RwLockWriteGuard, Tagged};
@@ -202,6 +202,39 @@ impl<K: Eq + Hash, V, S: BuildHasher> ShardMut<'_, K, V, S> {
                 ensures { RemovesAsked K.eq S.BuildHasher S.Hasher.Hasher K.hash_input (AnswersOn F.FnOnce f) shard.old shard.new key.entry.now result }
             { shard.remove_if(key, f) },
         )
+    }
+
+    /// As `remove_if`, where `f` may write the value. On yes the pair is answered as `f` left it, and on no it stays so.
+    #[inline]
+    pub fn remove_if_mut<F: FnOnce(&K, &mut V) -> bool>(&mut self, key: &K, f: F) -> Option<(K, V)>
+        requires route { Routes K.eq S.BuildHasher S.Hasher.Hasher K.hash_input self.old key.now }
+        requires callable { IfSome (at (keys_of K.eq S.BuildHasher S.Hasher.Hasher K.hash_input self.old) (pairs self.old) key.now) (MayChange F.FnOnce f) }
+        ensures { RemovesChanged K.eq S.BuildHasher S.Hasher.Hasher K.hash_input (ChangesOn F.FnOnce f) self.old self.new key.now result }
+    {
+        self.guard.change(
+            |shard: &mut Shard<K, V, S>| -> Option<(K, V)>
+                requires route { Routes K.eq S.BuildHasher S.Hasher.Hasher K.hash_input shard.old key.now }
+                requires callable { IfSome (at (keys_of K.eq S.BuildHasher S.Hasher.Hasher K.hash_input shard.old) (pairs shard.old) key.now) (MayChange F.FnOnce f) }
+                ensures { RemovesChanged K.eq S.BuildHasher S.Hasher.Hasher K.hash_input (ChangesOn F.FnOnce f) shard.old shard.new key.entry.now result }
+            { shard.remove_if_mut(key, f) },
+        )
+    }
+
+    /// Gives the pair whose key equals `key` the value that `f` makes of its own, in its place; without such a pair it does nothing. It takes
+    /// no memory, and can't be refused.
+    #[inline]
+    pub fn alter<F: FnOnce(&K, V) -> V>(&mut self, key: &K, f: F)
+        requires route { Routes K.eq S.BuildHasher S.Hasher.Hasher K.hash_input self.old key.now }
+        requires callable { IfSome (at (keys_of K.eq S.BuildHasher S.Hasher.Hasher K.hash_input self.old) (pairs self.old) key.now) (MayGive F.FnOnce f) }
+        ensures { Alters K.eq S.BuildHasher S.Hasher.Hasher K.hash_input (GivesOn F.FnOnce f) self.old self.new key.now }
+    {
+        self.guard.change(
+            |shard: &mut Shard<K, V, S>|
+                requires route { Routes K.eq S.BuildHasher S.Hasher.Hasher K.hash_input shard.old key.now }
+                requires callable { IfSome (at (keys_of K.eq S.BuildHasher S.Hasher.Hasher K.hash_input shard.old) (pairs shard.old) key.now) (MayGive F.FnOnce f) }
+                ensures { Alters K.eq S.BuildHasher S.Hasher.Hasher K.hash_input (GivesOn F.FnOnce f) shard.old shard.new key.entry.now }
+            { shard.alter(key, f) },
+        );
     }
 
     /// The pair whose key equals `key`.

@@ -4,7 +4,7 @@ ghost use Rattle.std.specs.Map.Iter.{deref_pair};
 ghost use Rattle.dash_shard.specs.Hashing.{hash_of};
 ghost use Rattle.dash_shard.specs.Contents.{at};
 ghost use Rattle.dash_shard.specs.Shard.{place, pairs, shard_len, HasKey, IsNextTaken, keys_of, Routes, IsShard};
-ghost use Rattle.dash_shard.specs.Held.{InsertsNew, Finds};
+ghost use Rattle.dash_shard.specs.Held.{InsertsNew, Finds, Replaces};
 
 use super::Shard;
 use std::hash::{BuildHasher, Hash};
@@ -53,6 +53,16 @@ impl<K: Eq + Hash, V, S: BuildHasher> Shard<K, V, S> {
     {
         let hash = self.hasher.hash_one(&key);
         self.table.push(hash, key, value)
+    }
+
+    /// Puts a pair in the place of the one with an equal key, and answers that one: the new key is stored too. It makes no look-up, takes
+    /// no memory, and can't be refused.
+    #[inline]
+    pub fn replace_at(&mut self, position: usize, key: K, value: V) -> (K, V)
+        requires { HasKey K.eq self.old key position }
+        ensures { Replaces K.eq S.BuildHasher S.Hasher.Hasher K.hash_input self.old self.new position key value result }
+    {
+        self.table.exchange(position, key, value)
     }
 
     /// The lowest taken place not below `position`, for `at`: a walk over the pairs goes on behind it.

@@ -10,6 +10,7 @@ use std::alloc::{AllocError, Global};
 use std::mem;
 
 mod links;
+mod values;
 
 // A place: a pair with its hash, or none; the link to the next pair of the pair's bucket, or for a free place to the next free one;
 // and the first link of the bucket that has the place's number.

@@ -3,8 +3,8 @@ ghost use Rattle.std.specs.Prelude.{◌≡◌, ◌<◌, IsSome, Some, None};
 ghost use Rattle.std.specs.Map.Iter.{deref_pair};
 ghost use Rattle.dash_shard.specs.Hashing.{hash_of};
 ghost use Rattle.dash_shard.specs.Contents.{at};
-ghost use Rattle.dash_shard.specs.Shard.{place, pairs, shard_len, IsNextTaken, keys_of, Routes, IsShard};
-ghost use Rattle.dash_shard.specs.Held.{InsertsNew, Finds};
+ghost use Rattle.dash_shard.specs.Shard.{place, pairs, shard_len, HasKey, IsNextTaken, keys_of, Routes, IsShard};
+ghost use Rattle.dash_shard.specs.Held.{InsertsNew, Finds, Replaces};
 
 use super::ShardMut;
 use crate::shard::Shard;
@@ -56,6 +56,24 @@ impl<K: Eq + Hash, V, S: BuildHasher> ShardMut<'_, K, V, S> {
                 requires room { shard_len shard.old < shard.old.capacity }
                 ensures { InsertsNew K.eq S.BuildHasher S.Hasher.Hasher K.hash_input shard.old shard.new key value result }
             { shard.insert_new(key, value) },
+        )
+    }
+
+    /// Puts a pair in the place of the one with an equal key, and answers that one: the new key is stored too. It makes no look-up, takes
+    /// no memory, and can't be refused.
+    #[inline]
+    pub fn replace_at(&mut self, position: usize, key: K, value: V) -> (K, V)
+    where
+        K: Drop,
+        V: Drop,
+        requires { HasKey K.eq self.old key position }
+        ensures { Replaces K.eq S.BuildHasher S.Hasher.Hasher K.hash_input self.old self.new position key value result }
+    {
+        self.guard.change(
+            |shard: &mut Shard<K, V, S>| -> (K, V)
+                requires { HasKey K.eq shard.old key position }
+                ensures { Replaces K.eq S.BuildHasher S.Hasher.Hasher K.hash_input shard.old shard.new position key value result }
+            { shard.replace_at(position, key, value) },
         )
     }
 

@@ -1,0 +1,184 @@
+-- The calls that change one pair in its place, as the step table says them.
+use Rattle.std.proofs.Common.{◌≡◌, ℕ, ◌+◌, Bool, true, false, cond, set, Option, Some, None, refl, sym, ap, subst, ◌∙◌, add-zero, inl, inr, eq-eqb}
+use Rattle.std.specs.Cmp.{IsEquivalence}
+use Rattle.std.specs.Prelude.{option_and_then, IfSome, if◌then◌else◌}
+use Rattle.std.specs.Hash.{HashWrites}
+use Rattle.std.specs.Option.{option_map}
+use Rattle.std.specs.declared.hash.Hasher as hasher
+use Rattle.std.specs.declared.hash.BuildHasher as builder
+use Rattle.std.proofs.lemmas.Bool.{cases_Bool, ne_eqb}
+use Rattle.std.proofs.Math.Seq.{set-set}
+use Rattle.dash_shard.specs.declared.shard.table.Table.{Table}
+use Rattle.dash_shard.specs.Contents.{Keys, at}
+use Rattle.dash_shard.specs.Steps.{Act, Pair, changed, if_no, if_yes}
+use Rattle.dash_shard.specs.Shard.{ShardState, place, pairs, keys_of, Routes, IsShard}
+use Rattle.dash_shard.specs.Held.{Removes, RemovesIfMut, AltersBy, Alters, Replaces}
+use Rattle.dash_shard.specs.Table.{Holds, IsTable, IsRewritten, pairs_of, hashes_of}
+use Rattle.dash_shard.proofs.Shards.{state, Inside, at-found, removed, removes}
+use Rattle.dash_shard.proofs.Rewriting.{found-at, rewritten-len, rewritten-inside, rewritten-place, rewritten-at, rewritten-becomes, rewritten-stays}
+
+-- to every value v, and to the answer c
+abbrev pub to : {K V : Type 0} → V → Bool → Act K V
+to v c = λ _ _. (v, c)
+
+-- nothing is changed, and the answer is no
+abbrev pub idle : {K V : Type 0} → Act K V
+idle = λ _ v. (v, false)
+
+idle-alters : {K V : Type 0} (o : Option (K × V)) → o ≡ option_map (changed idle) o
+idle-alters None = refl
+idle-alters (Some p) = refl
+
+idle-keeps : {K V : Type 0} (o : Option (K × V)) → o ≡ option_and_then (λ p. if_no idle p (changed idle p)) o
+idle-keeps None = refl
+idle-keeps (Some p) = refl
+
+idle-answers : {K V : Type 0} (o : Option (K × V)) → None ≡ option_and_then (λ p. if_yes idle p (changed idle p)) o
+idle-answers None = refl
+idle-answers (Some p) = refl
+
+goes : {K V : Type 0} (v : V) (o : Option (K × V)) → None ≡ option_and_then (λ p. if_no (to v true) p (changed (to v true) p)) o
+goes v None = refl
+goes v (Some p) = refl
+
+-- where f keeps what it is given
+module _ {K V : Type 0} (w : Keys K) (f : Option (K × V) → Option (K × V)) (keeps : (o : Option (K × V)) → o ≡ f o) where
+  kept : (k j : K) (o : Option (K × V)) → o ≡ (if w.eq k j then f o else o)
+  kept k j o = elim (cases_Bool (w.eq k j)) as (λ _. o ≡ (if w.eq k j then f o else o)) [
+    | inl same ↦ rw same (keeps o)
+    | inr other ↦ rw other refl
+  ]
+
+-- what is written and then goes
+written-gone : {K V : Type 0} (t mid new : Table K V) (i : ℕ) (q : K × V) → IsRewritten i q t mid → pairs_of new.nodes.items ≡ set (pairs_of mid.nodes.items) i None → pairs_of new.nodes.items ≡ set (pairs_of t.nodes.items) i None
+written-gone t mid new i q r e = e ∙ ap (λ xs. set xs i None) r.pairs ∙ set-set (pairs_of t.nodes.items) i (Some q) None
+
+module _ {K V S H : Type 0} (eq : K → K → Bool) (b : builder.Ghosts S H) (h : hasher.Ghosts H) (input : K → HashWrites) where
+  -- nothing is altered where there is nothing
+  pub unaltered : (z : ShardState K V S) (k : K) → IsShard eq b h input z → AltersBy eq b h input idle z z k
+  unaltered z k shard =
+      let w = keys_of eq b h input z in
+      record {
+        taken = record {
+          replies = refl;
+          becomes = λ j. kept w (option_map (changed idle)) idle-alters k j (at w (pairs z) j);
+          stays = record { number = refl; amount = refl; hasher = refl };
+          lawful = shard;
+        };
+        len = refl;
+        room = refl;
+        places = λ i p e. e ∙ kept w (option_map (changed idle)) idle-alters k p.0 (Some p);
+      }
+
+  -- nothing goes where there is nothing
+  pub unremoved : (z : ShardState K V S) (k : K) → IsShard eq b h input z → RemovesIfMut eq b h input idle z z k None
+  unremoved z k shard =
+      let w = keys_of eq b h input z in
+      let f : Option (K × V) → Option (K × V) = option_and_then (λ p. if_no idle p (changed idle p)) in
+      record {
+        taken = record {
+          replies = ap Pair (idle-answers (at w (pairs z) k));
+          becomes = λ j. kept w f idle-keeps k j (at w (pairs z) j);
+          stays = record { number = refl; amount = refl; hasher = refl };
+          lawful = shard;
+        };
+        len = sym (add-zero _);
+        room = refl;
+        places = λ i p e. e ∙ kept w f idle-keeps k p.0 (Some p);
+      }
+
+  -- a removal takes a pair that stood there, and answers it with the value v
+  pub removed-changed : (z n : ShardState K V S) (k : K) (p : K × V) (v : V) → at (keys_of eq b h input z) (pairs z) k ≡ Some p → Removes eq b h input z n k (Some p) → RemovesIfMut eq b h input (to v true) z n k (Some (p.0, v))
+  removed-changed z n k p v there x =
+      let w = keys_of eq b h input z in
+      record {
+        taken = record {
+          replies = ap (λ o. Pair (option_and_then (λ q. if_yes (to v true) q (changed (to v true) q)) o)) (sym there);
+          becomes = λ j. x.taken.becomes j ∙ ap (λ o. cond (w.eq k j) o (at w (pairs z) j)) (goes v (at w (pairs z) j));
+          stays = x.taken.stays;
+          lawful = x.taken.lawful;
+        };
+        len = x.len;
+        room = x.room;
+        places = x.places;
+      }
+
+  module _ (laws : IsEquivalence eq) (respects : (x y : K) → eq x y ≡ true → input x ≡ input y) (s : S) (number amount : ℕ)
+      (t new : Table K V) (inside : Inside eq b h input laws respects s number amount t) (k : K) (i : ℕ) (found : Holds eq t.nodes.items k i) (z : ShardState K V S) (view : state eq b h input laws respects s number amount t ≡ z) where
+    abbrev pub now : ShardState K V S
+    now = state eq b h input laws respects s number amount new
+
+    -- the pair with the value v
+    abbrev pub valued : V → K × V
+    valued v = (found.pair.0, v)
+
+    -- it stands in the place of the pair
+    module _ (v : V) (r : IsRewritten i (valued v) t new) where
+      pub altered-inside : Inside eq b h input laws respects s number amount new
+      altered-inside = rewritten-inside eq b h input laws respects s number amount t new inside k i found (valued v) found.equal r
+
+      pub alters : (c : Bool) → AltersBy eq b h input (to v c) z now k
+      alters c = subst (λ x. AltersBy eq b h input (to v c) x now k) view (record {
+        taken = record {
+          replies = refl;
+          becomes = rewritten-becomes eq b h input laws respects s number amount t new inside k i found (valued v) found.equal r (option_map (changed (to v c))) refl;
+          stays = record { number = refl; amount = refl; hasher = refl };
+          lawful = altered-inside.shard;
+        };
+        len = rewritten-len eq b h input laws respects s number amount t new inside k i found (valued v) found.equal r;
+        room = r.places;
+        places = rewritten-stays eq b h input laws respects s number amount t new inside k i found (valued v) found.equal r (option_map (changed (to v c))) refl;
+      })
+
+      pub stays-changed : RemovesIfMut eq b h input (to v false) z now k None
+      stays-changed =
+          let f : Option (K × V) → Option (K × V) = option_and_then (λ p. if_no (to v false) p (changed (to v false) p)) in
+          subst (λ x. RemovesIfMut eq b h input (to v false) x now k None) view (record {
+            taken = record {
+              replies = ap (λ o. Pair (option_and_then (λ q. if_yes (to v false) q (changed (to v false) q)) o)) (sym (found-at eq b h input laws respects s number amount t new inside k i found (valued v) found.equal r));
+              becomes = rewritten-becomes eq b h input laws respects s number amount t new inside k i found (valued v) found.equal r f refl;
+              stays = record { number = refl; amount = refl; hasher = refl };
+              lawful = altered-inside.shard;
+            };
+            len = sym (rewritten-len eq b h input laws respects s number amount t new inside k i found (valued v) found.equal r) ∙ sym (add-zero _);
+            room = r.places;
+            places = rewritten-stays eq b h input laws respects s number amount t new inside k i found (valued v) found.equal r f refl;
+          })
+
+    -- what is found at the key
+    pub stood : (P : K × V → Type 0) → P found.pair → IfSome (at (keys_of eq b h input z) (pairs z) k) P
+    stood P holds = subst (λ x. IfSome (at (keys_of eq b h input x) (pairs x) k) P) view (rw (at-found eq b h input laws respects s number amount t inside k i found) holds)
+
+    -- where a call gave the pair a value, of which G says what the call says
+    module _ (G : K × V → V → Type 0) (gave : IfSome (place (pairs_of t.nodes.items) i) (λ p. (v : V) × IsRewritten i (p.0, v) t new × G p v)) where
+      given : (v : V) × IsRewritten i (valued v) t new × G found.pair v
+      given = subst (λ o. IfSome o (λ p. (v : V) × IsRewritten i (p.0, v) t new × G p v)) found.is gave
+
+      pub given-inside : Inside eq b h input laws respects s number amount new
+      given-inside = altered-inside given.0 given.1
+
+      pub given-alters : Alters eq b h input G z now k
+      given-alters = (to given.0 true, alters given.0 given.1 true, stood (λ p. G p given.0) given.2)
+
+    -- it stood there with the value v, and then went
+    module _ (here : Routes eq b h input z k) (v : V) (mid : Table K V) (r : IsRewritten i (valued v) t mid) (places : pairs_of new.nodes.items ≡ set (pairs_of mid.nodes.items) i None)
+        (hashes : hashes_of new.nodes.items ≡ hashes_of mid.nodes.items) (len : new.len + 1 ≡ mid.len) (table : IsTable new) where
+      pub gone-inside : Inside eq b h input laws respects s number amount new
+      gone-inside = (removed eq b h input laws respects s number amount t inside k z view here new i found (written-gone t mid new i (valued v) r places) (hashes ∙ r.hashes) (len ∙ r.len) table).inside
+
+      pub gone-changed : RemovesIfMut eq b h input (to v true) z now k (Some (valued v))
+      gone-changed = removed-changed z now k found.pair v (subst (λ x. at (keys_of eq b h input x) (pairs x) k ≡ Some found.pair) view (at-found eq b h input laws respects s number amount t inside k i found))
+          (removes eq b h input laws respects s number amount t inside k z view here new i found (written-gone t mid new i (valued v) r places) (hashes ∙ r.hashes) (len ∙ r.len) table)
+
+    -- a new pair with an equal key stands there
+    pub replaces : (q : K × V) (equal : eq q.0 k ≡ true) → IsRewritten i q t new → (old : K × V) → place (pairs_of t.nodes.items) i ≡ Some old → k ≡ q.0 → Replaces eq b h input z now i q.0 q.1 old
+    replaces q equal r old there same = subst (λ x. Replaces eq b h input x now i q.0 q.1 old) view (record {
+      answers = there;
+      here = rewritten-place eq b h input laws respects s number amount t new inside k i found q equal r i ∙ rw (eq-eqb i i refl) refl;
+      others = λ j other. rewritten-place eq b h input laws respects s number amount t new inside k i found q equal r j ∙ rw (ne_eqb j i other) refl;
+      contents = λ j. rewritten-at eq b h input laws respects s number amount t new inside k i found q equal r j ∙ ap (λ x. cond (eq x j) (Some q) (at (keys_of eq b h input (state eq b h input laws respects s number amount t)) (pairs (state eq b h input laws respects s number amount t)) j)) same;
+      len = rewritten-len eq b h input laws respects s number amount t new inside k i found q equal r;
+      room = r.places;
+      stays = record { number = refl; amount = refl; hasher = refl };
+      lawful = (rewritten-inside eq b h input laws respects s number amount t new inside k i found q equal r).shard;
+    })

@@ -1,0 +1,170 @@
+-- A table with another pair in a taken place, and the shard that has it.
+use Rattle.std.proofs.Common.{◌≡◌, ℕ, ◌+◌, ◌<◌, ◌==◌, Bool, true, List, length, set, get_or, Option, Some, None, is_some, IsSome, IsTrue, refl, sym, ap, subst, ◌∙◌, inl, inr, arith, eq-eqb, get_or-set_same, get_or-set_other}
+use Rattle.std.specs.Cmp.{IsEquivalence}
+use Rattle.std.specs.Prelude.{IfSome, if◌then◌else◌}
+use Rattle.std.specs.Option.{option_map, IsSomeAnd}
+use Rattle.std.specs.Vec.{with_item}
+use Rattle.std.specs.Hash.{HashWrites}
+use Rattle.std.specs.declared.hash.Hasher as hasher
+use Rattle.std.specs.declared.hash.BuildHasher as builder
+use Rattle.std.proofs.lemmas.Bool.{true≢false, cases_Bool, cases_eq, ne_eqb}
+use Rattle.std.proofs.lemmas.List.{get_or_default, length-map}
+use Rattle.std.proofs.lemmas.Option.{none-some, same_Some}
+use Rattle.std.proofs.Math.ListN.{length-set}
+use Rattle.dash_shard.specs.declared.shard.table.Node.{Node}
+use Rattle.dash_shard.specs.declared.shard.table.Table.{Table}
+use Rattle.dash_shard.specs.Hashing.{hash_of}
+use Rattle.dash_shard.specs.Contents.{Keys, at, IsOnShard}
+use Rattle.dash_shard.specs.Shard.{ShardState, place, taken, pairs, keys_of, Routes, IsShard}
+use Rattle.dash_shard.specs.Table.{node, blank, Holds, IsTable, IsRewritten, IsHashed, pairs_of, hashes_of, with_value_at}
+use Rattle.dash_shard.proofs.Equals.{at-equal}
+use Rattle.dash_shard.proofs.Nodes.{pairs-revalued, hashes-revalued, chained-revalued, stack-revalued, taken_within}
+use Rattle.dash_shard.proofs.Places.{NoOther, Equal, at-written, on_shard-written, length-taken-replace, stays-written}
+use Rattle.dash_shard.proofs.Shards.{state, Inside, hashed-replace, routes-equal, equal-found, others-found, at-found}
+use Rattle.dash_shard.proofs.Tables.{place_node}
+
+module _ {K V : Type 0} (nodes : List (Node K V)) (i : ℕ) where
+  -- a taken place is one of the places
+  pub spot-within : IsSome (place (pairs_of nodes) i) → i < length nodes
+  spot-within some = taken_within nodes i (ap is_some (sym (place_node nodes i)) ∙ some)
+
+  -- the node that an index reads
+  pub node-read : (n : Node K V) → i < length nodes → n ≡ get_or nodes i n → n ≡ node nodes i
+  node-read n within read = read ∙ get_or_default nodes i n blank within
+
+module _ {K V : Type 0} (t : Table K V) (i : ℕ) (n : Node K V) (p q : K × V) (table : IsTable t) (within : i < length t.nodes.items) (read : n ≡ get_or t.nodes.items i n) (stored : n.pair ≡ Some p) where
+  pub rewritten : (new : Table K V) → new.nodes.items ≡ set t.nodes.items i (record n { pair = Some q }) → new.len ≡ t.len → new.free ≡ t.free → IsRewritten i q t new
+  rewritten new nodes len free =
+      let row = ap length nodes ∙ length-set t.nodes.items i _ in
+      record {
+        pairs = ap pairs_of nodes ∙ pairs-revalued t.nodes.items i n p q within read stored;
+        hashes = ap hashes_of nodes ∙ hashes-revalued t.nodes.items i n p q within read stored;
+        len = len;
+        places = row;
+        table = record {
+          free = table.free;
+          counted = ap (λ m. m + table.free) len ∙ table.counted ∙ sym row;
+          chained = rw nodes (chained-revalued t.nodes.items i n p q within read stored table.chained);
+          stack = rw (nodes, free) (stack-revalued t.nodes.items i n p q within read stored table.free t.free table.stack);
+        };
+      }
+
+-- what a place has, if its key is equal
+abbrev pub holds-pair : {K V : Type 0} (eq : K → K → Bool) (nodes : List (Node K V)) (k : K) (i : ℕ) (p : K × V) → place (pairs_of nodes) i ≡ Some p → IsSomeAnd (place (pairs_of nodes) i) (λ q. IsTrue (eq q.0 k)) → Holds eq nodes k i
+holds-pair eq nodes k i p there has = record {
+  within = spot-within nodes i (ap is_some there);
+  pair = p;
+  is = there;
+  equal = subst (λ o. IsSomeAnd o (λ q. IsTrue (eq q.0 k))) there has;
+}
+
+-- a value that was lent, and written
+module _ {K V : Type 0} (t : Table K V) (i : ℕ) (p : K × V) (v : V) (table : IsTable t) (there : place (pairs_of t.nodes.items) i ≡ Some p) where
+  pub valued-rewritten : IsRewritten i (p.0, v) t (with_value_at t i v)
+  valued-rewritten =
+      let nodes = t.nodes.items in
+      let within : i < length nodes = spot-within nodes i (ap is_some there) in
+      let stored : (node nodes i).pair ≡ Some p = sym (place_node nodes i) ∙ there in
+      rewritten t i (node nodes i) p (p.0, v) table within (sym (get_or_default nodes i (node nodes i) blank within)) stored _
+      (ap (λ o. set nodes i (record (node nodes i) { pair = option_map (λ q. (q.0, v)) o })) stored) refl refl
+
+  pub valued-place : place (pairs_of (with_value_at t i v).nodes.items) i ≡ Some (p.0, v)
+  valued-place =
+      let within : i < length (pairs_of t.nodes.items) = omega (arith, spot-within t.nodes.items i (ap is_some there), length-map t.nodes.items (λ n. n.pair)) in
+      ap (λ xs. place xs i) valued-rewritten.pairs ∙ get_or-set_same (pairs_of t.nodes.items) i (Some (p.0, v)) None within
+
+-- a pair that a call wrote, where G says of the pair before what the call gave for its value
+module _ {K V : Type 0} (t : Table K V) (i : ℕ) (n : Node K V) (table : IsTable t) (within : i < length t.nodes.items) (read : n ≡ get_or t.nodes.items i n) (now : Option (K × V)) (G : K × V → V → Type 0) where
+  pub altered : IsSome (place (pairs_of t.nodes.items) i) → IfSome n.pair (λ p. (w : V) × (now ≡ Some (p.0, w)) × G p w)
+      → IfSome (place (pairs_of t.nodes.items) i) (λ p. (w : V) × IsRewritten i (p.0, w) t (record t { nodes = with_item t.nodes i (record n { pair = now }) }) × G p w)
+  altered some gave = from n.pair refl gave
+    where
+      there : place (pairs_of t.nodes.items) i ≡ n.pair
+      there = place_node t.nodes.items i ∙ ap (λ m. m.pair) (sym (node-read t.nodes.items i n within read))
+
+      from : (o : Option (K × V)) → n.pair ≡ o → IfSome o (λ p. (w : V) × (now ≡ Some (p.0, w)) × G p w)
+          → IfSome (place (pairs_of t.nodes.items) i) (λ p. (w : V) × IsRewritten i (p.0, w) t (record t { nodes = with_item t.nodes i (record n { pair = now }) }) × G p w)
+      from None e h = absurd (true≢false (sym some ∙ ap is_some (there ∙ e)))
+      from (Some p) e h = rw (there ∙ e) (h.0, rewritten t i n p (p.0, h.0) table within read e _ (ap (λ o. set t.nodes.items i (record n { pair = o })) h.1) refl refl, h.2)
+
+module _ {K V S H : Type 0} (eq : K → K → Bool) (b : builder.Ghosts S H) (h : hasher.Ghosts H) (input : K → HashWrites)
+    (laws : IsEquivalence eq) (respects : (x y : K) → eq x y ≡ true → input x ≡ input y) (s : S) (number amount : ℕ)
+    (t new : Table K V) (inside : Inside eq b h input laws respects s number amount t) (k : K) (i : ℕ) (found : Holds eq t.nodes.items k i) (q : K × V) (equal : eq q.0 k ≡ true) (r : IsRewritten i q t new) where
+  abbrev before : ShardState K V S
+  before = state eq b h input laws respects s number amount t
+
+  abbrev after_it : ShardState K V S
+  after_it = state eq b h input laws respects s number amount new
+
+  abbrev w : Keys K
+  w = keys_of eq b h input before
+
+  abbrev hash : K → ℕ
+  hash j = hash_of b h s (input j)
+
+  abbrev spots : List (Option (K × V))
+  spots = pairs_of t.nodes.items
+
+  within : i < length spots
+  within = omega (arith, found.within, length-map t.nodes.items (λ n. n.pair))
+
+  pub found-at : at w (pairs before) k ≡ Some found.pair
+  found-at = at-found eq b h input laws respects s number amount t inside k i found
+
+  -- a key that is there goes there
+  routes : Routes eq b h input before k
+  routes = elim (cases_eq (w.route k) number) as (λ _. w.route k ≡ number) [
+    | inl here ↦ here
+    | inr away ↦ absurd (none-some found.pair (sym (inside.shard.contents.routed k away) ∙ found-at))
+  ]
+
+  was-equal : Equal w k (place spots i)
+  was-equal = equal-found eq b h input laws respects s number amount t inside k i found
+
+  now-equal : Equal w k (Some q)
+  now-equal p e = subst (λ x. eq x.0 k ≡ true) (same_Some q p e) equal
+
+  alone : NoOther w spots k i
+  alone = others-found eq b h input laws respects s number amount t inside k i found
+
+  shard : IsShard eq b h input after_it
+  shard = record {
+    contents = subst (λ xs. IsOnShard w number (taken xs)) (sym r.pairs)
+        (on_shard-written w laws number spots k i (Some q) (routes-equal eq b h input laws respects s number amount t inside k routes) within was-equal now-equal alone inside.shard.contents);
+    number = inside.shard.number;
+    amount = inside.shard.amount;
+  }
+
+  pub rewritten-len : length (pairs after_it) ≡ length (pairs before)
+  rewritten-len = ap (λ xs. length (taken xs)) r.pairs ∙ length-taken-replace spots i q found.pair found.is
+
+  pub rewritten-inside : Inside eq b h input laws respects s number amount new
+  rewritten-inside = record {
+    shard = shard;
+    table = r.table;
+    hashed = subst (λ xs. IsHashed hash xs (hashes_of new.nodes.items)) (sym r.pairs)
+        (subst (λ hs. IsHashed hash (set spots i (Some q)) hs) (sym r.hashes)
+        (hashed-replace hash spots _ i found.pair q within found.is (ap (hash_of b h s) (respects found.pair.0 k found.equal ∙ sym (respects q.0 k equal))) inside.hashed));
+    counted = r.len ∙ inside.counted ∙ sym rewritten-len;
+  }
+
+  pub rewritten-place : (j : ℕ) → place (pairs_of new.nodes.items) j ≡ (if j == i then Some q else place spots j)
+  rewritten-place j = ap (λ xs. place xs j) r.pairs ∙ elim (cases_eq j i) as (λ _. place (set spots i (Some q)) j ≡ (if j == i then Some q else place spots j)) [
+    | inl same ↦ rw (eq-eqb j i same) (subst (λ m. place (set spots i (Some q)) m ≡ Some q) (sym same) (get_or-set_same spots i (Some q) None within))
+    | inr other ↦ rw (ne_eqb j i other) (get_or-set_other spots i j (Some q) None other)
+  ]
+
+  pub rewritten-at : (j : K) → at w (pairs after_it) j ≡ (if eq k j then Some q else at w (pairs before) j)
+  rewritten-at j = ap (λ xs. at w (taken xs) j) r.pairs ∙ at-written w laws spots k i (Some q) within was-equal now-equal alone j
+
+  -- where f makes the new pair of the old one
+  module _ (f : Option (K × V) → Option (K × V)) (makes : f (Some found.pair) ≡ Some q) where
+    pub rewritten-becomes : (j : K) → at w (pairs after_it) j ≡ (if eq k j then f (at w (pairs before) j) else at w (pairs before) j)
+    rewritten-becomes j = rewritten-at j ∙ elim (cases_Bool (eq k j)) as (λ _. (if eq k j then Some q else at w (pairs before) j) ≡ (if eq k j then f (at w (pairs before) j) else at w (pairs before) j)) [
+      | inl same ↦ rw same (sym makes ∙ ap f (sym found-at ∙ at-equal w laws (pairs before) k j same))
+      | inr other ↦ rw other refl
+    ]
+
+    pub rewritten-stays : (j : ℕ) (p : K × V) → place spots j ≡ Some p → place (pairs_of new.nodes.items) j ≡ (if eq k p.0 then f (Some p) else Some p)
+    rewritten-stays j p e = ap (λ xs. place xs j) r.pairs
+        ∙ stays-written w laws spots k i (Some q) f within was-equal alone (λ x there. sym makes ∙ ap f (sym found.is ∙ there)) j p e
