@@ -215,8 +215,8 @@ impl<K: Eq + Hash, V, S: BuildHasher> Shard<K, V, S> {
     {
         let hash = self.hasher.hash_one(key);
         let place = self.position_of_hashed(hash, key)?;
-        let (stored, value) = self.table.pair_mut(place);
-        if f(stored, value) {
+        let (key, value) = self.table.pair_mut(place);
+        if f(key, value) {
             return Some(self.table.take(place));
         }
         None

@@ -67,6 +67,36 @@ fn a_pair_goes_if_the_answer_is_yes(rt: HostRuntime) -> Result<(), Fail> {
     Ok(())
 }
 
+#[test]
+fn a_value_is_written_in_its_place(rt: HostRuntime) -> Result<(), Fail> {
+    assert!(rt; is_shard_amount(4));
+    let mut shard = Shard::<u64, u64, PlaceState>::new(rt.alloc(), PlaceState, 1, 4, 0)?;
+    assert!(rt; shard.routes(&1));
+    shard.insert(1, 10)?;
+    assert!(rt; shard.routes(&1));
+    shard.alter(&1, |key: &u64, value: u64| value.wrapping_add(*key));
+    assert_eq!(rt; shard.get(&1), Some((&1, &11)));
+    assert!(rt; shard.routes(&5));
+    shard.alter(&5, |_: &u64, value: u64| value);
+    assert_eq!(rt; shard.len(), 1);
+
+    assert!(rt; shard.routes(&1));
+    let gone = shard.remove_if_mut(&1, |_: &u64, value: &mut u64| {
+        *value = value.wrapping_add(7);
+        false
+    });
+    assert_eq!(rt; gone, None);
+    assert_eq!(rt; shard.get(&1), Some((&1, &18)));
+    assert!(rt; shard.routes(&1));
+    let gone = shard.remove_if_mut(&1, |key: &u64, value: &mut u64| {
+        *value = value.wrapping_add(2);
+        *key == 1
+    });
+    assert_eq!(rt; gone, Some((1, 20)));
+    assert_eq!(rt; shard.len(), 0);
+    Ok(())
+}
+
 // The place of a new pair.
 fn put(rt: &impl Abort, shard: &mut Shard<u64, u64, PlaceState>, key: u64) -> usize {
     assert!(rt; shard.routes(&key));
@@ -176,6 +206,25 @@ fn the_stored_key_stays(rt: HostRuntime) -> Result<(), Fail> {
     };
     assert_eq!(rt; key.note, 1);
     assert_eq!(rt; *value, 200);
+    assert_eq!(rt; shard.len(), 1);
+    Ok(())
+}
+
+#[test]
+fn the_new_key_takes_the_place(rt: HostRuntime) -> Result<(), Fail> {
+    assert!(rt; is_shard_amount(4));
+    let mut shard = Shard::<Noted, u64, PlaceState>::new(rt.alloc(), PlaceState, 1, 4, 0)?;
+    let key = Noted { name: 5, note: 1 };
+    assert!(rt; shard.routes(&key));
+    shard.insert(key, 100)?;
+    let key = Noted { name: 5, note: 2 };
+    let Some(position) = shard.position_of(&key) else {
+        return Err(Fail::from("no place"));
+    };
+    let (old, value) = shard.replace_at(position, key, 200);
+    assert_eq!(rt; (old.note, value), (1, 100));
+    let (key, value) = shard.at(position);
+    assert_eq!(rt; (key.note, *value), (2, 200));
     assert_eq!(rt; shard.len(), 1);
     Ok(())
 }

@@ -39,6 +39,39 @@ fn a_held_shard_is_changed_in_place(rt: HostRuntime) -> Result<(), Fail> {
 }
 
 #[test]
+fn a_held_value_is_written_in_its_place(rt: HostRuntime) -> Result<(), Fail> {
+    assert!(rt; is_shard_amount(4));
+    let shard = Shard::<u64, u64, PlaceState>::new(rt.alloc(), PlaceState, 1, 4, 0)?;
+    let tag = ShardTag::of(&shard);
+    let lock = RwLock::new(shard, &tag);
+    let mut held = lock.write(&rt).shard();
+    assert!(rt; held.routes(&1));
+    held.insert(1, 10)?;
+    assert!(rt; held.routes(&1));
+    held.alter(&1, |key: &u64, value: u64| value.wrapping_add(*key));
+    assert_eq!(rt; held.get(&1), Some((&1, &11)));
+    let Some(position) = held.position_of(&1) else {
+        return Err(Fail::from("no place"));
+    };
+    assert_eq!(rt; held.replace_at(position, 1, 30), (1, 11));
+    assert!(rt; held.routes(&1));
+    let gone = held.remove_if_mut(&1, |_: &u64, value: &mut u64| {
+        *value = value.wrapping_add(7);
+        false
+    });
+    assert_eq!(rt; gone, None);
+    assert_eq!(rt; held.get(&1), Some((&1, &37)));
+    assert!(rt; held.routes(&1));
+    let gone = held.remove_if_mut(&1, |key: &u64, value: &mut u64| {
+        *value = value.wrapping_add(2);
+        *key == 1
+    });
+    assert_eq!(rt; gone, Some((1, 39)));
+    assert_eq!(rt; held.len(), 0);
+    Ok(())
+}
+
+#[test]
 #[tactic(auto, unfolding(crate::specs::Hashing::hash_of))]
 fn a_held_shard_takes_a_hash_from_its_caller(rt: HostRuntime) -> Result<(), Fail> {
     assert!(rt; is_shard_amount(4));
