@@ -6,6 +6,7 @@ mod Changing
 pub mod Equals
 mod Exchanging
 mod HoldFields
+mod Lending
 mod LockBorrows
 mod LockShown
 pub mod Moving

@@ -8,3 +8,4 @@ pub mod Held
 pub mod Guarded
 pub mod Holding
 pub mod Closures
+pub mod Lends

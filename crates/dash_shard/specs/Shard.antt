@@ -1,5 +1,6 @@
 -- What contracts see of a shard: a row of places, each with a pair or none, and where the shard stands among the others.
-use Rattle.std.specs.Prelude.{◌≡◌, ℕ, ◌<◌, ◌≤◌, Bool, IsTrue, List, [], ◌∷◌, length, Option, Some, None, IsSome, IsSomeAnd, slice_index_or, refl}
+use Rattle.std.specs.Prelude.{◌≡◌, ℕ, ◌<◌, ◌≤◌, Bool, IsTrue, List, [], ◌∷◌, length, Option, Some, None, IsSome, IsSomeAnd, slice_index_or, slice_set, map, if◌then◌else◌, refl}
+use Rattle.std.specs.Option.{option_map}
 use Rattle.std.specs.Coded.{Coded, code_by, coded×, coded_ℕ, coded_list, coded_option}
 use Rattle.std.specs.Hash.{HashWrites}
 use Rattle.std.specs.declared.hash.Hasher as hasher
@@ -57,6 +58,14 @@ module _ {K V S : Type 0} where
     pub number : new.number ≡ old.number
     pub amount : new.amount ≡ old.amount
     pub hasher : new.hasher ≡ old.hasher
+
+  -- the shard with another value in the pair of the place i
+  abbrev pub with_value_in : ShardState K V S → ℕ → V → ShardState K V S
+  with_value_in s i v = record s { places = slice_set s.places i (option_map (λ p. (p.0, v)) (place s.places i)) }
+
+  -- the shard with another value in the pair whose key is equal to k
+  abbrev pub with_value_of : (K → K → Bool) → ShardState K V S → K → V → ShardState K V S
+  with_value_of eq s k v = record s { places = map (option_map (λ p. (p.0, if eq p.0 k then v else p.1))) s.places }
 
   module _ {H : Type 0} (eq : K → K → Bool) (b : builder.Ghosts S H) (h : hasher.Ghosts H) (input : K → HashWrites) where
     -- what a map of the shard's hasher and amount knows of its keys

@@ -1,6 +1,7 @@
 //! A shard's calls by place: a look-up's answer for calls that make no other.
 ghost use Rattle.std.specs.Prelude.{◌≡◌, ℕ, ◌<◌, ◌↔◌, IsSome, IfSome, IsNone, Some, None};
-ghost use Rattle.std.specs.Map.Iter.{deref_pair};
+ghost use Rattle.std.specs.Map.Iter.{deref_pair, deref_pair_mut};
+ghost use Rattle.std.specs.Borrow.{sem};
 ghost use Rattle.dash_shard.specs.Hashing.{hash_of};
 ghost use Rattle.dash_shard.specs.Contents.{at};
 ghost use Rattle.dash_shard.specs.Shard.{place, pairs, shard_len, HasKey, IsNextTaken, keys_of, Routes, IsShard};
@@ -10,6 +11,8 @@ use super::Shard;
 use std::hash::{BuildHasher, Hash};
 
 impl<K: Eq + Hash, V, S: BuildHasher> Shard<K, V, S> {
+    ghost use Rattle.dash_shard.specs.Lends.{lends_at};
+
     /// The place of the pair whose key equals `key`, for `at`. It is good while the shard isn't changed.
     #[inline(always)]
     pub fn position_of(&self, key: &K) -> Option<usize>
@@ -38,6 +41,17 @@ impl<K: Eq + Hash, V, S: BuildHasher> Shard<K, V, S> {
         ensures lawful { IsShard K.eq S.BuildHasher S.Hasher.Hasher K.hash_input self.now }
     {
         self.table.at(position)
+    }
+
+    /// As `at`, for a value to be written.
+    #[inline(always)]
+    pub fn at_mut(&mut self, position: usize) -> (&K, &mut V)
+        requires { IsSome (place self.old.places position) }
+        ensures* writes_back { sem 𝓛 (lends_at K.row V.row S.row S.Hasher.row K.Hash S.BuildHasher S.Hasher.Hasher self.entry position result.1) }
+        ensures pair { place self.old.places position ≡ Some (deref_pair_mut result) }
+        ensures lawful { IsShard K.eq S.BuildHasher S.Hasher.Hasher K.hash_input self.old }
+    {
+        self.table.pair_mut(position)
     }
 
     /// Puts a pair whose key is new in room that is there, and answers its place. It takes no memory, and can't be refused.
