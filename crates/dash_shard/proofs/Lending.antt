@@ -1,14 +1,17 @@
 -- A shard whose value was lent, at each value that may come back.
-use Rattle.std.proofs.Common.{◌≡◌, ℕ, Bool, true, List, length, set, Option, Some, sym, ap, ◌∙◌}
+use Rattle.std.proofs.Common.{◌≡◌, ◌≢◌, ℕ, zero, suc, ◌↔◌, Bool, true, false, IsTrue, List, [], ◌∷◌, map, length, set, Option, Some, None, refl, sym, ap, subst, ◌∙◌, inl, inr, arith}
+use Rattle.std.specs.Prelude.{if◌then◌else◌}
 use Rattle.std.specs.Cmp.{IsEquivalence}
 use Rattle.std.specs.Hash.{HashWrites}
-use Rattle.std.specs.Option.{option_map}
+use Rattle.std.specs.Option.{option_map, IsSomeAnd}
 use Rattle.std.specs.declared.hash.Hasher as hasher
 use Rattle.std.specs.declared.hash.BuildHasher as builder
+use Rattle.std.proofs.lemmas.Bool.{cases_Bool}
 use Rattle.std.proofs.lemmas.List.{map-set}
+use Rattle.std.proofs.lemmas.Option.{same_Some}
 use Rattle.std.proofs.Math.ListN.{length-set}
 use Rattle.dash_shard.specs.declared.shard.table.Table.{Table}
-use Rattle.dash_shard.specs.Shard.{ShardState, place, with_value_in}
+use Rattle.dash_shard.specs.Shard.{ShardState, place, HasKey, with_value_in, with_value_of}
 use Rattle.dash_shard.specs.Table.{node, pairs_of, with_value, with_value_at}
 use Rattle.dash_shard.proofs.Rewriting.{holds-pair, valued-rewritten, rewritten-inside}
 use Rattle.dash_shard.proofs.Shards.{state, Inside}
@@ -29,3 +32,40 @@ module _ {K V S H : Type 0} (eq : K → K → Bool) (b : builder.Ghosts S H) (h 
       let wide = length (set nodes i (with_value (node nodes i) v)) in
       ap (λ ps. of ps wide) (map-set (λ n. n.pair) nodes i (with_value (node nodes i) v) ∙ ap (λ o. set (pairs_of nodes) i (option_map (λ p. (p.0, v)) o)) (sym (place_node nodes i)))
       ∙ ap (of (set (pairs_of nodes) i (option_map (λ p. (p.0, v)) (place (pairs_of nodes) i)))) (length-set nodes i (with_value (node nodes i) v))
+
+-- the one place with a key equal to k has another value just where each such pair has
+module _ {K V : Type 0} (eq : K → K → Bool) (k : K) (v : V) where
+  abbrev revalue : Option (K × V) → Option (K × V)
+  revalue = option_map (λ p. (p.0, if eq p.0 k then v else p.1))
+
+  abbrev Equals : Option (K × V) → Bool → Type 0
+  Equals o b = (p : K × V) → o ≡ Some p → eq p.0 k ≡ b
+
+  revalue-other : (o : Option (K × V)) → Equals o false → o ≡ revalue o
+  revalue-other None fails = refl
+  revalue-other (Some p) fails = rw (fails p refl) refl
+
+  revalue-equal : (o : Option (K × V)) → Equals o true → option_map (λ p. (p.0, v)) o ≡ revalue o
+  revalue-equal None holds = refl
+  revalue-equal (Some p) holds = rw (holds p refl) refl
+
+  revalue-none : (xs : List (Option (K × V))) → ((j : ℕ) → Equals (place xs j) false) → xs ≡ map revalue xs
+  revalue-none [] fails = refl
+  revalue-none (o ∷ xs) fails = ap (λ p. p ∷ xs) (revalue-other o (fails 0)) ∙ ap (λ ys. revalue o ∷ ys) (revalue-none xs (λ j. fails (suc j)))
+
+  revalue-one : (xs : List (Option (K × V))) (i : ℕ) → Equals (place xs i) true → ((j : ℕ) → j ≢ i → Equals (place xs j) false) → set xs i (option_map (λ p. (p.0, v)) (place xs i)) ≡ map revalue xs
+  revalue-one [] i holds others = refl
+  revalue-one (o ∷ xs) zero holds others =
+      ap (λ p. p ∷ xs) (revalue-equal o holds) ∙ ap (λ ys. revalue o ∷ ys) (revalue-none xs (λ j. others (suc j) (λ z. omega arith)))
+  revalue-one (o ∷ xs) (suc i) holds others =
+      ap (λ p. p ∷ set xs i (option_map (λ q. (q.0, v)) (place xs i))) (revalue-other o (others 0 (λ z. omega arith)))
+      ∙ ap (λ ys. revalue o ∷ ys) (revalue-one xs i holds (λ j other. others (suc j) (λ z. other (omega arith))))
+
+  pub lent-found : {S : Type 0} (s : ShardState K V S) (r : Option ℕ) → ((j : ℕ) → (r ≡ Some j) ↔ HasKey eq s k j) → (i : ℕ) → r ≡ Some i → with_value_in s i v ≡ with_value_of eq s k v
+  lent-found s r finds i is = ap (λ ps. record s { places = ps }) (revalue-one s.places i (λ p e. subst (λ o. IsSomeAnd o (λ q. IsTrue (eq q.0 k))) e ((finds i).0 is)) others)
+    where
+      others : (j : ℕ) → j ≢ i → Equals (place s.places j) false
+      others j other p e = elim (cases_Bool (eq p.0 k)) as (λ _. eq p.0 k ≡ false) [
+        | inl holds ↦ absurd (other (same_Some j i (sym ((finds j).1 (subst (λ o. IsSomeAnd o (λ q. IsTrue (eq q.0 k))) (sym e) holds)) ∙ is)))
+        | inr fails ↦ fails
+      ]

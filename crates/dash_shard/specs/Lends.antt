@@ -1,6 +1,6 @@
 -- What a shard ends as, once a `&mut` into it has ended.
 use Rattle.std.specs.Prelude.{ℕ, Option}
-use Rattle.std.specs.Borrow.{Fml, RattleType, Bor, MutBor, Lends, follows_if, name_if_some}
+use Rattle.std.specs.Borrow.{Fml, RattleType, MutBor, Lends, LendsIf}
 use Rattle.std.specs.HashMap.Lent.{HashMembers}
 use Rattle.std.specs.declared.hash.Hasher as hasher
 use Rattle.std.specs.declared.hash.BuildHasher as builder
@@ -17,6 +17,6 @@ module _ (K V S H : RattleType) (key : HashMembers K.Denot) (b : builder.Ghosts 
     abbrev pub lends_at : ℕ → MutBor V.Denot → Fml
     lends_at i r = Lends shard_row V s r (with_value_in s.now i)
 
-    -- the pair with a key equal to k has the last value written through r's reference; without one the shard stays as it is
-    abbrev pub lends_get : K.Denot → Option (Bor K.Denot × MutBor V.Denot) → Fml
-    lends_get k r = follows_if shard_row V s.ghost_name (name_if_some (λ p. p.1.ghost_name) r) (with_value_of key.eq s.now k) s.now
+    -- the pair with a key equal to k has the last value written through r, and without one the shard stays as it is
+    abbrev pub lends_get : K.Denot → Option (MutBor V.Denot) → Fml
+    lends_get k r = LendsIf shard_row V s r (with_value_of key.eq s.now k) s.now

@@ -1,7 +1,8 @@
 //! One shard: pairs with distinct keys, all routed to the shard's number.
 ghost use Rattle.std.specs.Prelude.{◌≡◌, ◌+◌, ◌<◌, ◌≤◌, ◌↔◌, IsTrue, IsOk, IfOk, OnOk, OnErr, IfErr, IfSome, is_some, Some, None, if◌then◌else◌};
-ghost use Rattle.std.specs.Option.{option_map};
+ghost use Rattle.std.specs.Option.{option_map, option_copied_mut};
 ghost use Rattle.std.specs.Map.Iter.{deref_pair};
+ghost use Rattle.std.specs.Borrow.{sem};
 ghost use Rattle.dash_shard.specs.Hashing.{IsAmount, hash_of};
 ghost use Rattle.dash_shard.specs.Contents.{at};
 ghost use Rattle.dash_shard.specs.Steps.{Get, Contains, Insert, Remove, Pair, Found, Old, Replies};
@@ -54,6 +55,8 @@ pub struct InsertRefused<K, V> {
 }
 
 impl<K: Eq + Hash, V, S: BuildHasher> Shard<K, V, S> {
+    ghost use Rattle.dash_shard.specs.Lends.{lends_get};
+
     /// An empty shard with room for `capacity` pairs, the one of this number among `amount`.
     ///
     /// Takes memory, but for a capacity of 0.
@@ -244,6 +247,19 @@ impl<K: Eq + Hash, V, S: BuildHasher> Shard<K, V, S> {
     {
         let position = self.position_of(key)?;
         Some(self.at(position))
+    }
+
+    /// The value of the pair whose key equals `key`, to be written. For the stored key beside it there are `position_of` and `at_mut`.
+    #[inline]
+    pub fn get_mut(&mut self, key: &K) -> Option<&mut V>
+        ensures* writes_back { sem 𝓛 (lends_get K.row V.row S.row S.Hasher.row K.Hash S.BuildHasher S.Hasher.Hasher self.entry key.now result) }
+        ensures value { option_copied_mut result ≡ option_map (λ p. p.1) (at (keys_of K.eq S.BuildHasher S.Hasher.Hasher K.hash_input self.old) (pairs self.old) key.now) }
+        ensures lawful { IsShard K.eq S.BuildHasher S.Hasher.Hasher K.hash_input self.old }
+    {
+        match self.position_of(key) {
+            Some(position) => Some(self.at_mut(position).1),
+            None => None,
+        }
     }
 
     /// Whether there is a pair whose key equals `key`.
