@@ -1,4 +1,5 @@
 mod Altering
+mod Alls
 mod Amounts
 mod Asking
 mod Chaining
@@ -14,6 +15,7 @@ mod Nodes
 mod Passing
 mod Places
 mod Positions
+mod Remade
 mod RoundParts
 mod Rewriting
 mod Rounds
@@ -22,6 +24,7 @@ pub mod Rows
 mod Seeking
 mod Shards
 mod Stacks
+mod Sweeping
 mod Tables
 mod Walking
 mod WordSteps

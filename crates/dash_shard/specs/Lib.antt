@@ -9,3 +9,4 @@ pub mod Guarded
 pub mod Holding
 pub mod Closures
 pub mod Lends
+pub mod Each

@@ -17,6 +17,7 @@ use std::marker::Model;
 use std::snapshot::Snapshot;
 
 mod positions;
+mod whole;
 
 /// What a shard's lock is made for: the shard's place among the others, and what its hasher means. The snapshot has no bytes.
 #[derive(Drop)]

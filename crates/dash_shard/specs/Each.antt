@@ -1,0 +1,77 @@
+-- What calls on each pair of a shard, one after the other, do and promise.
+use Rattle.std.specs.Prelude.{◌≡◌, ◌≤◌, Bool, true, false, List, [], ◌∷◌, Option, Some, None, if◌then◌else◌}
+use Rattle.std.specs.Fn.{Mut, Takes, Called}
+use Rattle.std.specs.Hash.{HashWrites}
+use Rattle.std.specs.declared.hash.Hasher as hasher
+use Rattle.std.specs.declared.hash.BuildHasher as builder
+use Rattle.dash_shard.specs.Steps.{Act, AlterAll, Retain, Done}
+use Rattle.dash_shard.specs.Shard.{ShardState, pairs, shard_len, TakesExactly, StaysInPlace}
+use denote.Ref.{Bor}
+
+module _ {F K V : Type 0} (g : Mut F (Bor K × (V × Unit {0})) V) where
+  -- a call of f at a `&` to k and at v may return w, and leave f'
+  pub record CalledOnPair (f : F) (k : K) (v : V) (b : Bool) (w : V) (f' : F) : Type 0 where
+    pub key : Bor K
+    pub shows : key.now ≡ k
+    pub called : Called g f (key, (v, tt)) w f'
+
+  -- f may be called at k and v
+  abbrev pub TakesOnPair : F → K → V → Type 0
+  TakesOnPair f k v = (p : Bor K) → p.now ≡ k → Takes g f (p, (v, tt))
+
+-- T f k v b w f': f at the pair of k and v may answer b, and leave the value w and itself as f'
+module _ {F K V : Type 0} (T : F → K → V → Bool → V → F → Type 0) where
+  -- the calls of f along these pairs, one after the other, did at each what the action says, and left f as the last
+  abbrev pub CalledAlong : Act K V → F → List (K × V) → F → Type 0
+  CalledAlong act f [] last = f ≡ last
+  CalledAlong act f (p ∷ ps) last = (f' : F) × T f p.0 p.1 (act p.0 p.1).1 (act p.0 p.1).0 f' × CalledAlong act f' ps last
+
+  -- f was called at the pair of a place, if it has one, and left what `leaves` says there
+  abbrev pub Visits : (K → V × Bool → Option (K × V)) → F → Option (K × V) → Option (K × V) → F → Type 0
+  Visits leaves f None new f' = (new ≡ None) × (f ≡ f')
+  Visits leaves f (Some p) new f' = (b : Bool) × (w : V) × T f p.0 p.1 b w f' × (new ≡ leaves p.0 (w, b))
+
+  -- the same along a row of places
+  abbrev pub Sweeps : (K → V × Bool → Option (K × V)) → F → List (Option (K × V)) → List (Option (K × V)) → F → Type 0
+  Sweeps leaves f [] news last = (news ≡ []) × (f ≡ last)
+  Sweeps leaves f (o ∷ olds) news last = (new : Option (K × V)) × (f' : F) × (rest : List (Option (K × V))) × Visits leaves f o new f' × (news ≡ new ∷ rest) × Sweeps leaves f' olds rest last
+
+-- f was asked at the pair of a place, if it has one, answered b and left its value there; at none the answer is yes
+abbrev pub Asks : {F K V : Type 0} → (F → K → V → Bool → V → F → Type 0) → F → Option (K × V) → Bool → Option (K × V) → F → Type 0
+Asks T f None b new f' = (b ≡ true) × (new ≡ None) × (f ≡ f')
+Asks {V = V} T f (Some p) b new f' = (w : V) × T f p.0 p.1 b w f' × (new ≡ Some (p.0, w))
+
+-- a pair stays with its new value on yes, and goes on no
+abbrev pub if_kept : {K V : Type 0} → K → V × Bool → Option (K × V)
+if_kept k d = if d.1 then Some (k, d.0) else None
+
+-- a pair stays with its new value
+abbrev pub altered : {K V : Type 0} → K → V × Bool → Option (K × V)
+altered k d = Some (k, d.0)
+
+module _ {K V S H : Type 0} (eq : K → K → Bool) (b : builder.Ghosts S H) (h : hasher.Ghosts H) (input : K → HashWrites) where
+  -- all that `retain` promises: a pair stays where the action, which is what f did, answers yes
+  pub record Retains {F : Type 0} (T : F → K → V → Bool → V → F → Type 0) (f : F) (old new : ShardState K V S) : Type 0 where
+    pub act : Act K V
+    pub last : F
+    pub called : CalledAlong T act f (pairs old) last
+    pub taken : TakesExactly eq b h input old new (Retain old.number act) Done
+    pub places : StaysInPlace eq b h input old new (Retain old.number act)
+    pub room : new.capacity ≡ old.capacity
+    pub len : shard_len new ≤ shard_len old
+
+  -- all that `alter_all` promises: each value is the one that the action, which is what f did, makes of it
+  pub record AltersAll {F : Type 0} (T : F → K → V → Bool → V → F → Type 0) (f : F) (old new : ShardState K V S) : Type 0 where
+    pub act : Act K V
+    pub last : F
+    pub called : CalledAlong T act f (pairs old) last
+    pub taken : TakesExactly eq b h input old new (AlterAll old.number act) Done
+    pub places : StaysInPlace eq b h input old new (AlterAll old.number act)
+    pub room : new.capacity ≡ old.capacity
+    pub len : shard_len new ≡ shard_len old
+
+  -- all that `clear` promises: no pair stays
+  pub record Clears (old new : ShardState K V S) : Type 0 where
+    pub taken : TakesExactly eq b h input old new (Retain old.number (λ _ v. (v, false))) Done
+    pub empty : pairs new ≡ []
+    pub room : new.capacity ≡ old.capacity

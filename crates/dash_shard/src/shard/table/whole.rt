@@ -1,0 +1,108 @@
+//! What goes over all pairs of a table, in rising order of places.
+ghost use Rattle.std.specs.Prelude.{ℕ, ◌≡◌, ◌<◌, Option, Some, None, IfSome, true, length, map, slice_set};
+ghost use Rattle.std.specs.Map.Calls.{CalledAtPair, TakesPair, CallableOnEachPair};
+ghost use Rattle.dash_shard.specs.Table.{IsTable, pairs_of, hashes_of};
+ghost use Rattle.dash_shard.specs.Shard.{place, taken};
+ghost use Rattle.dash_shard.specs.Each.{Asks, CalledOnPair, TakesOnPair, Visits, Sweeps, if_kept, altered};
+
+use super::Table;
+
+impl<K, V> Table<K, V> {
+    // Asks `f` at the pair of a place, if there is one. An empty place answers yes.
+    fn ask_at<F: FnMut(&K, &mut V) -> bool>(&mut self, position: usize, f: &mut F) -> bool
+        requires within { position < length self.old.nodes.items }
+        requires table { IsTable self.old }
+        requires callable { IfSome (place (pairs_of self.old.nodes.items) position) (λ p. TakesPair F.FnMut f.old p.0 p.1) }
+        ensures asks { Asks (CalledAtPair F.FnMut) f.old (place (pairs_of self.old.nodes.items) position) result (place (pairs_of self.new.nodes.items) position) f.new }
+        ensures pairs { pairs_of self.new.nodes.items ≡ slice_set (pairs_of self.old.nodes.items) position (place (pairs_of self.new.nodes.items) position) }
+        ensures hashes { hashes_of self.new.nodes.items ≡ hashes_of self.old.nodes.items }
+        ensures len { self.new.len ≡ self.old.len }
+        ensures places { length self.new.nodes.items ≡ length self.old.nodes.items }
+        ensures table { IsTable self.new }
+    {
+        match &mut self.nodes[position].pair {
+            Some((key, value)) => f(key, value),
+            None => true,
+        }
+    }
+
+    /// Keeps the pairs on which `f` answers yes, with the values that it leaves.
+    pub fn retain<F: FnMut(&K, &mut V) -> bool>(&mut self, mut f: F)
+    where
+        K: Drop,
+        V: Drop,
+        requires table { IsTable self.old }
+        requires counted { self.old.len ≡ length (taken (pairs_of self.old.nodes.items)) }
+        requires callable { CallableOnEachPair (CalledAtPair F.FnMut) (TakesPair F.FnMut) f (taken (pairs_of self.old.nodes.items)) }
+        ensures swept { (last : F) × Sweeps (CalledAtPair F.FnMut) if_kept f (pairs_of self.old.nodes.items) (pairs_of self.new.nodes.items) last }
+        ensures hashes { hashes_of self.new.nodes.items ≡ hashes_of self.old.nodes.items }
+        ensures counted { self.new.len ≡ length (taken (pairs_of self.new.nodes.items)) }
+        ensures places { length self.new.nodes.items ≡ length self.old.nodes.items }
+        ensures table { IsTable self.new }
+    {
+        for place in 0..self.nodes.len() {
+            if !self.ask_at(place, &mut f) {
+                drop(self.take(place));
+            }
+        }
+    }
+
+    // Puts what `f` makes of the value at a place there, if there is a pair.
+    fn alter_at<F: FnMut(&K, V) -> V>(&mut self, position: usize, f: &mut F)
+        requires within { position < length self.old.nodes.items }
+        requires table { IsTable self.old }
+        requires callable { IfSome (place (pairs_of self.old.nodes.items) position) (λ p. TakesOnPair F.FnMut f.old p.0 p.1) }
+        ensures visits { Visits (CalledOnPair F.FnMut) altered f.old (place (pairs_of self.old.nodes.items) position) (place (pairs_of self.new.nodes.items) position) f.new }
+        ensures pairs { pairs_of self.new.nodes.items ≡ slice_set (pairs_of self.old.nodes.items) position (place (pairs_of self.new.nodes.items) position) }
+        ensures hashes { hashes_of self.new.nodes.items ≡ hashes_of self.old.nodes.items }
+        ensures len { self.new.len ≡ self.old.len }
+        ensures places { length self.new.nodes.items ≡ length self.old.nodes.items }
+        ensures table { IsTable self.new }
+    {
+        if self.nodes[position].pair.is_none() {
+            return;
+        }
+        let pair = &mut self.nodes[position].pair;
+        match pair.take() {
+            Some((key, value)) => {
+                let value = f(&key, value);
+                match pair.replace((key, value)) {
+                    None => {}
+                    Some((_key, _value)) => unreachable!(),
+                }
+            }
+            None => unreachable!(),
+        }
+    }
+
+    /// Puts what `f` makes of each value in its place.
+    pub fn alter_all<F: FnMut(&K, V) -> V>(&mut self, mut f: F)
+        requires table { IsTable self.old }
+        requires callable { CallableOnEachPair (CalledOnPair F.FnMut) (TakesOnPair F.FnMut) f (taken (pairs_of self.old.nodes.items)) }
+        ensures swept { (last : F) × Sweeps (CalledOnPair F.FnMut) altered f (pairs_of self.old.nodes.items) (pairs_of self.new.nodes.items) last }
+        ensures hashes { hashes_of self.new.nodes.items ≡ hashes_of self.old.nodes.items }
+        ensures len { self.new.len ≡ self.old.len }
+        ensures places { length self.new.nodes.items ≡ length self.old.nodes.items }
+        ensures table { IsTable self.new }
+    {
+        for place in 0..self.nodes.len() {
+            self.alter_at(place, &mut f);
+        }
+    }
+
+    /// Lets all pairs go.
+    pub fn clear(&mut self)
+    where
+        K: Drop,
+        V: Drop,
+        requires table { IsTable self.old }
+        requires counted { self.old.len ≡ length (taken (pairs_of self.old.nodes.items)) }
+        ensures pairs { pairs_of self.new.nodes.items ≡ map (λ _. None) (pairs_of self.old.nodes.items) }
+        ensures hashes { hashes_of self.new.nodes.items ≡ hashes_of self.old.nodes.items }
+        ensures len { self.new.len ≡ 0 }
+        ensures places { length self.new.nodes.items ≡ length self.old.nodes.items }
+        ensures table { IsTable self.new }
+    {
+        self.retain(|_, _| false);
+    }
+}

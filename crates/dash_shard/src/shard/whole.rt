@@ -1,0 +1,57 @@
+//! The calls on all pairs of a shard.
+ghost use Rattle.std.specs.Prelude.{◌≡◌};
+ghost use Rattle.std.specs.Map.Calls.{CalledAtPair, TakesPair, CallableOnEachPair};
+ghost use Rattle.dash_shard.specs.Shard.{pairs, IsShard};
+ghost use Rattle.dash_shard.specs.Each.{CalledOnPair, TakesOnPair, Retains, AltersAll, Clears};
+
+use super::Shard;
+use super::table::walk::Iter;
+use std::hash::{BuildHasher, Hash};
+
+impl<K: Eq + Hash, V, S: BuildHasher> Shard<K, V, S> {
+    /// Keeps the pairs on which `f` answers yes, each with the value that `f` leaves, and lets the others go.
+    ///
+    /// `f` is called once at each pair, in rising order of places. The pairs that stay keep their places, and the room stays. It takes
+    /// no memory, and can't be refused.
+    pub fn retain<F: FnMut(&K, &mut V) -> bool>(&mut self, f: F)
+    where
+        K: Drop,
+        V: Drop,
+        requires { CallableOnEachPair (CalledAtPair F.FnMut) (TakesPair F.FnMut) f (pairs self.old) }
+        ensures { Retains K.eq S.BuildHasher S.Hasher.Hasher K.hash_input (CalledAtPair F.FnMut) f self.old self.new }
+    {
+        self.table.retain(f);
+    }
+
+    /// Puts what `f` makes of each value in its place.
+    ///
+    /// `f` is called once at each pair, in rising order of places. The pairs keep their places. It takes no memory, and can't be refused.
+    pub fn alter_all<F: FnMut(&K, V) -> V>(&mut self, f: F)
+        requires { CallableOnEachPair (CalledOnPair F.FnMut) (TakesOnPair F.FnMut) f (pairs self.old) }
+        ensures { AltersAll K.eq S.BuildHasher S.Hasher.Hasher K.hash_input (CalledOnPair F.FnMut) f self.old self.new }
+    {
+        self.table.alter_all(f);
+    }
+
+    /// Lets all pairs go. The room stays, for pairs that come later.
+    pub fn clear(&mut self)
+    where
+        K: Drop,
+        V: Drop,
+        ensures { Clears K.eq S.BuildHasher S.Hasher.Hasher K.hash_input self.old self.new }
+    {
+        self.table.clear();
+    }
+
+    /// The pairs, in rising order of places.
+    #[inline]
+    pub fn iter(&self) -> Iter<'_, K, V>
+        ensures pairs { result ≡ pairs self.now }
+        ensures lawful { IsShard K.eq S.BuildHasher S.Hasher.Hasher K.hash_input self.now }
+    {
+        self.table.iter()
+    }
+}
+
+#[cfg(test)]
+mod tests;

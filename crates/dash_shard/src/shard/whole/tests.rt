@@ -1,0 +1,84 @@
+//! The calls on all pairs of one shard, as worked by hand.
+use super::*;
+use crate::hash::{PlaceState, is_shard_amount};
+use std::test::Fail;
+
+#[test]
+fn retain_keeps_what_is_answered_yes(rt: HostRuntime) -> Result<(), Fail> {
+    assert!(rt; is_shard_amount(4));
+    let mut shard = Shard::<u64, u64, PlaceState>::new(rt.alloc(), PlaceState, 1, 4, 0)?;
+    for (key, value) in [(1, 15), (5, 22), (9, 27)] {
+        assert!(rt; shard.routes(&key), "{key}");
+        assert_eq!(rt; shard.insert(key, value)?, None, "{key}");
+    }
+    let mut asked = 0u64;
+    shard.retain(|_, value| {
+        asked = asked.wrapping_add(1);
+        *value = value.wrapping_add(asked);
+        *value > 20
+    });
+    assert_eq!(rt; asked, 3);
+    assert_eq!(rt; shard.len(), 2);
+    assert_eq!(rt; shard.get(&1), None);
+    assert_eq!(rt; shard.get(&5), Some((&5, &24)));
+    assert_eq!(rt; shard.get(&9), Some((&9, &30)));
+    Ok(())
+}
+
+#[test]
+fn alter_all_changes_each_value(rt: HostRuntime) -> Result<(), Fail> {
+    assert!(rt; is_shard_amount(4));
+    let mut shard = Shard::<u64, u64, PlaceState>::new(rt.alloc(), PlaceState, 1, 4, 0)?;
+    for (key, value) in [(1, 15), (5, 22), (9, 27)] {
+        assert!(rt; shard.routes(&key), "{key}");
+        assert_eq!(rt; shard.insert(key, value)?, None, "{key}");
+    }
+    let mut keys = 0u64;
+    shard.alter_all(|key, value| {
+        keys = keys.wrapping_add(*key);
+        value.wrapping_add(1)
+    });
+    assert_eq!(rt; keys, 15);
+    for (key, value) in [(1, 16), (5, 23), (9, 28)] {
+        assert_eq!(rt; shard.get(&key), Some((&key, &value)));
+    }
+    assert_eq!(rt; shard.len(), 3);
+    Ok(())
+}
+
+#[test]
+fn clear_leaves_the_room(rt: HostRuntime) -> Result<(), Fail> {
+    assert!(rt; is_shard_amount(4));
+    let mut shard = Shard::<u64, u64, PlaceState>::new(rt.alloc(), PlaceState, 1, 4, 0)?;
+    for (key, value) in [(1, 15), (5, 22), (9, 27)] {
+        assert!(rt; shard.routes(&key), "{key}");
+        assert_eq!(rt; shard.insert(key, value)?, None, "{key}");
+    }
+    shard.clear();
+    assert_eq!(rt; shard.len(), 0);
+    assert_eq!(rt; shard.capacity(), 4);
+    assert_eq!(rt; shard.get(&5), None);
+    Ok(())
+}
+
+#[test]
+fn iter_gives_each_pair(rt: HostRuntime) -> Result<(), Fail> {
+    assert!(rt; is_shard_amount(4));
+    let mut shard = Shard::<u64, u64, PlaceState>::new(rt.alloc(), PlaceState, 1, 4, 0)?;
+    for (key, value) in [(1, 15), (5, 22), (9, 27)] {
+        assert!(rt; shard.routes(&key), "{key}");
+        assert_eq!(rt; shard.insert(key, value)?, None, "{key}");
+    }
+    assert!(rt; shard.routes(&5));
+    assert_eq!(rt; shard.remove(&5), Some((5, 22)));
+    assert_eq!(rt; shard.iter().len(), 2);
+    let mut keys = 0u64;
+    let mut values = 0u64;
+    for (key, value) in shard.iter() {
+        keys = keys.wrapping_add(*key);
+        values = values.wrapping_add(*value);
+    }
+    assert_eq!(rt; keys, 10);
+    assert_eq!(rt; values, 42);
+    Ok(())
+}
