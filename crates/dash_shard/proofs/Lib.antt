@@ -2,6 +2,7 @@ mod Altering
 mod Alls
 mod Amounts
 mod Asking
+mod Carrying
 mod Chaining
 mod Changing
 pub mod Equals
@@ -23,6 +24,7 @@ pub mod Routing
 pub mod Rows
 mod Seeking
 mod Shards
+mod Shrinking
 mod Stacks
 mod Sweeping
 mod Tables

@@ -125,7 +125,7 @@ module _ {K V : Type 0} (w : Keys K) where
           | inr fails ↦ rw fails (at-past xs j i o (λ r e. apart laws r.0 k j (before r e) fails) (λ r e. apart laws r.0 k j (here r e) fails))
         ]
 
-    distinct-written : (xs : List (Option (K × V))) (k : K) (i : ℕ) (o : Option (K × V)) → i < length xs → Equal k (place xs i) → Equal k o → NoOther xs k i
+    pub distinct-written : (xs : List (Option (K × V))) (k : K) (i : ℕ) (o : Option (K × V)) → i < length xs → Equal k (place xs i) → Equal k o → NoOther xs k i
         → Distinct w (taken xs) → Distinct w (taken (set xs i o))
     distinct-written [] k i o lt before here others d = d
     distinct-written (None ∷ xs) k zero None lt before here others d = d

@@ -1,11 +1,12 @@
--- What calls on each pair of a shard, one after the other, do and promise.
+-- What calls on all pairs of a shard do and promise.
 use Rattle.std.specs.Prelude.{◌≡◌, ◌≤◌, Bool, true, false, List, [], ◌∷◌, Option, Some, None, if◌then◌else◌}
 use Rattle.std.specs.Fn.{Mut, Takes, Called}
 use Rattle.std.specs.Hash.{HashWrites}
 use Rattle.std.specs.declared.hash.Hasher as hasher
 use Rattle.std.specs.declared.hash.BuildHasher as builder
 use Rattle.dash_shard.specs.Steps.{Act, AlterAll, Retain, Done}
-use Rattle.dash_shard.specs.Shard.{ShardState, pairs, shard_len, TakesExactly, StaysInPlace}
+use Rattle.dash_shard.specs.Shard.{ShardState, pairs, shard_len, keys_of, IsShard, SameShard, TakesExactly, StaysInPlace}
+use Rattle.dash_shard.specs.Contents.{EachOnce}
 use denote.Ref.{Bor}
 
 module _ {F K V : Type 0} (g : Mut F (Bor K × (V × Unit {0})) V) where
@@ -75,3 +76,12 @@ module _ {K V S H : Type 0} (eq : K → K → Bool) (b : builder.Ghosts S H) (h 
     pub taken : TakesExactly eq b h input old new (Retain old.number (λ _ v. (v, false))) Done
     pub empty : pairs new ≡ []
     pub room : new.capacity ≡ old.capacity
+
+  -- all that `shrink_to_fit` promises: the pairs stay, in as many places as before or fewer, and none for no pairs
+  pub record Shrinks (old new : ShardState K V S) : Type 0 where
+    pub pairs : EachOnce (keys_of eq b h input old) (pairs old) (pairs new)
+    pub len : shard_len new ≡ shard_len old
+    pub room : new.capacity ≤ old.capacity
+    pub none : shard_len old ≡ 0 → new.capacity ≡ 0
+    pub stays : SameShard old new
+    pub lawful : IsShard eq b h input new

@@ -143,6 +143,10 @@ module _ {K V : Type 0} where
     pub pairs : pairs_of new ≡ pairs_of old ++ replicate more None
     pub hashes : hashes_of new ≡ hashes_of old ++ replicate more 0
 
+  -- each pair of the new row is one of the old, with its hash
+  abbrev pub IsCarried : List (Node K V) → List (Node K V) → Type 0
+  IsCarried old new = (i : ℕ) (p : K × V) → place (pairs_of new) i ≡ Some p → (j : ℕ) × (place (pairs_of old) j ≡ Some p) × (slice_index (hashes_of old) j ≡ slice_index (hashes_of new) i)
+
 -- each pair stands beside the hash of its key
 abbrev pub IsHashed : {K V : Type 0} → (K → ℕ) → List (Option (K × V)) → List ℕ → Type 0
 IsHashed {K} {V} hash places hashes = (i : ℕ) (p : K × V) → place places i ≡ Some p → slice_index hashes i ≡ hash p.0

@@ -11,6 +11,7 @@ use std::mem;
 
 mod links;
 mod values;
+mod shrink;
 pub mod walk;
 mod whole;
 

@@ -2,7 +2,7 @@
 ghost use Rattle.std.specs.Prelude.{◌≡◌};
 ghost use Rattle.std.specs.Map.Calls.{CalledAtPair, TakesPair, CallableOnEachPair};
 ghost use Rattle.dash_shard.specs.Shard.{pairs, IsShard};
-ghost use Rattle.dash_shard.specs.Each.{CalledOnPair, TakesOnPair, Retains, AltersAll, Clears};
+ghost use Rattle.dash_shard.specs.Each.{CalledOnPair, TakesOnPair, Retains, AltersAll, Clears, Shrinks};
 
 use super::Shard;
 use super::table::walk::Iter;
@@ -41,6 +41,19 @@ impl<K: Eq + Hash, V, S: BuildHasher> Shard<K, V, S> {
         ensures { Clears K.eq S.BuildHasher S.Hasher.Hasher K.hash_input self.old self.new }
     {
         self.table.clear();
+    }
+
+    /// Moves the pairs to as few places as hold them, which gives the rest of the memory back: a power of two of places, and none for no
+    /// pairs.
+    ///
+    /// It takes memory for the new places, and keeps the old ones where there is none. Places change.
+    pub fn shrink_to_fit(&mut self)
+    where
+        K: Drop,
+        V: Drop,
+        ensures { Shrinks K.eq S.BuildHasher S.Hasher.Hasher K.hash_input self.old self.new }
+    {
+        self.table.shrink();
     }
 
     /// The pairs, in rising order of places.

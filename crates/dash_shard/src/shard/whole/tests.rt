@@ -82,3 +82,26 @@ fn iter_gives_each_pair(rt: HostRuntime) -> Result<(), Fail> {
     assert_eq!(rt; values, 42);
     Ok(())
 }
+
+#[test]
+fn shrink_to_fit_gives_places_back(rt: HostRuntime) -> Result<(), Fail> {
+    assert!(rt; is_shard_amount(4));
+    let mut shard = Shard::<u64, u64, PlaceState>::new(rt.alloc(), PlaceState, 1, 4, 0)?;
+    for (key, value) in [(1, 15), (5, 22), (9, 27), (13, 30), (17, 36)] {
+        assert!(rt; shard.routes(&key), "{key}");
+        assert_eq!(rt; shard.insert(key, value)?, None, "{key}");
+    }
+    assert_eq!(rt; shard.capacity(), 8);
+    shard.retain(|_, value| *value % 3 == 0);
+    shard.shrink_to_fit();
+    assert_eq!(rt; shard.len(), 4);
+    assert_eq!(rt; shard.capacity(), 4);
+    assert_eq!(rt; shard.get(&5), None);
+    for (key, value) in [(1, 15), (9, 27), (13, 30), (17, 36)] {
+        assert_eq!(rt; shard.get(&key), Some((&key, &value)));
+    }
+    shard.clear();
+    shard.shrink_to_fit();
+    assert_eq!(rt; shard.capacity(), 0);
+    Ok(())
+}

@@ -35,5 +35,7 @@ fn each_pair_of_a_held_shard_is_asked(rt: HostRuntime) -> Result<(), Fail> {
     held.clear();
     assert_eq!(rt; held.len(), 0);
     assert_eq!(rt; held.capacity(), 4);
+    held.shrink_to_fit();
+    assert_eq!(rt; held.capacity(), 0);
     Ok(())
 }

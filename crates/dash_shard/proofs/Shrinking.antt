@@ -1,0 +1,48 @@
+-- A shard whose pairs were moved to other places.
+use Rattle.std.proofs.Common.{◌≡◌, ℕ, ◌≤◌, Bool, true, length, refl, sym, ◌∙◌, subst}
+use Rattle.std.specs.Cmp.{IsEquivalence}
+use Rattle.std.specs.Hash.{HashWrites}
+use Rattle.std.specs.declared.hash.Hasher as hasher
+use Rattle.std.specs.declared.hash.BuildHasher as builder
+use Rattle.dash_shard.specs.Contents.{Keys, Distinct, EachOnce}
+use Rattle.dash_shard.specs.Shard.{ShardState, taken, pairs, keys_of, IsShard}
+use Rattle.dash_shard.specs.Each.{Shrinks}
+use Rattle.dash_shard.specs.declared.shard.table.Table.{Table}
+use Rattle.dash_shard.specs.Table.{pairs_of, IsTable, IsCarried}
+use Rattle.dash_shard.proofs.Shards.{state, Inside}
+
+module _ {K V S H : Type 0} (eq : K → K → Bool) (b : builder.Ghosts S H) (h : hasher.Ghosts H) (input : K → HashWrites)
+    (laws : IsEquivalence eq) (respects : (x y : K) → eq x y ≡ true → input x ≡ input y) (s : S) (number amount : ℕ)
+    (t new : Table K V) (inside : Inside eq b h input laws respects s number amount t)
+    (once : (w : Keys K) → IsEquivalence w.eq → Distinct w (taken (pairs_of t.nodes.items)) → EachOnce w (taken (pairs_of t.nodes.items)) (taken (pairs_of new.nodes.items)))
+    (carried : IsCarried t.nodes.items new.nodes.items) (len : new.len ≡ t.len) (counted : new.len ≡ length (taken (pairs_of new.nodes.items))) (table : IsTable new) where
+  abbrev of : Table K V → ShardState K V S
+  of u = state eq b h input laws respects s number amount u
+
+  each : EachOnce (keys_of eq b h input (of t)) (pairs (of t)) (pairs (of new))
+  each = once (keys_of eq b h input (of t)) laws inside.shard.contents.distinct
+
+  shrunk-shard : IsShard eq b h input (of new)
+  shrunk-shard = record {
+    contents = record { distinct = each.distinct; routed = λ k away. each.same k ∙ inside.shard.contents.routed k away };
+    number = inside.shard.number;
+    amount = inside.shard.amount;
+  }
+
+  pub shrunk-inside : Inside eq b h input laws respects s number amount new
+  shrunk-inside = record {
+    shard = shrunk-shard;
+    table = table;
+    hashed = λ i p e. let from = carried i p e in sym from.2 ∙ inside.hashed from.0 p from.1;
+    counted = counted;
+  }
+
+  pub shrinks : length new.nodes.items ≤ length t.nodes.items → (t.len ≡ 0 → length new.nodes.items ≡ 0) → (z : ShardState K V S) → of t ≡ z → Shrinks eq b h input z (of new)
+  shrinks room none z view = subst (λ x. Shrinks eq b h input x (of new)) view (record {
+    pairs = each;
+    len = sym counted ∙ len ∙ inside.counted;
+    room = room;
+    none = λ e. none (inside.counted ∙ e);
+    stays = record { number = refl; amount = refl; hasher = refl };
+    lawful = shrunk-shard;
+  })

@@ -1,0 +1,11 @@
+use Rattle.std.proofs.Common.{ap, ◌∙◌, [], ◌++◌, None}
+use Rattle.std.proofs.Math.ListN.{replicate}
+use Rattle.dash_shard.specs.Shard.{taken}
+use Rattle.dash_shard.specs.Table.{pairs_of}
+use Rattle.dash_shard.proofs.Places.{taken-empties}
+use Rattle.dash_shard.proofs.shard.table.Table.shrink.Goals as goal
+
+pub move_pairs-requires-clause-empty : goal.move_pairs-requires-clause-empty
+move_pairs-requires-clause-empty g c =
+    let grown = c.in-Ok.ensures.grown in
+    ap taken (grown.pairs ∙ ap (λ ns. pairs_of ns ++ replicate grown.more None) c.new-table.ensures.empty) ∙ taken-empties [] grown.more
