@@ -3,6 +3,7 @@ mod Alones
 pub mod Copies
 mod Faults
 pub mod Growing
+mod Items
 mod Logging
 mod Maps
 pub mod Plains

@@ -1,4 +1,5 @@
 -- When two values are alike, where keys and values say when theirs are: the same numbers, bytes and items.
+pub mod Laws
 use Rattle.std.specs.Prelude.{◌==◌, ◌&&◌, Bool, true, false, List, [], ◌∷◌, Option, Some, None}
 use Rattle.dash_shard.specs.Steps.{Reply, Pair, Found, Old, Pairs, Number, Done}
 
