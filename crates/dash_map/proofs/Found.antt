@@ -15,7 +15,7 @@ module _ {K V : Type 0} (w : Keys K) where
     | inr other ↦ at-key ps k p (sym (ap (λ b. cond b (Some q) (at w ps k)) other) ∙ e)
   ]
 
-  abbrev replied : Reply K V → Option (K × V)
+  abbrev pub replied : Reply K V → Option (K × V)
   replied (Pair o) = o
   replied _ = None
 

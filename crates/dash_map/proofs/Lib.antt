@@ -1,7 +1,9 @@
+mod Asked
 mod Distincts
 mod Found
 mod Lifting
 mod Moves
 mod Refusals
+mod Reserving
 mod Running
 mod Union

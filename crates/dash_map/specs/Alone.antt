@@ -1,12 +1,12 @@
 -- A map of one owner: a row of shards, and what its calls do to all of its pairs.
-use Rattle.std.specs.Prelude.{ℕ, ◌≡◌, Bool, List, length, flat_map, Some, slice_get}
+use Rattle.std.specs.Prelude.{ℕ, ◌≡◌, ◌+◌, ◌≤◌, Bool, List, length, flat_map, Option, Some, IfSome, Result, OnOk, slice_get}
 use Rattle.std.specs.Hash.{HashWrites}
 use Rattle.std.specs.declared.hash.Hasher as hasher
 use Rattle.std.specs.declared.hash.BuildHasher as builder
 use Rattle.dash_shard.specs.Hashing.{IsAmount, HashAlike, route_by}
-use Rattle.dash_shard.specs.Contents.{Keys, keys}
-use Rattle.dash_shard.specs.Steps.{Step, Reply, Replies, Becomes}
-use Rattle.dash_shard.specs.Shard.{ShardState, pairs, IsShard}
+use Rattle.dash_shard.specs.Contents.{Keys, keys, at}
+use Rattle.dash_shard.specs.Steps.{Step, Reply, RemoveIf, Pair, Replies, Becomes}
+use Rattle.dash_shard.specs.Shard.{ShardState, pairs, shard_len, IsShard}
 
 -- what contracts see of the map
 pub record AloneState (K V S : Type 0) : Type 0 where
@@ -39,6 +39,18 @@ module _ {K V S : Type 0} where
     pub record TakesAlone (old new : AloneState K V S) (step : Step K V) (reply : Reply K V) : Type 0 where
       pub replies : Replies (keys_in old) step (contents old) reply
       pub becomes : Becomes (keys_in old) step (contents old) (contents new)
+      pub hasher : new.hasher ≡ old.hasher
+      pub amount : length new.row ≡ length old.row
+      pub lawful : IsAlone new
+
+    -- takes a removal that was asked first, by an answer that may be given on the pair with an equal key
+    abbrev pub TakesAsked : (K × V → Bool → Type 0) → AloneState K V S → AloneState K V S → K → Option (K × V) → Type 0
+    TakesAsked answers old new key result = (yes : Bool) × TakesAlone old new (RemoveIf key (λ _ v. (v, yes))) (Pair result) × IfSome (at (keys_in old) (contents old) key) (λ p. answers p yes)
+
+    -- makes room in each shard for so many pairs more, or in some of them where it is refused; the pairs stay
+    pub record ReservesAlone (additional : ℕ) (old new : AloneState K V S) {E : Type 0} (result : Result (Unit {0}) E) : Type 0 where
+      pub room : OnOk result ((i : ℕ) (s : ShardState K V S) → slice_get new.row i ≡ Some s → shard_len s + additional ≤ s.capacity)
+      pub pairs : contents new ≡ contents old
       pub hasher : new.hasher ≡ old.hasher
       pub amount : length new.row ≡ length old.row
       pub lawful : IsAlone new

@@ -1,5 +1,5 @@
 //! A map of one owner, without locks.
-ghost use Rattle.std.specs.Prelude.{◌≡◌, ◌⊎◌, ℕ, ◌+◌, ◌-◌, ◌^◌, ◌<◌, ◌≤◌, ◌↔◌, min, IsErrOf, IfOk, IfErr, OnOk, Some, None, length, slice_get, OnErr, is_some, IsSomeAnd};
+ghost use Rattle.std.specs.Prelude.{◌≡◌, ◌⊎◌, ℕ, ◌+◌, ◌-◌, ◌^◌, ◌<◌, ◌≤◌, ◌↔◌, min, IsErrOf, IfOk, IfErr, OnOk, Some, None, length, slice_get, OnErr, is_some, IsSomeAnd, IfSome, sum_by, ◌==◌};
 ghost use Rattle.crossbeam_utils.specs.Padded.{padded_value};
 ghost use Rattle.dash_shard.specs.Hashing.{IsAmount, HashAlike, hash_of};
 ghost use Rattle.dash_shard.specs.Shard.{shard_len};
@@ -9,12 +9,13 @@ ghost use Rattle.std.specs.Option.{option_map};
 ghost use Rattle.std.specs.Map.Iter.{deref_pair};
 ghost use Rattle.dash_shard.specs.Contents.{at};
 ghost use Rattle.dash_shard.specs.Steps.{Get, Contains, Insert, Remove, Pair, Found, Old, Replies};
-ghost use Rattle.dash_map.specs.Alone.{IsAlone, IsPlaced, TakesAlone, contents, keys_in};
+ghost use Rattle.dash_shard.specs.Closures.{MayAsk, AnswersOn, Viewed};
+ghost use Rattle.dash_map.specs.Alone.{IsAlone, IsPlaced, ReservesAlone, TakesAlone, TakesAsked, contents, keys_in};
 ghost use Rattle.dash_map.specs.Map.{IsAt};
 
 use crate::map::{DashMap, Locked};
 use crossbeam_utils::CachePadded;
-use dash_shard::error::ConstructError;
+use dash_shard::error::{ConstructError, TryReserveError};
 use dash_shard::hash::{determine_shard, is_shard_amount};
 use dash_shard::lock::RwLock;
 use dash_shard::row::move_all;
@@ -145,7 +146,33 @@ impl<K: Eq + Hash + Drop, V: Drop, S: BuildHasher> Alone<K, V, S> {
         ensures { TakesAlone K.eq S.BuildHasher S.Hasher.Hasher K.hash_input self.old self.new (Remove key.now) (Pair result) }
     {
         let (hash, place) = self.place_of(key);
+        self.remove_hashed(hash, place, key)
+    }
+
+    // As `remove`, by the key's hash and place.
+    #[inline]
+    fn remove_hashed(&mut self, hash: u64, place: usize, key: &K) -> Option<(K, V)>
+        requires hash { hash ≡ hash_of S.BuildHasher S.Hasher.Hasher self.old.hasher (K.hash_input key.now) }
+        requires place { place ≡ (keys_in K.eq S.BuildHasher S.Hasher.Hasher K.hash_input self.old).route key.now }
+        requires below { place < length self.old.row }
+        ensures { TakesAlone K.eq S.BuildHasher S.Hasher.Hasher K.hash_input self.old self.new (Remove key.now) (Pair result) }
+    {
+        let _ = &self.hasher;
         self.row[place].remove_hashed(hash, key)
+    }
+
+    /// Takes the pair whose key equals `key` out if `f` answers yes on it, and answers it. It takes no memory, and can't be refused.
+    #[inline]
+    pub fn remove_if<F: FnOnce(&K, &V) -> bool>(&mut self, key: &K, f: F) -> Option<(K, V)>
+        requires { IfSome (at (keys_in K.eq S.BuildHasher S.Hasher.Hasher K.hash_input self.old) (contents self.old) key.now) (MayAsk F.FnOnce f) }
+        ensures { TakesAsked K.eq S.BuildHasher S.Hasher.Hasher K.hash_input (AnswersOn F.FnOnce f) self.old self.new key.now result }
+    {
+        let (hash, place) = self.place_of(key);
+        let (stored, value) = self.get_hashed(hash, place, key)?;
+        if f(stored, value) {
+            return self.remove_hashed(hash, place, key);
+        }
+        None
     }
 
     /// The pair whose key equals `key`.
@@ -155,6 +182,19 @@ impl<K: Eq + Hash + Drop, V: Drop, S: BuildHasher> Alone<K, V, S> {
         ensures lawful { IsAlone K.eq S.BuildHasher S.Hasher.Hasher K.hash_input self.now }
     {
         let (hash, place) = self.place_of(key);
+        self.get_hashed(hash, place, key)
+    }
+
+    // As `get`, by the key's hash and place.
+    #[inline]
+    fn get_hashed(&self, hash: u64, place: usize, key: &K) -> Option<(&K, &V)>
+        requires hash { hash ≡ hash_of S.BuildHasher S.Hasher.Hasher self.now.hasher (K.hash_input key.now) }
+        requires place { place ≡ (keys_in K.eq S.BuildHasher S.Hasher.Hasher K.hash_input self.now).route key.now }
+        requires below { place < length self.now.row }
+        ensures pair { Replies (keys_in K.eq S.BuildHasher S.Hasher.Hasher K.hash_input self.now) (Get key.now) (contents self.now) (Pair (option_map deref_pair result)) }
+        ensures lawful { IsAlone K.eq S.BuildHasher S.Hasher.Hasher K.hash_input self.now }
+    {
+        let _ = &self.hasher;
         let shard = &self.row[place];
         let position = shard.position_of_hashed(hash, key)?;
         Some(shard.at(position))
@@ -169,6 +209,17 @@ impl<K: Eq + Hash + Drop, V: Drop, S: BuildHasher> Alone<K, V, S> {
         self.get(key).is_some()
     }
 
+    /// What `f` answers on the pair whose key equals `key`.
+    #[inline]
+    pub fn view<R, F: FnOnce(&K, &V) -> R>(&self, key: &K, f: F) -> Option<R>
+        requires { IfSome (at (keys_in K.eq S.BuildHasher S.Hasher.Hasher K.hash_input self.now) (contents self.now) key.now) (MayAsk F.FnOnce f) }
+        ensures viewed { Viewed F.FnOnce f (at (keys_in K.eq S.BuildHasher S.Hasher.Hasher K.hash_input self.now) (contents self.now) key.now) result }
+        ensures lawful { IsAlone K.eq S.BuildHasher S.Hasher.Hasher K.hash_input self.now }
+    {
+        let (key, value) = self.get(key)?;
+        Some(f(key, value))
+    }
+
     /// How many pairs there are, held at 2^64 - 1. It asks each shard once. The original's `len` locks shard after shard for this.
     pub fn len(&self) -> usize
         ensures len { result ≡ min (length (contents self.now)) (2 ^ 64 - 1) }
@@ -179,6 +230,42 @@ impl<K: Eq + Hash + Drop, V: Drop, S: BuildHasher> Alone<K, V, S> {
             len = len.saturating_add(shard.len());
         }
         len
+    }
+
+    /// Whether there are no pairs.
+    pub fn is_empty(&self) -> bool
+        ensures empty { result ≡ (length (contents self.now) == 0) }
+        ensures lawful { IsAlone K.eq S.BuildHasher S.Hasher.Hasher K.hash_input self.now }
+    {
+        self.len() == 0
+    }
+
+    /// How many pairs there may be before some shard takes memory, if they spread as the shards' room does, held at 2^64 - 1. It asks each
+    /// shard once.
+    pub fn capacity(&self) -> usize
+        ensures capacity { result ≡ min (sum_by (λ s. s.capacity) self.now.row) (2 ^ 64 - 1) }
+        ensures holds { min (length (contents self.now)) (2 ^ 64 - 1) ≤ result }
+        ensures lawful { IsAlone K.eq S.BuildHasher S.Hasher.Hasher K.hash_input self.now }
+    {
+        let mut capacity: usize = 0;
+        for shard in &self.row {
+            prove!(shard.len() <= shard.capacity());
+            capacity = capacity.saturating_add(shard.capacity());
+        }
+        capacity
+    }
+
+    /// Makes room in each shard for so many pairs more, where there is less, and the pairs stay.
+    ///
+    /// It asks the shards in their order, and is refused (11) at the first that finds no memory: those before it keep their room.
+    pub fn try_reserve(&mut self, additional: usize) -> Result<(), TryReserveError>
+        ensures { ReservesAlone K.eq S.BuildHasher S.Hasher.Hasher K.hash_input additional self.old self.new result }
+    {
+        let _ = &self.hasher;
+        for place in 0..self.row.len() {
+            self.row[place].try_reserve(additional)?;
+        }
+        Ok(())
     }
 
     /// The map behind its locks again. It takes no memory.
