@@ -6,4 +6,5 @@ mod Moves
 mod Refusals
 mod Reserving
 mod Running
+mod Seeing
 mod Union

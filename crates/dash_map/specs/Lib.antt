@@ -2,3 +2,4 @@ pub mod Amounts
 pub mod Map
 pub mod Alone
 pub mod Run
+pub mod Behind

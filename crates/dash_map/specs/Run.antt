@@ -1,5 +1,5 @@
 -- A run: a list of steps, taken one after the other on a map of one owner, up to the first that is refused.
-use Rattle.std.specs.Prelude.{◌≡◌, ◌≤◌, ◌↔◌, Bool, List, [], ◌∷◌, ◌++◌, map, length, IfSome}
+use Rattle.std.specs.Prelude.{◌≡◌, ◌≤◌, ◌↔◌, Bool, List, [], ◌∷◌, ◌++◌, map, IfSome}
 use Rattle.std.specs.Option.{option_map_or}
 use Rattle.std.specs.Hash.{HashWrites}
 use Rattle.std.specs.declared.hash.Hasher as hasher
@@ -10,7 +10,8 @@ use Rattle.dash_history.specs.Takes.{Rules, rules, Runs}
 use Rattle.dash_history.specs.History.{place_of}
 use Rattle.dash_history.specs.declared.step.ShardStep.{ShardStep}
 use Rattle.dash_history.specs.declared.step.Reply.{Reply}
-use Rattle.dash_map.specs.Alone.{AloneState, IsAlone, contents, keys_in}
+use Rattle.dash_map.specs.Alone.{AloneState, contents, keys_in}
+use Rattle.dash_map.specs.Behind.{IsBehind}
 use Rattle.dash_map.specs.Map.{MapState}
 use Rattle.dash_map.specs.declared.run.Fault.{Fault}
 use Rattle.dash_map.specs.declared.run.Fault.TheVariants.{NoSuchShard}
@@ -44,16 +45,10 @@ module _ {K V S H : Type 0} (eq : K → K → Bool) (b : builder.Ghosts S H) (h 
   abbrev pub rules_in : AloneState K V S → Rules K V
   rules_in a = rules k v (keys_in eq b h input a)
 
-  -- shards that may stand behind the locks of this map
-  pub record IsBehind (m : MapState S) (a : AloneState K V S) : Type 0 where
-    pub hasher : a.hasher ≡ m.hasher
-    pub amount : length a.row ≡ m.amount
-    pub lawful : IsAlone eq b h input a
-
   -- the run was one on shards that stood behind the locks of this map, and what it left stands there
   pub record RanBehind (m : MapState S) (steps : List (ShardStep K V)) (outcome : RunOutcome K V) : Type 0 where
     pub before : AloneState K V S
     pub after : AloneState K V S
-    pub stood : IsBehind m before
-    pub stands : IsBehind m after
+    pub stood : IsBehind eq b h input m before
+    pub stands : IsBehind eq b h input m after
     pub ran : Ran (rules_in before) (contents before) (contents after) steps outcome

@@ -1,16 +1,40 @@
 //! Calls of threads on a map that they share. Each takes one lock.
-ghost use Rattle.std.specs.Prelude.{◌≡◌, ◌<◌, IsTrue, IfSome, IfErr};
+ghost use Rattle.std.specs.Prelude.{◌≡◌, ◌<◌, Option, IsTrue, IfSome, IfErr, is_some};
+ghost use Rattle.std.specs.Option.{option_map};
+ghost use Rattle.std.specs.Map.Iter.{deref_pair};
+ghost use Rattle.dash_shard.specs.Closures.{MayAsk, AnswersOn, Viewed};
+ghost use Rattle.dash_shard.specs.Contents.{at};
+ghost use Rattle.dash_shard.specs.Shard.{keys_of, pairs, IsShard};
+ghost use Rattle.dash_map.specs.Behind.{Asked, ReservesBehind, SawPair};
 ghost use Rattle.dash_shard.specs.Hashing.{hash_of, route_by};
 ghost use Rattle.dash_map.specs.Alone.{IsPlaced};
 ghost use Rattle.dash_ref.specs.Ref.{Stands};
 
 use crate::map::DashMap;
+use core::mem::replace_with;
 use dash_ref::mapref::one::Ref;
-use dash_shard::shard::InsertRefused;
+use dash_shard::error::TryReserveError;
 use dash_shard::shard::held::ShardMut;
+use dash_shard::shard::{InsertRefused, Shard};
 use std::hash::{BuildHasher, Hash};
 use std::rt::Clock;
 use std::sync::Wait;
+
+// The pair of a held shard whose key equals `key`, by the key's hash.
+#[inline]
+fn find<'s, K: Eq + Hash, V, S: BuildHasher>(
+    shard: &'s Shard<K, V, S>,
+    hash: u64,
+    key: &K,
+) -> Option<(&'s K, &'s V)>
+    requires { hash ≡ hash_of S.BuildHasher S.Hasher.Hasher shard.now.hasher (K.hash_input key.now) }
+    ensures pair { option_map deref_pair result ≡ at (keys_of K.eq S.BuildHasher S.Hasher.Hasher K.hash_input shard.now) (pairs shard.now) key.now }
+    ensures equal { IfSome result (λ p. IsTrue (K.eq p.0.now key.now)) }
+    ensures lawful { IsShard K.eq S.BuildHasher S.Hasher.Hasher K.hash_input shard.now }
+{
+    let position = shard.position_of_hashed(hash, key)?;
+    Some(shard.at(position))
+}
 
 impl<K: Eq + Hash, V, S: BuildHasher> DashMap<K, V, S> {
     // The key's hash, and the number of the shard that it goes to.
@@ -72,6 +96,84 @@ impl<K: Eq + Hash, V, S: BuildHasher> DashMap<K, V, S> {
     {
         let (hash, place) = self.place_of(key);
         Ref::find(self.row[place].read(rt), hash, key)
+    }
+
+    /// Takes the pair whose key equals `key` out if `f` answers yes on it, and answers it. Waits for the key's shard. It takes no memory.
+    ///
+    /// The shard is held while `f` runs.
+    #[inline]
+    pub fn remove_if<R: Wait + Clock, F: FnOnce(&K, &V) -> bool>(
+        &self,
+        rt: &R,
+        key: &K,
+        f: F,
+    ) -> Option<(K, V)>
+        requires { (p : K × V) → IsTrue (K.eq p.0 key.now) → MayAsk F.FnOnce f p }
+        ensures { SawPair K.eq S.BuildHasher S.Hasher.Hasher K.hash_input self.now key.now (λ p. Asked (AnswersOn F.FnOnce f) p result) }
+    {
+        let (hash, place) = self.place_of(key);
+        let guard = self.row[place].write(rt);
+        let (stored, value) = find(&guard, hash, key)?;
+        if f(stored, value) {
+            return guard.shard().remove_hashed(hash, key);
+        }
+        None
+    }
+
+    /// What `f` answers on the pair whose key equals `key`. Waits until no writer has the key's shard. It takes no memory.
+    ///
+    /// The shard is held for reading while `f` runs.
+    #[inline]
+    pub fn view<R: Wait + Clock, T, F: FnOnce(&K, &V) -> T>(
+        &self,
+        rt: &R,
+        key: &K,
+        f: F,
+    ) -> Option<T>
+        requires { (p : K × V) → IsTrue (K.eq p.0 key.now) → MayAsk F.FnOnce f p }
+        ensures { SawPair K.eq S.BuildHasher S.Hasher.Hasher K.hash_input self.now key.now (λ p. Viewed F.FnOnce f p result) }
+    {
+        let (hash, place) = self.place_of(key);
+        let guard = self.row[place].read(rt);
+        let (key, value) = find(&guard, hash, key)?;
+        Some(f(key, value))
+    }
+
+    /// Whether there is a pair whose key equals `key`. Waits until no writer has the key's shard. It takes no memory.
+    #[inline]
+    pub fn contains_key<R: Wait + Clock>(&self, rt: &R, key: &K) -> bool
+        ensures { SawPair K.eq S.BuildHasher S.Hasher.Hasher K.hash_input self.now key.now (λ (p : Option (K × V)). result ≡ is_some p) }
+    {
+        let (hash, place) = self.place_of(key);
+        let guard = self.row[place].read(rt);
+        find(&guard, hash, key).is_some()
+    }
+
+    /// As `Alone::try_reserve`, on this map, which nobody else has: room in each shard for so many pairs more. It waits for nobody, even
+    /// where a hold was leaked.
+    ///
+    /// The shards leave their locks for it and go back, which takes no memory.
+    pub fn try_reserve(&mut self, additional: usize) -> Result<(), TryReserveError>
+    where
+        K: Drop,
+        V: Drop,
+        ensures reserves { ReservesBehind V K.eq S.BuildHasher S.Hasher.Hasher K.hash_input self.old additional result }
+        ensures same { self.new ≡ self.old }
+    {
+        replace_with(self, additional, Self::try_reserve_alone)
+    }
+
+    // Makes the room, and the map after it.
+    fn try_reserve_alone(self, additional: usize) -> (Self, Result<(), TryReserveError>)
+    where
+        K: Drop,
+        V: Drop,
+        ensures reserves { ReservesBehind V K.eq S.BuildHasher S.Hasher.Hasher K.hash_input self additional result.1 }
+        ensures same { result.0 ≡ self }
+    {
+        let mut alone = self.alone();
+        let made = alone.try_reserve(additional);
+        (alone.end(), made)
     }
 }
 

@@ -39,6 +39,67 @@ fn a_hundred_keys(rt: HostRuntime) -> Result<(), Fail> {
     Ok(())
 }
 
+// Four foods by number, in 4 shards.
+fn foods<R: Wait + Clock>(
+    rt: &R,
+    alloc: Global,
+) -> Result<DashMap<u64, &'static str, PlaceState>, Fail> {
+    let map = DashMap::<u64, &str, PlaceState>::with_hasher_and_shard_amount(alloc, PlaceState, 4)?;
+    map.insert(rt, 0, "Banana")?;
+    map.insert(rt, 4, "Pear")?;
+    map.insert(rt, 9, "Potato")?;
+    map.insert(rt, 12, "Chicken")?;
+    Ok(map)
+}
+
+#[test]
+fn views(rt: HostRuntime) -> Result<(), Fail> {
+    let map = foods(&rt, rt.alloc())?;
+    let is_eaten_warm = |_: &u64, name: &&str| matches!(
+        *name,
+        "Salad" | "Beans" | "Potato" | "Tomato"
+    );
+    assert_eq!(rt; map.view(&rt, &9, is_eaten_warm), Some(true));
+    assert_eq!(rt; map.view(&rt, &12, is_eaten_warm), Some(false));
+    assert_eq!(rt; map.view(&rt, &30, |_, _| false), None);
+    assert!(rt; map.contains_key(&rt, &4));
+    assert!(rt; !map.contains_key(&rt, &8));
+    Ok(())
+}
+
+#[test]
+fn a_removal_asks_first(rt: HostRuntime) -> Result<(), Fail> {
+    let map = DashMap::<&str, &str, FixedState>::with_shard_amount(rt.alloc(), 4)?;
+    map.insert(&rt, "Sam", "Forward")?;
+    assert_eq!(rt;
+        map.remove_if(&rt, &"Sam", |_, role| *role == "Goalie"),
+        None
+    );
+    assert!(rt; map.contains_key(&rt, &"Sam"));
+    assert_eq!(rt;
+        map.remove_if(&rt, &"Sam", |_, role| *role == "Forward"),
+        Some(("Sam", "Forward"))
+    );
+    assert!(rt; !map.contains_key(&rt, &"Sam"));
+    Ok(())
+}
+
+#[test]
+fn room_is_made(rt: HostRuntime) -> Result<(), Fail> {
+    let mut map = DashMap::<u64, u64, PlaceState>::with_hasher_and_shard_amount(
+        rt.alloc(),
+        PlaceState,
+        4,
+    )?;
+    assert!(rt; map.try_reserve(10).is_ok());
+    map.insert(&rt, 1, 1)?;
+    assert!(rt; map.try_reserve(usize::MAX).is_err());
+    let alone = map.alone();
+    assert!(rt; alone.capacity() >= 10);
+    assert_eq!(rt; alone.get(&1), Some((&1, &1)));
+    Ok(())
+}
+
 #[test]
 fn zero_is_a_key_and_a_value(rt: HostRuntime) -> Result<(), Fail> {
     let map = DashMap::<u64, u64, FixedState>::new(rt.alloc(), 1)?;

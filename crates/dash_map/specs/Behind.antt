@@ -1,0 +1,36 @@
+-- What calls of a map promise where others may change it: what they answer is so of shards that may stand behind its locks.
+use Rattle.std.specs.Prelude.{ℕ, ◌≡◌, Bool, true, false, length, Option, None, Some, Result}
+use Rattle.std.specs.Hash.{HashWrites}
+use Rattle.std.specs.declared.hash.Hasher as hasher
+use Rattle.std.specs.declared.hash.BuildHasher as builder
+use Rattle.dash_shard.specs.Hashing.{route_by}
+use Rattle.dash_shard.specs.Contents.{at}
+use Rattle.dash_shard.specs.Shard.{ShardState, keys_of, pairs}
+use Rattle.dash_map.specs.Alone.{AloneState, IsPlaced, IsAlone, ReservesAlone}
+use Rattle.dash_map.specs.Map.{MapState}
+
+-- the pair that stood at the key was taken out where the answer on it was yes
+abbrev pub Asked : {K V : Type 0} → (K × V → Bool → Type 0) → Option (K × V) → Option (K × V) → Type 0
+Asked answers None result = result ≡ None
+Asked answers (Some p) None = answers p false
+Asked answers (Some p) (Some q) = (q ≡ p) × answers p true
+
+module _ {K V S H : Type 0} (eq : K → K → Bool) (b : builder.Ghosts S H) (h : hasher.Ghosts H) (input : K → HashWrites) where
+  -- P is so of what stood at the key, in a shard that stood in the place where the key goes
+  abbrev pub SawPair : MapState S → K → (Option (K × V) → Type 0) → Type 0
+  SawPair m key P = (s : ShardState K V S) × IsPlaced eq b h input m.hasher m.amount (route_by b h input m.hasher m.amount key) s × P (at (keys_of eq b h input s) (pairs s) key)
+
+  -- shards that may stand behind the locks of this map
+  pub record IsBehind (m : MapState S) (a : AloneState K V S) : Type 0 where
+    pub hasher : a.hasher ≡ m.hasher
+    pub amount : length a.row ≡ m.amount
+    pub lawful : IsAlone eq b h input a
+
+module _ {K S H : Type 0} (V : Type 0) (eq : K → K → Bool) (b : builder.Ghosts S H) (h : hasher.Ghosts H) (input : K → HashWrites) where
+  -- shards behind the locks of this map were given room
+  pub record ReservesBehind (m : MapState S) (additional : ℕ) {E : Type 0} (result : Result (Unit {0}) E) : Type 0 where
+    pub before : AloneState K V S
+    pub after : AloneState K V S
+    pub stood : IsBehind eq b h input m before
+    pub stands : IsBehind eq b h input m after
+    pub reserves : ReservesAlone eq b h input additional before after result
