@@ -97,6 +97,27 @@ fn a_value_is_written_in_its_place(rt: HostRuntime) -> Result<(), Fail> {
     Ok(())
 }
 
+#[test]
+fn a_value_is_lent_to_be_written(rt: HostRuntime) -> Result<(), Fail> {
+    assert!(rt; is_shard_amount(4));
+    let mut shard = Shard::<u64, u64, PlaceState>::new(rt.alloc(), PlaceState, 1, 4, 0)?;
+    assert!(rt; shard.routes(&1));
+    shard.insert(1, 10)?;
+    let Some(position) = shard.position_of(&1) else {
+        return Err(Fail::from("no place"));
+    };
+    let (key, value) = shard.at_mut(position);
+    *value = value.wrapping_add(*key);
+    assert_eq!(rt; shard.get(&1), Some((&1, &11)));
+    match shard.get_mut(&1) {
+        Some(value) => *value = value.wrapping_mul(2),
+        None => return Err(Fail::from("no pair")),
+    }
+    assert_eq!(rt; shard.get(&1), Some((&1, &22)));
+    assert!(rt; shard.get_mut(&5).is_none());
+    Ok(())
+}
+
 // The place of a new pair.
 fn put(rt: &impl Abort, shard: &mut Shard<u64, u64, PlaceState>, key: u64) -> usize {
     assert!(rt; shard.routes(&key));
