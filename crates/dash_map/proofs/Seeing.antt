@@ -1,5 +1,9 @@
 -- What is seen of a shard that is held.
-use Rattle.std.proofs.Common.{Bor, ◌≡◌, ℕ, ◌<◌, Bool, true, List, Option, None, Some, length, get_or, refl, sym, ap, subst, ◌∙◌}
+use Rattle.std.proofs.Common.{Bor, ◌≡◌, ◌⊎◌, ℕ, zero, suc, ◌+◌, ◌<◌, Bool, [], ◌∷◌, ◌++◌, slice_get, inl, inr, true, List, Option, None, Some, length, get_or, ◌-◌, ◌^◌, flat_map, min, sum_by, length-append, arith, refl, sym, ap, subst, ◌∙◌}
+use Rattle.std.proofs.lemmas.Grind.{flat_map-append}
+use Rattle.std.proofs.lemmas.List.{length_push}
+use Rattle.std.proofs.lemmas.List.Sums.{sum_by-append}
+use Rattle.std.proofs.lemmas.Option.{same_Some, none-some}
 use Rattle.std.specs.Prelude.{is_some}
 use Rattle.std.specs.Option.{option_map}
 use Rattle.std.specs.Map.Iter.{deref_pair}
@@ -8,15 +12,25 @@ use Rattle.std.specs.declared.hash.Hasher as hasher
 use Rattle.std.specs.declared.hash.BuildHasher as builder
 use Rattle.crossbeam_utils.specs.declared.cache_padded.CachePadded.{CachePadded}
 use Rattle.crossbeam_utils.specs.Padded.{padded_value}
-use Rattle.dash_shard.specs.Hashing.{route_by}
+use Rattle.dash_shard.specs.Hashing.{IsAmount, route_by}
 use Rattle.dash_shard.specs.Held.{FitsPlace}
-use Rattle.dash_shard.specs.Shard.{ShardState, Routes}
+use Rattle.dash_shard.specs.Shard.{ShardState, Routes, pairs, shard_len}
 use Rattle.dash_shard.specs.declared.shard.held.ShardTag.{ShardTag}
 use Rattle.dash_map.specs.Alone.{IsPlaced}
-use Rattle.dash_map.specs.Behind.{Asked}
+use Rattle.dash_map.specs.Behind.{Asked, IsBehind}
 use Rattle.dash_map.specs.Map.{MapState, IsMap}
 use Rattle.dash_map.proofs.Lifting.{keys-same}
 use Rattle.dash_map.proofs.Moves.{placed-held}
+
+-- what stands in a list with one item more: what stood there, or the item, at its end
+append-cases : {A : Type 0} (xs : List A) (y : A) (i : ℕ) (x : A) → slice_get (xs ++ y ∷ []) i ≡ Some x → (slice_get xs i ≡ Some x) ⊎ ((i ≡ length xs) × (y ≡ x))
+append-cases [] y zero x e = inr (refl, same_Some y x e)
+append-cases [] y (suc i) x e = absurd (none-some x e)
+append-cases (z ∷ xs) y zero x e = inl e
+append-cases (z ∷ xs) y (suc i) x e = elim (append-cases xs y i x e) as (λ _. (slice_get (z ∷ xs) (suc i) ≡ Some x) ⊎ ((suc i ≡ length (z ∷ xs)) × (y ≡ x))) [
+  | inl old ↦ inl old
+  | inr new ↦ inr (ap (λ n. suc n) new.0, new.1)
+]
 
 module _ {K V S H : Type 0} (eq : K → K → Bool) (b : builder.Ghosts S H) (h : hasher.Ghosts H) (input : K → HashWrites) where
   -- what is read through a hold of the lock at i, where the key goes, stands in the key's place
@@ -27,9 +41,44 @@ module _ {K V S H : Type 0} (eq : K → K → Bool) (b : builder.Ghosts S H) (h 
       subst (λ x. IsPlaced eq b h input z.hasher z.amount (route_by b h input z.hasher z.amount k) x) (sym there)
       (subst (λ n. IsPlaced eq b h input z.hasher z.amount n s) route (placed-held eq b h input m z view locks is i within lock read tag same s fits))
 
+  -- the same of any lock
+  pub read-at : (m z : MapState S) → m ≡ z → (row locks : List (CachePadded (ShardTag S))) → locks ≡ row → IsMap m row → (i : ℕ) → i < length locks → (lock : CachePadded (ShardTag S)) → lock ≡ get_or locks i lock
+      → (tag : ShardTag S) → tag ≡ padded_value lock → (s : ShardState K V S) → FitsPlace eq b h input tag s → (d : ShardState K V S) → d ≡ s → IsPlaced eq b h input z.hasher z.amount i d
+  read-at m z view row locks all is i within lock read tag same s fits d there =
+      subst (λ x. IsPlaced eq b h input z.hasher z.amount i x) (sym there) (placed-held eq b h input m z view locks (subst (IsMap m) (sym all) is) i within lock read tag same s fits)
+
   -- the key goes to the shard that stands in its place
   pub routes : (base : S) (n : ℕ) (k : K) (s : ShardState K V S) → IsPlaced eq b h input base n (route_by b h input base n k) s → Routes eq b h input s k
   routes base n k s p = ap (λ x. x.route k) (keys-same eq b h input base n _ s p) ∙ sym p.number
+
+  -- the shards in front of n, each as it stood when it was held
+  pub record SoFar (m : MapState S) (n : ℕ) (row : List (ShardState K V S)) : Type 0 where
+    pub count : length row ≡ n
+    pub placed : (i : ℕ) (s : ShardState K V S) → slice_get row i ≡ Some s → IsPlaced eq b h input m.hasher m.amount i s
+
+  pub none-yet : (m : MapState S) → SoFar m 0 []
+  none-yet m = record { count = refl; placed = λ i s e. absurd (none-some s e) }
+
+  pub one-more : (m : MapState S) (n : ℕ) (row : List (ShardState K V S)) → SoFar m n row → (s : ShardState K V S) → IsPlaced eq b h input m.hasher m.amount n s → SoFar m (n + 1) (row ++ s ∷ [])
+  one-more m n row so s placed = record {
+    count = length_push row s ∙ ap (λ k. k + 1) so.count;
+    placed = λ i x e. elim (append-cases row s i x e) as (λ _. IsPlaced eq b h input m.hasher m.amount i x) [
+      | inl old ↦ so.placed i x old
+      | inr new ↦ subst (λ y. IsPlaced eq b h input m.hasher m.amount i y) new.1 (subst (λ j. IsPlaced eq b h input m.hasher m.amount j s) (sym (new.0 ∙ so.count)) placed)
+    ];
+  }
+
+  pub all-seen : (m : MapState S) (n : ℕ) (row : List (ShardState K V S)) → SoFar m n row → n ≡ m.amount → IsAmount m.amount → IsBehind eq b h input m (record { hasher = m.hasher; row = row })
+  all-seen m n row so all amount =
+      let long : length row ≡ m.amount = so.count ∙ all in
+      record {
+        hasher = refl;
+        amount = long;
+        lawful = record {
+          amount = subst IsAmount (sym long) amount;
+          placed = λ i s e. subst (λ k. IsPlaced eq b h input m.hasher k i s) (sym long) (so.placed i s e);
+        };
+      }
 
 pub asked : {K V : Type 0} (answers : K × V → Bool → Type 0) (o r : Option (K × V)) (p : K × V) → Some p ≡ o → r ≡ o → answers p true → Asked answers o r
 asked answers o r p stood taken said = subst (λ x. Asked answers x r) stood (subst (λ x. Asked answers (Some p) x) (sym (taken ∙ sym stood)) (refl, said))
@@ -37,3 +86,13 @@ asked answers o r p stood taken said = subst (λ x. Asked answers x r) stood (su
 pub shown : {K V : Type 0} (o : Option (Bor K × Bor V)) → is_some o ≡ is_some (option_map deref_pair o)
 shown None = refl
 shown (Some x) = refl
+
+-- sums that are held at a number, with one shard more
+module _ {K V S : Type 0} (row : List (ShardState K V S)) (s : ShardState K V S) (a n : ℕ) where
+  pub longer : a ≡ min (length (flat_map pairs row)) (2 ^ 64 - 1) → n ≡ shard_len s → min (a + n) (2 ^ 64 - 1) ≡ min (length (flat_map pairs (row ++ s ∷ []))) (2 ^ 64 - 1)
+  longer so more =
+      let e : length (flat_map pairs (row ++ s ∷ [])) ≡ length (flat_map pairs row ++ flat_map pairs (s ∷ [])) = ap length (flat_map-append pairs row (s ∷ [])) in
+      omega (arith, e, length-append (flat_map pairs row) (flat_map pairs (s ∷ [])), length-append (pairs s) [])
+
+  pub roomier : a ≡ min (sum_by (λ x. x.capacity) row) (2 ^ 64 - 1) → n ≡ s.capacity → min (a + n) (2 ^ 64 - 1) ≡ min (sum_by (λ x. x.capacity) (row ++ s ∷ [])) (2 ^ 64 - 1)
+  roomier so more = omega (arith, sum_by-append (λ (x : ShardState K V S). x.capacity) row (s ∷ []))

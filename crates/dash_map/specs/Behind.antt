@@ -26,6 +26,10 @@ module _ {K V S H : Type 0} (eq : K → K → Bool) (b : builder.Ghosts S H) (h 
     pub amount : length a.row ≡ m.amount
     pub lawful : IsAlone eq b h input a
 
+  -- P is so of the shards, each as it stood at a moment of its own
+  abbrev pub SawShards : MapState S → (AloneState K V S → Type 0) → Type 0
+  SawShards m P = (a : AloneState K V S) × IsBehind m a × P a
+
 module _ {K S H : Type 0} (V : Type 0) (eq : K → K → Bool) (b : builder.Ghosts S H) (h : hasher.Ghosts H) (input : K → HashWrites) where
   -- shards behind the locks of this map were given room
   pub record ReservesBehind (m : MapState S) (additional : ℕ) {E : Type 0} (result : Result (Unit {0}) E) : Type 0 where

@@ -1,13 +1,13 @@
 //! Calls of threads on a map that they share. Each takes one lock.
-ghost use Rattle.std.specs.Prelude.{◌≡◌, ◌<◌, Option, IsTrue, IfSome, IfErr, is_some};
+ghost use Rattle.std.specs.Prelude.{◌≡◌, ◌<◌, ◌==◌, ◌-◌, ◌^◌, min, length, sum_by, Option, IsTrue, IfSome, IfErr, is_some};
 ghost use Rattle.std.specs.Option.{option_map};
 ghost use Rattle.std.specs.Map.Iter.{deref_pair};
 ghost use Rattle.dash_shard.specs.Closures.{MayAsk, AnswersOn, Viewed};
 ghost use Rattle.dash_shard.specs.Contents.{at};
 ghost use Rattle.dash_shard.specs.Shard.{keys_of, pairs, IsShard};
-ghost use Rattle.dash_map.specs.Behind.{Asked, ReservesBehind, SawPair};
+ghost use Rattle.dash_map.specs.Behind.{Asked, ReservesBehind, SawPair, SawShards};
 ghost use Rattle.dash_shard.specs.Hashing.{hash_of, route_by};
-ghost use Rattle.dash_map.specs.Alone.{IsPlaced};
+ghost use Rattle.dash_map.specs.Alone.{AloneState, IsPlaced, contents};
 ghost use Rattle.dash_ref.specs.Ref.{Stands};
 
 use crate::map::DashMap;
@@ -147,6 +147,39 @@ impl<K: Eq + Hash, V, S: BuildHasher> DashMap<K, V, S> {
         let (hash, place) = self.place_of(key);
         let guard = self.row[place].read(rt);
         find(&guard, hash, key).is_some()
+    }
+
+    /// How many pairs there are, held at 2^64 - 1. Waits until no writer has a shard, for one shard after the other: others may change
+    /// those that it asked before. It takes no memory.
+    pub fn len<R: Wait + Clock>(&self, rt: &R) -> usize
+        ensures { SawShards K.eq S.BuildHasher S.Hasher.Hasher K.hash_input self.now (λ (a : AloneState K V S). result ≡ min (length (contents a)) (2 ^ 64 - 1)) }
+    {
+        let mut len: usize = 0;
+        for lock in &self.row {
+            let shard = lock.read(rt);
+            len = len.saturating_add(shard.len());
+        }
+        len
+    }
+
+    /// Whether there are no pairs. It waits as `len` does.
+    pub fn is_empty<R: Wait + Clock>(&self, rt: &R) -> bool
+        ensures { SawShards K.eq S.BuildHasher S.Hasher.Hasher K.hash_input self.now (λ (a : AloneState K V S). result ≡ (length (contents a) == 0)) }
+    {
+        self.len(rt) == 0
+    }
+
+    /// How many pairs there may be before some shard takes memory, if they spread as the shards' room does, held at 2^64 - 1. It waits as
+    /// `len` does.
+    pub fn capacity<R: Wait + Clock>(&self, rt: &R) -> usize
+        ensures { SawShards K.eq S.BuildHasher S.Hasher.Hasher K.hash_input self.now (λ (a : AloneState K V S). result ≡ min (sum_by (λ s. s.capacity) a.row) (2 ^ 64 - 1)) }
+    {
+        let mut capacity: usize = 0;
+        for lock in &self.row {
+            let shard = lock.read(rt);
+            capacity = capacity.saturating_add(shard.capacity());
+        }
+        capacity
     }
 
     /// As `Alone::try_reserve`, on this map, which nobody else has: room in each shard for so many pairs more. It waits for nobody, even

@@ -64,6 +64,9 @@ fn views(rt: HostRuntime) -> Result<(), Fail> {
     assert_eq!(rt; map.view(&rt, &30, |_, _| false), None);
     assert!(rt; map.contains_key(&rt, &4));
     assert!(rt; !map.contains_key(&rt, &8));
+    assert_eq!(rt; map.len(&rt), 4);
+    assert!(rt; map.capacity(&rt) >= 4);
+    assert!(rt; !map.is_empty(&rt));
     Ok(())
 }
 
@@ -91,7 +94,10 @@ fn room_is_made(rt: HostRuntime) -> Result<(), Fail> {
         PlaceState,
         4,
     )?;
+    assert_eq!(rt; map.capacity(&rt), 0);
+    assert!(rt; map.is_empty(&rt));
     assert!(rt; map.try_reserve(10).is_ok());
+    assert!(rt; map.capacity(&rt) >= 10);
     map.insert(&rt, 1, 1)?;
     assert!(rt; map.try_reserve(usize::MAX).is_err());
     let alone = map.alone();
