@@ -13,13 +13,16 @@ use Rattle.dash_shard.specs.Each.{Visits, Sweeps, Asks, if_kept}
 use Rattle.dash_shard.proofs.Places.{length-taken-replace, length-taken-clear}
 use Rattle.dash_shard.proofs.Nodes.{pairs-revalued, place-here}
 
--- what stands at a place whose value was written
-pub place-revalued : {K V : Type 0} (nodes : List (Node K V)) (i : ℕ) (n : Node K V) (k : K) (u v : V) → i < length nodes → n ≡ get_or nodes i n → n.pair ≡ Some (k, u)
-    → place (pairs_of (set nodes i (record n { pair = Some (k, v) }))) i ≡ Some (k, v)
-place-revalued nodes i n k u v within read stored =
-    ap (λ xs. place xs i) (pairs-revalued nodes i n k u v within read stored)
-    ∙ get_or-set_same (pairs_of nodes) i _ None (omega (arith, within, length-map nodes (λ x. x.pair)))
-    ∙ rw (place-here nodes i n k u v within read stored) refl
+module _ {K V : Type 0} (nodes : List (Node K V)) (i : ℕ) (n : Node K V) (k : K) (u v : V) (within : i < length nodes) (read : n ≡ get_or nodes i n) (stored : n.pair ≡ Some (k, u)) where
+  -- what stood at a place whose value was written, and what stands there
+  pub place-before : place (pairs_of nodes) i ≡ Some (k, u)
+  place-before = place-here nodes i n (k, u) (k, v) within read stored
+
+  pub pairs-valued : pairs_of (set nodes i (record n { pair = Some (k, v) })) ≡ set (pairs_of nodes) i (Some (k, v))
+  pairs-valued = pairs-revalued nodes i n (k, u) (k, v) within read stored
+
+  pub place-revalued : place (pairs_of (set nodes i (record n { pair = Some (k, v) }))) i ≡ Some (k, v)
+  place-revalued = ap (λ xs. place xs i) pairs-valued ∙ get_or-set_same (pairs_of nodes) i _ None (omega (arith, within, length-map nodes (λ x. x.pair)))
 
 module _ {F K V : Type 0} (T : F → K → V → Bool → V → F → Type 0) (Q : F → K → V → Type 0) (leaves : K → V × Bool → Option (K × V)) where
   -- the places below i were visited, those from i on are as they were

@@ -10,8 +10,8 @@ use std::alloc::{AllocError, Global};
 use std::mem;
 
 mod links;
-mod values;
 mod shrink;
+mod values;
 pub mod walk;
 mod whole;
 

@@ -1,13 +1,13 @@
 use Rattle.std.proofs.Common.{true, refl, sym, ◌∙◌}
 use Rattle.std.proofs.Math.ListN.{length-set}
-use Rattle.dash_shard.proofs.Nodes.{pairs-revalued, hashes-revalued, chained-revalued, stack-revalued, place-here}
-use Rattle.dash_shard.proofs.Sweeping.{place-revalued}
+use Rattle.dash_shard.proofs.Nodes.{hashes-revalued, chained-revalued, stack-revalued}
+use Rattle.dash_shard.proofs.Sweeping.{place-before, pairs-valued, place-revalued}
 use Rattle.dash_shard.proofs.shard.table.Table.alter_at.Goals as goal
 
 pub returns-clause-visits : goal.returns-clause-visits
 returns-clause-visits g c =
     let stored = sym c.take.ensures.value ∙ c.in-Some.is in
-    let before = place-here _ _ _ _ _ c.f-value.result c.requires.within c.index_mut.ensures.value stored in
+    let before = place-before _ _ _ _ _ c.f-value.result c.requires.within c.index_mut.ensures.value stored in
     let after = place-revalued _ _ _ _ _ c.f-value.result c.requires.within c.index_mut.ensures.value stored in
     rw (c.replace.ensures.after, before, after)
     (true, c.f-value.result, record { key = _; shows = refl; called = c.f-value.ensures }, refl)
@@ -15,13 +15,12 @@ returns-clause-visits g c =
 pub returns-clause-pairs : goal.returns-clause-pairs
 returns-clause-pairs g c =
     let stored = sym c.take.ensures.value ∙ c.in-Some.is in
-    let before = place-here _ _ _ _ _ c.f-value.result c.requires.within c.index_mut.ensures.value stored in
     let after = place-revalued _ _ _ _ _ c.f-value.result c.requires.within c.index_mut.ensures.value stored in
-    rw (c.replace.ensures.after, after) (pairs-revalued _ _ _ _ _ c.f-value.result c.requires.within c.index_mut.ensures.value stored ∙ rw before refl)
+    rw (c.replace.ensures.after, after) (pairs-valued _ _ _ _ _ c.f-value.result c.requires.within c.index_mut.ensures.value stored)
 
 pub returns-clause-hashes : goal.returns-clause-hashes
 returns-clause-hashes g c =
-    rw c.replace.ensures.after (hashes-revalued _ _ _ _ _ c.f-value.result c.requires.within c.index_mut.ensures.value (sym c.take.ensures.value ∙ c.in-Some.is))
+    rw c.replace.ensures.after (hashes-revalued _ _ _ _ _ c.requires.within c.index_mut.ensures.value (sym c.take.ensures.value ∙ c.in-Some.is))
 
 pub returns-clause-table : goal.returns-clause-table
 returns-clause-table g c =
@@ -30,6 +29,6 @@ returns-clause-table g c =
     rw c.replace.ensures.after (record {
       free = t.free;
       counted = t.counted ∙ sym (length-set c.args.self.now.nodes.items c.args.position _);
-      chained = chained-revalued _ _ _ _ _ c.f-value.result c.requires.within c.index_mut.ensures.value stored t.chained;
-      stack = stack-revalued _ _ _ _ _ c.f-value.result c.requires.within c.index_mut.ensures.value stored _ _ t.stack;
+      chained = chained-revalued _ _ _ _ _ c.requires.within c.index_mut.ensures.value stored t.chained;
+      stack = stack-revalued _ _ _ _ _ c.requires.within c.index_mut.ensures.value stored _ _ t.stack;
     })

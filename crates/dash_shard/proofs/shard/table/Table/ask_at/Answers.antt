@@ -1,12 +1,12 @@
 use Rattle.std.proofs.Common.{refl, sym, ◌∙◌}
 use Rattle.std.proofs.Math.ListN.{length-set}
-use Rattle.dash_shard.proofs.Nodes.{pairs-revalued, hashes-revalued, chained-revalued, stack-revalued, place-here}
-use Rattle.dash_shard.proofs.Sweeping.{place-revalued}
+use Rattle.dash_shard.proofs.Nodes.{hashes-revalued, chained-revalued, stack-revalued}
+use Rattle.dash_shard.proofs.Sweeping.{place-before, pairs-valued, place-revalued}
 use Rattle.dash_shard.proofs.shard.table.Table.ask_at.Goals as goal
 
 pub returns-in-Some-clause-asks : goal.returns-in-Some-clause-asks
 returns-in-Some-clause-asks g c =
-    let before = place-here _ _ _ _ _ c.f.new.arg3 c.requires.within c.index_mut.ensures.value c.in-Some.is in
+    let before = place-before _ _ _ _ _ c.f.new.arg3 c.requires.within c.index_mut.ensures.value c.in-Some.is in
     let after = place-revalued _ _ _ _ _ c.f.new.arg3 c.requires.within c.index_mut.ensures.value c.in-Some.is in
     rw (before, after)
     (c.f.new.arg3, record { key = _; value = _; shows = (c.in-Some.key-is, c.in-Some.value-is); left = _; called = c.f.ensures; leaves = refl }, refl)
@@ -14,11 +14,10 @@ returns-in-Some-clause-asks g c =
 pub returns-in-Some-clause-pairs : goal.returns-in-Some-clause-pairs
 returns-in-Some-clause-pairs g c =
     let after = place-revalued _ _ _ _ _ c.f.new.arg3 c.requires.within c.index_mut.ensures.value c.in-Some.is in
-    let before = place-here _ _ _ _ _ c.f.new.arg3 c.requires.within c.index_mut.ensures.value c.in-Some.is in
-    rw after (pairs-revalued _ _ _ _ _ c.f.new.arg3 c.requires.within c.index_mut.ensures.value c.in-Some.is ∙ rw before refl)
+    rw after (pairs-valued _ _ _ _ _ c.f.new.arg3 c.requires.within c.index_mut.ensures.value c.in-Some.is)
 
 pub returns-in-Some-clause-hashes : goal.returns-in-Some-clause-hashes
-returns-in-Some-clause-hashes g c = hashes-revalued _ _ _ _ _ _ c.requires.within c.index_mut.ensures.value c.in-Some.is
+returns-in-Some-clause-hashes g c = hashes-revalued _ _ _ _ _ c.requires.within c.index_mut.ensures.value c.in-Some.is
 
 pub returns-in-Some-clause-table : goal.returns-in-Some-clause-table
 returns-in-Some-clause-table g c =
@@ -27,6 +26,6 @@ returns-in-Some-clause-table g c =
     record {
       free = t.free;
       counted = t.counted ∙ sym row;
-      chained = chained-revalued _ _ _ _ _ _ c.requires.within c.index_mut.ensures.value c.in-Some.is t.chained;
-      stack = stack-revalued _ _ _ _ _ _ c.requires.within c.index_mut.ensures.value c.in-Some.is _ _ t.stack;
+      chained = chained-revalued _ _ _ _ _ c.requires.within c.index_mut.ensures.value c.in-Some.is t.chained;
+      stack = stack-revalued _ _ _ _ _ c.requires.within c.index_mut.ensures.value c.in-Some.is _ _ t.stack;
     }
