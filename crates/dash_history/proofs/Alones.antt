@@ -13,16 +13,16 @@ use Rattle.dash_shard.proofs.Rows.{slice_get-set_same, slice_get-set_other}
 use Rattle.dash_shard.specs.Contents.{keys}
 use Rattle.dash_shard.specs.Hashing.{IsAmount, HashAlike, hash_of, route_by, route_of_hash}
 use Rattle.dash_shard.specs.Shard.{SameShard}
-use Rattle.dash_shard.specs.Steps.{place}
+use Rattle.dash_shard.specs.Steps.{Act, place}
 use Rattle.dash_history.specs.declared.step.ShardStep.{ShardStep}
 use Rattle.dash_history.specs.declared.step.Reply as program
 use Rattle.dash_history.specs.Steps.{step_of}
-use Rattle.dash_history.specs.Takes.{rules}
-use Rattle.dash_history.specs.History.{RecState, LogState, Recorded, rules_of, place_of}
-use Rattle.dash_history.specs.Alone.{AloneState, IsPlaced, IsAlone, Applied, last_at, rules_in}
+use Rattle.dash_history.specs.Takes.{kinds, rules}
+use Rattle.dash_history.specs.History.{RecState, LogState, Recorded, kinds_of, place_of}
+use Rattle.dash_history.specs.Alone.{AloneState, IsPlaced, IsAlone, Applied, last_at, kinds_in}
 
-module _ {K V S H : Type 0} (b : builder.Ghosts S H) (h : hasher.Ghosts H) where
-  pub placed-moved : (base : S) (n c i : ℕ) (s t : RecState K V S) → IsPlaced b h base n c i s → SameShard s.shard t.shard → t.callers ≡ s.callers → IsPlaced b h base n c i t
+module _ {K V A S H : Type 0} (b : builder.Ghosts S H) (h : hasher.Ghosts H) where
+  pub placed-moved : (base : S) (n c i : ℕ) (s t : RecState K V A S) → IsPlaced b h base n c i s → SameShard s.shard t.shard → t.callers ≡ s.callers → IsPlaced b h base n c i t
   placed-moved base n c i s t p stays callers = record {
     number = stays.number ∙ p.number;
     amount = stays.amount ∙ p.amount;
@@ -31,7 +31,7 @@ module _ {K V S H : Type 0} (b : builder.Ghosts S H) (h : hasher.Ghosts H) where
   }
 
   -- one shard changed in its place
-  pub alone-set : (base : S) (c i : ℕ) (row : List (RecState K V S)) (s t : RecState K V S) → IsAlone b h (record { hasher = base; callers = c; row = row }) → slice_get row i ≡ Some s
+  pub alone-set : (base : S) (c i : ℕ) (row : List (RecState K V A S)) (s t : RecState K V A S) → IsAlone b h (record { hasher = base; callers = c; row = row }) → slice_get row i ≡ Some s
       → SameShard s.shard t.shard → t.callers ≡ s.callers → IsAlone b h (record { hasher = base; callers = c; row = slice_set row i t })
   alone-set base c i row s t a here stays callers =
       let long : length (slice_set row i t) ≡ length row = length-set row i t in
@@ -46,22 +46,22 @@ module _ {K V S H : Type 0} (b : builder.Ghosts S H) (h : hasher.Ghosts H) where
         ]);
       }
 
-  -- a shard's rules are the map's
-  pub rules-same : (eq : K → K → Bool) (input : K → HashWrites) (k : K → K → Bool) (v : V → V → Bool) (base : S) (n c i : ℕ) (s : RecState K V S)
-      → IsPlaced b h base n c i s → rules_of eq b h input k v s.shard ≡ rules k v (keys eq (route_by b h input base n) n)
-  rules-same eq input k v base n c i s p =
+  -- a shard knows what the map knows
+  pub kinds-same : (eq : K → K → Bool) (input : K → HashWrites) (k : K → K → Bool) (v : V → V → Bool) (f : A → A → Bool) (acts : A → Act K V) (base : S) (n c i : ℕ) (s : RecState K V A S)
+      → IsPlaced b h base n c i s → kinds_of eq b h input k v f acts s.shard ≡ kinds f acts (rules k v (keys eq (route_by b h input base n) n))
+  kinds-same eq input k v f acts base n c i s p =
       let route = fun_ext (λ (x : K). ap (λ a. route_of_hash a (hash_of b h s.shard.hasher (input x))) p.amount ∙ ap (route_of_hash n) (p.hashes (input x))) in
-      ap (λ r. rules k v (keys eq r s.shard.amount)) route ∙ ap (λ a. rules k v (keys eq (route_by b h input base n) a)) p.amount
+      ap (λ r. kinds f acts (rules k v (keys eq r s.shard.amount))) route ∙ ap (λ a. kinds f acts (rules k v (keys eq (route_by b h input base n) a))) p.amount
 
 -- The map, the place that was computed, and the shard that an index lends there.
-module _ {K V S H : Type 0} (eq : K → K → Bool) (b : builder.Ghosts S H) (h : hasher.Ghosts H) (input : K → HashWrites) (k : K → K → Bool) (v : V → V → Bool)
-    (base : S) (c : ℕ) (row : List (RecState K V S)) (z : AloneState K V S) (view : record { hasher = base; callers = c; row = row } ≡ z)
-    (a : IsAlone b h (record { hasher = base; callers = c; row = row })) (step : ShardStep K V) (p n : ℕ) (s : RecState K V S)
-    (long : n ≡ length row) (computed : p ≡ place (keys eq (route_by b h input base n) n) (step_of step)) (within : p < length row) (read : s ≡ get_or row p s) where
-  abbrev old : AloneState K V S
+module _ {K V A S H : Type 0} (eq : K → K → Bool) (b : builder.Ghosts S H) (h : hasher.Ghosts H) (input : K → HashWrites) (k : K → K → Bool) (v : V → V → Bool) (f : A → A → Bool) (acts : A → Act K V)
+    (base : S) (c : ℕ) (row : List (RecState K V A S)) (z : AloneState K V A S) (view : record { hasher = base; callers = c; row = row } ≡ z)
+    (a : IsAlone b h (record { hasher = base; callers = c; row = row })) (step : ShardStep K V A) (p n : ℕ) (s : RecState K V A S)
+    (long : n ≡ length row) (computed : p ≡ place (keys eq (route_by b h input base n) n) (step_of acts step)) (within : p < length row) (read : s ≡ get_or row p s) where
+  abbrev old : AloneState K V A S
   old = record { hasher = base; callers = c; row = row }
 
-  abbrev set_row : AloneState K V S → List (RecState K V S) → AloneState K V S
+  abbrev set_row : AloneState K V A S → List (RecState K V A S) → AloneState K V A S
   set_row x r = record x { row = r }
 
   pub here : slice_get row p ≡ Some s
@@ -70,13 +70,13 @@ module _ {K V S H : Type 0} (eq : K → K → Bool) (b : builder.Ghosts S H) (h 
   placed : IsPlaced b h base (length row) c p s
   placed = a.placed p s here
 
-  same : rules_of eq b h input k v s.shard ≡ rules_in b h eq input k v z
-  same = rules-same b h eq input k v base (length row) c p s placed ∙ ap (rules_in b h eq input k v) view
+  same : kinds_of eq b h input k v f acts s.shard ≡ kinds_in b h eq input k v f acts z
+  same = kinds-same b h eq input k v f acts base (length row) c p s placed ∙ ap (kinds_in b h eq input k v f acts) view
 
-  pub place_is : p ≡ place_of (rules_in b h eq input k v z) step
-  place_is = computed ∙ ap (λ l. place (keys eq (route_by b h input base l) l) (step_of step)) long ∙ ap (λ x. place_of (rules_in b h eq input k v x) step) view
+  pub place_is : p ≡ place_of (kinds_in b h eq input k v f acts z) step
+  place_is = computed ∙ ap (λ l. place (keys eq (route_by b h input base l) l) (step_of acts step)) long ∙ ap (λ x. place_of (kinds_in b h eq input k v f acts x) step) view
 
-  pub goes_there : place_of (rules_of eq b h input k v s.shard) step ≡ s.shard.number
+  pub goes_there : place_of (kinds_of eq b h input k v f acts s.shard) step ≡ s.shard.number
   goes_there = ap (λ r. place_of r step) same ∙ sym place_is ∙ sym placed.number
 
   pub callers_are : s.callers ≡ z.callers
@@ -85,22 +85,22 @@ module _ {K V S H : Type 0} (eq : K → K → Bool) (b : builder.Ghosts S H) (h 
   pub count_is : length row ≡ length z.row
   count_is = ap (λ x. length x.row) view
 
-  pub there : slice_get z.row (place_of (rules_in b h eq input k v z) step) ≡ Some s
-  there = subst (λ x. slice_get x.row (place_of (rules_in b h eq input k v z) step) ≡ Some s) view (subst (λ i. slice_get row i ≡ Some s) place_is here)
+  pub there : slice_get z.row (place_of (kinds_in b h eq input k v f acts z) step) ≡ Some s
+  there = subst (λ x. slice_get x.row (place_of (kinds_in b h eq input k v f acts z) step) ≡ Some s) view (subst (λ i. slice_get row i ≡ Some s) place_is here)
 
-  pub last_is : last_at z (place_of (rules_in b h eq input k v z) step) ≡ s.last
+  pub last_is : last_at z (place_of (kinds_in b h eq input k v f acts z) step) ≡ s.last
   last_is = ap (λ o. option_map_or (λ x. x.last) o 0) there
 
-  pub applied : (t : RecState K V S) (l l' : LogState K V) (reply : program.Reply K V) → Recorded (rules_of eq b h input k v s.shard) s t l l' step reply
-      → Applied (rules_in b h eq input k v z) z (record { hasher = base; callers = c; row = slice_set row p t }) l l' step reply
+  pub applied : (t : RecState K V A S) (l l' : LogState K V A) (reply : program.Reply K V) → Recorded (kinds_of eq b h input k v f acts s.shard) s t l l' step reply
+      → Applied (kinds_in b h eq input k v f acts z) z (record { hasher = base; callers = c; row = slice_set row p t }) l l' step reply
   applied t l l' reply r = record {
     before = s;
     after = t;
     here = there;
     recorded = subst (λ x. Recorded x s t l l' step reply) same r;
-    others = ap (λ i. set_row old (slice_set row i t)) place_is ∙ ap (λ x. set_row x (slice_set x.row (place_of (rules_in b h eq input k v z) step) t)) view;
+    others = ap (λ i. set_row old (slice_set row i t)) place_is ∙ ap (λ x. set_row x (slice_set x.row (place_of (kinds_in b h eq input k v f acts z) step) t)) view;
   }
 
   -- the shard was put back as it was
-  pub unchanged : (t : RecState K V S) → t ≡ s → record { hasher = base; callers = c; row = slice_set row p t } ≡ z
+  pub unchanged : (t : RecState K V A S) → t ≡ s → record { hasher = base; callers = c; row = slice_set row p t } ≡ z
   unchanged t e = ap (λ x. record { hasher = base; callers = c; row = slice_set row p x }) (e ∙ read) ∙ ap (λ x. record { hasher = base; callers = c; row = x }) (set-get_or row p s) ∙ view

@@ -1,15 +1,15 @@
 -- A step's copy, with a copy of its reply, is the same step of the map.
-use Rattle.std.proofs.Common.{◌≡◌, ◌<◌, ◌==◌, Bool, true, false, cond, List, Option, Some, None, refl, sym, subst}
-use Rattle.std.specs.Option.{option_and_then}
+use Rattle.std.proofs.Common.{◌≡◌, ◌<◌, ◌==◌, ◌-◌, ◌^◌, min, length, is_some, eqb-true, Bool, true, false, cond, List, Option, Some, None, refl, sym, subst}
+use Rattle.std.specs.Option.{option_and_then, option_map}
 use Rattle.std.specs.Cmp.{IsEquivalence}
 use Rattle.std.proofs.lemmas.Bool.{and_parts, and_from}
 use Rattle.dash_shard.specs.Contents.{at, on, Distinct, EachOnce}
-use Rattle.dash_shard.specs.Steps.{Line, at_key, on_shard, Step, Reply, line, line_place, line_after, LineReplies, place, after, Becomes, Pair, Old, key_or, value}
+use Rattle.dash_shard.specs.Steps.{Line, at_key, on_shard, Step, Reply, Act, line, line_place, line_after, LineReplies, place, after, Becomes, Pair, Found, Old, Number, key_or, value, changed, if_yes, if_no}
 use Rattle.dash_history.specs.declared.step.ShardStep.{ShardStep}
-use Rattle.dash_history.specs.declared.step.ShardStep.TheVariants.{Get, Insert, Remove}
+use Rattle.dash_history.specs.declared.step.ShardStep.TheVariants.{Get, Contains, Insert, Remove, RemoveIf, RemoveIfMut, Alter, Count}
 use Rattle.dash_history.specs.Alike.{alike_option, alike_pair, alike_reply}
 use Rattle.dash_history.specs.Steps.{step_of, alike_step}
-use Rattle.dash_history.specs.Takes.{Rules, AlikeAt, Answers, Takes}
+use Rattle.dash_history.specs.Takes.{Rules, Kinds, AlikeAt, Answers, Takes}
 use Rattle.dash_shard.proofs.Equals.{at-equal}
 use Rattle.dash_history.proofs.AlikeLaws.{turned, chained, option_equiv, pair_equiv, reply_equiv}
 
@@ -89,13 +89,58 @@ module _ {K V : Type 0} (m : Rules K V) (laws : Lawful m) where
     distinct = distinct;
   }
 
+-- alike actions do alike things
+abbrev pub ActAlike : {K V A : Type 0} → (K → K → Bool) → (V → V → Bool) → (A → A → Bool) → (A → Act K V) → Type 0
+ActAlike {K} {V} {A} k v f acts = (a c : A) (i : K) (u : V) → f a c ≡ true → (v (acts a i u).0 (acts c i u).0 ≡ true) × ((acts a i u).1 ≡ (acts c i u).1)
+
+module _ {K V A : Type 0} (m : Kinds K V A) (laws : Lawful m.rules) (alike_acts : ActAlike m.rules.alike_key m.rules.alike_value m.alike_action m.acts) where
+  -- the same choice, between alike pairs
+  choose : (t u : Bool) (o p q r : Option (K × V)) → t ≡ u → AlikeAt m.rules o p → AlikeAt m.rules q r → AlikeAt m.rules (cond t o q) (cond u p r)
+  choose true u o p q r e a c = subst (λ x. AlikeAt m.rules o (cond x p r)) e a
+  choose false u o p q r e a c = subst (λ x. AlikeAt m.rules q (cond x p r)) e c
+
+  module _ (f g : A) (same : m.alike_action f g ≡ true) where
+    acted : (p : K × V) → (m.rules.alike_value (m.acts f p.0 p.1).0 (m.acts g p.0 p.1).0 ≡ true) × ((m.acts f p.0 p.1).1 ≡ (m.acts g p.0 p.1).1)
+    acted p = alike_acts f g p.0 p.1 same
+
+    changed-alike : (p : K × V) → AlikeAt m.rules (Some (changed (m.acts f) p)) (Some (changed (m.acts g) p))
+    changed-alike p = and_from _ _ (laws.key.refl p.0) (acted p).0
+
+    own : (p : K × V) → AlikeAt m.rules (Some p) (Some p)
+    own p = (at_laws m.rules laws).refl (Some p)
+
+    if_no-own : (o : Option (K × V)) → AlikeAt m.rules (option_and_then (λ p. if_no (m.acts f) p p) o) (option_and_then (λ p. if_no (m.acts g) p p) o)
+    if_no-own None = refl
+    if_no-own (Some p) = choose _ _ None None (Some p) (Some p) (acted p).1 refl (own p)
+
+    if_yes-own : (o : Option (K × V)) → AlikeAt m.rules (option_and_then (λ p. if_yes (m.acts f) p p) o) (option_and_then (λ p. if_yes (m.acts g) p p) o)
+    if_yes-own None = refl
+    if_yes-own (Some p) = choose _ _ (Some p) (Some p) None None (acted p).1 (own p) refl
+
+    if_no-changed : (o : Option (K × V)) → AlikeAt m.rules (option_and_then (λ p. if_no (m.acts f) p (changed (m.acts f) p)) o) (option_and_then (λ p. if_no (m.acts g) p (changed (m.acts g) p)) o)
+    if_no-changed None = refl
+    if_no-changed (Some p) = choose _ _ None None _ _ (acted p).1 refl (changed-alike p)
+
+    if_yes-changed : (o : Option (K × V)) → AlikeAt m.rules (option_and_then (λ p. if_yes (m.acts f) p (changed (m.acts f) p)) o) (option_and_then (λ p. if_yes (m.acts g) p (changed (m.acts g) p)) o)
+    if_yes-changed None = refl
+    if_yes-changed (Some p) = choose _ _ _ _ None None (acted p).1 (changed-alike p) refl
+
+    all-changed : (o : Option (K × V)) → AlikeAt m.rules (option_map (changed (m.acts f)) o) (option_map (changed (m.acts g)) o)
+    all-changed None = refl
+    all-changed (Some p) = changed-alike p
+
   -- a step's copy has an alike line
-  pub line-alike : (s t : ShardStep K V) → alike_step m.alike_key m.alike_value s t ≡ true → AlikeLine (line (step_of s)) (line (step_of t))
-  line-alike (Get j) (Get k) h = (h, λ o. at_laws.refl o, λ o. reply_laws.refl (Pair o))
-  line-alike (Insert j u) (Insert k v) h = let p = and_parts _ _ h in (p.0, put p.0 p.1, λ o. reply_laws.refl (Old (value o)))
+  pub line-alike : (s t : ShardStep K V A) → alike_step m.rules.alike_key m.rules.alike_value m.alike_action s t ≡ true → AlikeLine m.rules laws (line (step_of m.acts s)) (line (step_of m.acts t))
+  line-alike (Get j) (Get k) h = (h, λ o. (at_laws m.rules laws).refl o, λ o. (reply_laws m.rules laws).refl (Pair o))
+  line-alike (Contains j) (Contains k) h = (h, λ o. (at_laws m.rules laws).refl o, λ o. (reply_laws m.rules laws).refl (Found (is_some o)))
+  line-alike (Insert j u) (Insert k t) h = let p = and_parts _ _ h in (p.0, put p.0 p.1, λ o. (reply_laws m.rules laws).refl (Old (value o)))
     where
-      put : m.alike_key j k ≡ true → m.alike_value u v ≡ true → (o : Option (K × V)) → AlikeAt m (Some (key_or j o, u)) (Some (key_or k o, v))
-      put key value None = and_from _ _ key value
-      put key value (Some p) = and_from _ _ (laws.key.refl p.0) value
-  line-alike (Remove j) (Remove k) h = (h, λ _. refl, λ o. reply_laws.refl (Pair o))
+      put : m.rules.alike_key j k ≡ true → m.rules.alike_value u t ≡ true → (o : Option (K × V)) → AlikeAt m.rules (Some (key_or j o, u)) (Some (key_or k o, t))
+      put key val None = and_from _ _ key val
+      put key val (Some p) = and_from _ _ (laws.key.refl p.0) val
+  line-alike (Remove j) (Remove k) h = (h, λ _. refl, λ o. (reply_laws m.rules laws).refl (Pair o))
+  line-alike (RemoveIf j f) (RemoveIf k g) h = let p = and_parts _ _ h in (p.0, if_no-own f g p.1, if_yes-own f g p.1)
+  line-alike (RemoveIfMut j f) (RemoveIfMut k g) h = let p = and_parts _ _ h in (p.0, if_no-changed f g p.1, if_yes-changed f g p.1)
+  line-alike (Alter j f) (Alter k g) h = let p = and_parts _ _ h in (p.0, all-changed f g p.1, λ o. refl)
+  line-alike (Count i) (Count j) h = (eqb-true i j h, λ p. (at_laws m.rules laws).refl (Some p), λ l. (reply_laws m.rules laws).refl (Number (min (length l) (2 ^ 64 - 1))))
   line-alike s t h = cc

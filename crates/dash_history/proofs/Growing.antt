@@ -5,23 +5,28 @@ use Rattle.std.proofs.lemmas.List.{map-append}
 use Rattle.dash_shard.specs.Steps.{Step, Reply}
 use Rattle.dash_history.specs.declared.step.Record.{Record}
 use Rattle.dash_history.specs.Steps.{done}
-use Rattle.dash_history.specs.Takes.{Rules, Takes, Runs}
+use Rattle.dash_history.specs.Takes.{Rules, Kinds, Takes, Runs}
 use Rattle.dash_history.specs.History.{last_or, Rises, IsOf, IsHistory, LogState, IsLog}
 
-module _ {K V : Type 0} where
-  rises-more : (low : ℕ) (h : List (Record K V)) (r : Record K V) → Rises low h → last_or low h < r.stamp → Rises low (h ++ r ∷ [])
+-- a run with one more step
+pub runs-more : {K V : Type 0} (m : Rules K V) (P M Q : List (K × V)) (ds : List (Step K V × Reply K V)) (d : Step K V × Reply K V) → Runs m P ds M → Takes m M d.0 d.1 Q → Runs m P (ds ++ d ∷ []) Q
+runs-more m P M Q [] d r t = (Q, subst (λ z. Takes m z d.0 d.1 Q) (sym r) t, refl)
+runs-more m P M Q (e ∷ ds) d r t = (r.0, r.1, runs-more m r.0 M Q ds d r.2 t)
+
+module _ {K V A : Type 0} where
+  rises-more : (low : ℕ) (h : List (Record K V A)) (r : Record K V A) → Rises low h → last_or low h < r.stamp → Rises low (h ++ r ∷ [])
   rises-more low [] r rises above = (above, tt)
   rises-more low (q ∷ h) r rises above = (rises.0, rises-more q.stamp h r rises.1 above)
 
-  pub last_or-more : (low : ℕ) (h : List (Record K V)) (r : Record K V) → last_or low (h ++ r ∷ []) ≡ r.stamp
+  pub last_or-more : (low : ℕ) (h : List (Record K V A)) (r : Record K V A) → last_or low (h ++ r ∷ []) ≡ r.stamp
   last_or-more low [] r = refl
   last_or-more low (q ∷ h) r = last_or-more q.stamp h r
 
-  all-more : (P : Record K V → Type 0) (h : List (Record K V)) (r : Record K V) → All P h → P r → All P (h ++ r ∷ [])
+  all-more : (P : Record K V A → Type 0) (h : List (Record K V A)) (r : Record K V A) → All P h → P r → All P (h ++ r ∷ [])
   all-more P h r all here = All-append P h (r ∷ []) all (All-cons P r [] here (All-nil P))
 
   -- a log with one more record
-  pub log-more : (l : LogState K V) (r : Record K V) (last : ℕ) (entries : List (Record K V)) → IsLog l → l.last < last → r.stamp ≡ last → r.caller ≡ l.caller
+  pub log-more : (l : LogState K V A) (r : Record K V A) (last : ℕ) (entries : List (Record K V A)) → IsLog l → l.last < last → r.stamp ≡ last → r.caller ≡ l.caller
       → entries ≡ l.entries ++ r ∷ [] → IsLog (record { caller = l.caller; last = last; entries = entries })
   log-more l r last entries log above stamp own e = rw e (record {
     of = all-more (λ q. q.caller ≡ l.caller) l.entries r log.of own;
@@ -29,23 +34,18 @@ module _ {K V : Type 0} where
     last = omega (arith, last_or-more 0 l.entries r, stamp);
   })
 
-  module _ (m : Rules K V) where
-    -- a run with one more step
-    pub runs-more : (P M Q : List (K × V)) (ds : List (Step K V × Reply K V)) (d : Step K V × Reply K V) → Runs m P ds M → Takes m M d.0 d.1 Q → Runs m P (ds ++ d ∷ []) Q
-    runs-more P M Q [] d r t = (Q, subst (λ z. Takes m z d.0 d.1 Q) (sym r) t, refl)
-    runs-more P M Q (e ∷ ds) d r t = (r.0, r.1, runs-more r.0 M Q ds d r.2 t)
-
+  module _ (m : Kinds K V A) where
     -- a history with one more record
-    pub history-more : (callers s : ℕ) (h : List (Record K V)) (P Q : List (K × V)) (r : Record K V) → IsHistory m callers s h P → last_or 0 h < r.stamp → IsOf m callers s r
-        → Takes m P (done r).0 (done r).1 Q → IsHistory m callers s (h ++ r ∷ []) Q
+    pub history-more : (callers s : ℕ) (h : List (Record K V A)) (P Q : List (K × V)) (r : Record K V A) → IsHistory m callers s h P → last_or 0 h < r.stamp → IsOf m callers s r
+        → Takes m.rules P (done m.acts r).0 (done m.acts r).1 Q → IsHistory m callers s (h ++ r ∷ []) Q
     history-more callers s h P Q r legal above of t = record {
       of = all-more (IsOf m callers s) h r legal.of of;
       rises = rises-more 0 h r legal.rises above;
-      runs = subst (λ ds. Runs m [] ds Q) (sym (map-append done h (r ∷ []))) (runs-more [] P Q (map done h) (done r) legal.runs t);
+      runs = subst (λ ds. Runs m.rules [] ds Q) (sym (map-append (done m.acts) h (r ∷ []))) (runs-more m.rules [] P Q (map (done m.acts) h) (done m.acts r) legal.runs t);
     }
 
     -- nothing was recorded yet
-    pub history-none : (callers s : ℕ) (h : List (Record K V)) (P : List (K × V)) → h ≡ [] → length P ≡ 0 → IsHistory m callers s h P
+    pub history-none : (callers s : ℕ) (h : List (Record K V A)) (P : List (K × V)) → h ≡ [] → length P ≡ 0 → IsHistory m callers s h P
     history-none callers s h P none empty = rw none (record { of = All-nil (IsOf m callers s); rises = tt; runs = nothing P empty })
       where
         nothing : (Q : List (K × V)) → length Q ≡ 0 → [] ≡ Q

@@ -8,3 +8,4 @@ mod Logging
 mod Maps
 pub mod Plains
 pub mod Recording
+pub mod Planning

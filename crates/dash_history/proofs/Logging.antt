@@ -1,30 +1,41 @@
 -- What a step leaves in the caller's log.
-use Rattle.std.proofs.Common.{◌≡◌, ℕ, Bool, true, sym, ◌∙◌, arith, IsTrue, eqb-true}
+use Rattle.std.proofs.Common.{◌≡◌, ℕ, ◌&&◌, Bool, true, sym, ◌∙◌, arith, IsTrue, eqb-true}
 use Rattle.std.proofs.lemmas.Bool.{and_parts, and_from}
-use Rattle.std.specs.Cmp.{IsEquivalence}
+use Rattle.std.specs.Cmp.{IsEquivalence, nat_eq_equiv}
 use Rattle.dash_history.specs.declared.step.ShardStep.{ShardStep}
-use Rattle.dash_history.specs.declared.step.ShardStep.TheVariants.{Get, Insert, Remove}
+use Rattle.dash_history.specs.declared.step.ShardStep.TheVariants.{Get, Contains, Insert, Remove, RemoveIf, RemoveIfMut, Alter, Count}
 use Rattle.dash_history.specs.declared.step.Reply as program
 use Rattle.dash_history.specs.declared.step.Record.{Record}
 use Rattle.dash_history.specs.Steps.{reply_of, alike_step, alike_record}
-use Rattle.dash_history.specs.Takes.{Rules}
+use Rattle.dash_history.specs.Takes.{Kinds}
 use Rattle.dash_history.specs.History.{RecState, LogState, Tells, Recorded, place_of, stamp_of}
 use Rattle.dash_history.specs.Map.{Logged}
 use Rattle.dash_history.proofs.AlikeLaws.{chained, reply_equiv}
 
-module _ {K V : Type 0} {k : K → K → Bool} {v : V → V → Bool} (lk : IsEquivalence k) (lv : IsEquivalence v) where
-  step-chained : (x y z : ShardStep K V) → alike_step k v x y ≡ true → alike_step k v y z ≡ true → alike_step k v x z ≡ true
+module _ {K V A : Type 0} {k : K → K → Bool} {v : V → V → Bool} {f : A → A → Bool} (lk : IsEquivalence k) (lv : IsEquivalence v) (lf : IsEquivalence f) where
+  both : (i j l : K) (a b c : A) → (k i j && f a b) ≡ true → (k j l && f b c) ≡ true → (k i l && f a c) ≡ true
+  both i j l a b c h g =
+      let p = and_parts (k i j) (f a b) h in
+      let q = and_parts (k j l) (f b c) g in
+      and_from _ _ (chained lk i j l p.0 q.0) (chained lf a b c p.1 q.1)
+
+  step-chained : (x y z : ShardStep K V A) → alike_step k v f x y ≡ true → alike_step k v f y z ≡ true → alike_step k v f x z ≡ true
   step-chained (Get i) (Get j) (Get l) h g = chained lk i j l h g
+  step-chained (Contains i) (Contains j) (Contains l) h g = chained lk i j l h g
   step-chained (Insert i u) (Insert j t) (Insert l w) h g =
       let p = and_parts (k i j) (v u t) h in
       let q = and_parts (k j l) (v t w) g in
       and_from _ _ (chained lk i j l p.0 q.0) (chained lv u t w p.1 q.1)
   step-chained (Remove i) (Remove j) (Remove l) h g = chained lk i j l h g
+  step-chained (RemoveIf i a) (RemoveIf j b) (RemoveIf l c) h g = both i j l a b c h g
+  step-chained (RemoveIfMut i a) (RemoveIfMut j b) (RemoveIfMut l c) h g = both i j l a b c h g
+  step-chained (Alter i a) (Alter j b) (Alter l c) h g = both i j l a b c h g
+  step-chained (Count i) (Count j) (Count l) h g = chained nat_eq_equiv i j l h g
   step-chained x y z h g = cc
 
   -- what a record says, the same record says
-  tells-same : (stamp caller shard : ℕ) (step : ShardStep K V) (reply : program.Reply K V) (r q : Record K V) → Tells k v stamp caller shard step reply r → IsTrue (alike_record k v r q)
-      → Tells k v stamp caller shard step reply q
+  tells-same : (stamp caller shard : ℕ) (step : ShardStep K V A) (reply : program.Reply K V) (r q : Record K V A) → Tells k v f stamp caller shard step reply r → IsTrue (alike_record k v f r q)
+      → Tells k v f stamp caller shard step reply q
   tells-same stamp caller shard step reply r q t same =
       let replies = and_parts _ _ same in
       let steps = and_parts _ _ replies.0 in
@@ -38,12 +49,12 @@ module _ {K V : Type 0} {k : K → K → Bool} {v : V → V → Bool} (lk : IsEq
         replied = chained (reply_equiv lk lv) (reply_of reply) (reply_of r.reply) (reply_of q.reply) t.replied replies.1;
       }
 
-module _ {K V S : Type 0} (m : Rules K V) (lk : IsEquivalence m.alike_key) (lv : IsEquivalence m.alike_value) where
+module _ {K V A S : Type 0} (m : Kinds K V A) (lk : IsEquivalence m.rules.alike_key) (lv : IsEquivalence m.rules.alike_value) (lf : IsEquivalence m.alike_action) where
   -- a step that was recorded on the shard of its place is in the log
-  pub logged : (s s' : RecState K V S) (l l' : LogState K V) (step : ShardStep K V) (reply : program.Reply K V) → place_of m step ≡ s.shard.number → Recorded m s s' l l' step reply → Logged m l l' step reply
+  pub logged : (s s' : RecState K V A S) (l l' : LogState K V A) (step : ShardStep K V A) (reply : program.Reply K V) → place_of m step ≡ s.shard.number → Recorded m s s' l l' step reply → Logged m l l' step reply
   logged s s' l l' step reply here r = record {
     entry = r.logged;
-    tells = rw (here, r.log_last) (tells-same lk lv (stamp_of s l) l.caller s.shard.number step reply r.grown.kept r.logged r.grown.tells r.grown.same);
+    tells = rw (here, r.log_last) (tells-same lk lv lf (stamp_of s l) l.caller s.shard.number step reply r.grown.kept r.logged r.grown.tells r.grown.same);
     above = omega (arith, r.log_last);
     entries = r.entries;
     caller = r.caller;

@@ -7,19 +7,20 @@ use Rattle.std.specs.declared.hash.Hasher as hasher
 use Rattle.std.specs.declared.hash.BuildHasher as builder
 use Rattle.dash_shard.specs.Hashing.{hash_of, route_by, route_of_hash}
 use Rattle.dash_shard.specs.Contents.{keys}
-use Rattle.dash_shard.specs.Steps.{Becomes}
-use Rattle.dash_shard.specs.Shard.{ShardState, IsShard, SameShard, pairs, keys_of}
+use Rattle.dash_shard.specs.Steps.{Act}
+use Rattle.dash_shard.specs.Shard.{ShardState, IsShard, SameShard, pairs}
 use Rattle.dash_history.specs.declared.step.ShardStep.{ShardStep}
 use Rattle.dash_history.specs.declared.step.Reply as program
 use Rattle.dash_history.specs.declared.step.Record.{Record}
 use Rattle.dash_history.specs.Steps.{step_of, reply_of, alike_record}
 use Rattle.dash_history.specs.Takes.{rules, Answers, Takes}
-use Rattle.dash_history.specs.History.{RecState, IsRecorded, Tells, last_or, rules_of, place_of}
-use Rattle.dash_history.proofs.Copies.{Lawful, takes-exactly, takes-alike, line-alike, place-alike}
+use Rattle.dash_history.specs.History.{RecState, IsRecorded, Tells, last_or, kinds_of, place_of}
+use Rattle.dash_history.specs.Plan.{Leaves}
+use Rattle.dash_history.proofs.Copies.{Lawful, ActAlike, takes-alike, line-alike, place-alike}
 use Rattle.dash_history.proofs.Growing.{history-more, last_or-more}
 
 -- alike records have one stamp and one caller
-module _ {K V : Type 0} (k : K → K → Bool) (v : V → V → Bool) (r q : Record K V) (same : IsTrue (alike_record k v r q)) where
+module _ {K V A : Type 0} (k : K → K → Bool) (v : V → V → Bool) (f : A → A → Bool) (r q : Record K V A) (same : IsTrue (alike_record k v f r q)) where
   stamp_caller : ((r.stamp == q.stamp) && (r.caller == q.caller)) ≡ true
   stamp_caller = (and_parts _ _ (and_parts _ _ (and_parts _ _ same).0).0).0
 
@@ -42,33 +43,38 @@ module _ {K V S H : Type 0} (eq : K → K → Bool) (b : builder.Ghosts S H) (h 
     alike_equal = alike_equal;
   }
 
-  lawful : (s : ShardState K V S) → Lawful (rules_of eq b h input k v s)
-  lawful s = lawful-by s.hasher s.amount
+  module _ {A : Type 0} (f : A → A → Bool) (acts : A → Act K V) (alike_acts : ActAlike k v f acts) where
+    lawful : (s : ShardState K V S) → Lawful (kinds_of eq b h input k v f acts s).rules
+    lawful s = lawful-by s.hasher s.amount
 
-  -- a step that got this reply and made this of the pairs was taken
-  pub taken : (s t : ShardState K V S) (step : ShardStep K V) (reply : program.Reply K V) → IsShard eq b h input s → place_of (rules_of eq b h input k v s) step ≡ s.number
-      → Answers (rules_of eq b h input k v s) (pairs s) (step_of step) (reply_of reply) → Becomes (keys_of eq b h input s) (step_of step) (pairs s) (pairs t)
-      → IsShard eq b h input t → Takes (rules_of eq b h input k v s) (pairs s) (step_of step) (reply_of reply) (pairs t)
-  taken s t step reply shard here answers becomes new =
-      takes-exactly (rules_of eq b h input k v s) (lawful s) (pairs s) (pairs t) (step_of step) (reply_of reply) (subst (λ n. n < s.amount) (sym here) shard.number) answers becomes new.contents.distinct
+    -- a step that got this reply and left these pairs was taken
+    pub taken : (s t : ShardState K V S) (step : ShardStep K V A) (reply : program.Reply K V) → IsShard eq b h input s → place_of (kinds_of eq b h input k v f acts s) step ≡ s.number
+        → Answers (kinds_of eq b h input k v f acts s).rules (pairs s) (step_of acts step) (reply_of reply) → Leaves (kinds_of eq b h input k v f acts s) (pairs s) step (pairs t)
+        → SameShard s t → IsShard eq b h input t → Takes (kinds_of eq b h input k v f acts s).rules (pairs s) (step_of acts step) (reply_of reply) (pairs t)
+    taken s t step reply shard here answers leaves stays new = record {
+      in_range = subst (λ n. n < s.amount) (sym here) shard.number;
+      answers = answers;
+      each_key = leaves;
+      distinct = new.contents.distinct;
+    }
 
-  -- the recorded shard, with a record of the step at the end of its history
-  pub recorded : (s : RecState K V S) (t : ShardState K V S) (step : ShardStep K V) (reply : program.Reply K V) (stamp caller : ℕ) (r : Record K V) (history : List (Record K V))
-      → IsRecorded eq b h input k v s → SameShard s.shard t → IsShard eq b h input t
-      → Takes (rules_of eq b h input k v s.shard) (pairs s.shard) (step_of step) (reply_of reply) (pairs t)
-      → place_of (rules_of eq b h input k v s.shard) step ≡ s.shard.number → caller < s.callers → s.last < stamp
-      → Tells k v stamp caller s.shard.number step reply r → history ≡ s.history ++ r ∷ []
-      → IsRecorded eq b h input k v (record { shard = t; callers = s.callers; last = stamp; history = history })
-  recorded s t step reply stamp caller r history old stays new takes here below above tells e =
-      let m = rules_of eq b h input k v s.shard in
-      let laws = lawful s.shard in
-      let line = line-alike m laws step r.step tells.stepped in
-      record {
-        shard = new;
-        history = rw (stays.hasher, stays.amount, stays.number, e)
-            (history-more (rules_of eq b h input k v s.shard) s.callers s.shard.number s.history (pairs s.shard) (pairs t) r old.history
-            (omega (arith, above, old.last, tells.stamped))
-            (record { shard = tells.of; place = sym (place-alike m laws _ _ line) ∙ here; caller = subst (λ n. n < s.callers) (sym tells.by) below })
-            (takes-alike m laws (pairs s.shard) (pairs t) (step_of step) (step_of r.step) (reply_of reply) (reply_of r.reply) line tells.replied takes));
-        last = sym (ap (last_or 0) e ∙ last_or-more 0 s.history r ∙ tells.stamped);
-      }
+    -- the recorded shard, with a record of the step at the end of its history
+    pub recorded : (s : RecState K V A S) (t : ShardState K V S) (step : ShardStep K V A) (reply : program.Reply K V) (stamp caller : ℕ) (r : Record K V A) (history : List (Record K V A))
+        → IsRecorded eq b h input k v f acts s → SameShard s.shard t → IsShard eq b h input t
+        → Takes (kinds_of eq b h input k v f acts s.shard).rules (pairs s.shard) (step_of acts step) (reply_of reply) (pairs t)
+        → place_of (kinds_of eq b h input k v f acts s.shard) step ≡ s.shard.number → caller < s.callers → s.last < stamp
+        → Tells k v f stamp caller s.shard.number step reply r → history ≡ s.history ++ r ∷ []
+        → IsRecorded eq b h input k v f acts (record { shard = t; callers = s.callers; last = stamp; history = history })
+    recorded s t step reply stamp caller r history old stays new takes here below above tells e =
+        let m = kinds_of eq b h input k v f acts s.shard in
+        let laws = lawful s.shard in
+        let line = line-alike m laws alike_acts step r.step tells.stepped in
+        record {
+          shard = new;
+          history = rw (stays.hasher, stays.amount, stays.number, e)
+              (history-more (kinds_of eq b h input k v f acts s.shard) s.callers s.shard.number s.history (pairs s.shard) (pairs t) r old.history
+              (omega (arith, above, old.last, tells.stamped))
+              (record { shard = tells.of; place = sym (place-alike m.rules laws _ _ line) ∙ here; caller = subst (λ n. n < s.callers) (sym tells.by) below })
+              (takes-alike m.rules laws (pairs s.shard) (pairs t) (step_of acts step) (step_of acts r.step) (reply_of reply) (reply_of r.reply) line tells.replied takes));
+          last = sym (ap (last_or 0) e ∙ last_or-more 0 s.history r ∙ tells.stamped);
+        }

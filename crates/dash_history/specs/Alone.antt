@@ -7,7 +7,8 @@ use Rattle.std.specs.declared.hash.BuildHasher as builder
 use Rattle.dash_shard.specs.Hashing.{IsAmount, HashAlike, route_by}
 use Rattle.dash_shard.specs.Contents.{keys}
 use Rattle.dash_shard.specs.Shard.{pairs}
-use Rattle.dash_history.specs.Takes.{Rules, rules}
+use Rattle.dash_shard.specs.Steps.{Act}
+use Rattle.dash_history.specs.Takes.{Kinds, kinds, rules}
 use Rattle.dash_history.specs.History.{LogState, RecState, Recorded, place_of}
 use Rattle.dash_history.specs.declared.step.ShardStep.{ShardStep}
 use Rattle.dash_history.specs.declared.step.Reply.{Reply}
@@ -18,49 +19,49 @@ pub record IsCallers (c : ℕ) : Type 0 where
   pub few : c ≤ 65536
 
 -- the logs of the callers 0 to c - 1, with no entries
-abbrev pub fresh_logs : {K V : Type 0} → ℕ → List (LogState K V)
+abbrev pub fresh_logs : {K V A : Type 0} → ℕ → List (LogState K V A)
 fresh_logs zero = []
 fresh_logs (suc c) = fresh_logs c ++ record { caller = c; last = 0; entries = [] } ∷ []
 
 -- what contracts see of the map
-pub record AloneState (K V S : Type 0) : Type 0 where
+pub record AloneState (K V A S : Type 0) : Type 0 where
   pub hasher : S
   pub callers : ℕ
-  pub row : List (RecState K V S)
+  pub row : List (RecState K V A S)
 
-module _ {K V S : Type 0} where
+module _ {K V A S : Type 0} where
   -- no pair, and no history
-  pub record IsFresh (s : RecState K V S) : Type 0 where
+  pub record IsFresh (s : RecState K V A S) : Type 0 where
     pub pairs : pairs s.shard ≡ []
     pub history : s.history ≡ []
     pub last : s.last ≡ 0
 
   -- the last stamp of shard i, 0 where there is none
-  abbrev pub last_at : AloneState K V S → ℕ → ℕ
+  abbrev pub last_at : AloneState K V A S → ℕ → ℕ
   last_at a i = option_map_or (λ s. s.last) (slice_get a.row i) 0
 
   module _ {H : Type 0} (b : builder.Ghosts S H) (h : hasher.Ghosts H) where
     -- the shard i of n, of a map with c callers and a hasher of this meaning
-    pub record IsPlaced (meaning : S) (n c i : ℕ) (s : RecState K V S) : Type 0 where
+    pub record IsPlaced (meaning : S) (n c i : ℕ) (s : RecState K V A S) : Type 0 where
       pub number : s.shard.number ≡ i
       pub amount : s.shard.amount ≡ n
       pub callers : s.callers ≡ c
       pub hashes : HashAlike b h meaning s.shard.hasher
 
     -- each shard stands in its place
-    pub record IsAlone (a : AloneState K V S) : Type 0 where
+    pub record IsAlone (a : AloneState K V A S) : Type 0 where
       pub amount : IsAmount (length a.row)
       pub callers : IsCallers a.callers
-      pub placed : (i : ℕ) (s : RecState K V S) → slice_get a.row i ≡ Some s → IsPlaced a.hasher (length a.row) a.callers i s
+      pub placed : (i : ℕ) (s : RecState K V A S) → slice_get a.row i ≡ Some s → IsPlaced a.hasher (length a.row) a.callers i s
 
-    -- what the map knows of its keys and values
-    abbrev pub rules_in : (K → K → Bool) → (K → HashWrites) → (K → K → Bool) → (V → V → Bool) → AloneState K V S → Rules K V
-    rules_in eq input k v a = rules k v (keys eq (route_by b h input a.hasher (length a.row)) (length a.row))
+    -- what the map knows of its keys, values and actions
+    abbrev pub kinds_in : (K → K → Bool) → (K → HashWrites) → (K → K → Bool) → (V → V → Bool) → (A → A → Bool) → (A → Act K V) → AloneState K V A S → Kinds K V A
+    kinds_in eq input k v f acts a = kinds f acts (rules k v (keys eq (route_by b h input a.hasher (length a.row)) (length a.row)))
 
   -- The step was taken and recorded on the shard of its place. The other shards are as they were.
-  pub record Applied (m : Rules K V) (a a' : AloneState K V S) (l l' : LogState K V) (step : ShardStep K V) (reply : Reply K V) : Type 0 where
-    pub before : RecState K V S
-    pub after : RecState K V S
+  pub record Applied (m : Kinds K V A) (a a' : AloneState K V A S) (l l' : LogState K V A) (step : ShardStep K V A) (reply : Reply K V) : Type 0 where
+    pub before : RecState K V A S
+    pub after : RecState K V A S
     pub here : slice_get a.row (place_of m step) ≡ Some before
     pub recorded : Recorded m before after l l' step reply
     pub others : a' ≡ record a { row = slice_set a.row (place_of m step) after }

@@ -7,16 +7,16 @@ use Rattle.dash_history.specs.declared.step.ShardStep.{ShardStep}
 use Rattle.dash_history.specs.declared.step.Reply.{Reply}
 use Rattle.dash_history.specs.declared.step.Record.{Record}
 use Rattle.dash_history.specs.declared.record.held.Place.{Place}
-use Rattle.dash_history.specs.Takes.{Rules}
+use Rattle.dash_history.specs.Takes.{Kinds}
 use Rattle.dash_history.specs.History.{RecState, Grown}
 use Rattle.dash_history.specs.Alone.{IsPlaced}
 
 -- a recorded shard fits what its lock was made for: it stands in its place
-abbrev pub FitsPlace : {K V S H : Type 0} → builder.Ghosts S H → hasher.Ghosts H → Place S → RecState K V S → Type 0
+abbrev pub FitsPlace : {K V A S H : Type 0} → builder.Ghosts S H → hasher.Ghosts H → Place S → RecState K V A S → Type 0
 FitsPlace b h tag s = IsPlaced b h tag.hasher.value tag.amount tag.callers tag.number s
 
 -- all that a step at a stamp promises
-pub record Grows {K V S : Type 0} (m : Rules K V) (s s' : RecState K V S) (stamp caller : ℕ) (step : ShardStep K V) (result : Result (Reply K V × Record K V) (ShardStep K V)) : Type 0 where
+pub record Grows {K V A S : Type 0} (m : Kinds K V A) (s s' : RecState K V A S) (stamp caller : ℕ) (step : ShardStep K V A) (result : Result (Reply K V × Record K V A) (ShardStep K V A)) : Type 0 where
   pub ok : IfOk result (λ p. Grown m s s' stamp caller step p.0 p.1)
   pub refused : IfErr result (λ back. (back ≡ step) × (s' ≡ s))
   pub stays : SameShard s.shard s'.shard

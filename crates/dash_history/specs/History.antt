@@ -3,99 +3,99 @@ use Rattle.std.specs.Prelude.{ℕ, ◌≡◌, ◌+◌, ◌<◌, ◌≤◌, max, 
 use Rattle.std.specs.Hash.{HashWrites}
 use Rattle.std.specs.declared.hash.Hasher as hasher
 use Rattle.std.specs.declared.hash.BuildHasher as builder
-use Rattle.dash_shard.specs.Steps.{place}
+use Rattle.dash_shard.specs.Steps.{Act, place}
 use Rattle.dash_shard.specs.Shard.{ShardState, IsShard, SameShard, pairs, keys_of}
 use Rattle.dash_history.specs.Alike.{alike_reply}
 use Rattle.dash_history.specs.Steps.{step_of, reply_of, done, alike_step, alike_record}
-use Rattle.dash_history.specs.Takes.{Rules, rules, Takes, Runs}
+use Rattle.dash_history.specs.Takes.{Kinds, kinds, rules, Takes, Runs}
 use Rattle.dash_history.specs.declared.step.ShardStep.{ShardStep}
 use Rattle.dash_history.specs.declared.step.Reply.{Reply}
 use Rattle.dash_history.specs.declared.step.Record.{Record}
 
 -- the stamp of the last record, or the one given where there is none
-abbrev pub last_or : {K V : Type 0} → ℕ → List (Record K V) → ℕ
+abbrev pub last_or : {K V A : Type 0} → ℕ → List (Record K V A) → ℕ
 last_or low [] = low
 last_or low (r ∷ rs) = last_or r.stamp rs
 
 -- the stamps rise strictly, from above low
-abbrev pub Rises : {K V : Type 0} → ℕ → List (Record K V) → Type 0
+abbrev pub Rises : {K V A : Type 0} → ℕ → List (Record K V A) → Type 0
 Rises low [] = ⊤
 Rises low (r ∷ rs) = (low < r.stamp) × Rises r.stamp rs
 
-module _ {K V : Type 0} (m : Rules K V) where
+module _ {K V A : Type 0} (m : Kinds K V A) where
+  -- the place of a step: the number of its shard
+  abbrev pub place_of : ShardStep K V A → ℕ
+  place_of step = place m.rules.keys (step_of m.acts step)
+
   -- a record of shard s, by one of the callers, of a step that goes to s
-  pub record IsOf (callers s : ℕ) (r : Record K V) : Type 0 where
+  pub record IsOf (callers s : ℕ) (r : Record K V A) : Type 0 where
     pub shard : r.shard ≡ s
-    pub place : place m.keys (step_of r.step) ≡ s
+    pub place : place_of r.step ≡ s
     pub caller : r.caller < callers
 
   -- shard history: the history of shard s, from no pairs to the pairs P
-  pub record IsHistory (callers s : ℕ) (h : List (Record K V)) (P : List (K × V)) : Type 0 where
+  pub record IsHistory (callers s : ℕ) (h : List (Record K V A)) (P : List (K × V)) : Type 0 where
     pub of : All (IsOf callers s) h
     pub rises : Rises 0 h
-    pub runs : Runs m [] (map done h) P
+    pub runs : Runs m.rules [] (map (done m.acts) h) P
 
 -- what contracts see of a caller's log
-pub record LogState (K V : Type 0) : Type 0 where
+pub record LogState (K V A : Type 0) : Type 0 where
   pub caller : ℕ
   pub last : ℕ
-  pub entries : List (Record K V)
+  pub entries : List (Record K V A)
 
 -- caller log: the caller's own records, and the last stamp is not below theirs
-pub record IsLog {K V : Type 0} (l : LogState K V) : Type 0 where
+pub record IsLog {K V A : Type 0} (l : LogState K V A) : Type 0 where
   pub of : All (λ r. r.caller ≡ l.caller) l.entries
   pub rises : Rises 0 l.entries
   pub last : last_or 0 l.entries ≤ l.last
 
 -- what contracts see of a recorded shard
-pub record RecState (K V S : Type 0) : Type 0 where
+pub record RecState (K V A S : Type 0) : Type 0 where
   pub shard : ShardState K V S
   pub callers : ℕ
   pub last : ℕ
-  pub history : List (Record K V)
+  pub history : List (Record K V A)
 
 -- one above the greater of the shard's last and the log's last
-abbrev pub stamp_of : {K V S : Type 0} → RecState K V S → LogState K V → ℕ
+abbrev pub stamp_of : {K V A S : Type 0} → RecState K V A S → LogState K V A → ℕ
 stamp_of s l = max s.last l.last + 1
 
 -- the record says this
-pub record Tells {K V : Type 0} (k : K → K → Bool) (v : V → V → Bool) (stamp caller shard : ℕ) (step : ShardStep K V) (reply : Reply K V) (r : Record K V) : Type 0 where
+pub record Tells {K V A : Type 0} (k : K → K → Bool) (v : V → V → Bool) (f : A → A → Bool) (stamp caller shard : ℕ) (step : ShardStep K V A) (reply : Reply K V) (r : Record K V A) : Type 0 where
   pub stamped : r.stamp ≡ stamp
   pub by : r.caller ≡ caller
   pub of : r.shard ≡ shard
-  pub stepped : IsTrue (alike_step k v step r.step)
+  pub stepped : IsTrue (alike_step k v f step r.step)
   pub replied : IsTrue (alike_reply k v (reply_of reply) (reply_of r.reply))
 
 -- The step was taken on the shard, and a record of it was added at the end of the history. The other record is the same.
-pub record Grown {K V S : Type 0} (m : Rules K V) (s s' : RecState K V S) (stamp caller : ℕ) (step : ShardStep K V) (reply : Reply K V) (logged : Record K V) : Type 0 where
-  pub takes : Takes m (pairs s.shard) (step_of step) (reply_of reply) (pairs s'.shard)
-  pub kept : Record K V
-  pub tells : Tells m.alike_key m.alike_value stamp caller s.shard.number step reply kept
-  pub same : IsTrue (alike_record m.alike_key m.alike_value kept logged)
+pub record Grown {K V A S : Type 0} (m : Kinds K V A) (s s' : RecState K V A S) (stamp caller : ℕ) (step : ShardStep K V A) (reply : Reply K V) (logged : Record K V A) : Type 0 where
+  pub takes : Takes m.rules (pairs s.shard) (step_of m.acts step) (reply_of reply) (pairs s'.shard)
+  pub kept : Record K V A
+  pub tells : Tells m.rules.alike_key m.rules.alike_value m.alike_action stamp caller s.shard.number step reply kept
+  pub same : IsTrue (alike_record m.rules.alike_key m.rules.alike_value m.alike_action kept logged)
   pub history : s'.history ≡ s.history ++ kept ∷ []
   pub last : s'.last ≡ stamp
   pub stays : SameShard s.shard s'.shard
   pub callers : s'.callers ≡ s.callers
 
 -- The step was taken on the shard, and one same record of it was added at the end of the history and of the log.
-pub record Recorded {K V S : Type 0} (m : Rules K V) (s s' : RecState K V S) (l l' : LogState K V) (step : ShardStep K V) (reply : Reply K V) : Type 0 where
-  pub logged : Record K V
+pub record Recorded {K V A S : Type 0} (m : Kinds K V A) (s s' : RecState K V A S) (l l' : LogState K V A) (step : ShardStep K V A) (reply : Reply K V) : Type 0 where
+  pub logged : Record K V A
   pub grown : Grown m s s' (stamp_of s l) l.caller step reply logged
   pub entries : l'.entries ≡ l.entries ++ logged ∷ []
   pub log_last : l'.last ≡ stamp_of s l
   pub caller : l'.caller ≡ l.caller
 
-module _ {K V S H : Type 0} (eq : K → K → Bool) (b : builder.Ghosts S H) (h : hasher.Ghosts H) (input : K → HashWrites) (k : K → K → Bool) (v : V → V → Bool) where
-  -- what the map of a shard knows of its keys and values
-  abbrev pub rules_of : ShardState K V S → Rules K V
-  rules_of s = rules k v (keys_of eq b h input s)
+module _ {K V A S H : Type 0} (eq : K → K → Bool) (b : builder.Ghosts S H) (h : hasher.Ghosts H) (input : K → HashWrites) (k : K → K → Bool) (v : V → V → Bool) (f : A → A → Bool) (acts : A → Act K V) where
+  -- what the map of a shard knows of its keys, values and actions
+  abbrev pub kinds_of : ShardState K V S → Kinds K V A
+  kinds_of s = kinds f acts (rules k v (keys_of eq b h input s))
 
   -- a recorded shard: its history led to its pairs
-  pub record IsRecorded (s : RecState K V S) : Type 0 where
+  pub record IsRecorded (s : RecState K V A S) : Type 0 where
     pub shard : IsShard eq b h input s.shard
-    pub history : IsHistory (rules_of s.shard) s.callers s.shard.number s.history (pairs s.shard)
+    pub history : IsHistory (kinds_of s.shard) s.callers s.shard.number s.history (pairs s.shard)
     pub last : s.last ≡ last_or 0 s.history
-
--- the place of a step: the number of its shard
-abbrev pub place_of : {K V : Type 0} → Rules K V → ShardStep K V → ℕ
-place_of m step = place m.keys (step_of step)

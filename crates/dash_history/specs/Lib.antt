@@ -6,3 +6,4 @@ pub mod Alone
 pub mod Plain
 pub mod Held
 pub mod Map
+pub mod Plan

@@ -7,8 +7,9 @@ use Rattle.crossbeam_utils.specs.declared.cache_padded.CachePadded.{CachePadded}
 use Rattle.crossbeam_utils.specs.Padded.{padded_value}
 use Rattle.dash_shard.specs.Hashing.{IsAmount, route_by}
 use Rattle.dash_shard.specs.Contents.{keys}
+use Rattle.dash_shard.specs.Steps.{Act}
 use Rattle.dash_history.specs.Steps.{step_of, reply_of}
-use Rattle.dash_history.specs.Takes.{Rules, rules, Answers}
+use Rattle.dash_history.specs.Takes.{Kinds, kinds, rules, Answers}
 use Rattle.dash_history.specs.History.{LogState, Tells, place_of}
 use Rattle.dash_history.specs.Alone.{IsCallers}
 use Rattle.dash_history.specs.declared.step.ShardStep.{ShardStep}
@@ -36,17 +37,17 @@ module _ {S : Type 0} where
     pub callers : IsCallers m.callers
     pub placed : (i : ℕ) (lock : CachePadded (Place S)) → slice_get locks i ≡ Some lock → IsAt m i lock
 
-  -- what the map knows of its keys and values
-  abbrev pub rules_on : {K V H : Type 0} → builder.Ghosts S H → hasher.Ghosts H → (K → K → Bool) → (K → HashWrites) → (K → K → Bool) → (V → V → Bool) → MapState S → Rules K V
-  rules_on b h eq input k v m = rules k v (keys eq (route_by b h input m.hasher m.amount) m.amount)
+  -- what the map knows of its keys, values and actions
+  abbrev pub kinds_on : {K V A H : Type 0} → builder.Ghosts S H → hasher.Ghosts H → (K → K → Bool) → (K → HashWrites) → (K → K → Bool) → (V → V → Bool) → (A → A → Bool) → (A → Act K V) → MapState S → Kinds K V A
+  kinds_on b h eq input k v f acts m = kinds f acts (rules k v (keys eq (route_by b h input m.hasher m.amount) m.amount))
 
 -- The log is longer by one record of the step, with the reply, the step's place and a stamp above the log's last. The reply is one
 -- that the step gets from some contents of its shard.
-pub record Logged {K V : Type 0} (m : Rules K V) (l l' : LogState K V) (step : ShardStep K V) (reply : Reply K V) : Type 0 where
-  pub entry : Record K V
-  pub tells : Tells m.alike_key m.alike_value l'.last l.caller (place_of m step) step reply entry
+pub record Logged {K V A : Type 0} (m : Kinds K V A) (l l' : LogState K V A) (step : ShardStep K V A) (reply : Reply K V) : Type 0 where
+  pub entry : Record K V A
+  pub tells : Tells m.rules.alike_key m.rules.alike_value m.alike_action l'.last l.caller (place_of m step) step reply entry
   pub above : l.last < l'.last
   pub entries : l'.entries ≡ l.entries ++ entry ∷ []
   pub caller : l'.caller ≡ l.caller
   pub contents : List (K × V)
-  pub answers : Answers m contents (step_of step) (reply_of reply)
+  pub answers : Answers m.rules contents (step_of m.acts step) (reply_of reply)

@@ -3,33 +3,46 @@ use Rattle.std.specs.Prelude.{◌==◌, ◌&&◌, Bool, false}
 use Rattle.dash_shard.specs.Steps as table
 use Rattle.dash_history.specs.Alike.{alike_reply}
 use Rattle.dash_history.specs.declared.step.ShardStep.{ShardStep}
-use Rattle.dash_history.specs.declared.step.ShardStep.TheVariants.{Get, Insert, Remove}
+use Rattle.dash_history.specs.declared.step.ShardStep.TheVariants.{Get, Contains, Insert, Remove, RemoveIf, RemoveIfMut, Alter, Count}
 use Rattle.dash_history.specs.declared.step.Reply.{Reply}
-use Rattle.dash_history.specs.declared.step.Reply.TheVariants.{Pair, Old}
+use Rattle.dash_history.specs.declared.step.Reply.TheVariants.{Pair, Found, Old, Number, Done}
 use Rattle.dash_history.specs.declared.step.Record.{Record}
 
-module _ {K V : Type 0} where
+-- the reply that the table speaks of
+abbrev pub reply_of : {K V : Type 0} → Reply K V → table.Reply K V
+reply_of (Pair o) = table.Pair o
+reply_of (Found b) = table.Found b
+reply_of (Old o) = table.Old o
+reply_of (Number n) = table.Number n
+reply_of Done = table.Done
+
+module _ {K V A : Type 0} (acts : A → table.Act K V) where
   -- the step that the table speaks of
-  abbrev pub step_of : ShardStep K V → table.Step K V
+  abbrev pub step_of : ShardStep K V A → table.Step K V
   step_of (Get k) = table.Get k
+  step_of (Contains k) = table.Contains k
   step_of (Insert k v) = table.Insert k v
   step_of (Remove k) = table.Remove k
-
-  -- the reply that the table speaks of
-  abbrev pub reply_of : Reply K V → table.Reply K V
-  reply_of (Pair o) = table.Pair o
-  reply_of (Old o) = table.Old o
+  step_of (RemoveIf k f) = table.RemoveIf k (acts f)
+  step_of (RemoveIfMut k f) = table.RemoveIfMut k (acts f)
+  step_of (Alter k f) = table.Alter k (acts f)
+  step_of (Count i) = table.Count i
 
   -- a record's step with its reply
-  abbrev pub done : Record K V → table.Step K V × table.Reply K V
+  abbrev pub done : Record K V A → table.Step K V × table.Reply K V
   done r = (step_of r.step, reply_of r.reply)
 
-module _ {K V : Type 0} (k : K → K → Bool) (v : V → V → Bool) where
-  abbrev pub alike_step : ShardStep K V → ShardStep K V → Bool
+module _ {K V A : Type 0} (k : K → K → Bool) (v : V → V → Bool) (f : A → A → Bool) where
+  abbrev pub alike_step : ShardStep K V A → ShardStep K V A → Bool
   alike_step (Get x) (Get y) = k x y
+  alike_step (Contains x) (Contains y) = k x y
   alike_step (Insert x u) (Insert y t) = k x y && v u t
   alike_step (Remove x) (Remove y) = k x y
+  alike_step (RemoveIf x a) (RemoveIf y b) = k x y && f a b
+  alike_step (RemoveIfMut x a) (RemoveIfMut y b) = k x y && f a b
+  alike_step (Alter x a) (Alter y b) = k x y && f a b
+  alike_step (Count i) (Count j) = i == j
   alike_step _ _ = false
 
-  abbrev pub alike_record : Record K V → Record K V → Bool
+  abbrev pub alike_record : Record K V A → Record K V A → Bool
   alike_record r q = (r.stamp == q.stamp) && (r.caller == q.caller) && (r.shard == q.shard) && alike_step r.step q.step && alike_reply k v (reply_of r.reply) (reply_of q.reply)

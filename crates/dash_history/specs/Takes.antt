@@ -1,7 +1,7 @@
 -- What a step does to the contents of a map, up to alike, and what a list of steps does.
 use Rattle.std.specs.Prelude.{◌≡◌, ◌<◌, Bool, List, [], ◌∷◌, Option, IsTrue}
 use Rattle.dash_shard.specs.Contents.{Keys, at, Distinct}
-use Rattle.dash_shard.specs.Steps.{Step, Reply, place, after, Replies}
+use Rattle.dash_shard.specs.Steps.{Step, Reply, Act, place, after, Replies}
 use Rattle.dash_history.specs.Alike.{alike_option, alike_pair, alike_reply}
 
 -- what a map knows of its keys and values
@@ -13,6 +13,16 @@ pub record Rules (K V : Type 0) : Type 0 where
 -- the same, in one row
 abbrev pub rules : {K V : Type 0} → (K → K → Bool) → (V → V → Bool) → Keys K → Rules K V
 rules k v keys = record { keys = keys; alike_key = k; alike_value = v }
+
+-- what a recorded map knows besides: what its actions do, and which are alike
+pub record Kinds (K V A : Type 0) : Type 0 where
+  pub rules : Rules K V
+  pub acts : A → Act K V
+  pub alike_action : A → A → Bool
+
+-- the same, in one row
+abbrev pub kinds : {K V A : Type 0} → (A → A → Bool) → (A → Act K V) → Rules K V → Kinds K V A
+kinds f acts rules = record { rules = rules; acts = acts; alike_action = f }
 
 module _ {K V : Type 0} (m : Rules K V) where
   -- alike pairs, or none on both sides

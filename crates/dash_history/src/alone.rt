@@ -2,8 +2,9 @@
 ghost use Rattle.std.specs.Prelude.{◌≡◌, ◌+◌, ◌-◌, ◌<◌, ◌≤◌, ◌^◌, ◌↔◌, ◌⊎◌, ℕ, max, IsTrue, IsErrOf, IsSomeAnd, IfOk, IfErr, OnOk, length, slice_get};
 ghost use Rattle.dash_shard.specs.Hashing.{IsAmount, HashAlike};
 ghost use Rattle.dash_history.specs.History.{last_or, place_of};
-ghost use Rattle.dash_history.specs.Alone.{IsCallers, IsFresh, IsAlone, IsPlaced, Applied, fresh_logs, last_at, rules_in};
+ghost use Rattle.dash_history.specs.Alone.{IsCallers, IsFresh, IsAlone, IsPlaced, Applied, fresh_logs, last_at, kinds_in};
 
+use crate::action::KeptAction;
 use crate::kept::{Kept, KeptKey};
 use crate::record::map::Locked;
 use crate::record::{CallerLog, RecShard, RecordFault};
@@ -16,19 +17,19 @@ use std::marker::Model;
 
 /// A recorded map of one owner: its shards without locks, each with its history.
 #[derive(Drop)]
-pub struct RecAlone<K: KeptKey, V: Kept, S: BuildHasher> {
+pub struct RecAlone<K: KeptKey, V: Kept, S: BuildHasher, A: KeptAction<K, V> = ()> {
     pub(crate) hasher: S,
     pub(crate) callers: u32,
-    pub(crate) row: Vec<RecShard<K, V, S>>,
+    pub(crate) row: Vec<RecShard<K, V, S, A>>,
     // Empty, with room for all locks.
-    pub(crate) locks: Vec<Locked<K, V, S>>,
+    pub(crate) locks: Vec<Locked<K, V, S, A>>,
 }
 
-impl<K: KeptKey, V: Kept, S: BuildHasher> Model for RecAlone<K, V, S> {
+impl<K: KeptKey, V: Kept, S: BuildHasher, A: KeptAction<K, V>> Model for RecAlone<K, V, S, A> {
     ghost use Rattle.std.specs.Prelude.{◌≡◌, ◌≤◌, [], vec_len, vec_capacity};
     ghost use Rattle.dash_history.specs.Alone.{AloneState, IsAlone};
 
-    ghost Value = { AloneState K V S };
+    ghost Value = { AloneState K V A S };
 
     ghost view = { λ a. record { hasher = a.hasher; callers = a.callers; row = a.row.items } };
 
@@ -36,12 +37,12 @@ impl<K: KeptKey, V: Kept, S: BuildHasher> Model for RecAlone<K, V, S> {
 }
 
 // The row of a map with no pairs and no histories.
-fn fresh_row<K: KeptKey + Drop, V: Kept + Drop, S: BuildHasher + Clone>(
+fn fresh_row<K: KeptKey + Drop, V: Kept + Drop, S: BuildHasher + Clone, A: KeptAction<K, V> + Drop>(
     alloc: Global,
     hasher: &S,
     amount: usize,
     callers: u32,
-) -> Result<Vec<RecShard<K, V, S>>, AllocError>
+) -> Result<Vec<RecShard<K, V, S, A>>, AllocError>
     requires amount { IsAmount amount }
     requires alike { (s t : S) → S.is_clone s t → HashAlike S.BuildHasher S.Hasher.Hasher s t }
     ensures len { IfOk result (λ row. length row.items ≡ amount) }
@@ -55,10 +56,10 @@ fn fresh_row<K: KeptKey + Drop, V: Kept + Drop, S: BuildHasher + Clone>(
 }
 
 // The logs of callers who did nothing yet.
-fn fresh_logs<K: Drop, V: Drop>(
+fn fresh_logs<K: Drop, V: Drop, A: Drop>(
     alloc: Global,
     callers: u32,
-) -> Result<Vec<CallerLog<K, V>>, AllocError>
+) -> Result<Vec<CallerLog<K, V, A>>, AllocError>
     ensures { IfOk result (λ logs. logs.items ≡ fresh_logs callers) }
 {
     let mut logs = Vec::with_capacity(alloc, callers as usize)?;
@@ -68,7 +69,12 @@ fn fresh_logs<K: Drop, V: Drop>(
     Ok(logs)
 }
 
-impl<K: KeptKey + Drop, V: Kept + Drop, S: BuildHasher> RecAlone<K, V, S> {
+impl<K: KeptKey + Drop, V: Kept + Drop, S: BuildHasher, A: KeptAction<K, V> + Drop> RecAlone<
+    K,
+    V,
+    S,
+    A,
+> {
     /// A map of `amount` shards with no pairs, beside the logs of its callers, which are numbered from 0.
     ///
     /// It is refused where the amount is no power of two above 1 (5), then where there are not 1 to 65,536 callers (17), then where
@@ -78,7 +84,7 @@ impl<K: KeptKey + Drop, V: Kept + Drop, S: BuildHasher> RecAlone<K, V, S> {
         hasher: S,
         amount: usize,
         callers: u32,
-    ) -> Result<(RecAlone<K, V, S>, Vec<CallerLog<K, V>>), ConstructError>
+    ) -> Result<(RecAlone<K, V, S, A>, Vec<CallerLog<K, V, A>>), ConstructError>
     where
         S: Clone,
         requires { (s t : S) → S.is_clone s t → HashAlike S.BuildHasher S.Hasher.Hasher s t }
@@ -142,16 +148,16 @@ impl<K: KeptKey + Drop, V: Kept + Drop, S: BuildHasher> RecAlone<K, V, S> {
     /// It waits for nobody. Where it is refused, the step is handed back, and nothing changes.
     pub fn apply(
         &mut self,
-        log: &mut CallerLog<K, V>,
-        step: ShardStep<K, V>,
-    ) -> Result<Reply<K, V>, (ShardStep<K, V>, RecordFault)>
+        log: &mut CallerLog<K, V, A>,
+        step: ShardStep<K, V, A>,
+    ) -> Result<Reply<K, V>, (ShardStep<K, V, A>, RecordFault)>
         requires { log.old.caller < self.old.callers }
-        ensures ok { IfOk result (λ reply. Applied (rules_in S.BuildHasher S.Hasher.Hasher K.eq K.hash_input K.alike V.alike self.old) self.old self.new log.old log.new step reply) }
+        ensures ok { IfOk result (λ reply. Applied (kinds_in S.BuildHasher S.Hasher.Hasher K.eq K.hash_input K.alike V.alike A.alike A.acts self.old) self.old self.new log.old log.new step reply) }
         ensures refused { IfErr result (λ e. (e.0 ≡ step) × (self.new ≡ self.old) × (log.new ≡ log.old)) }
 
         // In this order; else there was no memory.
-        ensures no_such_shard { (result ≡ Err (step, RecordFault.NoSuchShard)) ↔ (length self.old.row ≤ place_of (rules_in S.BuildHasher S.Hasher.Hasher K.eq K.hash_input K.alike V.alike self.old) step) }
-        ensures last_stamp { (result ≡ Err (step, RecordFault.LastStamp)) ↔ ((place_of (rules_in S.BuildHasher S.Hasher.Hasher K.eq K.hash_input K.alike V.alike self.old) step < length self.old.row) × (max (last_at self.old (place_of (rules_in S.BuildHasher S.Hasher.Hasher K.eq K.hash_input K.alike V.alike self.old) step)) log.old.last ≡ 2 ^ 64 - 1)) }
+        ensures no_such_shard { (result ≡ Err (step, RecordFault.NoSuchShard)) ↔ (length self.old.row ≤ place_of (kinds_in S.BuildHasher S.Hasher.Hasher K.eq K.hash_input K.alike V.alike A.alike A.acts self.old) step) }
+        ensures last_stamp { (result ≡ Err (step, RecordFault.LastStamp)) ↔ ((place_of (kinds_in S.BuildHasher S.Hasher.Hasher K.eq K.hash_input K.alike V.alike A.alike A.acts self.old) step < length self.old.row) × (max (last_at self.old (place_of (kinds_in S.BuildHasher S.Hasher.Hasher K.eq K.hash_input K.alike V.alike A.alike A.acts self.old) step)) log.old.last ≡ 2 ^ 64 - 1)) }
     {
         let place = step.place(&self.hasher, self.row.len());
         if place >= self.row.len() {

@@ -1,8 +1,9 @@
 //! Steps of callers on a map that threads share.
 ghost use Rattle.std.specs.Prelude.{◌≡◌, ◌-◌, ◌^◌, ◌<◌, ◌≤◌, ◌↔◌, IfOk, IfErr};
 ghost use Rattle.dash_history.specs.History.{place_of};
-ghost use Rattle.dash_history.specs.Map.{Logged, rules_on};
+ghost use Rattle.dash_history.specs.Map.{Logged, kinds_on};
 
+use crate::action::KeptAction;
 use crate::kept::{Kept, KeptKey};
 use crate::record::map::RecordedMap;
 use crate::record::{CallerLog, RecordFault};
@@ -11,7 +12,12 @@ use std::hash::BuildHasher;
 use std::rt::Clock;
 use std::sync::Wait;
 
-impl<K: KeptKey + Drop, V: Kept + Drop, S: BuildHasher> RecordedMap<K, V, S> {
+impl<K: KeptKey + Drop, V: Kept + Drop, S: BuildHasher, A: KeptAction<K, V> + Drop> RecordedMap<
+    K,
+    V,
+    S,
+    A,
+> {
     /// Waits for the shard of the step's place, takes the step there, and adds one same record of it at the end of the shard's history
     /// and of the caller's log.
     ///
@@ -19,16 +25,16 @@ impl<K: KeptKey + Drop, V: Kept + Drop, S: BuildHasher> RecordedMap<K, V, S> {
     pub fn apply<R: Wait + Clock>(
         &self,
         rt: &R,
-        log: &mut CallerLog<K, V>,
-        step: ShardStep<K, V>,
-    ) -> Result<Reply<K, V>, (ShardStep<K, V>, RecordFault)>
+        log: &mut CallerLog<K, V, A>,
+        step: ShardStep<K, V, A>,
+    ) -> Result<Reply<K, V>, (ShardStep<K, V, A>, RecordFault)>
         requires { log.old.caller < self.now.callers }
-        ensures ok { IfOk result (λ reply. Logged (rules_on S.BuildHasher S.Hasher.Hasher K.eq K.hash_input K.alike V.alike self.now) log.old log.new step reply) }
+        ensures ok { IfOk result (λ reply. Logged (kinds_on S.BuildHasher S.Hasher.Hasher K.eq K.hash_input K.alike V.alike A.alike A.acts self.now) log.old log.new step reply) }
         ensures refused { IfErr result (λ e. (e.0 ≡ step) × (log.new ≡ log.old)) }
-        ensures no_such_shard { (result ≡ Err (step, RecordFault.NoSuchShard)) ↔ (self.now.amount ≤ place_of (rules_on S.BuildHasher S.Hasher.Hasher K.eq K.hash_input K.alike V.alike self.now) step) }
+        ensures no_such_shard { (result ≡ Err (step, RecordFault.NoSuchShard)) ↔ (self.now.amount ≤ place_of (kinds_on S.BuildHasher S.Hasher.Hasher K.eq K.hash_input K.alike V.alike A.alike A.acts self.now) step) }
 
         // The shard's last stamp is not known here, the log's is.
-        ensures last_stamp { (place_of (rules_on S.BuildHasher S.Hasher.Hasher K.eq K.hash_input K.alike V.alike self.now) step < self.now.amount) × (log.old.last ≡ 2 ^ 64 - 1) → result ≡ Err (step, RecordFault.LastStamp) }
+        ensures last_stamp { (place_of (kinds_on S.BuildHasher S.Hasher.Hasher K.eq K.hash_input K.alike V.alike A.alike A.acts self.now) step < self.now.amount) × (log.old.last ≡ 2 ^ 64 - 1) → result ≡ Err (step, RecordFault.LastStamp) }
     {
         let place = self.place(&step);
         if place >= self.shard_count() {

@@ -1,8 +1,10 @@
 //! Recorded steps of a sharded hash map: histories of shards and logs of callers.
 #![tactic(auto)]
 
+pub mod action;
 pub mod alone;
 mod apply;
+pub mod change;
 pub mod kept;
 pub mod plain;
 pub mod record;

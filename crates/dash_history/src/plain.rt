@@ -1,16 +1,21 @@
 //! A plain, slow map whose contract is the step table: a list that is scanned.
-ghost use Rattle.std.specs.Prelude.{◌≡◌, [], None, IsTrue, IsSome, IfOk, OnOk, IfErr, OnErr, position};
+ghost use Rattle.std.specs.Prelude.{◌≡◌, ◌-◌, ◌^◌, [], None, min, length, IfOk, OnOk, IfErr, OnErr, position};
+ghost use Rattle.std.specs.Option.{option_map};
+ghost use Rattle.std.specs.Map.Iter.{deref_pair};
 ghost use Rattle.dash_shard.specs.Hashing.{IsAmount};
-ghost use Rattle.dash_shard.specs.Contents.{at, Distinct};
+ghost use Rattle.dash_shard.specs.Contents.{at, on, Distinct};
 ghost use Rattle.dash_shard.specs.Steps.{Insert, Remove, Pair, Old, Replies, Becomes};
-ghost use Rattle.dash_history.specs.Alike.{alike_option, alike_pair};
 ghost use Rattle.dash_history.specs.Steps.{step_of, reply_of};
 ghost use Rattle.dash_history.specs.Takes.{Takes};
-ghost use Rattle.dash_history.specs.Plain.{plain_rules, TakesMemory};
+ghost use Rattle.dash_history.specs.Plain.{plain_rules, MayRefuse};
+ghost use Rattle.dash_history.specs.Plan.{change_step, HasPair};
 
+use crate::action::Action;
+use crate::change::{Change, copy_found, plan_alter, plan_remove_if, plan_remove_if_mut};
 use crate::kept::{Kept, KeptKey};
 use crate::step::{Reply, ShardStep};
-use std::alloc::{AllocError, Global};
+use dash_shard::hash::determine_shard;
+use std::alloc::Global;
 use std::hash::BuildHasher;
 use std::marker::Model;
 use std::mem;
@@ -54,19 +59,26 @@ impl<K: KeptKey + Drop, V: Kept + Drop, S: BuildHasher> Plain<K, V, S> {
         }
     }
 
-    // A copy of the pair whose key equals `key`.
-    fn copy_at(&self, key: &K) -> Result<Option<(K, V)>, AllocError>
-        ensures copy { IfOk result (λ copy. IsTrue (alike_option (alike_pair K.alike V.alike) (at (plain_rules K.eq S.BuildHasher S.Hasher.Hasher K.hash_input K.alike V.alike self.now).keys self.now.pairs key.now) copy)) }
-        ensures found { OnErr result (IsSome (at (plain_rules K.eq S.BuildHasher S.Hasher.Hasher K.hash_input K.alike V.alike self.now).keys self.now.pairs key.now)) }
+    // The pair whose key equals `key`.
+    fn get(&self, key: &K) -> Option<(&K, &V)>
+        ensures { option_map deref_pair result ≡ at (plain_rules K.eq S.BuildHasher S.Hasher.Hasher K.hash_input K.alike V.alike self.now).keys self.now.pairs key.now }
     {
-        match find(&self.pairs, key) {
-            Some(i) => {
-                let pair = &self.pairs[i];
-                let key = pair.0.copy()?;
-                Ok(Some((key, pair.1.copy()?)))
+        let i = find(&self.pairs, key)?;
+        let pair = &self.pairs[i];
+        Some((&pair.0, &pair.1))
+    }
+
+    // How many pairs go to a shard.
+    fn count(&self, shard: usize) -> u64
+        ensures { result ≡ min (length (on (plain_rules K.eq S.BuildHasher S.Hasher.Hasher K.hash_input K.alike V.alike self.now).keys shard self.now.pairs)) (2 ^ 64 - 1) }
+    {
+        let mut count: u64 = 0;
+        for pair in &self.pairs {
+            if determine_shard(self.hasher.hash_one(&pair.0), self.amount) == shard {
+                count = count.saturating_add(1);
             }
-            None => Ok(None),
         }
+        count
     }
 
     // Puts the pair, or the value under the stored key where an equal key is there.
@@ -99,16 +111,34 @@ impl<K: KeptKey + Drop, V: Kept + Drop, S: BuildHasher> Plain<K, V, S> {
         Some(self.pairs.remove(i))
     }
 
-    /// Takes a step as the step table says, or hands it back where there is no memory.
-    pub fn take(&mut self, step: ShardStep<K, V>) -> Result<Reply<K, V>, ShardStep<K, V>>
-        ensures ok { IfOk result (λ reply. Takes (plain_rules K.eq S.BuildHasher S.Hasher.Hasher K.hash_input K.alike V.alike self.old) self.old.pairs (step_of step) (reply_of reply) self.new.pairs) }
+    // Makes of the pair at a key what was decided.
+    fn make_change(&mut self, key: K, change: Change<V>)
+        requires { HasPair change (at (plain_rules K.eq S.BuildHasher S.Hasher.Hasher K.hash_input K.alike V.alike self.old).keys self.old.pairs key) }
+        ensures becomes { Becomes (plain_rules K.eq S.BuildHasher S.Hasher.Hasher K.hash_input K.alike V.alike self.old).keys (change_step key change) self.old.pairs self.new.pairs }
+        ensures distinct { Distinct (plain_rules K.eq S.BuildHasher S.Hasher.Hasher K.hash_input K.alike V.alike self.old).keys self.new.pairs }
+        ensures stays { (self.new.hasher ≡ self.old.hasher) × (self.new.amount ≡ self.old.amount) }
+    {
+        let _ = &self.amount;
+        match change {
+            Change::Stays => (),
+            Change::Goes => drop(self.remove(&key)),
+            Change::Becomes(value) => drop(self.put(key, value)),
+        }
+    }
+
+    /// Takes a step as the step table says, or hands it back where there is no memory, or no shard of the number that it names.
+    pub fn take<A: Action<K, V> + Drop>(
+        &mut self,
+        step: ShardStep<K, V, A>,
+    ) -> Result<Reply<K, V>, ShardStep<K, V, A>>
+        ensures ok { IfOk result (λ reply. Takes (plain_rules K.eq S.BuildHasher S.Hasher.Hasher K.hash_input K.alike V.alike self.old) self.old.pairs (step_of A.acts step) (reply_of reply) self.new.pairs) }
         ensures stays { (self.new.hasher ≡ self.old.hasher) × (self.new.amount ≡ self.old.amount) }
         ensures refused { IfErr result (λ back. (back ≡ step) × (self.new ≡ self.old)) }
-        ensures memory { OnErr result (TakesMemory (plain_rules K.eq S.BuildHasher S.Hasher.Hasher K.hash_input K.alike V.alike self.old) self.old.pairs step) }
+        ensures may_refuse { OnErr result (MayRefuse (plain_rules K.eq S.BuildHasher S.Hasher.Hasher K.hash_input K.alike V.alike self.old) self.old.pairs step) }
     {
         let _ = &self.amount;
         match step {
-            ShardStep::Get(key) => match self.copy_at(&key) {
+            ShardStep::Get(key) => match copy_found(self.get(&key)) {
                 Ok(pair) => Ok(Reply::Pair(pair)),
                 Err(_) => Err(ShardStep::Get(key)),
             },
@@ -117,6 +147,34 @@ impl<K: KeptKey + Drop, V: Kept + Drop, S: BuildHasher> Plain<K, V, S> {
                 Err((key, value)) => Err(ShardStep::Insert(key, value)),
             },
             ShardStep::Remove(key) => Ok(Reply::Pair(self.remove(&key))),
+            ShardStep::Contains(key) => Ok(Reply::Found(self.get(&key).is_some())),
+            ShardStep::RemoveIf(key, action) => match plan_remove_if(self.get(&key), &action) {
+                Ok((reply, change)) => {
+                    self.make_change(key, change);
+                    Ok(reply)
+                }
+                Err(_) => Err(ShardStep::RemoveIf(key, action)),
+            },
+            ShardStep::RemoveIfMut(key, action) => {
+                match plan_remove_if_mut(self.get(&key), &action) {
+                    Ok((reply, change)) => {
+                        self.make_change(key, change);
+                        Ok(reply)
+                    }
+                    Err(_) => Err(ShardStep::RemoveIfMut(key, action)),
+                }
+            }
+            ShardStep::Alter(key, action) => match plan_alter(self.get(&key), &action) {
+                Ok((reply, change)) => {
+                    self.make_change(key, change);
+                    Ok(reply)
+                }
+                Err(_) => Err(ShardStep::Alter(key, action)),
+            },
+            ShardStep::Count(shard) if shard < self.amount => {
+                Ok(Reply::Number(self.count(shard)))
+            }
+            ShardStep::Count(shard) => Err(ShardStep::Count(shard)),
         }
     }
 }

@@ -5,12 +5,14 @@ ghost use Rattle.dash_shard.specs.Steps.{Becomes};
 ghost use Rattle.dash_shard.specs.Shard.{pairs, keys_of, IsShard, SameShard};
 ghost use Rattle.dash_history.specs.Steps.{step_of, reply_of, alike_record};
 ghost use Rattle.dash_history.specs.Takes.{Answers};
-ghost use Rattle.dash_history.specs.History.{IsLog, IsRecorded, Grown, Recorded, Tells, place_of, rules_of};
+ghost use Rattle.dash_history.specs.History.{IsLog, IsRecorded, Grown, Recorded, Tells, place_of, kinds_of};
 ghost use Rattle.dash_history.specs.Alone.{IsFresh};
 
+use crate::action::KeptAction;
 use crate::kept::{Kept, KeptKey};
 use crate::step::{Record, Reply, ShardStep};
-use dash_shard::shard::{InsertRefused, Shard};
+use dash_shard::shard::Shard;
+use plan::{carry_out, prepare};
 use std::alloc::{AllocError, Global};
 use std::hash::BuildHasher;
 use std::marker::Model;
@@ -18,6 +20,7 @@ use thiserror::Error;
 
 pub mod held;
 pub mod map;
+mod plan;
 
 /// Why a step is refused. Nothing changes then, and the step is handed back.
 #[derive(Clone, Copy, Debug, PartialEq, Eq, Error)]
@@ -35,25 +38,25 @@ pub enum RecordFault {
 
 /// What one caller did, in its order.
 #[derive(Drop)]
-pub struct CallerLog<K, V> {
+pub struct CallerLog<K, V, A = ()> {
     caller: u32,
     last: u64,
-    entries: Vec<Record<K, V>>,
+    entries: Vec<Record<K, V, A>>,
 }
 
-impl<K, V> Model for CallerLog<K, V> {
+impl<K, V, A> Model for CallerLog<K, V, A> {
     ghost use Rattle.dash_history.specs.History.{LogState, IsLog};
 
-    ghost Value = { LogState K V };
+    ghost Value = { LogState K V A };
 
     ghost view = { λ l. record { caller = l.caller; last = l.last; entries = l.entries.items } };
 
     ghost invariant = { λ l. IsLog (record { caller = l.caller; last = l.last; entries = l.entries.items }) };
 }
 
-impl<K, V> CallerLog<K, V> {
+impl<K, V, A> CallerLog<K, V, A> {
     // A log with no entries, which takes no memory.
-    pub(crate) fn new(alloc: Global, caller: u32) -> CallerLog<K, V>
+    pub(crate) fn new(alloc: Global, caller: u32) -> CallerLog<K, V, A>
         ensures { result ≡ record { caller = caller; last = 0; entries = [] } }
     {
         CallerLog {
@@ -83,7 +86,7 @@ impl<K, V> CallerLog<K, V> {
 
     /// The records of the caller's steps, in its order.
     #[inline]
-    pub fn entries(&self) -> &[Record<K, V>]
+    pub fn entries(&self) -> &[Record<K, V, A>]
         ensures entries { result.now ≡ self.now.entries }
         ensures log { IsLog self.now }
     {
@@ -94,55 +97,33 @@ impl<K, V> CallerLog<K, V> {
 
 /// A shard with the history that led to its pairs.
 #[derive(Drop)]
-pub struct RecShard<K: KeptKey, V: Kept, S: BuildHasher> {
+pub struct RecShard<K: KeptKey, V: Kept, S: BuildHasher, A: KeptAction<K, V> = ()> {
     shard: Shard<K, V, S>,
-    history: Vec<Record<K, V>>,
+    history: Vec<Record<K, V, A>>,
     last: u64,
     callers: u32,
 }
 
-impl<K: KeptKey, V: Kept, S: BuildHasher> Model for RecShard<K, V, S> {
+impl<K: KeptKey, V: Kept, S: BuildHasher, A: KeptAction<K, V>> Model for RecShard<K, V, S, A> {
     ghost use Rattle.dash_history.specs.History.{RecState, IsRecorded};
 
-    ghost Value = { RecState K V S };
+    ghost Value = { RecState K V A S };
 
     ghost view = { λ s. record { shard = s.shard; callers = s.callers; last = s.last; history = s.history.items } };
 
-    ghost invariant = { λ s. IsRecorded K.eq S.BuildHasher S.Hasher.Hasher K.hash_input K.alike V.alike (record { shard = s.shard; callers = s.callers; last = s.last; history = s.history.items }) };
-}
-
-// A reply that the step may get now.
-fn answer<K: KeptKey + Drop, V: Kept + Drop, S: BuildHasher>(
-    shard: &Shard<K, V, S>,
-    step: &ShardStep<K, V>,
-) -> Result<Reply<K, V>, AllocError>
-    ensures { IfOk result (λ reply. Answers (rules_of K.eq S.BuildHasher S.Hasher.Hasher K.hash_input K.alike V.alike shard.now) (pairs shard.now) (step_of step.now) (reply_of reply)) }
-{
-    match step {
-        ShardStep::Get(key) | ShardStep::Remove(key) => match shard.get(key) {
-            Some((key, value)) => {
-                let key = key.copy()?;
-                Ok(Reply::Pair(Some((key, value.copy()?))))
-            }
-            None => Ok(Reply::Pair(None)),
-        },
-        ShardStep::Insert(key, _) => match shard.get(key) {
-            Some((_, value)) => Ok(Reply::Old(Some(value.copy()?))),
-            None => Ok(Reply::Old(None)),
-        },
-    }
+    ghost invariant = { λ s. IsRecorded K.eq S.BuildHasher S.Hasher.Hasher K.hash_input K.alike V.alike A.alike A.acts (record { shard = s.shard; callers = s.callers; last = s.last; history = s.history.items }) };
 }
 
 // The record of a step with its reply, twice.
-fn copies<K: Kept + Drop, V: Kept + Drop>(
+fn copies<K: Kept + Drop, V: Kept + Drop, A: Kept + Drop>(
     stamp: u64,
     caller: u32,
     shard: usize,
-    step: &ShardStep<K, V>,
+    step: &ShardStep<K, V, A>,
     reply: &Reply<K, V>,
-) -> Result<(Record<K, V>, Record<K, V>), AllocError>
-    ensures first { IfOk result (λ p. Tells K.alike V.alike stamp caller shard step.now reply.now p.0) }
-    ensures second { IfOk result (λ p. IsTrue (alike_record K.alike V.alike p.0 p.1)) }
+) -> Result<(Record<K, V, A>, Record<K, V, A>), AllocError>
+    ensures first { IfOk result (λ p. Tells K.alike V.alike A.alike stamp caller shard step.now reply.now p.0) }
+    ensures second { IfOk result (λ p. IsTrue (alike_record K.alike V.alike A.alike p.0 p.1)) }
 {
     let first = Record {
         stamp,
@@ -161,30 +142,6 @@ fn copies<K: Kept + Drop, V: Kept + Drop>(
     Ok((first, second))
 }
 
-// Changes the pairs as the step says, or hands it back.
-fn take<K: KeptKey + Drop, V: Kept + Drop, S: BuildHasher>(
-    shard: &mut Shard<K, V, S>,
-    step: ShardStep<K, V>,
-) -> Result<(), ShardStep<K, V>>
-    requires { place_of (rules_of K.eq S.BuildHasher S.Hasher.Hasher K.hash_input K.alike V.alike shard.old) step ≡ shard.old.number }
-    ensures ok { OnOk result (Becomes (keys_of K.eq S.BuildHasher S.Hasher.Hasher K.hash_input shard.old) (step_of step) (pairs shard.old) (pairs shard.new)) }
-    ensures stays { SameShard shard.old shard.new }
-    ensures lawful { IsShard K.eq S.BuildHasher S.Hasher.Hasher K.hash_input shard.old → IsShard K.eq S.BuildHasher S.Hasher.Hasher K.hash_input shard.new }
-    ensures err { IfErr result (λ back. (back ≡ step) × (shard.new ≡ shard.old)) }
-{
-    match step {
-        ShardStep::Get(_) => Ok(()),
-        ShardStep::Insert(key, value) => match shard.insert(key, value) {
-            Ok(_) => Ok(()),
-            Err(InsertRefused { key, value }) => Err(ShardStep::Insert(key, value)),
-        },
-        ShardStep::Remove(key) => {
-            drop(shard.remove(&key));
-            Ok(())
-        }
-    }
-}
-
 // Room for one more record.
 fn make_room<T>(list: &mut Vec<T>) -> bool
     ensures room { IsTrue result → vec_len list.new < vec_capacity list.new }
@@ -194,13 +151,22 @@ fn make_room<T>(list: &mut Vec<T>) -> bool
 }
 
 // What a refused step had made.
-fn discard<K: Drop, V: Drop>(first: Record<K, V>, second: Record<K, V>, reply: Reply<K, V>) {
+fn discard<K: Drop, V: Drop, A: Drop>(
+    first: Record<K, V, A>,
+    second: Record<K, V, A>,
+    reply: Reply<K, V>,
+) {
     drop(first);
     drop(second);
     drop(reply);
 }
 
-impl<K: KeptKey + Drop, V: Kept + Drop, S: BuildHasher> RecShard<K, V, S> {
+impl<K: KeptKey + Drop, V: Kept + Drop, S: BuildHasher, A: KeptAction<K, V> + Drop> RecShard<
+    K,
+    V,
+    S,
+    A,
+> {
     // A shard with no pairs and no history.
     pub(crate) fn new(
         alloc: Global,
@@ -234,7 +200,7 @@ impl<K: KeptKey + Drop, V: Kept + Drop, S: BuildHasher> RecShard<K, V, S> {
     #[inline]
     pub(crate) fn last_stamp(&self) -> u64
         ensures last { result ≡ self.now.last }
-        ensures legal { IsRecorded K.eq S.BuildHasher S.Hasher.Hasher K.hash_input K.alike V.alike self.now }
+        ensures legal { IsRecorded K.eq S.BuildHasher S.Hasher.Hasher K.hash_input K.alike V.alike A.alike A.acts self.now }
     {
         self.last
     }
@@ -244,12 +210,12 @@ impl<K: KeptKey + Drop, V: Kept + Drop, S: BuildHasher> RecShard<K, V, S> {
         &mut self,
         stamp: u64,
         caller: u32,
-        step: ShardStep<K, V>,
-    ) -> Result<(Reply<K, V>, Record<K, V>), ShardStep<K, V>>
-        requires place { place_of (rules_of K.eq S.BuildHasher S.Hasher.Hasher K.hash_input K.alike V.alike self.old.shard) step ≡ self.old.shard.number }
+        step: ShardStep<K, V, A>,
+    ) -> Result<(Reply<K, V>, Record<K, V, A>), ShardStep<K, V, A>>
+        requires place { place_of (kinds_of K.eq S.BuildHasher S.Hasher.Hasher K.hash_input K.alike V.alike A.alike A.acts self.old.shard) step ≡ self.old.shard.number }
         requires caller { caller < self.old.callers }
         requires above { self.old.last < stamp }
-        ensures ok { IfOk result (λ p. Grown (rules_of K.eq S.BuildHasher S.Hasher.Hasher K.hash_input K.alike V.alike self.old.shard) self.old self.new stamp caller step p.0 p.1) }
+        ensures ok { IfOk result (λ p. Grown (kinds_of K.eq S.BuildHasher S.Hasher.Hasher K.hash_input K.alike V.alike A.alike A.acts self.old.shard) self.old self.new stamp caller step p.0 p.1) }
         ensures refused { IfErr result (λ back. (back ≡ step) × (self.new ≡ self.old)) }
         ensures stays { SameShard self.old.shard self.new.shard }
         ensures callers { self.new.callers ≡ self.old.callers }
@@ -257,15 +223,15 @@ impl<K: KeptKey + Drop, V: Kept + Drop, S: BuildHasher> RecShard<K, V, S> {
         if !make_room(&mut self.history) {
             return Err(step);
         }
-        let Ok(reply) = answer(&self.shard, &step) else {
+        let Ok((reply, change)) = prepare(&self.shard, &step) else {
             return Err(step);
         };
         let number = self.shard.number();
         let Ok((first, second)) = copies(stamp, caller, number, &step, &reply) else {
-            drop(reply);
+            drop((reply, change));
             return Err(step);
         };
-        match take(&mut self.shard, step) {
+        match carry_out(&mut self.shard, step, change) {
             Ok(()) => {
                 self.history.push_reserved(first);
                 self.last = stamp;
@@ -283,12 +249,12 @@ impl<K: KeptKey + Drop, V: Kept + Drop, S: BuildHasher> RecShard<K, V, S> {
     /// Takes memory for the copies and the records, before anything changes.
     pub(crate) fn record(
         &mut self,
-        log: &mut CallerLog<K, V>,
-        step: ShardStep<K, V>,
-    ) -> Result<Reply<K, V>, (ShardStep<K, V>, RecordFault)>
-        requires place { place_of (rules_of K.eq S.BuildHasher S.Hasher.Hasher K.hash_input K.alike V.alike self.old.shard) step ≡ self.old.shard.number }
+        log: &mut CallerLog<K, V, A>,
+        step: ShardStep<K, V, A>,
+    ) -> Result<Reply<K, V>, (ShardStep<K, V, A>, RecordFault)>
+        requires place { place_of (kinds_of K.eq S.BuildHasher S.Hasher.Hasher K.hash_input K.alike V.alike A.alike A.acts self.old.shard) step ≡ self.old.shard.number }
         requires caller { log.old.caller < self.old.callers }
-        ensures ok { IfOk result (λ reply. Recorded (rules_of K.eq S.BuildHasher S.Hasher.Hasher K.hash_input K.alike V.alike self.old.shard) self.old self.new log.old log.new step reply) }
+        ensures ok { IfOk result (λ reply. Recorded (kinds_of K.eq S.BuildHasher S.Hasher.Hasher K.hash_input K.alike V.alike A.alike A.acts self.old.shard) self.old self.new log.old log.new step reply) }
         ensures refused { IfErr result (λ e. (e.0 ≡ step) × (self.new ≡ self.old) × (log.new ≡ log.old)) }
         ensures last_stamp { (result ≡ Err (step, RecordFault.LastStamp)) ↔ (max self.old.last log.old.last ≡ 2 ^ 64 - 1) }
         ensures faults { IfErr result (λ e. (e.1 ≡ RecordFault.LastStamp) ⊎ (e.1 ≡ RecordFault.Memory)) }

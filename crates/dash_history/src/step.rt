@@ -1,76 +1,113 @@
 //! One step of one shard, its reply, and the record of both.
 ghost use Rattle.std.specs.Prelude.{◌≡◌, ◌<◌, IfOk, IsTrue};
 
+use crate::action::Action;
 use crate::kept::Kept;
 use dash_shard::hash::determine_shard;
 use std::alloc::AllocError;
 use std::hash::{BuildHasher, Hash};
 
-/// A step of one shard.
+/// A step of one shard: on the pair of a key, or on all pairs of a shard that it names by its number.
 #[derive(Debug, Drop)]
-pub enum ShardStep<K, V> {
+pub enum ShardStep<K, V, A = ()> {
     /// The pair whose key equals the key.
     Get(K),
+    /// Whether there is a pair whose key equals the key.
+    Contains(K),
     /// Puts the pair, or the value under a stored key that is equal.
     Insert(K, V),
     /// Takes the pair whose key equals the key out.
     Remove(K),
+    /// Takes it out if the action answers yes. What the action makes of the value is thrown away.
+    RemoveIf(K, A),
+    /// Changes its value, and takes it out if the action answers yes.
+    RemoveIfMut(K, A),
+    /// Changes its value, whatever the action answers.
+    Alter(K, A),
+    /// How many pairs the shard has.
+    Count(usize),
 }
 
 /// What a step answers.
 #[derive(Debug, Drop)]
 pub enum Reply<K, V> {
-    /// The pair that stood at the key.
+    /// The pair that stood at the key, or that was taken out.
     Pair(Option<(K, V)>),
+    /// Whether there is a pair.
+    Found(bool),
     /// The value that stood at the key.
     Old(Option<V>),
+    /// How many pairs, held at 2^64 - 1.
+    Number(u64),
+    /// The step answers nothing.
+    Done,
 }
 
 /// A recorded step. It is kept once in its shard's history and once in its caller's log.
 #[derive(Debug, Drop)]
-pub struct Record<K, V> {
+pub struct Record<K, V, A = ()> {
     pub stamp: u64,
     pub caller: u32,
     pub shard: usize,
-    pub step: ShardStep<K, V>,
+    pub step: ShardStep<K, V, A>,
     pub reply: Reply<K, V>,
 }
 
-impl<K, V> ShardStep<K, V> {
+impl<K, V: Kept, A> ShardStep<K, V, A> {
     ghost use Rattle.dash_shard.specs.Hashing.{IsAmount, route_by};
     ghost use Rattle.dash_shard.specs.Contents.{keys};
     ghost use Rattle.dash_shard.specs.Steps.{place};
     ghost use Rattle.dash_history.specs.Steps.{step_of, alike_step};
 
-    /// The number of the step's shard among `amount`: the route of its key.
+    /// The number of the step's shard: the route of its key among `amount` shards, or the number that it names.
     #[inline]
     pub fn place<S: BuildHasher>(&self, hasher: &S, amount: usize) -> usize
     where
-        K: Eq + Hash,
+        K: Kept + Eq + Hash,
+        A: Action<K, V>,
         requires { IsAmount amount }
-        ensures { result ≡ place (keys K.eq (route_by S.BuildHasher S.Hasher.Hasher K.hash_input hasher.now amount) amount) (step_of self.now) }
+        ensures { result ≡ place (keys K.eq (route_by S.BuildHasher S.Hasher.Hasher K.hash_input hasher.now amount) amount) (step_of A.acts self.now) }
     {
         match self {
-            ShardStep::Get(key) | ShardStep::Insert(key, _) | ShardStep::Remove(key) => {
-                determine_shard(hasher.hash_one(key), amount)
-            }
+            ShardStep::Get(key)
+            | ShardStep::Contains(key)
+            | ShardStep::Insert(key, _)
+            | ShardStep::Remove(key)
+            | ShardStep::RemoveIf(key, _)
+            | ShardStep::RemoveIfMut(key, _)
+            | ShardStep::Alter(key, _) => determine_shard(hasher.hash_one(key), amount),
+            ShardStep::Count(shard) => *shard,
         }
     }
 
     /// A copy of the step, alike it.
-    pub fn copy(&self) -> Result<ShardStep<K, V>, AllocError>
+    pub fn copy(&self) -> Result<ShardStep<K, V, A>, AllocError>
     where
         K: Kept + Drop,
-        V: Kept,
-        ensures { IfOk result (λ copy. IsTrue (alike_step K.alike V.alike self.now copy)) }
+        A: Kept,
+        ensures { IfOk result (λ copy. IsTrue (alike_step K.alike V.alike A.alike self.now copy)) }
     {
         match self {
             ShardStep::Get(key) => Ok(ShardStep::Get(key.copy()?)),
+            ShardStep::Contains(key) => Ok(ShardStep::Contains(key.copy()?)),
             ShardStep::Insert(key, value) => {
                 let key = key.copy()?;
                 Ok(ShardStep::Insert(key, value.copy()?))
             }
             ShardStep::Remove(key) => Ok(ShardStep::Remove(key.copy()?)),
+            ShardStep::RemoveIf(key, action) => {
+                let key = key.copy()?;
+                Ok(ShardStep::RemoveIf(key, action.copy()?))
+            }
+            ShardStep::RemoveIfMut(key, action) => {
+                let key = key.copy()?;
+                Ok(ShardStep::RemoveIfMut(key, action.copy()?))
+            }
+            ShardStep::Alter(key, action) => {
+                let key = key.copy()?;
+                Ok(ShardStep::Alter(key, action.copy()?))
+            }
+            ShardStep::Count(shard) => Ok(ShardStep::Count(*shard)),
         }
     }
 }
@@ -89,8 +126,11 @@ impl<K: Kept + Drop, V: Kept> Reply<K, V> {
                 let key = pair.0.copy()?;
                 Ok(Reply::Pair(Some((key, pair.1.copy()?))))
             }
+            Reply::Found(found) => Ok(Reply::Found(*found)),
             Reply::Old(None) => Ok(Reply::Old(None)),
             Reply::Old(Some(value)) => Ok(Reply::Old(Some(value.copy()?))),
+            Reply::Number(number) => Ok(Reply::Number(*number)),
+            Reply::Done => Ok(Reply::Done),
         }
     }
 }
@@ -142,5 +182,6 @@ mod tests {
             3
         );
         assert_eq!(rt; ShardStep::<u64, u64>::Remove(9).place(&PlaceState, 4), 1);
+        assert_eq!(rt; ShardStep::<u64, u64>::Count(9).place(&PlaceState, 4), 9);
     }
 }

@@ -7,7 +7,6 @@ use Rattle.std.specs.declared.hash.BuildHasher as builder
 use Rattle.dash_shard.specs.Steps as table
 use Rattle.dash_history.specs.Steps.{step_of, reply_of}
 use Rattle.dash_history.specs.Takes.{Rules, rules, Runs}
-use Rattle.dash_history.specs.History.{place_of}
 use Rattle.dash_history.specs.declared.step.ShardStep.{ShardStep}
 use Rattle.dash_history.specs.declared.step.Reply.{Reply}
 use Rattle.dash_map.specs.Alone.{AloneState, contents, keys_in}
@@ -17,27 +16,27 @@ use Rattle.dash_map.specs.declared.run.Fault.{Fault}
 use Rattle.dash_map.specs.declared.run.Fault.TheVariants.{NoSuchShard}
 use Rattle.dash_map.specs.declared.run.RunOutcome.{RunOutcome}
 
-module _ {K V : Type 0} where
+module _ {K V A : Type 0} where
   -- the steps that a run leaves: those from the refused one on, or none
-  abbrev pub rest_of : RunOutcome K V → List (ShardStep K V)
+  abbrev pub rest_of : RunOutcome K V A → List (ShardStep K V A)
   rest_of outcome = option_map_or (λ stop. stop.0.items) outcome.stopped []
 
   -- a step with its reply, in the words of the step table
-  abbrev pub answered : ShardStep K V × Reply K V → table.Step K V × table.Reply K V
-  answered d = (step_of d.0, reply_of d.1)
+  abbrev pub answered : (A → table.Act K V) → ShardStep K V A × Reply K V → table.Step K V × table.Reply K V
+  answered acts d = (step_of acts d.0, reply_of d.1)
 
-  module _ (m : Rules K V) where
+  module _ (m : Rules K V) (acts : A → table.Act K V) where
     -- the first of these steps is refused: because the map has no shard of its place, or else for want of memory
-    abbrev pub IsRefused : List (ShardStep K V) → Fault → Type 0
+    abbrev pub IsRefused : List (ShardStep K V A) → Fault → Type 0
     IsRefused [] fault = ⊥
-    IsRefused (step ∷ _) fault = (fault ≡ NoSuchShard) ↔ (m.keys.shards ≤ place_of m step)
+    IsRefused (step ∷ _) fault = (fault ≡ NoSuchShard) ↔ (m.keys.shards ≤ table.place m.keys (step_of acts step))
 
     -- The run took a front of the steps, from the contents P to the contents Q, and leaves the others. It stops only at a refused step.
-    pub record Ran (P Q : List (K × V)) (steps : List (ShardStep K V)) (outcome : RunOutcome K V) : Type 0 where
-      pub front : List (ShardStep K V × Reply K V)
+    pub record Ran (P Q : List (K × V)) (steps : List (ShardStep K V A)) (outcome : RunOutcome K V A) : Type 0 where
+      pub front : List (ShardStep K V A × Reply K V)
       pub in_order : steps ≡ map (λ d. d.0) front ++ rest_of outcome
       pub answers : outcome.replies.items ≡ map (λ d. d.1) front
-      pub taken : Runs m P (map answered front) Q
+      pub taken : Runs m P (map (answered acts) front) Q
       pub stops : IfSome outcome.stopped (λ stop. IsRefused stop.0.items stop.1)
 
 module _ {K V S H : Type 0} (eq : K → K → Bool) (b : builder.Ghosts S H) (h : hasher.Ghosts H) (input : K → HashWrites) (k : K → K → Bool) (v : V → V → Bool) where
@@ -46,9 +45,9 @@ module _ {K V S H : Type 0} (eq : K → K → Bool) (b : builder.Ghosts S H) (h 
   rules_in a = rules k v (keys_in eq b h input a)
 
   -- the run was one on shards that stood behind the locks of this map, and what it left stands there
-  pub record RanBehind (m : MapState S) (steps : List (ShardStep K V)) (outcome : RunOutcome K V) : Type 0 where
+  pub record RanBehind {A : Type 0} (acts : A → table.Act K V) (m : MapState S) (steps : List (ShardStep K V A)) (outcome : RunOutcome K V A) : Type 0 where
     pub before : AloneState K V S
     pub after : AloneState K V S
     pub stood : IsBehind eq b h input m before
     pub stands : IsBehind eq b h input m after
-    pub ran : Ran (rules_in before) (contents before) (contents after) steps outcome
+    pub ran : Ran (rules_in before) acts (contents before) (contents after) steps outcome

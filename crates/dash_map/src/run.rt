@@ -1,16 +1,19 @@
 //! Runs: lists of steps that one owner takes, with their replies.
-ghost use Rattle.std.specs.Prelude.{◌≡◌, IfOk, IfErr, length};
-ghost use Rattle.dash_shard.specs.Steps.{Get, Pair};
+ghost use Rattle.std.specs.Prelude.{◌≡◌, ◌<◌, ◌≤◌, ◌↔◌, IfOk, IfErr, length};
+ghost use Rattle.dash_shard.specs.Contents.{at};
+ghost use Rattle.dash_shard.specs.Steps.{Becomes, place};
 ghost use Rattle.dash_history.specs.Steps.{step_of, reply_of};
-ghost use Rattle.dash_history.specs.Takes.{Answers, Takes};
-ghost use Rattle.dash_map.specs.Alone.{IsAlone, contents};
+ghost use Rattle.dash_history.specs.Takes.{Takes};
+ghost use Rattle.dash_history.specs.Plan.{change_step, HasPair};
+ghost use Rattle.dash_map.specs.Alone.{IsAlone, contents, keys_in};
 
 use crate::alone::Alone;
 use crate::map::DashMap;
 use core::mem::replace_with;
+use dash_history::action::Action;
+use dash_history::change::{Change, copy_found, plan_alter, plan_remove_if, plan_remove_if_mut};
 use dash_history::kept::{Kept, KeptKey};
 use dash_history::step::{Reply, ShardStep};
-use std::alloc::AllocError;
 use std::hash::BuildHasher;
 use thiserror::Error;
 
@@ -28,46 +31,94 @@ pub enum Fault {
 /// What a run answers: the replies to the steps that were taken, in their order, and where it stopped the steps from the refused one on,
 /// with the reason.
 #[derive(Debug, Drop)]
-pub struct RunOutcome<K, V> {
+pub struct RunOutcome<K, V, A = ()> {
     pub replies: Vec<Reply<K, V>>,
-    pub stopped: Option<(Vec<ShardStep<K, V>>, Fault)>,
+    pub stopped: Option<(Vec<ShardStep<K, V, A>>, Fault)>,
 }
 
 impl<K: KeptKey + Drop, V: Kept + Drop, S: BuildHasher> Alone<K, V, S> {
-    ghost use Rattle.dash_map.specs.Run.{Ran, rules_in};
+    ghost use Rattle.dash_map.specs.Run.{Ran, IsRefused, rules_in};
 
-    // A copy of the pair whose key equals `key`.
-    fn copy_at(&self, key: &K) -> Result<Option<(K, V)>, AllocError>
-        ensures { IfOk result (λ copy. Answers (rules_in K.eq S.BuildHasher S.Hasher.Hasher K.hash_input K.alike V.alike self.now) (contents self.now) (Get key.now) (Pair copy)) }
+    // Makes of the pair at a key what was decided.
+    fn make_change(&mut self, key: K, change: Change<V>)
+        requires { HasPair change (at (keys_in K.eq S.BuildHasher S.Hasher.Hasher K.hash_input self.old) (contents self.old) key) }
+        ensures becomes { Becomes (keys_in K.eq S.BuildHasher S.Hasher.Hasher K.hash_input self.old) (change_step key change) (contents self.old) (contents self.new) }
+        ensures hasher { self.new.hasher ≡ self.old.hasher }
+        ensures amount { length self.new.row ≡ length self.old.row }
+        ensures lawful { IsAlone K.eq S.BuildHasher S.Hasher.Hasher K.hash_input self.new }
     {
-        match self.get(key) {
-            Some((key, value)) => {
-                let key = key.copy()?;
-                Ok(Some((key, value.copy()?)))
-            }
-            None => Ok(None),
+        let _ = &self.hasher;
+        match change {
+            Change::Stays => (),
+            Change::Goes => drop(self.remove(&key)),
+            Change::Becomes(value) => drop(self.insert(key, value)),
         }
     }
 
-    // Takes the step on the shard of its place, or hands it back where there is no memory.
-    fn take(&mut self, step: ShardStep<K, V>) -> Result<Reply<K, V>, (ShardStep<K, V>, Fault)>
-        ensures taken { IfOk result (λ reply. Takes (rules_in K.eq S.BuildHasher S.Hasher.Hasher K.hash_input K.alike V.alike self.old) (contents self.old) (step_of step) (reply_of reply) (contents self.new)) }
-        ensures refused { IfErr result (λ e. (e.0 ≡ step) × (e.1 ≡ Fault.Memory) × (self.new ≡ self.old)) }
+    // Why the first of these steps is refused where there is no memory.
+    fn first_fault<A: Action<K, V>>(&self, steps: &[ShardStep<K, V, A>]) -> Fault
+        requires { 0 < length steps.now }
+        ensures { IsRefused (rules_in K.eq S.BuildHasher S.Hasher.Hasher K.hash_input K.alike V.alike self.now) A.acts steps.now result }
+    {
+        let amount = self.row.len();
+        if steps[0].place(&self.hasher, amount) < amount {
+            Fault::Memory
+        } else {
+            Fault::NoSuchShard
+        }
+    }
+
+    // Takes the step on the shard of its place, or hands it back where there is no such shard, or no memory.
+    fn take<A: Action<K, V> + Drop>(
+        &mut self,
+        step: ShardStep<K, V, A>,
+    ) -> Result<Reply<K, V>, (ShardStep<K, V, A>, Fault)>
+        ensures taken { IfOk result (λ reply. Takes (rules_in K.eq S.BuildHasher S.Hasher.Hasher K.hash_input K.alike V.alike self.old) (contents self.old) (step_of A.acts step) (reply_of reply) (contents self.new)) }
+        ensures refused { IfErr result (λ e. (e.0 ≡ step) × (self.new ≡ self.old)) }
+        ensures fault { IfErr result (λ e. (e.1 ≡ Fault.NoSuchShard) ↔ (length self.old.row ≤ place (keys_in K.eq S.BuildHasher S.Hasher.Hasher K.hash_input self.old) (step_of A.acts step))) }
         ensures hasher { self.new.hasher ≡ self.old.hasher }
         ensures amount { length self.new.row ≡ length self.old.row }
         ensures lawful { IsAlone K.eq S.BuildHasher S.Hasher.Hasher K.hash_input self.new }
     {
         let _ = &self.hasher;
         match step {
-            ShardStep::Get(key) => match self.copy_at(&key) {
+            ShardStep::Get(key) => match copy_found(self.get(&key)) {
                 Ok(pair) => Ok(Reply::Pair(pair)),
                 Err(_) => Err((ShardStep::Get(key), Fault::Memory)),
             },
+            ShardStep::Contains(key) => Ok(Reply::Found(self.contains_key(&key))),
             ShardStep::Insert(key, value) => match self.insert(key, value) {
                 Ok(old) => Ok(Reply::Old(old)),
                 Err(refused) => Err((ShardStep::Insert(refused.key, refused.value), Fault::Memory)),
             },
             ShardStep::Remove(key) => Ok(Reply::Pair(self.remove(&key))),
+            ShardStep::RemoveIf(key, action) => match plan_remove_if(self.get(&key), &action) {
+                Ok((reply, change)) => {
+                    self.make_change(key, change);
+                    Ok(reply)
+                }
+                Err(_) => Err((ShardStep::RemoveIf(key, action), Fault::Memory)),
+            },
+            ShardStep::RemoveIfMut(key, action) => {
+                match plan_remove_if_mut(self.get(&key), &action) {
+                    Ok((reply, change)) => {
+                        self.make_change(key, change);
+                        Ok(reply)
+                    }
+                    Err(_) => Err((ShardStep::RemoveIfMut(key, action), Fault::Memory)),
+                }
+            }
+            ShardStep::Alter(key, action) => match plan_alter(self.get(&key), &action) {
+                Ok((reply, change)) => {
+                    self.make_change(key, change);
+                    Ok(reply)
+                }
+                Err(_) => Err((ShardStep::Alter(key, action), Fault::Memory)),
+            },
+            ShardStep::Count(shard) if shard < self.row.len() => {
+                Ok(Reply::Number(self.row[shard].len() as u64))
+            }
+            ShardStep::Count(shard) => Err((ShardStep::Count(shard), Fault::NoSuchShard)),
         }
     }
 
@@ -76,8 +127,11 @@ impl<K: KeptKey + Drop, V: Kept + Drop, S: BuildHasher> Alone<K, V, S> {
     ///
     /// It takes memory for the replies, before the first step, for an `Insert` as `insert` does, and for the copy that a `Get` answers.
     /// The steps that it leaves take none. The original has no such call.
-    pub fn run(&mut self, mut steps: Vec<ShardStep<K, V>>) -> RunOutcome<K, V>
-        ensures ran { Ran (rules_in K.eq S.BuildHasher S.Hasher.Hasher K.hash_input K.alike V.alike self.old) (contents self.old) (contents self.new) steps.items result }
+    pub fn run<A: Action<K, V> + Drop>(
+        &mut self,
+        mut steps: Vec<ShardStep<K, V, A>>,
+    ) -> RunOutcome<K, V, A>
+        ensures ran { Ran (rules_in K.eq S.BuildHasher S.Hasher.Hasher K.hash_input K.alike V.alike self.old) A.acts (contents self.old) (contents self.new) steps.items result }
         ensures hasher { self.new.hasher ≡ self.old.hasher }
         ensures amount { length self.new.row ≡ length self.old.row }
         ensures lawful { IsAlone K.eq S.BuildHasher S.Hasher.Hasher K.hash_input self.new }
@@ -85,9 +139,10 @@ impl<K: KeptKey + Drop, V: Kept + Drop, S: BuildHasher> Alone<K, V, S> {
         let _ = &self.hasher;
         let alloc = *steps.allocator();
         let Ok(mut replies) = Vec::with_capacity(alloc, steps.len()) else {
+            let fault = self.first_fault(&steps);
             return RunOutcome {
                 replies: Vec::new(alloc),
-                stopped: Some((steps, Fault::Memory)),
+                stopped: Some((steps, fault)),
             };
         };
         // The next step stands at the end, where it is taken off without a move of the others.
@@ -118,16 +173,22 @@ impl<K: KeptKey + Drop, V: Kept + Drop, S: BuildHasher> DashMap<K, V, S> {
     /// As `Alone::run`, on this map, which nobody else has. It waits for nobody, even where a hold was leaked.
     ///
     /// The shards leave their locks for it and go back, which takes no memory.
-    pub fn run(&mut self, steps: Vec<ShardStep<K, V>>) -> RunOutcome<K, V>
-        ensures ran { RanBehind K.eq S.BuildHasher S.Hasher.Hasher K.hash_input K.alike V.alike self.old steps.items result }
+    pub fn run<A: Action<K, V> + Drop>(
+        &mut self,
+        steps: Vec<ShardStep<K, V, A>>,
+    ) -> RunOutcome<K, V, A>
+        ensures ran { RanBehind K.eq S.BuildHasher S.Hasher.Hasher K.hash_input K.alike V.alike A.acts self.old steps.items result }
         ensures same { self.new ≡ self.old }
     {
-        replace_with(self, steps, Self::run_alone)
+        replace_with(self, steps, Self::run_alone::<A>)
     }
 
     // The run, and the map after it.
-    fn run_alone(self, steps: Vec<ShardStep<K, V>>) -> (Self, RunOutcome<K, V>)
-        ensures ran { RanBehind K.eq S.BuildHasher S.Hasher.Hasher K.hash_input K.alike V.alike self steps.items result.1 }
+    fn run_alone<A: Action<K, V> + Drop>(
+        self,
+        steps: Vec<ShardStep<K, V, A>>,
+    ) -> (Self, RunOutcome<K, V, A>)
+        ensures ran { RanBehind K.eq S.BuildHasher S.Hasher.Hasher K.hash_input K.alike V.alike A.acts self steps.items result.1 }
         ensures same { result.0 ≡ self }
     {
         let mut alone = self.alone();

@@ -8,14 +8,15 @@ use Rattle.dash_shard.specs.declared.error.ConstructError.TheVariants.{ShardAmou
 use Rattle.dash_history.specs.Alone.{IsCallers}
 use Rattle.dash_history.specs.Map.{Logged}
 use Rattle.dash_history.specs.History.{LogState}
-use Rattle.dash_history.specs.Takes.{rules}
-use Rattle.dash_history.specs.declared.step.ShardStep.{ShardStep}
+use Rattle.dash_history.specs.Takes.{kinds, rules}
+use Rattle.dashcheck.specs.Change.{acts, alike_change}
+use Rattle.dashcheck.specs.declared.change.Change.{Change}
 use Rattle.dash_history.specs.declared.step.Reply.{Reply}
-use Rattle.dashcheck.specs.Script.{IsReplyTo}
+use Rattle.dashcheck.specs.Script.{ScriptStep, IsReplyTo}
 
 -- a step that is in the log has a reply of the step table, also where the refusal is told in other words
-pub replied : {E F : Type 0} (route : ℕ → ℕ) (n : ℕ) (l l' : LogState ℕ ℕ) (step : ShardStep ℕ ℕ) (r : Result (Reply ℕ ℕ) E) (s : Result (Reply ℕ ℕ) F) (P : E → F → Type 0)
-    → MatchResult r (λ reply. s ≡ Ok reply) (λ e. IsErrAnd s (P e)) → IfOk r (Logged (rules nat_eq nat_eq (keys nat_eq route n)) l l' step) → IfOk s (IsReplyTo step)
+pub replied : {E F : Type 0} (route : ℕ → ℕ) (n : ℕ) (l l' : LogState ℕ ℕ Change) (step : ScriptStep) (r : Result (Reply ℕ ℕ) E) (s : Result (Reply ℕ ℕ) F) (P : E → F → Type 0)
+    → MatchResult r (λ reply. s ≡ Ok reply) (λ e. IsErrAnd s (P e)) → IfOk r (Logged (kinds alike_change acts (rules nat_eq nat_eq (keys nat_eq route n))) l l' step) → IfOk s (IsReplyTo step)
 replied route n l l' step (Ok reply) s P told logged = rw told (route, n, logged.contents, logged.answers)
 replied route n l l' step (Err e) (Ok reply) s told logged = absurd told
 replied route n l l' step (Err e) (Err f) P told logged = tt

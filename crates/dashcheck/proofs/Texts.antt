@@ -2,7 +2,7 @@
 use Rattle.std.proofs.Common.{◌≡◌, ℕ, suc, ◌<◌, ◌^◌, List, [], ◌∷◌, ◌++◌, length, length-append, get_or, drop, Option, Some, None, Ok, Err, Bor, ◌⊎◌, inl, inr, refl, sym, ap, ◌∙◌, arith}
 use Rattle.std.specs.declared.result.Result.{Result}
 use Rattle.std.specs.Option.{IfSome, IfNone}
-use Rattle.std.specs.Prelude.{◌≢◌, ◌≤◌, ◌&&◌, nat_lt, true, All}
+use Rattle.std.specs.Prelude.{codes, ◌≢◌, ◌≤◌, ◌+◌, ◌&&◌, nat_lt, true, All}
 use Rattle.std.specs.List.{list_all}
 use Rattle.std.specs.Fmt.{decimal}
 use Rattle.std.specs.Result.{MatchResult, result_ok}
@@ -15,9 +15,10 @@ use Rattle.std.proofs.lemmas.Str.{IsAscii-append, IsUtf8-from_ascii}
 use Rattle.std.proofs.lemmas.Str.Ascii.{IsAscii-cons, IsAscii-from_all}
 use Rattle.std.proofs.lemmas.Str.Parse.{numerals_by_value, tells_by_index}
 use Rattle.std.proofs.lemmas.Str.Pattern.{IsSplitOnceResult, split_parts, split_after}
-use Rattle.dash_history.specs.declared.step.ShardStep.{ShardStep}
-use Rattle.dash_history.specs.declared.step.ShardStep.TheVariants.{Get, Insert, Remove}
-use Rattle.dashcheck.specs.Script.{IsFirst, HasWords, line_of, get, insert, remove}
+use Rattle.dash_history.specs.declared.step.ShardStep.TheVariants.{Get, Contains, Insert, Remove, RemoveIf, RemoveIfMut, Alter, Count}
+use Rattle.dashcheck.specs.declared.change.Change.{Change}
+use Rattle.dashcheck.specs.declared.change.Change.TheVariants.{Add, Below, AddBelow}
+use Rattle.dashcheck.specs.Script.{IsFirst, ScriptStep, HasChange, HasWords, change_word, change_rest, change_text, step_word, step_rest, line_of}
 
 -- what `split_once` at a space gives
 pub split-some : (text : List ℕ) (r : Option (Bor (List ℕ) × Bor (List ℕ))) → IsSplitOnceResult 32 text r → IfSome r (λ p. IsFirst text p.0.now p.1.now)
@@ -78,16 +79,71 @@ module _ (word : List ℕ) (tested : list_all (λ b. nat_lt 96 b && nat_lt b 123
   clean-letters : All (λ b. b ≢ 10) rest → All (λ b. b ≢ 10) (word ++ 32 ∷ rest)
   clean-letters clean = All-append (λ b. b ≢ 10) word (32 ∷ rest) (All-from_get_or (λ b. b ≢ 10) word 0 (λ i inside e. omega (arith, letter i inside, e))) (clean-spaced rest clean)
 
--- the first word of a step's line is its kind
-pub first-kind : (step : ShardStep ℕ ℕ) → (word : List ℕ) × (rest : List ℕ) × IsFirst (line_of step) word rest × ((word ≡ get) ⊎ ((word ≡ insert) ⊎ (word ≡ remove)))
-first-kind (Get k) = (get, decimal k, first-letters get refl (decimal k), inl refl)
-first-kind (Insert k v) = (insert, decimal k ++ 32 ∷ decimal v, first-letters insert refl (decimal k ++ 32 ∷ decimal v), inr (inl refl))
-first-kind (Remove k) = (remove, decimal k, first-letters remove refl (decimal k), inr (inr refl))
+letters-change : (f : Change) → list_all (λ b. nat_lt 96 b && nat_lt b 123) (change_word f) ≡ true
+letters-change (Add n) = refl
+letters-change (Below n) = refl
+letters-change (AddBelow n m) = refl
 
-pub IsAscii-line : (step : ShardStep ℕ ℕ) → HasWords step → IsAscii (line_of step)
-IsAscii-line (Get k) small = IsAscii-letters get refl (decimal k) (IsAscii-decimal k small)
-IsAscii-line (Insert k v) small = IsAscii-letters insert refl (decimal k ++ 32 ∷ decimal v) (IsAscii-append (decimal k) (32 ∷ decimal v) (IsAscii-decimal k small.0) (spaced (decimal v) (IsAscii-decimal v small.1)))
-IsAscii-line (Remove k) small = IsAscii-letters remove refl (decimal k) (IsAscii-decimal k small)
+letters-step : (step : ScriptStep) → list_all (λ b. nat_lt 96 b && nat_lt b 123) (step_word step) ≡ true
+letters-step (Get k) = refl
+letters-step (Contains k) = refl
+letters-step (Insert k v) = refl
+letters-step (Remove k) = refl
+letters-step (RemoveIf k f) = refl
+letters-step (RemoveIfMut k f) = refl
+letters-step (Alter k f) = refl
+letters-step (Count i) = refl
+
+-- the first word of a step's line, of a change, and of a key with a change
+pub first-kind : (step : ScriptStep) → IsFirst (line_of step) (step_word step) (step_rest step)
+first-kind step = first-letters (step_word step) (letters-step step) (step_rest step)
+
+pub first-change : (f : Change) → IsFirst (change_text f) (change_word f) (change_rest f)
+first-change f = first-letters (change_word f) (letters-change f) (change_rest f)
+
+pub first-changed : (k : ℕ) (f : Change) → k < 2 ^ 64 → IsFirst (decimal k ++ 32 ∷ change_text f) (decimal k) (change_text f)
+first-changed k f small = record { parts = refl; free = free-decimal k small }
+
+-- the first words of changes, and of steps
+pub words-change : (f : Change) → (change_word f ≡ codes "add") ⊎ ((change_word f ≡ codes "below") ⊎ (change_word f ≡ codes "addbelow"))
+words-change (Add n) = inl refl
+words-change (Below n) = inr (inl refl)
+words-change (AddBelow n m) = inr (inr refl)
+
+pub words-step : (step : ScriptStep) → (step_word step ≡ codes "get") ⊎ ((step_word step ≡ codes "contains") ⊎ ((step_word step ≡ codes "insert") ⊎ ((step_word step ≡ codes "remove")
+    ⊎ ((step_word step ≡ codes "removeif") ⊎ ((step_word step ≡ codes "removeifmut") ⊎ ((step_word step ≡ codes "alter") ⊎ (step_word step ≡ codes "count")))))))
+words-step (Get k) = inl refl
+words-step (Contains k) = inr (inl refl)
+words-step (Insert k v) = inr (inr (inl refl))
+words-step (Remove k) = inr (inr (inr (inl refl)))
+words-step (RemoveIf k f) = inr (inr (inr (inr (inl refl))))
+words-step (RemoveIfMut k f) = inr (inr (inr (inr (inr (inl refl)))))
+words-step (Alter k f) = inr (inr (inr (inr (inr (inr (inl refl))))))
+words-step (Count i) = inr (inr (inr (inr (inr (inr (inr refl))))))
+
+IsAscii-two : (k : ℕ) (text : List ℕ) → k < 2 ^ 64 → IsAscii text → IsAscii (decimal k ++ 32 ∷ text)
+IsAscii-two k text small ascii = IsAscii-append (decimal k) (32 ∷ text) (IsAscii-decimal k small) (spaced text ascii)
+
+IsAscii-rest_of : (f : Change) → HasChange f → IsAscii (change_rest f)
+IsAscii-rest_of (Add n) small = IsAscii-decimal n small
+IsAscii-rest_of (Below n) small = IsAscii-decimal n small
+IsAscii-rest_of (AddBelow n m) small = IsAscii-two n (decimal m) small.0 (IsAscii-decimal m small.1)
+
+IsAscii-change : (f : Change) → HasChange f → IsAscii (change_text f)
+IsAscii-change f small = IsAscii-letters (change_word f) (letters-change f) (change_rest f) (IsAscii-rest_of f small)
+
+IsAscii-rest : (step : ScriptStep) → HasWords step → IsAscii (step_rest step)
+IsAscii-rest (Get k) small = IsAscii-decimal k small
+IsAscii-rest (Contains k) small = IsAscii-decimal k small
+IsAscii-rest (Insert k v) small = IsAscii-two k (decimal v) small.0 (IsAscii-decimal v small.1)
+IsAscii-rest (Remove k) small = IsAscii-decimal k small
+IsAscii-rest (RemoveIf k f) small = IsAscii-two k (change_text f) small.0 (IsAscii-change f small.1)
+IsAscii-rest (RemoveIfMut k f) small = IsAscii-two k (change_text f) small.0 (IsAscii-change f small.1)
+IsAscii-rest (Alter k f) small = IsAscii-two k (change_text f) small.0 (IsAscii-change f small.1)
+IsAscii-rest (Count i) small = IsAscii-decimal i small
+
+pub IsAscii-line : (step : ScriptStep) → HasWords step → IsAscii (line_of step)
+IsAscii-line step small = IsAscii-letters (step_word step) (letters-step step) (step_rest step) (IsAscii-rest step small)
 
 -- what `from_utf8` refuses isn't ASCII
 pub no-text : (E : Type 0) (P : E → Type 0) (line : List ℕ) (r : Result (Bor (List ℕ)) E) → MatchResult r (λ s. (s.now ≡ line) × IsUtf8 line) (λ e. ¬ (IsUtf8 line) × P e) → IfNone (result_ok r) (IsAscii line → ⊥)
@@ -97,16 +153,58 @@ no-text E P line (Err e) h = λ ascii. h.0 (IsUtf8-from_ascii line ascii)
 short-decimal : (n : ℕ) → n < 2 ^ 64 → length (decimal n) ≤ 20
 short-decimal n small = length-decimal-le 20 n (omega arith) (omega (arith, small)) small
 
+short-two : (k : ℕ) (text : List ℕ) (n : ℕ) → k < 2 ^ 64 → length text ≤ n → length (decimal k ++ 32 ∷ text) ≤ n + 21
+short-two k text n small few = omega (arith, length-append (decimal k) (32 ∷ text), short-decimal k small, few)
+
+short-change : (f : Change) → HasChange f → length (change_text f) ≤ 50
+short-change (Add n) small = omega (arith, length-append (codes "add") (32 ∷ decimal n), short-decimal n small)
+short-change (Below n) small = omega (arith, length-append (codes "below") (32 ∷ decimal n), short-decimal n small)
+short-change (AddBelow n m) small = omega (arith, length-append (codes "addbelow") (32 ∷ decimal n ++ 32 ∷ decimal m), short-two n (decimal m) 20 small.0 (short-decimal m small.1))
+
+short-rest : (step : ScriptStep) → HasWords step → length (step_rest step) ≤ 71
+short-rest (Get k) small = omega (arith, short-decimal k small)
+short-rest (Contains k) small = omega (arith, short-decimal k small)
+short-rest (Insert k v) small = omega (arith, short-two k (decimal v) 20 small.0 (short-decimal v small.1))
+short-rest (Remove k) small = omega (arith, short-decimal k small)
+short-rest (RemoveIf k f) small = short-two k (change_text f) 50 small.0 (short-change f small.1)
+short-rest (RemoveIfMut k f) small = short-two k (change_text f) 50 small.0 (short-change f small.1)
+short-rest (Alter k f) small = short-two k (change_text f) 50 small.0 (short-change f small.1)
+short-rest (Count i) small = omega (arith, short-decimal i small)
+
+short-word : (step : ScriptStep) → length (step_word step) ≤ 11
+short-word (Get k) = omega arith
+short-word (Contains k) = omega arith
+short-word (Insert k v) = omega arith
+short-word (Remove k) = omega arith
+short-word (RemoveIf k f) = omega arith
+short-word (RemoveIfMut k f) = omega arith
+short-word (Alter k f) = omega arith
+short-word (Count i) = omega arith
+
 -- a line of a step is short, and no line end is in it
-pub short-line : (step : ShardStep ℕ ℕ) → HasWords step → length (line_of step) < 128
-short-line (Get k) small = omega (arith, length-append get (32 ∷ decimal k), short-decimal k small)
-short-line (Insert k v) small = omega (arith, length-append insert (32 ∷ decimal k ++ 32 ∷ decimal v), length-append (decimal k) (32 ∷ decimal v), short-decimal k small.0, short-decimal v small.1)
-short-line (Remove k) small = omega (arith, length-append remove (32 ∷ decimal k), short-decimal k small)
+pub short-line : (step : ScriptStep) → HasWords step → length (line_of step) < 128
+short-line step small = omega (arith, length-append (step_word step) (32 ∷ step_rest step), short-word step, short-rest step small)
 
 clean-decimal : (n : ℕ) → n < 2 ^ 64 → All (λ b. b ≢ 10) (decimal n)
 clean-decimal n small = All-from_get_or (λ b. b ≢ 10) (decimal n) 0 (λ i inside e. let digit = digits_decimal (numerals_by_value _ tells_by_index) n small i inside in omega (arith, digit, e))
 
-pub clean-line : (step : ShardStep ℕ ℕ) → HasWords step → All (λ b. b ≢ 10) (line_of step)
-clean-line (Get k) small = clean-letters get refl (decimal k) (clean-decimal k small)
-clean-line (Insert k v) small = clean-letters insert refl (decimal k ++ 32 ∷ decimal v) (All-append (λ b. b ≢ 10) (decimal k) (32 ∷ decimal v) (clean-decimal k small.0) (clean-spaced (decimal v) (clean-decimal v small.1)))
-clean-line (Remove k) small = clean-letters remove refl (decimal k) (clean-decimal k small)
+clean-two : (k : ℕ) (text : List ℕ) → k < 2 ^ 64 → All (λ b. b ≢ 10) text → All (λ b. b ≢ 10) (decimal k ++ 32 ∷ text)
+clean-two k text small clean = All-append (λ b. b ≢ 10) (decimal k) (32 ∷ text) (clean-decimal k small) (clean-spaced text clean)
+
+clean-change : (f : Change) → HasChange f → All (λ b. b ≢ 10) (change_text f)
+clean-change (Add n) small = clean-letters (codes "add") refl (decimal n) (clean-decimal n small)
+clean-change (Below n) small = clean-letters (codes "below") refl (decimal n) (clean-decimal n small)
+clean-change (AddBelow n m) small = clean-letters (codes "addbelow") refl (decimal n ++ 32 ∷ decimal m) (clean-two n (decimal m) small.0 (clean-decimal m small.1))
+
+clean-rest : (step : ScriptStep) → HasWords step → All (λ b. b ≢ 10) (step_rest step)
+clean-rest (Get k) small = clean-decimal k small
+clean-rest (Contains k) small = clean-decimal k small
+clean-rest (Insert k v) small = clean-two k (decimal v) small.0 (clean-decimal v small.1)
+clean-rest (Remove k) small = clean-decimal k small
+clean-rest (RemoveIf k f) small = clean-two k (change_text f) small.0 (clean-change f small.1)
+clean-rest (RemoveIfMut k f) small = clean-two k (change_text f) small.0 (clean-change f small.1)
+clean-rest (Alter k f) small = clean-two k (change_text f) small.0 (clean-change f small.1)
+clean-rest (Count i) small = clean-decimal i small
+
+pub clean-line : (step : ScriptStep) → HasWords step → All (λ b. b ≢ 10) (line_of step)
+clean-line step small = clean-letters (step_word step) (letters-step step) (step_rest step) (clean-rest step small)

@@ -1,5 +1,5 @@
 -- What threads do on their map.
-use Rattle.std.proofs.Common.{◌≡◌, ℕ, zero, suc, ◌+◌, ◌*◌, ◌^◌, ◌<◌, ◌≤◌, List, [], ◌∷◌, ◌++◌, length, map, take, drop, get_or, None, refl, sym, ap, subst, ◌∙◌, inl, inr, arith, add-one}
+use Rattle.std.proofs.Common.{◌≡◌, true, Bool, ℕ, zero, suc, ◌+◌, ◌*◌, ◌^◌, ◌<◌, ◌≤◌, List, [], ◌∷◌, ◌++◌, length, map, take, drop, get_or, None, refl, sym, ap, subst, ◌∙◌, inl, inr, arith, add-one}
 use Rattle.std.specs.Prelude.{nat_eq, IsTrue, IfNone, All, sum_by}
 use Rattle.std.proofs.lemmas.Bool.{eqb-true, and_parts, cases_lt}
 use Rattle.std.proofs.lemmas.List.{map-append, get_or_append_left, get_or_push, length_push, length-map, get_or-map, drop_all, take_all, append-nil}
@@ -10,49 +10,54 @@ use Rattle.dash_history.specs.Alone.{fresh_logs}
 use Rattle.dash_history.specs.History.{LogState, place_of}
 use Rattle.dash_history.specs.Map.{Logged}
 use Rattle.dash_history.specs.Steps.{alike_step}
-use Rattle.dash_history.specs.Takes.{rules}
+use Rattle.dash_history.specs.Takes.{kinds, rules}
 use Rattle.dash_history.specs.declared.step.ShardStep.{ShardStep}
-use Rattle.dash_history.specs.declared.step.ShardStep.TheVariants.{Get, Insert, Remove}
+use Rattle.dash_history.specs.declared.step.ShardStep.TheVariants.{Get, Contains, Insert, Remove, RemoveIf, RemoveIfMut, Alter, Count}
 use Rattle.dash_history.specs.declared.step.Reply.{Reply}
 use Rattle.dashcheck.specs.declared.threads.Worker.{Worker}
-use Rattle.dashcheck.specs.Threads.{IsSize, LogsStep, HasDone, IsIdle, Works, AllDone, idle, steps_in, thread_step, thread_steps}
+use Rattle.dashcheck.specs.Threads.{IsSize, LogsStep, HasDone, IsIdle, Works, AllDone, idle, steps_in, IsThreadStep, thread_step, thread_steps}
 
--- alike steps of numbers are equal
-same-step : (s t : ShardStep ℕ ℕ) → IsTrue (alike_step nat_eq nat_eq s t) → t ≡ s
-same-step (Get x) (Get y) same = ap (λ k. Get k) (sym (eqb-true x y same))
-same-step (Get x) (Insert y u) same = cc same
-same-step (Get x) (Remove y) same = cc same
-same-step (Insert x t) (Get y) same = cc same
-same-step (Insert x t) (Insert y u) same = let p = and_parts (nat_eq x y) (nat_eq t u) same in rw (eqb-true x y p.0) (rw (eqb-true t u p.1) refl)
-same-step (Insert x t) (Remove y) same = cc same
-same-step (Remove x) (Get y) same = cc same
-same-step (Remove x) (Insert y u) same = cc same
-same-step (Remove x) (Remove y) same = ap (λ k. Remove k) (sym (eqb-true x y same))
+-- steps of threads: they carry no action
+abbrev idle_acts : Unit {0} → ℕ → ℕ → ℕ × Bool
+idle_acts _ k v = (v, true)
 
--- a step of a key goes to the shard of its key, so to one of the shards
-pub not-outside : (route : ℕ → ℕ) (n : ℕ) (step : ShardStep ℕ ℕ) → ((k : ℕ) → route k < n) → n ≤ place_of (rules nat_eq nat_eq (keys nat_eq route n)) step → ⊥
-not-outside route n (Get k) below outside = omega (arith, below k, outside)
-not-outside route n (Insert k v) below outside = omega (arith, below k, outside)
-not-outside route n (Remove k) below outside = omega (arith, below k, outside)
+-- alike steps of threads are equal
+same-step : (s t : ShardStep ℕ ℕ (Unit {0})) → IsThreadStep s → IsTrue (alike_step nat_eq nat_eq (λ _ _. true) s t) → t ≡ s
+same-step (Get x) (Get y) known same = ap (λ k. Get k) (sym (eqb-true x y same))
+same-step (Insert x t) (Insert y u) known same = let p = and_parts (nat_eq x y) (nat_eq t u) same in rw (eqb-true x y p.0) (rw (eqb-true t u p.1) refl)
+same-step (Remove x) (Remove y) known same = ap (λ k. Remove k) (sym (eqb-true x y same))
+same-step (Contains x) t known same = absurd known
+same-step (RemoveIf x a) t known same = absurd known
+same-step (RemoveIfMut x a) t known same = absurd known
+same-step (Alter x a) t known same = absurd known
+same-step (Count i) t known same = absurd known
+same-step s t known same = cc
+
+-- a step of a thread goes to the shard of its key, so to one of the shards
+pub not-outside : (route : ℕ → ℕ) (n : ℕ) (step : ShardStep ℕ ℕ (Unit {0})) → IsThreadStep step → ((k : ℕ) → route k < n) → n ≤ place_of (kinds (λ _ _. true) idle_acts (rules nat_eq nat_eq (keys nat_eq route n))) step → ⊥
+not-outside route n (Get k) known below outside = omega (arith, below k, outside)
+not-outside route n (Insert k v) known below outside = omega (arith, below k, outside)
+not-outside route n (Remove k) known below outside = omega (arith, below k, outside)
+not-outside route n step known below outside = absurd known
 
 -- a step that was logged
-pub logged : (w : Keys ℕ) (l l' : LogState ℕ ℕ) (step : ShardStep ℕ ℕ) (reply : Reply ℕ ℕ) → Logged (rules nat_eq nat_eq w) l l' step reply → LogsStep l l' step
-logged w l l' step reply h = record {
+pub logged : (w : Keys ℕ) (l l' : LogState ℕ ℕ (Unit {0})) (step : ShardStep ℕ ℕ (Unit {0})) (reply : Reply ℕ ℕ) → IsThreadStep step → Logged (kinds (λ _ _. true) idle_acts (rules nat_eq nat_eq w)) l l' step reply → LogsStep l l' step
+logged w l l' step reply known h = record {
   caller = h.caller;
-  steps = ap (map (λ r. r.step)) h.entries ∙ map-append (λ r. r.step) l.entries (h.entry ∷ []) ∙ ap (λ s. map (λ r. r.step) l.entries ++ s ∷ []) (same-step step h.entry.step h.tells.stepped);
+  steps = ap (map (λ r. r.step)) h.entries ∙ map-append (λ r. r.step) l.entries (h.entry ∷ []) ∙ ap (λ s. map (λ r. r.step) l.entries ++ s ∷ []) (same-step step h.entry.step known h.tells.stepped);
 }
 
 -- thread j took its steps below m since the log was old
-pub record Going (old now : LogState ℕ ℕ) (j m : ℕ) : Type 0 where
+pub record Going (old now : LogState ℕ ℕ (Unit {0})) (j m : ℕ) : Type 0 where
   pub caller : now.caller ≡ old.caller
   pub thread : j ≡ old.caller
   pub done : HasDone m now
 
-pub going-none : (l : LogState ℕ ℕ) (j : ℕ) → l.entries ≡ [] → j ≡ l.caller → Going l l j 0
+pub going-none : (l : LogState ℕ ℕ (Unit {0})) (j : ℕ) → l.entries ≡ [] → j ≡ l.caller → Going l l j 0
 going-none l j none same = record { caller = refl; thread = same; done = ap (map (λ r. r.step)) none }
 
 -- a step more
-pub going-more : (old l l' : LogState ℕ ℕ) (j m : ℕ) (step : ShardStep ℕ ℕ) → Going old l j m → step ≡ thread_step j m → LogsStep l l' step → Going old l' j (m + 1)
+pub going-more : (old l l' : LogState ℕ ℕ (Unit {0})) (j m : ℕ) (step : ShardStep ℕ ℕ (Unit {0})) → Going old l j m → step ≡ thread_step j m → LogsStep l l' step → Going old l' j (m + 1)
 going-more old l l' j m step so is h =
     let caller : l'.caller ≡ old.caller = h.caller ∙ so.caller in
     let steps : steps_in l' ≡ thread_steps old.caller m ++ thread_step old.caller m ∷ [] =
@@ -65,15 +70,15 @@ length-steps : (j n : ℕ) → length (thread_steps j n) ≡ n
 length-steps j zero = refl
 length-steps j (suc n) = length_push (thread_steps j n) (thread_step j n) ∙ rw (length-steps j n) (add-one n)
 
-pub length-done : (n : ℕ) (l : LogState ℕ ℕ) → HasDone n l → length l.entries ≡ n
+pub length-done : (n : ℕ) (l : LogState ℕ ℕ (Unit {0})) → HasDone n l → length l.entries ≡ n
 length-done n l done = sym (length-map l.entries (λ r. r.step)) ∙ ap length done ∙ length-steps l.caller n
 
 -- the log of caller i
-length-fresh : (c : ℕ) → length (fresh_logs {K = ℕ} {V = ℕ} c) ≡ c
+length-fresh : (c : ℕ) → length (fresh_logs {K = ℕ} {V = ℕ} {A = Unit {0}} c) ≡ c
 length-fresh zero = refl
 length-fresh (suc c) = length_push (fresh_logs c) _ ∙ rw (length-fresh c) (add-one c)
 
-pub fresh-log : (c i : ℕ) (d : LogState ℕ ℕ) → i < c → get_or (fresh_logs c) i d ≡ record { caller = i; last = 0; entries = [] }
+pub fresh-log : (c i : ℕ) (d : LogState ℕ ℕ (Unit {0})) → i < c → get_or (fresh_logs c) i d ≡ record { caller = i; last = 0; entries = [] }
 fresh-log zero i d inside = absurd (omega (arith, inside))
 fresh-log (suc c) i d inside = elim (cases_lt i c) [
   | inl lower ↦ get_or_append_left (fresh_logs c) _ d i (omega (arith, lower, length-fresh c)) ∙ fresh-log c i d lower
@@ -93,9 +98,9 @@ pub written : {X : Type 0} (xs items : List X) (n : ℕ) → length xs ≡ n →
 written xs items n long wide = rw (drop_all (length xs) items (omega (arith, long, wide))) (rw (append-nil xs) (take_all n xs (omega (arith, long))))
 
 -- a worker for each of the fresh logs
-pub logs-idle : (ws : List Worker) (ls : List (LogState ℕ ℕ)) → ws ≡ map idle ls → map (λ w. w.log) ws ≡ ls
+pub logs-idle : (ws : List Worker) (ls : List (LogState ℕ ℕ (Unit {0}))) → ws ≡ map idle ls → map (λ w. w.log) ws ≡ ls
 logs-idle ws ls is = ap (map (λ w. w.log)) is ∙ back ls where
-  back : (ls : List (LogState ℕ ℕ)) → map (λ w. w.log) (map idle ls) ≡ ls
+  back : (ls : List (LogState ℕ ℕ (Unit {0}))) → map (λ w. w.log) (map idle ls) ≡ ls
   back [] = refl
   back (l ∷ ls) = ap (λ rest. l ∷ rest) (back ls)
 

@@ -1,3 +1,4 @@
+pub mod Change
 pub mod Command
 pub mod Lines
 pub mod Script

@@ -1,5 +1,5 @@
 -- `dashcheck threads`: its words, the steps of its threads, and what it prints.
-use Rattle.std.specs.Prelude.{◌≡◌, ℕ, zero, suc, ◌+◌, ◌*◌, ◌%◌, ◌<◌, ◌≤◌, ◌++◌, ◌==◌, List, [], ◌∷◌, Option, None, IfNone, length, map, slice_index_or, codes, if◌then◌else◌}
+use Rattle.std.specs.Prelude.{◌≡◌, ℕ, zero, suc, ◌+◌, ◌*◌, ◌%◌, ◌<◌, ◌≤◌, ◌++◌, ◌==◌, List, [], ◌∷◌, Option, None, IfNone, length, map, slice_index_or, codes, ⊤, if◌then◌else◌}
 use Rattle.std.specs.Fmt.{decimal}
 use Rattle.std.specs.Io.KnownBytes.{Appends}
 use Rattle.dash_history.specs.History.{LogState}
@@ -24,29 +24,36 @@ abbrev pub IsThreads : List (List ℕ) → ℕ → ℕ → Type 0
 IsThreads words c n = (words ≡ threads ∷ decimal c ∷ decimal n ∷ []) × IsSize c n
 
 -- the step m of thread j
-abbrev pub thread_step : ℕ → ℕ → ShardStep ℕ ℕ
+abbrev pub thread_step : ℕ → ℕ → ShardStep ℕ ℕ (Unit {0})
 thread_step j m = if m % 3 == 0 then Insert ((j + m) % 16) (j * 1000000 + m) else if m % 3 == 1 then Get ((j + m) % 16) else Remove ((j + m) % 16)
 
+-- a thread looks up, puts and takes out, and nothing else
+abbrev pub IsThreadStep : ShardStep ℕ ℕ (Unit {0}) → Type 0
+IsThreadStep (Get k) = ⊤
+IsThreadStep (Insert k v) = ⊤
+IsThreadStep (Remove k) = ⊤
+IsThreadStep _ = ⊥
+
 -- the steps 0 to n - 1 of thread j
-abbrev pub thread_steps : ℕ → ℕ → List (ShardStep ℕ ℕ)
+abbrev pub thread_steps : ℕ → ℕ → List (ShardStep ℕ ℕ (Unit {0}))
 thread_steps j zero = []
 thread_steps j (suc n) = thread_steps j n ++ thread_step j n ∷ []
 
 -- the steps of a log
-abbrev pub steps_in : LogState ℕ ℕ → List (ShardStep ℕ ℕ)
+abbrev pub steps_in : LogState ℕ ℕ (Unit {0}) → List (ShardStep ℕ ℕ (Unit {0}))
 steps_in log = map (λ r. r.step) log.entries
 
 -- the log of the same caller is longer by the step
-pub record LogsStep (old new : LogState ℕ ℕ) (step : ShardStep ℕ ℕ) : Type 0 where
+pub record LogsStep (old new : LogState ℕ ℕ (Unit {0})) (step : ShardStep ℕ ℕ (Unit {0})) : Type 0 where
   pub caller : new.caller ≡ old.caller
   pub steps : steps_in new ≡ steps_in old ++ step ∷ []
 
 -- the thread that the log is of has done its first n steps, and nothing else
-abbrev pub HasDone : ℕ → LogState ℕ ℕ → Type 0
+abbrev pub HasDone : ℕ → LogState ℕ ℕ (Unit {0}) → Type 0
 HasDone n log = steps_in log ≡ thread_steps log.caller n
 
 -- the worker of a log
-abbrev pub idle : LogState ℕ ℕ → Worker
+abbrev pub idle : LogState ℕ ℕ (Unit {0}) → Worker
 idle log = record { log = log; refused = None }
 
 -- a worker that has done nothing, for one of c threads

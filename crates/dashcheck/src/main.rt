@@ -1,6 +1,7 @@
 //! `dashcheck` takes a script of steps on a recorded map and prints each reply, or lets threads take steps on one.
 #![tactic(auto)]
 
+mod change;
 pub mod command;
 mod lines;
 mod script;

@@ -3,12 +3,13 @@ ghost use Rattle.std.specs.Prelude.{◌≡◌, ◌≢◌, ◌<◌, ◌++◌, ◌
 ghost use Rattle.std.specs.Io.KnownBytes.{Appends};
 ghost use Rattle.dashcheck.specs.Script.{text_of, fault_text, IsReplyTo, TakesAll, StopsAt, Refuses};
 
+use crate::change::Change;
 use crate::command::Status;
 use crate::lines::Lines;
-use crate::step::{Printed, parse};
+use crate::step::{Printed, Step, parse};
 use dash_history::record::map::RecordedMap;
 use dash_history::record::{CallerLog, RecordFault};
-use dash_history::step::{Reply, ShardStep};
+use dash_history::step::Reply;
 use dash_shard::error::ConstructError;
 use dash_shard::hash::PlaceState;
 use std::alloc::Global;
@@ -63,8 +64,8 @@ fn fault_text(fault: RecordFault) -> &'static str
 // A recorded map and the log of its caller.
 #[derive(Drop)]
 struct Session {
-    map: RecordedMap<u64, u64, PlaceState>,
-    log: CallerLog<u64, u64>,
+    map: RecordedMap<u64, u64, PlaceState, Change>,
+    log: CallerLog<u64, u64, Change>,
     ghost caller: { log.caller < map.callers },
 }
 
@@ -144,11 +145,7 @@ impl Session {
         Ok(Session { map, log })
     }
 
-    fn take<T: Wait + Clock>(
-        &mut self,
-        rt: &T,
-        step: ShardStep<u64, u64>,
-    ) -> Result<Reply<u64, u64>, RecordFault>
+    fn take<T: Wait + Clock>(&mut self, rt: &T, step: Step) -> Result<Reply<u64, u64>, RecordFault>
         ensures { IfOk result (λ reply. IsReplyTo step reply) }
     {
         self.map

@@ -2,26 +2,44 @@
 ghost use Rattle.std.specs.Prelude.{◌≡◌, ◌↔◌, ℕ, ◌<◌, ◌^◌, ◌++◌, ◌∷◌, List, IsTrue, IfSome, IfNone};
 ghost use Rattle.std.specs.Fmt.{decimal};
 ghost use Rattle.std.specs.Str.{IsAscii};
-ghost use Rattle.dash_history.specs.declared.step.ShardStep.{ShardStep};
-ghost use Rattle.dashcheck.specs.Script.{IsPlain, IsFirst, HasWords, line_of};
+ghost use Rattle.dashcheck.specs.declared.change.Change.{Change};
+ghost use Rattle.dashcheck.specs.Script.{IsPlain, IsFirst, ScriptStep, HasChange, HasWords, change_text, line_of};
 
+use crate::change::Change;
 use dash_history::step::{Reply, ShardStep};
 use std::{fmt, str};
 
+/// A step of a script.
+pub type Step = ShardStep<u64, u64, Change>;
+
 /// The step that a line says, or `None` for a bad one.
-pub fn parse(line: &[u8]) -> Option<ShardStep<u64, u64>>
+pub fn parse(line: &[u8]) -> Option<Step>
     ensures some { IfSome result (λ step. line.now ≡ line_of step) }
     ensures words { IfSome result (λ step. HasWords step) }
-    ensures none { IfNone result ((step : ShardStep ℕ ℕ) → HasWords step → line.now ≡ line_of step → ⊥) }
+    ensures none { IfNone result ((step : ScriptStep) → HasWords step → line.now ≡ line_of step → ⊥) }
 {
     let (kind, rest) = first_word(text(line)?)?;
     match kind {
         "get" => Some(ShardStep::Get(number(rest)?)),
+        "contains" => Some(ShardStep::Contains(number(rest)?)),
         "insert" => {
             let (key, value) = numbers(rest)?;
             Some(ShardStep::Insert(key, value))
         }
         "remove" => Some(ShardStep::Remove(number(rest)?)),
+        "removeif" => {
+            let (key, change) = changed(rest)?;
+            Some(ShardStep::RemoveIf(key, change))
+        }
+        "removeifmut" => {
+            let (key, change) = changed(rest)?;
+            Some(ShardStep::RemoveIfMut(key, change))
+        }
+        "alter" => {
+            let (key, change) = changed(rest)?;
+            Some(ShardStep::Alter(key, change))
+        }
+        "count" => Some(ShardStep::Count(shard(rest)?)),
         _ => None,
     }
 }
@@ -49,6 +67,42 @@ fn numbers(text: &str) -> Option<(u64, u64)>
 {
     let (key, value) = first_word(text)?;
     Some((number(key)?, number(value)?))
+}
+
+// A key and a change of its value.
+fn changed(text: &str) -> Option<(u64, Change)>
+    ensures some { IfSome result (λ p. text.now ≡ decimal p.0 ++ 32 ∷ change_text p.1) }
+    ensures words { IfSome result (λ p. HasChange p.1) }
+    ensures none { IfNone result ((k : ℕ) (f : Change) → k < 2 ^ 64 → HasChange f → text.now ≡ decimal k ++ 32 ∷ change_text f → ⊥) }
+{
+    let (key, text) = first_word(text)?;
+    Some((number(key)?, change(text)?))
+}
+
+// A change.
+fn change(text: &str) -> Option<Change>
+    ensures some { IfSome result (λ f. text.now ≡ change_text f) }
+    ensures words { IfSome result (λ f. HasChange f) }
+    ensures none { IfNone result ((f : Change) → HasChange f → text.now ≡ change_text f → ⊥) }
+{
+    let (kind, rest) = first_word(text)?;
+    match kind {
+        "add" => Some(Change::Add(number(rest)?)),
+        "below" => Some(Change::Below(number(rest)?)),
+        "addbelow" => {
+            let (more, bound) = numbers(rest)?;
+            Some(Change::AddBelow(more, bound))
+        }
+        _ => None,
+    }
+}
+
+// The number of a shard.
+fn shard(word: &str) -> Option<usize>
+    ensures some { IfSome result (λ i. word.now ≡ decimal i) }
+    ensures none { IfNone result ((i : ℕ) → i < 2 ^ 64 → word.now ≡ decimal i → ⊥) }
+{
+    Some(number(word)? as usize)
 }
 
 // A digit first, and no zero in front of others.
@@ -84,8 +138,12 @@ impl fmt::Display for Printed<'_> {
         match self.0 {
             Reply::Pair(None) => write!(f, "pair none"),
             Reply::Pair(Some((key, value))) => write!(f, "pair {key} {value}"),
+            Reply::Found(true) => write!(f, "found yes"),
+            Reply::Found(false) => write!(f, "found no"),
             Reply::Old(None) => write!(f, "old none"),
             Reply::Old(Some(value)) => write!(f, "old {value}"),
+            Reply::Number(number) => write!(f, "number {number}"),
+            Reply::Done => write!(f, "done"),
         }
     }
 }

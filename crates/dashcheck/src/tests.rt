@@ -128,8 +128,47 @@ fn prints_replies(rt: HostRuntime) -> Result<(), Fail> {
 }
 
 #[test]
+fn takes_changes(rt: HostRuntime) -> Result<(), Fail> {
+    check(
+        &rt,
+        rt.alloc(),
+        b"insert 1 10\ninsert 5 50\ninsert 1 11\nget 1\ncount 1\nremove 5\ncontains 5\ncontains 1\n",
+        "old none\nold none\nold 10\npair 1 11\nnumber 2\npair 5 50\nfound no\nfound yes\n",
+        "",
+    )?;
+    check(
+        &rt,
+        rt.alloc(),
+        b"insert 0 6\nremoveif 0 below 6\nremoveifmut 0 addbelow 1 7\nremoveifmut 0 addbelow 0 8\ncount 0\n",
+        "old none\npair none\npair none\npair 0 7\nnumber 0\n",
+        "",
+    )?;
+    check(
+        &rt,
+        rt.alloc(),
+        b"alter 4 add 1\ninsert 4 18446744073709551615\nalter 4 add 2\nget 4\nremoveif 4 add 9\nget 4\n",
+        "done\nold none\ndone\npair 4 1\npair 4 1\npair none\n",
+        "",
+    )?;
+    check(
+        &rt,
+        rt.alloc(),
+        b"insert 18446744073709551615 0\ncount 3\n",
+        "old none\nnumber 1\n",
+        "",
+    )?;
+    check(
+        &rt,
+        rt.alloc(),
+        b"get 1\ncount 4\nget 1\n",
+        "pair none\n",
+        "refused line 2: no such shard (20)\n",
+    )
+}
+
+#[test]
 fn refuses_bad_steps(rt: HostRuntime) -> Result<(), Fail> {
-    let bad: [&[u8]; 29] = [
+    let bad: [&[u8]; 39] = [
         b"\n",
         b" get 1\n",
         b"get 1 \n",
@@ -158,7 +197,17 @@ fn refuses_bad_steps(rt: HostRuntime) -> Result<(), Fail> {
         b"remove  1\n",
         b"put 1 2\n",
         b"Get 1\n",
-        b"contains 1\n",
+        b"contains\n",
+        b"contains 1 2\n",
+        b"removeif 1\n",
+        b"removeif 1 below\n",
+        b"removeif below 1\n",
+        b"removeifmut 1 addbelow 1\n",
+        b"alter 1 add 1 2\n",
+        b"alter 1 plus 1\n",
+        b"alter 1 add 18446744073709551616\n",
+        b"count -1\n",
+        b"count\n",
     ];
     for line in bad {
         check(&rt, rt.alloc(), line, "", "refused line 1: bad step\n")?;

@@ -2,7 +2,7 @@
 ghost use Rattle.std.specs.Prelude.{◌≡◌, ◌≢◌, ℕ, ◌+◌, ◌*◌, ◌%◌, ◌^◌, ◌<◌, ◌≤◌, ◌∷◌, [], All, Some, IsSomeAnd, IfOk, IfErr, IfSome, IfNone, OnOk, OnErr, length, map, sum_by, slice_get, slice_index_or, vec_len};
 ghost use Rattle.std.specs.Io.KnownBytes.{Appends};
 ghost use Rattle.dash_history.specs.Alone.{fresh_logs};
-ghost use Rattle.dashcheck.specs.Threads.{IsSize, LogsStep, HasDone, IsIdle, Works, AllDone, idle, SaysRefusal, thread_step, entries_line};
+ghost use Rattle.dashcheck.specs.Threads.{IsSize, LogsStep, HasDone, IsIdle, Works, AllDone, idle, SaysRefusal, IsThreadStep, thread_step, entries_line};
 
 use crate::command::Status;
 use dash_history::record::map::RecordedMap;
@@ -190,6 +190,7 @@ fn take<T: Wait + Clock>(
 ) -> Result<(), Refusal>
     requires shards { map.now.amount ≡ 4 }
     requires caller { log.old.caller < map.now.callers }
+    requires kind { IsThreadStep step }
     ensures taken { OnOk result (LogsStep log.old log.new step) }
     ensures refused { OnErr result (log.new ≡ log.old) }
     ensures kinds { IfErr result (λ refusal. refusal ≢ Refusal.Map) }
@@ -206,7 +207,8 @@ fn take<T: Wait + Clock>(
 fn step(thread: u64, number: u64) -> ShardStep<u64, u64>
     requires thread { thread < 64 }
     requires number { number < 10000 }
-    ensures { result ≡ thread_step thread number }
+    ensures step { result ≡ thread_step thread number }
+    ensures kind { IsThreadStep result }
 {
     let key = (thread + number) % 16;
     match number % 3 {

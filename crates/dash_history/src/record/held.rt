@@ -1,10 +1,11 @@
 //! A recorded shard that is held for writing, changed in place behind its lock.
 ghost use Rattle.std.specs.Prelude.{◌≡◌, ◌+◌, ◌-◌, ◌<◌, ◌^◌, ◌↔◌, ◌⊎◌, max, IfOk, IfErr, IsTrue};
 ghost use Rattle.dash_shard.specs.Shard.{Routes, SameShard};
-ghost use Rattle.dash_history.specs.History.{IsRecorded, Recorded, place_of, rules_of};
+ghost use Rattle.dash_history.specs.History.{IsRecorded, Recorded, place_of, kinds_of};
 ghost use Rattle.dash_history.specs.Held.{FitsPlace, Grows};
 
 use super::{CallerLog, RecShard, RecordFault, make_room};
+use crate::action::KeptAction;
 use crate::kept::{Kept, KeptKey};
 use crate::step::{Record, Reply, ShardStep};
 use dash_shard::lock::{RwLockWriteGuard, Tagged};
@@ -22,7 +23,7 @@ pub struct Place<S> {
     pub hasher: Snapshot<S>,
 }
 
-impl<K: KeptKey, V: Kept, S: BuildHasher> Tagged for RecShard<K, V, S> {
+impl<K: KeptKey, V: Kept, S: BuildHasher, A: KeptAction<K, V>> Tagged for RecShard<K, V, S, A> {
     type Tag = Place<S>;
 
     ghost fits = { λ tag shard. FitsPlace S.BuildHasher S.Hasher.Hasher tag shard };
@@ -30,19 +31,21 @@ impl<K: KeptKey, V: Kept, S: BuildHasher> Tagged for RecShard<K, V, S> {
 
 /// A recorded shard that is held for writing: the hold ends when it is dropped. A contract sees it as the shard with its history.
 #[must_use]
-pub struct RecShardMut<'a, K: KeptKey, V: Kept, S: BuildHasher> {
-    guard: RwLockWriteGuard<'a, RecShard<K, V, S>>,
+pub struct RecShardMut<'a, K: KeptKey, V: Kept, S: BuildHasher, A: KeptAction<K, V> = ()> {
+    guard: RwLockWriteGuard<'a, RecShard<K, V, S, A>>,
 }
 
-impl<'a, K: KeptKey, V: Kept, S: BuildHasher> Model for RecShardMut<'a, K, V, S> {
+impl<'a, K: KeptKey, V: Kept, S: BuildHasher, A: KeptAction<K, V>> Model
+    for RecShardMut<'a, K, V, S, A> {
     ghost use Rattle.dash_history.specs.History.{RecState};
 
-    ghost Value = { RecState K V S };
+    ghost Value = { RecState K V A S };
 
     ghost view = { λ s. s.guard.value };
 }
 
-impl<K: KeptKey, V: Kept, S: BuildHasher> Drop for RecShardMut<'_, K, V, S> {
+impl<K: KeptKey, V: Kept, S: BuildHasher, A: KeptAction<K, V>> Drop
+    for RecShardMut<'_, K, V, S, A> {
     #[inline]
     fn drop(self) {
         let Self { guard } = self;
@@ -50,10 +53,10 @@ impl<K: KeptKey, V: Kept, S: BuildHasher> Drop for RecShardMut<'_, K, V, S> {
     }
 }
 
-impl<'a, K: KeptKey, V: Kept, S: BuildHasher> RecShardMut<'a, K, V, S> {
+impl<'a, K: KeptKey, V: Kept, S: BuildHasher, A: KeptAction<K, V>> RecShardMut<'a, K, V, S, A> {
     /// The recorded shard that a write guard holds.
     #[inline]
-    pub fn of(guard: RwLockWriteGuard<'a, RecShard<K, V, S>>) -> RecShardMut<'a, K, V, S>
+    pub fn of(guard: RwLockWriteGuard<'a, RecShard<K, V, S, A>>) -> RecShardMut<'a, K, V, S, A>
         ensures value { result ≡ guard.entry.value }
         ensures fits { FitsPlace S.BuildHasher S.Hasher.Hasher guard.entry.tag result }
     {
@@ -61,12 +64,18 @@ impl<'a, K: KeptKey, V: Kept, S: BuildHasher> RecShardMut<'a, K, V, S> {
     }
 }
 
-impl<K: KeptKey + Drop, V: Kept + Drop, S: BuildHasher> RecShardMut<'_, K, V, S> {
+impl<K: KeptKey + Drop, V: Kept + Drop, S: BuildHasher, A: KeptAction<K, V> + Drop> RecShardMut<
+    '_,
+    K,
+    V,
+    S,
+    A,
+> {
     /// The shard's number among the map's shards.
     #[inline]
     pub fn number(&self) -> usize
         ensures number { result ≡ self.now.shard.number }
-        ensures legal { IsRecorded K.eq S.BuildHasher S.Hasher.Hasher K.hash_input K.alike V.alike self.now }
+        ensures legal { IsRecorded K.eq S.BuildHasher S.Hasher.Hasher K.hash_input K.alike V.alike A.alike A.acts self.now }
     {
         self.guard.shard.number()
     }
@@ -108,19 +117,22 @@ impl<K: KeptKey + Drop, V: Kept + Drop, S: BuildHasher> RecShardMut<'_, K, V, S>
         &mut self,
         stamp: u64,
         caller: u32,
-        step: ShardStep<K, V>,
-    ) -> Result<(Reply<K, V>, Record<K, V>), ShardStep<K, V>>
-        requires place { place_of (rules_of K.eq S.BuildHasher S.Hasher.Hasher K.hash_input K.alike V.alike self.old.shard) step ≡ self.old.shard.number }
+        step: ShardStep<K, V, A>,
+    ) -> Result<(Reply<K, V>, Record<K, V, A>), ShardStep<K, V, A>>
+        requires place { place_of (kinds_of K.eq S.BuildHasher S.Hasher.Hasher K.hash_input K.alike V.alike A.alike A.acts self.old.shard) step ≡ self.old.shard.number }
         requires caller { caller < self.old.callers }
         requires above { self.old.last < stamp }
-        ensures { Grows (rules_of K.eq S.BuildHasher S.Hasher.Hasher K.hash_input K.alike V.alike self.old.shard) self.old self.new stamp caller step result }
+        ensures { Grows (kinds_of K.eq S.BuildHasher S.Hasher.Hasher K.hash_input K.alike V.alike A.alike A.acts self.old.shard) self.old self.new stamp caller step result }
     {
         self.guard.change(
-            |shard: &mut RecShard<K, V, S>| -> Result<(Reply<K, V>, Record<K, V>), ShardStep<K, V>>
-                requires place { place_of (rules_of K.eq S.BuildHasher S.Hasher.Hasher K.hash_input K.alike V.alike shard.old.shard) step ≡ shard.old.shard.number }
+            |shard: &mut RecShard<K, V, S, A>| -> Result<
+                (Reply<K, V>, Record<K, V, A>),
+                ShardStep<K, V, A>,
+            >
+                requires place { place_of (kinds_of K.eq S.BuildHasher S.Hasher.Hasher K.hash_input K.alike V.alike A.alike A.acts shard.old.shard) step ≡ shard.old.shard.number }
                 requires caller { caller < shard.old.callers }
                 requires above { shard.old.last < stamp }
-                ensures { Grows (rules_of K.eq S.BuildHasher S.Hasher.Hasher K.hash_input K.alike V.alike shard.old.shard) shard.old shard.new stamp caller step result }
+                ensures { Grows (kinds_of K.eq S.BuildHasher S.Hasher.Hasher K.hash_input K.alike V.alike A.alike A.acts shard.old.shard) shard.old shard.new stamp caller step result }
             { shard.grow(stamp, caller, step) },
         )
     }
@@ -131,12 +143,12 @@ impl<K: KeptKey + Drop, V: Kept + Drop, S: BuildHasher> RecShardMut<'_, K, V, S>
     /// nothing changes.
     pub fn record(
         &mut self,
-        log: &mut CallerLog<K, V>,
-        step: ShardStep<K, V>,
-    ) -> Result<Reply<K, V>, (ShardStep<K, V>, RecordFault)>
-        requires place { place_of (rules_of K.eq S.BuildHasher S.Hasher.Hasher K.hash_input K.alike V.alike self.old.shard) step ≡ self.old.shard.number }
+        log: &mut CallerLog<K, V, A>,
+        step: ShardStep<K, V, A>,
+    ) -> Result<Reply<K, V>, (ShardStep<K, V, A>, RecordFault)>
+        requires place { place_of (kinds_of K.eq S.BuildHasher S.Hasher.Hasher K.hash_input K.alike V.alike A.alike A.acts self.old.shard) step ≡ self.old.shard.number }
         requires caller { log.old.caller < self.old.callers }
-        ensures ok { IfOk result (λ reply. Recorded (rules_of K.eq S.BuildHasher S.Hasher.Hasher K.hash_input K.alike V.alike self.old.shard) self.old self.new log.old log.new step reply) }
+        ensures ok { IfOk result (λ reply. Recorded (kinds_of K.eq S.BuildHasher S.Hasher.Hasher K.hash_input K.alike V.alike A.alike A.acts self.old.shard) self.old self.new log.old log.new step reply) }
         ensures refused { IfErr result (λ e. (e.0 ≡ step) × (self.new ≡ self.old) × (log.new ≡ log.old)) }
         ensures last_stamp { (result ≡ Err (step, RecordFault.LastStamp)) ↔ (max self.old.last log.old.last ≡ 2 ^ 64 - 1) }
         ensures log_last { log.old.last ≡ 2 ^ 64 - 1 → result ≡ Err (step, RecordFault.LastStamp) }

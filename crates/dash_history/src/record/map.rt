@@ -5,10 +5,11 @@ ghost use Rattle.dash_shard.specs.Hashing.{IsAmount, HashAlike};
 ghost use Rattle.dash_history.specs.Alone.{IsAlone, IsCallers, IsPlaced, fresh_logs};
 ghost use Rattle.dash_history.specs.Held.{FitsPlace};
 ghost use Rattle.dash_history.specs.History.{IsRecorded, place_of};
-ghost use Rattle.dash_history.specs.Map.{IsAt, rules_on};
+ghost use Rattle.dash_history.specs.Map.{IsAt, kinds_on};
 
 use super::held::{Place, RecShardMut};
 use super::{CallerLog, RecShard};
+use crate::action::KeptAction;
 use crate::alone::RecAlone;
 use crate::kept::{Kept, KeptKey};
 use crate::step::ShardStep;
@@ -24,21 +25,21 @@ use std::snapshot::Snapshot;
 use std::sync::Wait;
 
 /// A shard behind its lock, on cache lines of its own.
-pub(crate) type Locked<K, V, S> = CachePadded<RwLock<RecShard<K, V, S>>>;
+pub(crate) type Locked<K, V, S, A> = CachePadded<RwLock<RecShard<K, V, S, A>>>;
 
 /// A recorded map that threads share: its shards behind locks, each with its history.
 ///
 /// A contract sees its hasher, the number of its callers and that of its shards. What is behind a lock is known to whom holds it.
 #[derive(Drop)]
-pub struct RecordedMap<K: KeptKey, V: Kept, S: BuildHasher> {
+pub struct RecordedMap<K: KeptKey, V: Kept, S: BuildHasher, A: KeptAction<K, V> = ()> {
     hasher: S,
     callers: u32,
-    row: Vec<Locked<K, V, S>>,
+    row: Vec<Locked<K, V, S, A>>,
     // Empty, with room for all shards.
-    shards: Vec<RecShard<K, V, S>>,
+    shards: Vec<RecShard<K, V, S, A>>,
 }
 
-impl<K: KeptKey, V: Kept, S: BuildHasher> Model for RecordedMap<K, V, S> {
+impl<K: KeptKey, V: Kept, S: BuildHasher, A: KeptAction<K, V>> Model for RecordedMap<K, V, S, A> {
     ghost use Rattle.std.specs.Prelude.{◌≡◌, ◌≤◌, [], length, vec_len, vec_capacity};
     ghost use Rattle.dash_history.specs.Map.{MapState, IsMap};
 
@@ -49,7 +50,12 @@ impl<K: KeptKey, V: Kept, S: BuildHasher> Model for RecordedMap<K, V, S> {
     ghost invariant = { λ m. IsMap (record { hasher = m.hasher; callers = m.callers; amount = length m.row.items }) m.row.items × (m.shards.items ≡ []) × (vec_len m.row ≤ vec_capacity m.shards) };
 }
 
-impl<K: KeptKey + Drop, V: Kept + Drop, S: BuildHasher> RecordedMap<K, V, S> {
+impl<K: KeptKey + Drop, V: Kept + Drop, S: BuildHasher, A: KeptAction<K, V> + Drop> RecordedMap<
+    K,
+    V,
+    S,
+    A,
+> {
     /// A map of `amount` shards with no pairs, beside the logs of its callers, which are numbered from 0.
     ///
     /// It is refused where the amount is no power of two above 1 (5), then where there are not 1 to 65,536 callers (17), then where
@@ -59,7 +65,7 @@ impl<K: KeptKey + Drop, V: Kept + Drop, S: BuildHasher> RecordedMap<K, V, S> {
         hasher: S,
         amount: usize,
         callers: u32,
-    ) -> Result<(RecordedMap<K, V, S>, Vec<CallerLog<K, V>>), ConstructError>
+    ) -> Result<(RecordedMap<K, V, S, A>, Vec<CallerLog<K, V, A>>), ConstructError>
     where
         S: Clone,
         requires { (s t : S) → S.is_clone s t → HashAlike S.BuildHasher S.Hasher.Hasher s t }
@@ -95,24 +101,24 @@ impl<K: KeptKey + Drop, V: Kept + Drop, S: BuildHasher> RecordedMap<K, V, S> {
 
     /// The number of the shard that a step goes to.
     #[inline]
-    pub(crate) fn place(&self, step: &ShardStep<K, V>) -> usize
-        ensures { result ≡ place_of (rules_on S.BuildHasher S.Hasher.Hasher K.eq K.hash_input K.alike V.alike self.now) step.now }
+    pub(crate) fn place(&self, step: &ShardStep<K, V, A>) -> usize
+        ensures { result ≡ place_of (kinds_on S.BuildHasher S.Hasher.Hasher K.eq K.hash_input K.alike V.alike A.alike A.acts self.now) step.now }
     {
         step.place(&self.hasher, self.row.len())
     }
 
     /// Waits until nobody has the shard, and holds it for writing.
     #[inline]
-    pub fn held<R: Wait + Clock>(&self, rt: &R, shard: usize) -> RecShardMut<'_, K, V, S>
+    pub fn held<R: Wait + Clock>(&self, rt: &R, shard: usize) -> RecShardMut<'_, K, V, S, A>
         requires { shard < self.now.amount }
         ensures placed { IsPlaced S.BuildHasher S.Hasher.Hasher self.now.hasher self.now.amount self.now.callers shard result }
-        ensures legal { IsRecorded K.eq S.BuildHasher S.Hasher.Hasher K.hash_input K.alike V.alike result }
+        ensures legal { IsRecorded K.eq S.BuildHasher S.Hasher.Hasher K.hash_input K.alike V.alike A.alike A.acts result }
     {
         RecShardMut::of(self.row[shard].write(rt))
     }
 
     /// The map without its locks. It takes no memory, and waits for nobody, even where a hold was leaked.
-    pub fn alone(self) -> RecAlone<K, V, S>
+    pub fn alone(self) -> RecAlone<K, V, S, A>
         ensures hasher { result.hasher ≡ self.hasher }
         ensures callers { result.callers ≡ self.callers }
         ensures amount { length result.row ≡ self.amount }
@@ -127,7 +133,7 @@ impl<K: KeptKey + Drop, V: Kept + Drop, S: BuildHasher> RecordedMap<K, V, S> {
         move_all(
             &mut row,
             &mut shards,
-            |_: usize, lock: Locked<K, V, S>| -> RecShard<K, V, S>
+            |_: usize, lock: Locked<K, V, S, A>| -> RecShard<K, V, S, A>
                 ensures { FitsPlace S.BuildHasher S.Hasher.Hasher (padded_value lock) result }
             { lock.into_inner().into_inner() },
         );
@@ -140,9 +146,14 @@ impl<K: KeptKey + Drop, V: Kept + Drop, S: BuildHasher> RecordedMap<K, V, S> {
     }
 }
 
-impl<K: KeptKey + Drop, V: Kept + Drop, S: BuildHasher> RecAlone<K, V, S> {
+impl<K: KeptKey + Drop, V: Kept + Drop, S: BuildHasher, A: KeptAction<K, V> + Drop> RecAlone<
+    K,
+    V,
+    S,
+    A,
+> {
     /// The map behind its locks again. It takes no memory.
-    pub fn end(self) -> RecordedMap<K, V, S>
+    pub fn end(self) -> RecordedMap<K, V, S, A>
         ensures { result ≡ record { hasher = self.hasher; callers = self.callers; amount = length self.row } }
     {
         let RecAlone {
@@ -155,7 +166,7 @@ impl<K: KeptKey + Drop, V: Kept + Drop, S: BuildHasher> RecAlone<K, V, S> {
         move_all(
             &mut row,
             &mut locks,
-            |number: usize, shard: RecShard<K, V, S>| -> Locked<K, V, S>
+            |number: usize, shard: RecShard<K, V, S, A>| -> Locked<K, V, S, A>
                 requires { IsPlaced S.BuildHasher S.Hasher.Hasher hasher amount callers number shard }
                 ensures { IsAt (record { hasher = hasher; callers = callers; amount = amount }) number result }
             {

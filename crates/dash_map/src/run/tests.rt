@@ -1,7 +1,7 @@
 //! Runs of a few steps, as worked by hand.
 use super::*;
 use dash_shard::hash::PlaceState;
-use std::alloc::Global;
+use std::alloc::{AllocError, Global};
 use std::process::Abort;
 use std::test::Fail;
 
@@ -86,7 +86,7 @@ impl Kept for Uncopied {
 fn a_refused_step_comes_back(rt: HostRuntime) -> Result<(), Fail> {
     let map = DashMap::with_hasher_and_shard_amount(rt.alloc(), PlaceState, 4)?;
     let mut alone: Alone<u64, Uncopied, PlaceState> = map.alone();
-    let outcome = alone.run(vec![in rt.alloc();
+    let outcome = alone.run::<()>(vec![in rt.alloc();
         ShardStep::Insert(1, Uncopied(10)),
         ShardStep::Get(2),
         ShardStep::Get(1),
@@ -110,11 +110,73 @@ fn a_refused_step_comes_back(rt: HostRuntime) -> Result<(), Fail> {
     Ok(())
 }
 
+// The replies as text.
+fn replies(alloc: Global, outcome: &RunOutcome<u64, u64>) -> Result<String, AllocError> {
+    format!(in alloc; "{:?}", outcome.replies)
+}
+
+#[test]
+fn counts_may_miss_every_pair(rt: HostRuntime) -> Result<(), Fail> {
+    let mut map = map_of_four(rt.alloc())?;
+    map.insert(&rt, 3, 30)?;
+    let outcome = map.run(vec![in rt.alloc();
+        ShardStep::Count(0),
+        ShardStep::Count(1),
+        ShardStep::Count(2),
+        ShardStep::Insert(0, 5),
+        ShardStep::Remove(3),
+        ShardStep::Count(3),
+    ]?);
+    assert_eq!(rt;
+        replies(rt.alloc(), &outcome)?.as_str(),
+        "[Number(0), Number(0), Number(0), Old(None), Pair(Some((3, 30))), Number(0)]"
+    );
+    Ok(())
+}
+
+#[test]
+fn counts_may_see_pairs_that_never_met(rt: HostRuntime) -> Result<(), Fail> {
+    let mut map = map_of_four(rt.alloc())?;
+    map.insert(&rt, 0, 5)?;
+    let outcome = map.run(vec![in rt.alloc();
+        ShardStep::Count(0),
+        ShardStep::Count(1),
+        ShardStep::Count(2),
+        ShardStep::Remove(0),
+        ShardStep::Insert(3, 30),
+        ShardStep::Count(3),
+    ]?);
+    assert_eq!(rt;
+        replies(rt.alloc(), &outcome)?.as_str(),
+        "[Number(1), Number(0), Number(0), Pair(Some((0, 5))), Old(None), Number(1)]"
+    );
+    Ok(())
+}
+
+#[test]
+fn a_shard_that_is_not_there(rt: HostRuntime) -> Result<(), Fail> {
+    let mut map = map_of_four(rt.alloc())?;
+    let outcome = map.run(vec![in rt.alloc();
+        ShardStep::Insert(1, 10),
+        ShardStep::Count(4),
+        ShardStep::Insert(2, 20),
+    ]?);
+    assert_eq!(rt; replies(rt.alloc(), &outcome)?.as_str(), "[Old(None)]");
+    let (rest, fault) = outcome.stopped.ok_or("no stop")?;
+    assert_eq!(rt; fault, Fault::NoSuchShard);
+    let rest = format!(in rt.alloc(); "{rest:?}")?;
+    assert_eq!(rt; rest.as_str(), "[Count(4), Insert(2, 20)]");
+    let alone = map.alone();
+    assert_eq!(rt; alone.get(&1), Some((&1, &10)));
+    assert_eq!(rt; alone.len(), 1);
+    Ok(())
+}
+
 #[test]
 fn no_steps(rt: HostRuntime) -> Result<(), Fail> {
     let mut map = map_of_four(rt.alloc())?;
     map.insert(&rt, 7, 70)?;
-    let outcome = map.run(Vec::new(rt.alloc()));
+    let outcome = map.run::<()>(Vec::new(rt.alloc()));
     assert!(rt; outcome.stopped.is_none());
     assert!(rt; outcome.replies.is_empty());
     assert_eq!(rt; map.alone().get(&7), Some((&7, &70)));

@@ -271,6 +271,7 @@ impl<K: Eq + Hash, V, S: BuildHasher> ShardMut<'_, K, V, S> {
     pub fn len(&self) -> usize
         ensures len { result ≡ shard_len self.now }
         ensures within { result ≤ self.now.capacity }
+        ensures lawful { IsShard K.eq S.BuildHasher S.Hasher.Hasher K.hash_input self.now }
     {
         self.guard.len()
     }

@@ -7,7 +7,7 @@ use Rattle.dash_history.proofs.alone.fresh_row.Goals as goal
 
 pub loop-number-preserved : goal.loop-number-preserved
 loop-number-preserved g c =
-    let At : Type 0 = RecState g.row.K.Denot g.row.V.Denot g.row.S.Denot in
+    let At : Type 0 = RecState g.row.K.Denot g.row.V.Denot g.row.A.Denot g.row.S.Denot in
     let Made = λ (i : ℕ) (s : At). IsPlaced g.S.BuildHasher g.S.Hasher.Hasher c.args.hasher.now c.args.amount c.args.callers i s × IsFresh s in
     let new = c.in_ok-new.ensures in
     let meaning = λ (s : g.row.S.Denot). HashAlike g.S.BuildHasher g.S.Hasher.Hasher c.args.hasher.now s in

@@ -1,7 +1,7 @@
 use Rattle.std.proofs.Common.{sym, subst, ◌∙◌, inl, inr}
 use Rattle.std.specs.Str.{IsAscii}
-use Rattle.dashcheck.specs.Script.{IsFirst, line_of}
-use Rattle.dashcheck.proofs.Texts.{alone, first-kind, IsAscii-line}
+use Rattle.dashcheck.specs.Script.{IsFirst, line_of, step_word, step_rest}
+use Rattle.dashcheck.proofs.Texts.{alone, first-kind, words-step, IsAscii-line}
 use Rattle.dashcheck.proofs.step.parse.Goals as goal
 
 pub returns-in_err-text-clause-none : goal.returns-in_err-text-clause-none
@@ -9,15 +9,18 @@ returns-in_err-text-clause-none c = rw c.from_residual.ensures (λ step words is
 
 pub returns-in_err-kind-clause-none : goal.returns-in_err-kind-clause-none
 returns-in_err-kind-clause-none c = rw c.from_residual-in_err-kind.ensures (λ step words is.
-    let f = first-kind step in
-    c.in_err-kind.ensures.none f.0 f.1 (subst (λ t. IsFirst t f.0 f.1) (sym (c.in_ok-text.ensures.some ∙ is)) f.2))
+    c.in_err-kind.ensures.none (step_word step) (step_rest step) (subst (λ t. IsFirst t (step_word step) (step_rest step)) (sym (c.in_ok-text.ensures.some ∙ is)) (first-kind step)))
 
 pub returns-in_default-clause-none : goal.returns-in_default-clause-none
 returns-in_default-clause-none c step words is =
-    let f = first-kind step in
-    let same = (alone (line_of step) c.in_ok-kind.kind.now c.in_ok-kind.rest.now f.0 f.1 (subst (λ t. IsFirst t c.in_ok-kind.kind.now c.in_ok-kind.rest.now) (c.in_ok-text.ensures.some ∙ is) c.in_ok-kind.ensures.some) f.2).0 in
-    elim f.3 [
+    let same = (alone (line_of step) c.in_ok-kind.kind.now c.in_ok-kind.rest.now (step_word step) (step_rest step) (subst (λ t. IsFirst t c.in_ok-kind.kind.now c.in_ok-kind.rest.now) (c.in_ok-text.ensures.some ∙ is) c.in_ok-kind.ensures.some) (first-kind step)).0 in
+    elim (words-step step) [
       | inl get ↦ c.in_default.not-get (same ∙ get)
-      | inr (inl insert) ↦ c.in_default.not-insert (same ∙ insert)
-      | inr (inr remove) ↦ c.in_default.not-remove (same ∙ remove)
+      | inr (inl contains) ↦ c.in_default.not-contains (same ∙ contains)
+      | inr (inr (inl insert)) ↦ c.in_default.not-insert (same ∙ insert)
+      | inr (inr (inr (inl remove))) ↦ c.in_default.not-remove (same ∙ remove)
+      | inr (inr (inr (inr (inl removeif)))) ↦ c.in_default.not-removeif (same ∙ removeif)
+      | inr (inr (inr (inr (inr (inl removeifmut))))) ↦ c.in_default.not-removeifmut (same ∙ removeifmut)
+      | inr (inr (inr (inr (inr (inr (inl alter)))))) ↦ c.in_default.not-alter (same ∙ alter)
+      | inr (inr (inr (inr (inr (inr (inr count)))))) ↦ c.in_default.not-count (same ∙ count)
     ]

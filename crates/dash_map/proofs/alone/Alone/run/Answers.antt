@@ -1,13 +1,14 @@
-use Rattle.std.proofs.Common.{◌≡◌, List, [], ◌∷◌, ◌++◌, length, map, refl, sym, ap, subst, ◌∙◌, arith}
-use Rattle.std.specs.Prelude.{reverse}
+use Rattle.std.proofs.Common.{◌≡◌, ◌≤◌, List, [], ◌∷◌, ◌++◌, map, refl, sym, ap, subst, ◌∙◌, arith}
+use Rattle.std.specs.Prelude.{reverse, ◌↔◌}
 use Rattle.std.proofs.lemmas.List.{reverse-reverse}
 use Rattle.dash_history.specs.declared.step.ShardStep.{ShardStep}
 use Rattle.dash_history.specs.Steps.{step_of, reply_of}
 use Rattle.dash_history.specs.Takes.{Rules, Takes, Runs}
 use Rattle.dash_map.specs.Alone.{AloneState, IsAlone, contents}
-use Rattle.dash_map.specs.Run.{answered, rules_in}
-use Rattle.dash_map.specs.declared.run.Fault.TheVariants.{Memory}
-use Rattle.dash_map.proofs.Running.{running-none, running-more, put-back, refused-first, rules-same, place-below}
+use Rattle.dash_map.specs.Run.{answered, rules_in, IsRefused}
+use Rattle.dash_map.specs.declared.run.Fault.TheVariants.{NoSuchShard}
+use Rattle.dash_shard.specs.Steps.{place}
+use Rattle.dash_map.proofs.Running.{running-none, running-more, refused-first, rules-same}
 use Rattle.dash_map.proofs.alone.Alone.run.Goals as goal
 
 pub returns-in_default-clause-ran : goal.returns-in_default-clause-ran
@@ -19,14 +20,14 @@ returns-in_default-clause-ran g c =
       in_order = refl;
       answers = c.new.ensures.items;
       taken = refl;
-      stops = refused-first m c.args.steps.items Memory (λ none. let no = c.in_default.ensures.succeeds (c.len.ensures ∙ c.args.steps.ok.0 ∙ ap length none) in cc) refl (λ step. place-below _ _ _ _ g.K.Kept.alike g.V.Kept.alike c.args.self.now step lawful);
+      stops = subst (λ l. IsRefused m g.A.Action.acts l c.first_fault-fault.result) c.deref.ensures.value c.first_fault-fault.ensures;
     }
 
 pub loop-step-init : goal.loop-step-init
 loop-step-init g c =
     let m = rules_in g.K.PartialEq.eq g.S.BuildHasher g.S.Hasher.Hasher g.K.Hash.hash_input g.K.Kept.alike g.V.Kept.alike c.args.self.now in
     record {
-      so_far = running-none m (contents c.args.self.now) c.args.steps.items c.reverse.new.self.items c.in-Ok.replies.items (sym (ap reverse c.reverse.ensures.items ∙ reverse-reverse c.args.steps.items)) c.in-Ok.ensures.items;
+      so_far = running-none m g.A.Action.acts (contents c.args.self.now) c.args.steps.items c.reverse.new.self.items c.in-Ok.replies.items (sym (ap reverse c.reverse.ensures.items ∙ reverse-reverse c.args.steps.items)) c.in-Ok.ensures.items;
       hasher = refl;
       amount = refl;
       lawful = subst (λ (a : AloneState g.row.K.Denot g.row.V.Denot g.row.S.Denot). IsAlone g.K.PartialEq.eq g.S.BuildHasher g.S.Hasher.Hasher g.K.Hash.hash_input a) c.self.view_is c.self.invariant.0;
@@ -38,9 +39,9 @@ loop-step-preserved g c =
     let m = rules_in g.K.PartialEq.eq g.S.BuildHasher g.S.Hasher.Hasher g.K.Hash.hash_input g.K.Kept.alike g.V.Kept.alike c.args.self.now in
     let took = c.in-Ok-take.ensures in
     let known = rules-same g.K.PartialEq.eq g.S.BuildHasher g.S.Hasher.Hasher g.K.Hash.hash_input g.K.Kept.alike g.V.Kept.alike c.args.self.now c.loop-step.self c.loop-step.invariant.hasher c.loop-step.invariant.amount in
-    let takes = subst (λ (r : Rules g.row.K.Denot g.row.V.Denot). Takes r (contents c.loop-step.self) (step_of c.in-Some.step) (reply_of c.in-Ok-take.reply) (contents c.take.new.self)) known took.taken in
+    let takes = subst (λ (r : Rules g.row.K.Denot g.row.V.Denot). Takes r (contents c.loop-step.self) (step_of g.A.Action.acts c.in-Some.step) (reply_of c.in-Ok-take.reply) (contents c.take.new.self)) known took.taken in
     record {
-      so_far = rw c.push_reserved.ensures.items (running-more m _ _ _ _ _ _ _ c.in-Some.step c.in-Ok-take.reply c.loop-step.invariant.so_far c.in-Some.ensures.items takes);
+      so_far = rw c.push_reserved.ensures.items (running-more m g.A.Action.acts _ _ _ _ _ _ _ c.in-Some.step c.in-Ok-take.reply c.loop-step.invariant.so_far c.in-Some.ensures.items takes);
       hasher = took.hasher ∙ c.loop-step.invariant.hasher;
       amount = took.amount ∙ c.loop-step.invariant.amount;
       lawful = took.lawful;
@@ -52,15 +53,15 @@ returns-in-Err-clause-ran g c =
     let At : Type 0 = AloneState g.row.K.Denot g.row.V.Denot g.row.S.Denot in
     let m = rules_in g.K.PartialEq.eq g.S.BuildHasher g.S.Hasher.Hasher g.K.Hash.hash_input g.K.Kept.alike g.V.Kept.alike c.args.self.now in
     let so_far = c.loop-step.invariant.so_far in
+    let known = rules-same g.K.PartialEq.eq g.S.BuildHasher g.S.Hasher.Hasher g.K.Hash.hash_input g.K.Kept.alike g.V.Kept.alike c.args.self.now c.loop-step.self c.loop-step.invariant.hasher c.loop-step.invariant.amount in
     let refused = c.in-Err.ensures.refused in
     let rest = c.reverse-in-Err.new.self.items in
     let put : rest ≡ reverse (c.pop.new.self.items ++ c.in-Some.step ∷ []) = c.reverse-in-Err.ensures.items ∙ ap reverse c.push_reserved-in-Err.ensures.items
-    ∙ ap (λ (s : ShardStep g.row.K.Denot g.row.V.Denot). reverse (c.pop.new.self.items ++ s ∷ [])) refused.0 in
+    ∙ ap (λ (s : ShardStep g.row.K.Denot g.row.V.Denot g.row.A.Denot). reverse (c.pop.new.self.items ++ s ∷ [])) refused.0 in
     record {
       front = so_far.front;
-      in_order = so_far.in_order ∙ ap (λ (l : List (ShardStep g.row.K.Denot g.row.V.Denot)). map (λ d. d.0) so_far.front ++ l) (ap reverse c.in-Some.ensures.items ∙ sym put);
+      in_order = so_far.in_order ∙ ap (λ (l : List (ShardStep g.row.K.Denot g.row.V.Denot g.row.A.Denot)). map (λ d. d.0) so_far.front ++ l) (ap reverse c.in-Some.ensures.items ∙ sym put);
       answers = so_far.answers;
-      taken = subst (λ (a : At). Runs m (contents c.args.self.now) (map answered so_far.front) (contents a)) (sym refused.2) so_far.taken;
-      stops = refused-first m rest c.in-Err.fault (put-back m c.pop.new.self.items rest c.in-Some.step put) refused.1
-          (λ step. place-below _ _ _ _ g.K.Kept.alike g.V.Kept.alike c.args.self.now step (subst (λ (a : At). IsAlone g.K.PartialEq.eq g.S.BuildHasher g.S.Hasher.Hasher g.K.Hash.hash_input a) c.self.view_is c.self.invariant.0));
+      taken = subst (λ (a : At). Runs m (contents c.args.self.now) (map (answered g.A.Action.acts) so_far.front) (contents a)) (sym refused.1) so_far.taken;
+      stops = refused-first m g.A.Action.acts c.pop.new.self.items rest c.in-Some.step c.in-Err.fault put (subst (λ (r : Rules g.row.K.Denot g.row.V.Denot). (c.in-Err.fault ≡ NoSuchShard) ↔ (r.keys.shards ≤ place r.keys (step_of g.A.Action.acts c.in-Some.step))) known c.in-Err.ensures.fault);
     }

@@ -8,7 +8,7 @@ abbrev pub invariant-loop-step : goal.invariant-loop-step
 invariant-loop-step g l =
     let m = rules_in g.K.PartialEq.eq g.S.BuildHasher g.S.Hasher.Hasher g.K.Hash.hash_input g.K.Kept.alike g.V.Kept.alike l.fn.self in
     record {
-      so_far : Running m (contents l.fn.self) (contents l.self) l.fn.steps.items l.steps.items l.replies.items;
+      so_far : Running m g.A.Action.acts (contents l.fn.self) (contents l.self) l.fn.steps.items l.steps.items l.replies.items;
       hasher : l.self.hasher ≡ l.fn.self.hasher;
       amount : length l.self.row ≡ length l.fn.self.row;
       lawful : IsAlone g.K.PartialEq.eq g.S.BuildHasher g.S.Hasher.Hasher g.K.Hash.hash_input l.self;

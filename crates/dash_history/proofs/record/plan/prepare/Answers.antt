@@ -1,0 +1,79 @@
+use Rattle.std.proofs.Common.{◌≡◌, ◌⊎◌, IsTrue, List, Option, Some, None, refl, ap, sym, subst, arith, inl, inr}
+use Rattle.dash_shard.specs.Contents.{at, IsOnShard}
+use Rattle.dash_shard.specs.Steps.{Act, Reply, Pair, Found, Old, Number, value, line, RemoveIf, RemoveIfMut, Alter}
+use Rattle.dash_shard.specs.Shard.{pairs, keys_of}
+use Rattle.dash_history.specs.declared.step.ShardStep.{ShardStep}
+use Rattle.dash_history.specs.declared.step.ShardStep.TheVariants.{Get, Remove}
+use Rattle.dash_history.specs.Alike.{alike_option, alike_pair}
+use Rattle.dash_history.specs.Steps.{step_of}
+use Rattle.dash_history.specs.Takes.{Rules, Answers}
+use Rattle.dash_history.proofs.AlikeLaws.{reply_equiv}
+use Rattle.std.proofs.lemmas.Result.{IfOk-weaker}
+use Rattle.dash_history.specs.Plan.{FitsLine}
+use Rattle.dash_history.proofs.Planning.{each-own, answers-found, same_found}
+use Rattle.dash_history.proofs.record.plan.prepare.Goals as goal
+
+-- a copy of the pair at the key
+copied : {K V A : Type 0} (acts : A → Act K V) (m : Rules K V) (P : List (K × V)) (step : ShardStep K V A) (k : K) (o p : Option (K × V)) → (step ≡ Get k) ⊎ (step ≡ Remove k)
+    → Pair o ≡ Pair (at m.keys P k) → IsTrue (alike_option (alike_pair m.alike_key m.alike_value) o p) → Answers m P (step_of acts step) (Pair p)
+copied acts m P step k o p (inl is) replies alike = rw is (record { told = Pair o; replies = replies; alike = alike })
+copied acts m P step k o p (inr is) replies alike = rw is (record { told = Pair o; replies = replies; alike = alike })
+
+-- the old value, of the pair that a look-up answers
+old_of : {K V : Type 0} → Reply K V → Reply K V
+old_of (Pair o) = Old (value o)
+old_of r = r
+
+pub returns-in-Contains-clause-answers : goal.returns-in-Contains-clause-answers
+returns-in-Contains-clause-answers g c =
+    rw c.in-Contains.is (record { told = Found c.contains_key.result; replies = c.contains_key.ensures.found; alike = (reply_equiv g.met.K.Kept.alike_laws g.met.V.Kept.alike_laws).refl (Found c.contains_key.result) })
+
+pub returns-in_ok-copy-in-Some-clause-answers : goal.returns-in_ok-copy-in-Some-clause-answers
+unfolding old_of
+returns-in_ok-copy-in-Some-clause-answers g c =
+    rw c.in-Insert.is (record { told = Old (Some c.in-Some.value.now); replies = ap old_of c.in-Some.ensures.pair; alike = c.in_ok-copy-in-Some.ensures })
+
+pub returns-in-None-clause-answers : goal.returns-in-None-clause-answers
+unfolding old_of
+returns-in-None-clause-answers g c = rw c.in-Insert.is (record { told = Old None; replies = ap old_of c.in-None.ensures.pair; alike = refl })
+
+pub returns-in-Count-clause-answers : goal.returns-in-Count-clause-answers
+returns-in-Count-clause-answers g c =
+    let s = c.args.shard.now in
+    let w = keys_of g.K.PartialEq.eq g.S.BuildHasher g.S.Hasher.Hasher g.K.Hash.hash_input s in
+    let here : c.in-Count.field-0 ≡ s.number = rw c.in-Count.is at c.requires in
+    rw c.in-Count.is (record {
+      told = Number c.len.result;
+      replies = (pairs s, each-own w g.met.K.Eq.laws c.in-Count.field-0 (pairs s) (subst (λ i. IsOnShard w i (pairs s)) (sym here) c.len.ensures.lawful.contents), ap Number (omega (arith, c.len.ensures.len, c.len.type_inv)));
+      alike = (reply_equiv g.met.K.Kept.alike_laws g.met.V.Kept.alike_laws).refl (Number c.len.result);
+    })
+
+pub returns-in_ok-copy_found-in-Get-clause-answers : goal.returns-in_ok-copy_found-in-Get-clause-answers
+returns-in_ok-copy_found-in-Get-clause-answers g c = copied _ _ _ c.args.step.now c.in-Get.key _ _ c.in-Get.is c.get-in-Get.ensures.pair c.in_ok-copy_found-in-Get.ensures.copy
+
+pub returns-in-RemoveIf-clause-answers : goal.returns-in-RemoveIf-clause-answers
+returns-in-RemoveIf-clause-answers g c =
+    rw c.in-RemoveIf.is (IfOk-weaker c.plan_remove_if.result _ _ (λ plan p. answers-found _ _ c.in-RemoveIf.key _ _ _ _ _ c.get-in-RemoveIf.ensures.pair refl (p c.in-RemoveIf.key).0) c.plan_remove_if.ensures.plan)
+
+pub returns-in-RemoveIf-clause-decides : goal.returns-in-RemoveIf-clause-decides
+returns-in-RemoveIf-clause-decides g c =
+    let same = same_found _ _ c.get-in-RemoveIf.ensures.pair in
+    rw c.in-RemoveIf.is (IfOk-weaker c.plan_remove_if.result _ _ (λ plan p. subst (λ o. FitsLine g.K.Kept.alike g.V.Kept.alike (line (RemoveIf c.in-RemoveIf.key (g.A.Action.acts c.in-RemoveIf.action))) o plan.1) same (p c.in-RemoveIf.key).1) c.plan_remove_if.ensures.plan)
+
+pub returns-in-RemoveIfMut-clause-answers : goal.returns-in-RemoveIfMut-clause-answers
+returns-in-RemoveIfMut-clause-answers g c =
+    rw c.in-RemoveIfMut.is (IfOk-weaker c.plan_remove_if_mut.result _ _ (λ plan p. answers-found _ _ c.in-RemoveIfMut.key _ _ _ _ _ c.get-in-RemoveIfMut.ensures.pair refl (p c.in-RemoveIfMut.key).0) c.plan_remove_if_mut.ensures.plan)
+
+pub returns-in-RemoveIfMut-clause-decides : goal.returns-in-RemoveIfMut-clause-decides
+returns-in-RemoveIfMut-clause-decides g c =
+    let same = same_found _ _ c.get-in-RemoveIfMut.ensures.pair in
+    rw c.in-RemoveIfMut.is (IfOk-weaker c.plan_remove_if_mut.result _ _ (λ plan p. subst (λ o. FitsLine g.K.Kept.alike g.V.Kept.alike (line (RemoveIfMut c.in-RemoveIfMut.key (g.A.Action.acts c.in-RemoveIfMut.action))) o plan.1) same (p c.in-RemoveIfMut.key).1) c.plan_remove_if_mut.ensures.plan)
+
+pub returns-in-Alter-clause-answers : goal.returns-in-Alter-clause-answers
+returns-in-Alter-clause-answers g c =
+    rw c.in-Alter.is (IfOk-weaker c.plan_alter.result _ _ (λ plan p. answers-found _ _ c.in-Alter.key _ _ _ _ _ c.get-in-Alter.ensures.pair refl (p c.in-Alter.key).0) c.plan_alter.ensures.plan)
+
+pub returns-in-Alter-clause-decides : goal.returns-in-Alter-clause-decides
+returns-in-Alter-clause-decides g c =
+    let same = same_found _ _ c.get-in-Alter.ensures.pair in
+    rw c.in-Alter.is (IfOk-weaker c.plan_alter.result _ _ (λ plan p. subst (λ o. FitsLine g.K.Kept.alike g.V.Kept.alike (line (Alter c.in-Alter.key (g.A.Action.acts c.in-Alter.action))) o plan.1) same (p c.in-Alter.key).1) c.plan_alter.ensures.plan)

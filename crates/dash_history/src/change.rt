@@ -1,0 +1,103 @@
+//! What a step with an action makes of the pair at its key: it is decided on a copy of the value, before anything changes.
+ghost use Rattle.std.specs.Prelude.{◌≡◌, IsTrue, IsSome, IfOk, OnErr};
+ghost use Rattle.std.specs.Option.{option_map};
+ghost use Rattle.std.specs.Map.Iter.{deref_pair};
+ghost use Rattle.dash_shard.specs.Steps.{line, RemoveIf, RemoveIfMut, Alter};
+ghost use Rattle.dash_history.specs.Alike.{alike_option, alike_pair};
+ghost use Rattle.dash_history.specs.Plan.{Plans};
+
+use crate::action::Action;
+use crate::kept::Kept;
+use crate::step::Reply;
+use std::alloc::AllocError;
+
+/// A change of the pair at a key, if there is one.
+#[derive(Drop)]
+pub enum Change<V> {
+    Stays,
+    Goes,
+    Becomes(V),
+}
+
+/// A copy of a pair that was found.
+pub fn copy_found<K: Kept + Drop, V: Kept + Drop>(
+    found: Option<(&K, &V)>,
+) -> Result<Option<(K, V)>, AllocError>
+    ensures copy { IfOk result (λ copy. IsTrue (alike_option (alike_pair K.alike V.alike) (option_map deref_pair found.entry) copy)) }
+    ensures memory { OnErr result (IsSome found.entry) }
+{
+    match found {
+        Some((key, value)) => {
+            let key = key.copy()?;
+            Ok(Some((key, value.copy()?)))
+        }
+        None => Ok(None),
+    }
+}
+
+// What the action makes of a copy of the value, and what it answers.
+fn ask<K: Kept, V: Kept + Drop, A: Action<K, V>>(
+    key: &K,
+    value: &V,
+    action: &A,
+) -> Result<(V, bool), AllocError>
+    ensures changed { IfOk result (λ asked. IsTrue (V.alike (A.acts action.now key.now value.now).0 asked.0)) }
+    ensures answer { IfOk result (λ asked. asked.1 ≡ (A.acts action.now key.now value.now).1) }
+{
+    let mut changed = value.copy()?;
+    let answer = action.act(key, &mut changed);
+    Ok((changed, answer))
+}
+
+/// The reply and the change of a `RemoveIf`, where this pair stands at its key.
+pub fn plan_remove_if<K: Kept + Drop, V: Kept + Drop, A: Action<K, V>>(
+    found: Option<(&K, &V)>,
+    action: &A,
+) -> Result<(Reply<K, V>, Change<V>), AllocError>
+    ensures plan { IfOk result (λ plan. (k : K) → Plans K.alike V.alike (line (RemoveIf k (A.acts action.now))) (option_map deref_pair found.entry) plan) }
+    ensures memory { OnErr result (IsSome found.entry) }
+{
+    let Some((key, value)) = found else {
+        return Ok((Reply::Pair(None), Change::Stays));
+    };
+    let (_, answer) = ask(key, value, action)?;
+    if !answer {
+        return Ok((Reply::Pair(None), Change::Stays));
+    }
+    let key = key.copy()?;
+    Ok((Reply::Pair(Some((key, value.copy()?))), Change::Goes))
+}
+
+/// The reply and the change of a `RemoveIfMut`, where this pair stands at its key.
+pub fn plan_remove_if_mut<K: Kept + Drop, V: Kept + Drop, A: Action<K, V>>(
+    found: Option<(&K, &V)>,
+    action: &A,
+) -> Result<(Reply<K, V>, Change<V>), AllocError>
+    ensures plan { IfOk result (λ plan. (k : K) → Plans K.alike V.alike (line (RemoveIfMut k (A.acts action.now))) (option_map deref_pair found.entry) plan) }
+    ensures memory { OnErr result (IsSome found.entry) }
+{
+    let Some((key, value)) = found else {
+        return Ok((Reply::Pair(None), Change::Stays));
+    };
+    let (changed, answer) = ask(key, value, action)?;
+    if !answer {
+        return Ok((Reply::Pair(None), Change::Becomes(changed)));
+    }
+    let key = key.copy()?;
+    Ok((Reply::Pair(Some((key, changed))), Change::Goes))
+}
+
+/// The reply and the change of an `Alter`, where this pair stands at its key.
+pub fn plan_alter<K: Kept + Drop, V: Kept + Drop, A: Action<K, V>>(
+    found: Option<(&K, &V)>,
+    action: &A,
+) -> Result<(Reply<K, V>, Change<V>), AllocError>
+    ensures plan { IfOk result (λ plan. (k : K) → Plans K.alike V.alike (line (Alter k (A.acts action.now))) (option_map deref_pair found.entry) plan) }
+    ensures memory { OnErr result (IsSome found.entry) }
+{
+    let Some((key, value)) = found else {
+        return Ok((Reply::Done, Change::Stays));
+    };
+    let (changed, _) = ask(key, value, action)?;
+    Ok((Reply::Done, Change::Becomes(changed)))
+}

@@ -1,0 +1,101 @@
+//! What a step will do to a shard: it is made first, since it takes memory, and carried out once all copies are there.
+ghost use Rattle.std.specs.Prelude.{◌≡◌, IfOk, IfErr, OnOk};
+ghost use Rattle.dash_shard.specs.Contents.{at};
+ghost use Rattle.dash_shard.specs.Steps.{Becomes};
+ghost use Rattle.dash_shard.specs.Shard.{pairs, keys_of, Routes, IsShard, SameShard};
+ghost use Rattle.dash_history.specs.Steps.{step_of, reply_of};
+ghost use Rattle.dash_history.specs.Takes.{Answers};
+ghost use Rattle.dash_history.specs.History.{kinds_of, place_of};
+ghost use Rattle.dash_history.specs.Plan.{change_step, Decides, HasPair, Leaves};
+
+use crate::action::KeptAction;
+use crate::change::{Change, copy_found, plan_alter, plan_remove_if, plan_remove_if_mut};
+use crate::kept::{Kept, KeptKey};
+use crate::step::{Reply, ShardStep};
+use dash_shard::shard::{InsertRefused, Shard};
+use std::alloc::AllocError;
+use std::hash::BuildHasher;
+
+/// What the step may reply now, and what its action makes of the pair at its key. It takes memory for copies.
+pub(super) fn prepare<
+    K: KeptKey + Drop,
+    V: Kept + Drop,
+    S: BuildHasher,
+    A: KeptAction<K, V> + Drop,
+>(shard: &Shard<K, V, S>, step: &ShardStep<K, V, A>) -> Result<(Reply<K, V>, Change<V>), AllocError>
+    requires { place_of (kinds_of K.eq S.BuildHasher S.Hasher.Hasher K.hash_input K.alike V.alike A.alike A.acts shard.now) step.now ≡ shard.now.number }
+    ensures answers { IfOk result (λ plan. Answers (kinds_of K.eq S.BuildHasher S.Hasher.Hasher K.hash_input K.alike V.alike A.alike A.acts shard.now).rules (pairs shard.now) (step_of A.acts step.now) (reply_of plan.0)) }
+    ensures decides { IfOk result (λ plan. Decides (kinds_of K.eq S.BuildHasher S.Hasher.Hasher K.hash_input K.alike V.alike A.alike A.acts shard.now) (pairs shard.now) step.now plan.1) }
+{
+    match step {
+        ShardStep::Get(key) | ShardStep::Remove(key) => {
+            Ok((Reply::Pair(copy_found(shard.get(key))?), Change::Stays))
+        }
+        ShardStep::Contains(key) => Ok((Reply::Found(shard.contains_key(key)), Change::Stays)),
+        ShardStep::Insert(key, _) => match shard.get(key) {
+            Some((_, value)) => Ok((Reply::Old(Some(value.copy()?)), Change::Stays)),
+            None => Ok((Reply::Old(None), Change::Stays)),
+        },
+        ShardStep::RemoveIf(key, action) => plan_remove_if(shard.get(key), action),
+        ShardStep::RemoveIfMut(key, action) => plan_remove_if_mut(shard.get(key), action),
+        ShardStep::Alter(key, action) => plan_alter(shard.get(key), action),
+        ShardStep::Count(_) => Ok((Reply::Number(shard.len() as u64), Change::Stays)),
+    }
+}
+
+// Makes of the pair at a key what was decided.
+fn make_change<K: KeptKey + Drop, V: Kept + Drop, S: BuildHasher>(
+    shard: &mut Shard<K, V, S>,
+    key: K,
+    change: Change<V>,
+)
+    requires route { Routes K.eq S.BuildHasher S.Hasher.Hasher K.hash_input shard.old key }
+    requires there { HasPair change (at (keys_of K.eq S.BuildHasher S.Hasher.Hasher K.hash_input shard.old) (pairs shard.old) key) }
+    ensures becomes { Becomes (keys_of K.eq S.BuildHasher S.Hasher.Hasher K.hash_input shard.old) (change_step key change) (pairs shard.old) (pairs shard.new) }
+    ensures stays { SameShard shard.old shard.new }
+    ensures lawful { IsShard K.eq S.BuildHasher S.Hasher.Hasher K.hash_input shard.old → IsShard K.eq S.BuildHasher S.Hasher.Hasher K.hash_input shard.new }
+{
+    match change {
+        Change::Stays => (),
+        Change::Goes => drop(shard.remove(&key)),
+        Change::Becomes(value) => drop(shard.insert(key, value)),
+    }
+}
+
+/// Does to the shard what the step says, where its action decided so, or hands the step back, where there is no memory for a new key.
+pub(super) fn carry_out<
+    K: KeptKey + Drop,
+    V: Kept + Drop,
+    S: BuildHasher,
+    A: KeptAction<K, V> + Drop,
+>(
+    shard: &mut Shard<K, V, S>,
+    step: ShardStep<K, V, A>,
+    decided: Change<V>,
+) -> Result<(), ShardStep<K, V, A>>
+    requires place { place_of (kinds_of K.eq S.BuildHasher S.Hasher.Hasher K.hash_input K.alike V.alike A.alike A.acts shard.old) step ≡ shard.old.number }
+    requires decides { Decides (kinds_of K.eq S.BuildHasher S.Hasher.Hasher K.hash_input K.alike V.alike A.alike A.acts shard.old) (pairs shard.old) step decided }
+    ensures ok { OnOk result (Leaves (kinds_of K.eq S.BuildHasher S.Hasher.Hasher K.hash_input K.alike V.alike A.alike A.acts shard.old) (pairs shard.old) step (pairs shard.new)) }
+    ensures stays { SameShard shard.old shard.new }
+    ensures lawful { IsShard K.eq S.BuildHasher S.Hasher.Hasher K.hash_input shard.old → IsShard K.eq S.BuildHasher S.Hasher.Hasher K.hash_input shard.new }
+    ensures err { IfErr result (λ back. (back ≡ step) × (shard.new ≡ shard.old)) }
+{
+    match step {
+        ShardStep::Get(_key) | ShardStep::Contains(_key) => Ok(()),
+        ShardStep::Insert(key, value) => match shard.insert(key, value) {
+            Ok(_) => Ok(()),
+            Err(InsertRefused { key, value }) => Err(ShardStep::Insert(key, value)),
+        },
+        ShardStep::Remove(key) => {
+            drop(shard.remove(&key));
+            Ok(())
+        }
+        ShardStep::RemoveIf(key, _action)
+        | ShardStep::RemoveIfMut(key, _action)
+        | ShardStep::Alter(key, _action) => {
+            make_change(shard, key, decided);
+            Ok(())
+        }
+        ShardStep::Count(_) => Ok(()),
+    }
+}

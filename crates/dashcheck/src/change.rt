@@ -1,0 +1,134 @@
+//! Changes of a value that a script writes.
+ghost use Rattle.std.specs.Prelude.{◌≡◌, Bool, true, IfOk, IsTrue};
+ghost use Rattle.dashcheck.specs.Change.{acts, alike_change};
+
+use dash_history::action::{Action, KeptAction};
+use dash_history::kept::Kept;
+use std::alloc::AllocError;
+
+/// What a step of a script does with a value.
+#[derive(Clone, Copy, Debug, PartialEq, Eq, Drop)]
+pub enum Change {
+    /// Adds the number, wrapped at 2^64. It answers yes.
+    Add(u64),
+    /// Leaves the value. It answers yes where the value is below the number.
+    Below(u64),
+    /// Adds the first number, wrapped. It answers yes where the new value is below the second.
+    AddBelow(u64, u64),
+}
+
+impl Kept for Change {
+    ghost use Rattle.dashcheck.specs.Change.Laws.{change_equiv};
+
+    ghost alike = { alike_change };
+
+    fn copy(&self) -> Result<Change, AllocError> {
+        Ok(*self)
+    }
+
+    fn same(&self, other: &Change) -> bool {
+        match (self, other) {
+            (Change::Add(n), Change::Add(m)) => n == m,
+            (Change::Below(n), Change::Below(m)) => n == m,
+            (Change::AddBelow(n, m), Change::AddBelow(i, j)) => n == i && m == j,
+            _ => false,
+        }
+    }
+
+    ghost alike_laws = { change_equiv };
+}
+
+impl Action<u64, u64> for Change {
+    ghost use Rattle.dashcheck.specs.Change.Laws.{acts_along};
+
+    ghost acts = { acts };
+
+    fn act(&self, _key: &u64, value: &mut u64) -> bool {
+        match self {
+            Change::Add(n) => {
+                *value = value.wrapping_add(*n);
+                true
+            }
+            Change::Below(n) => *value < *n,
+            Change::AddBelow(n, m) => {
+                *value = value.wrapping_add(*n);
+                *value < *m
+            }
+        }
+    }
+
+    ghost acts_alike = { acts_along };
+}
+
+impl KeptAction<u64, u64> for Change {
+    ghost use Rattle.dashcheck.specs.Change.Laws.{alike_along};
+
+    ghost alike_acts = { alike_along };
+}
+
+#[cfg(test)]
+mod tests {
+    use super::*;
+    use dash_history::alone::RecAlone;
+    use dash_history::plain::Plain;
+    use dash_history::step::ShardStep;
+    use dash_shard::hash::{PlaceState, is_shard_amount};
+    use std::test::Fail;
+
+    // The next of a fixed row of numbers.
+    fn next(state: &mut u64) -> u64 {
+        *state = state
+            .wrapping_mul(6_364_136_223_846_793_005)
+            .wrapping_add(1_442_695_040_888_963_407);
+        *state >> 33
+    }
+
+    fn change(number: u64) -> Change {
+        match number % 3 {
+            0 => Change::Add(number / 3 % 7),
+            1 => Change::Below(number / 3 % 40),
+            _ => Change::AddBelow(number / 3 % 5, number / 15 % 40),
+        }
+    }
+
+    fn step(state: &mut u64) -> ShardStep<u64, u64, Change> {
+        let kind = next(state) % 10;
+        let key = next(state) % 12;
+        let number = next(state);
+        match kind {
+            0 => ShardStep::Get(key),
+            1 => ShardStep::Contains(key),
+            2 => ShardStep::Remove(key),
+            3 => ShardStep::RemoveIf(key, change(number)),
+            4 => ShardStep::RemoveIfMut(key, change(number)),
+            5 => ShardStep::Alter(key, change(number)),
+            6 => ShardStep::Count((key % 4) as usize),
+            _ => ShardStep::Insert(key, number % 50),
+        }
+    }
+
+    #[test]
+    fn random_steps_get_the_replies_of_the_plain_map(rt: HostRuntime) -> Result<(), Fail> {
+        let (mut alone, mut logs) = RecAlone::<u64, u64, PlaceState, Change>::new(
+            rt.alloc(),
+            PlaceState,
+            4,
+            1,
+        )?;
+        assert!(rt; is_shard_amount(4));
+        let mut plain = Plain::new(rt.alloc(), PlaceState, 4);
+        assert_eq!(rt; logs.len(), 1);
+        let log = &mut logs[0];
+        let mut state = 1;
+        for i in 0..3000u64 {
+            let step = step(&mut state);
+            let copy = step.copy()?;
+            assert!(rt; log.caller() < alone.callers());
+            let reply = alone.apply(log, step)?;
+            let want = plain.take(copy)?;
+            let reply = format!(in rt.alloc(); "{reply:?}")?;
+            assert_eq!(rt; reply, format!(in rt.alloc(); "{want:?}")?, "at {i}");
+        }
+        Ok(())
+    }
+}
