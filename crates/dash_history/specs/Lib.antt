@@ -7,3 +7,4 @@ pub mod Plain
 pub mod Held
 pub mod Map
 pub mod Plan
+pub mod Sweep

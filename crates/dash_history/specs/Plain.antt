@@ -1,5 +1,5 @@
 -- What contracts see of the plain map.
-use Rattle.std.specs.Prelude.{◌≡◌, ◌≤◌, ℕ, List, Bool, None, IsSome}
+use Rattle.std.specs.Prelude.{◌≡◌, ◌<◌, ◌≤◌, ◌⊎◌, ℕ, List, length, Bool, None, IsSome}
 use Rattle.std.specs.Hash.{HashWrites}
 use Rattle.std.specs.declared.hash.Hasher as hasher
 use Rattle.std.specs.declared.hash.BuildHasher as builder
@@ -7,7 +7,7 @@ use Rattle.dash_shard.specs.Contents.{keys, at, Distinct}
 use Rattle.dash_shard.specs.Hashing.{IsAmount, route_by}
 use Rattle.dash_history.specs.Takes.{Rules, rules}
 use Rattle.dash_history.specs.declared.step.ShardStep.{ShardStep}
-use Rattle.dash_history.specs.declared.step.ShardStep.TheVariants.{Get, Contains, Insert, Remove, RemoveIf, RemoveIfMut, Alter, Count}
+use Rattle.dash_history.specs.declared.step.ShardStep.TheVariants.{Get, Contains, Insert, Remove, RemoveIf, RemoveIfMut, Alter, Read, Count, AlterAll, Retain}
 
 pub record PlainState (K V S : Type 0) : Type 0 where
   pub hasher : S
@@ -24,7 +24,7 @@ pub record IsPlain {K V S : Type 0} (eq : K → K → Bool) (route : S → ℕ �
   pub distinct : Distinct (keys eq (route m.hasher m.amount) m.amount) m.pairs
   pub amount : IsAmount m.amount
 
--- the step may be refused at the contents P: it takes memory for a copy of the pair that is found, or for a new pair, or the map has no
+-- the step may be refused at the contents P: it takes memory for copies of pairs that are there, or for a new pair, or the map has no
 -- shard of the number that it names
 abbrev pub MayRefuse : {K V A : Type 0} → Rules K V → List (K × V) → ShardStep K V A → Type 0
 MayRefuse m P (Get k) = IsSome (at m.keys P k)
@@ -34,4 +34,7 @@ MayRefuse m P (Remove k) = ⊥
 MayRefuse m P (RemoveIf k f) = IsSome (at m.keys P k)
 MayRefuse m P (RemoveIfMut k f) = IsSome (at m.keys P k)
 MayRefuse m P (Alter k f) = IsSome (at m.keys P k)
+MayRefuse m P (Read i) = (m.keys.shards ≤ i) ⊎ (0 < length P)
 MayRefuse m P (Count i) = m.keys.shards ≤ i
+MayRefuse m P (AlterAll i f) = (m.keys.shards ≤ i) ⊎ (0 < length P)
+MayRefuse m P (Retain i f) = (m.keys.shards ≤ i) ⊎ (0 < length P)

@@ -3,9 +3,9 @@ use Rattle.std.specs.Prelude.{◌==◌, ◌&&◌, Bool, false}
 use Rattle.dash_shard.specs.Steps as table
 use Rattle.dash_history.specs.Alike.{alike_reply}
 use Rattle.dash_history.specs.declared.step.ShardStep.{ShardStep}
-use Rattle.dash_history.specs.declared.step.ShardStep.TheVariants.{Get, Contains, Insert, Remove, RemoveIf, RemoveIfMut, Alter, Count}
+use Rattle.dash_history.specs.declared.step.ShardStep.TheVariants.{Get, Contains, Insert, Remove, RemoveIf, RemoveIfMut, Alter, Read, Count, AlterAll, Retain}
 use Rattle.dash_history.specs.declared.step.Reply.{Reply}
-use Rattle.dash_history.specs.declared.step.Reply.TheVariants.{Pair, Found, Old, Number, Done}
+use Rattle.dash_history.specs.declared.step.Reply.TheVariants.{Pair, Found, Old, Pairs, Number, Done}
 use Rattle.dash_history.specs.declared.step.Record.{Record}
 
 -- the reply that the table speaks of
@@ -13,6 +13,7 @@ abbrev pub reply_of : {K V : Type 0} → Reply K V → table.Reply K V
 reply_of (Pair o) = table.Pair o
 reply_of (Found b) = table.Found b
 reply_of (Old o) = table.Old o
+reply_of (Pairs l) = table.Pairs l.items
 reply_of (Number n) = table.Number n
 reply_of Done = table.Done
 
@@ -26,7 +27,10 @@ module _ {K V A : Type 0} (acts : A → table.Act K V) where
   step_of (RemoveIf k f) = table.RemoveIf k (acts f)
   step_of (RemoveIfMut k f) = table.RemoveIfMut k (acts f)
   step_of (Alter k f) = table.Alter k (acts f)
+  step_of (Read i) = table.Read i
   step_of (Count i) = table.Count i
+  step_of (AlterAll i f) = table.AlterAll i (acts f)
+  step_of (Retain i f) = table.Retain i (acts f)
 
   -- a record's step with its reply
   abbrev pub done : Record K V A → table.Step K V × table.Reply K V
@@ -41,7 +45,10 @@ module _ {K V A : Type 0} (k : K → K → Bool) (v : V → V → Bool) (f : A �
   alike_step (RemoveIf x a) (RemoveIf y b) = k x y && f a b
   alike_step (RemoveIfMut x a) (RemoveIfMut y b) = k x y && f a b
   alike_step (Alter x a) (Alter y b) = k x y && f a b
+  alike_step (Read i) (Read j) = i == j
   alike_step (Count i) (Count j) = i == j
+  alike_step (AlterAll i a) (AlterAll j b) = (i == j) && f a b
+  alike_step (Retain i a) (Retain j b) = (i == j) && f a b
   alike_step _ _ = false
 
   abbrev pub alike_record : Record K V A → Record K V A → Bool

@@ -11,12 +11,14 @@ use crate::kept::Kept;
 use crate::step::Reply;
 use std::alloc::AllocError;
 
-/// A change of the pair at a key, if there is one.
+/// What a step will do: nothing, a change of the pair at its key, if there is one, or a change of each pair of its shard.
 #[derive(Drop)]
 pub enum Change<V> {
     Stays,
     Goes,
     Becomes(V),
+    /// Each value becomes the next of these, and the pair stays where yes is beside it.
+    Each(Vec<(V, bool)>),
 }
 
 /// A copy of a pair that was found.
@@ -36,7 +38,7 @@ pub fn copy_found<K: Kept + Drop, V: Kept + Drop>(
 }
 
 // What the action makes of a copy of the value, and what it answers.
-fn ask<K: Kept, V: Kept + Drop, A: Action<K, V>>(
+pub(crate) fn ask<K: Kept, V: Kept + Drop, A: Action<K, V>>(
     key: &K,
     value: &V,
     action: &A,

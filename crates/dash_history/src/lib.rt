@@ -9,3 +9,4 @@ pub mod kept;
 pub mod plain;
 pub mod record;
 pub mod step;
+pub mod sweep;

@@ -1,21 +1,23 @@
 //! A plain, slow map whose contract is the step table: a list that is scanned.
-ghost use Rattle.std.specs.Prelude.{◌≡◌, ◌-◌, ◌^◌, [], None, min, length, IfOk, OnOk, IfErr, OnErr, position};
+ghost use Rattle.std.specs.Prelude.{◌≡◌, ◌-◌, ◌^◌, ◌<◌, ◌≤◌, ◌==◌, ◌⊎◌, [], None, Some, IsTrue, IsNone, IsSome, IfSome, min, length, IfOk, OnOk, IfErr, OnErr, position};
 ghost use Rattle.std.specs.Option.{option_map};
 ghost use Rattle.std.specs.Map.Iter.{deref_pair};
 ghost use Rattle.dash_shard.specs.Hashing.{IsAmount};
 ghost use Rattle.dash_shard.specs.Contents.{at, on, Distinct};
-ghost use Rattle.dash_shard.specs.Steps.{Insert, Remove, Pair, Old, Replies, Becomes};
+ghost use Rattle.dash_shard.specs.Steps.{Insert, Remove, Retain, Pair, Old, Pairs, Replies, Becomes, after};
 ghost use Rattle.dash_history.specs.Steps.{step_of, reply_of};
-ghost use Rattle.dash_history.specs.Takes.{Takes};
+ghost use Rattle.dash_history.specs.Alike.{alike_reply};
+ghost use Rattle.dash_history.specs.Sweep.{keeping};
+ghost use Rattle.dash_history.specs.Takes.{AlikeAt, Takes};
 ghost use Rattle.dash_history.specs.Plain.{plain_rules, MayRefuse};
 ghost use Rattle.dash_history.specs.Plan.{change_step, HasPair};
 
 use crate::action::Action;
-use crate::change::{Change, copy_found, plan_alter, plan_remove_if, plan_remove_if_mut};
+use crate::change::{Change, ask, copy_found, plan_alter, plan_remove_if, plan_remove_if_mut};
 use crate::kept::{Kept, KeptKey};
 use crate::step::{Reply, ShardStep};
 use dash_shard::hash::determine_shard;
-use std::alloc::Global;
+use std::alloc::{AllocError, Global};
 use std::hash::BuildHasher;
 use std::marker::Model;
 use std::mem;
@@ -68,13 +70,20 @@ impl<K: KeptKey + Drop, V: Kept + Drop, S: BuildHasher> Plain<K, V, S> {
         Some((&pair.0, &pair.1))
     }
 
+    // Whether a key goes to a shard.
+    fn goes_to(&self, key: &K, shard: usize) -> bool
+        ensures { result ≡ ((plain_rules K.eq S.BuildHasher S.Hasher.Hasher K.hash_input K.alike V.alike self.now).keys.route key.now == shard) }
+    {
+        determine_shard(self.hasher.hash_one(key), self.amount) == shard
+    }
+
     // How many pairs go to a shard.
     fn count(&self, shard: usize) -> u64
         ensures { result ≡ min (length (on (plain_rules K.eq S.BuildHasher S.Hasher.Hasher K.hash_input K.alike V.alike self.now).keys shard self.now.pairs)) (2 ^ 64 - 1) }
     {
         let mut count: u64 = 0;
         for pair in &self.pairs {
-            if determine_shard(self.hasher.hash_one(&pair.0), self.amount) == shard {
+            if self.goes_to(&pair.0, shard) {
                 count = count.saturating_add(1);
             }
         }
@@ -111,19 +120,85 @@ impl<K: KeptKey + Drop, V: Kept + Drop, S: BuildHasher> Plain<K, V, S> {
         Some(self.pairs.remove(i))
     }
 
-    // Makes of the pair at a key what was decided.
-    fn make_change(&mut self, key: K, change: Change<V>)
+    // Copies of the pairs that go to a shard, if there is such a shard and memory.
+    fn read(&self, shard: usize) -> Option<Reply<K, V>>
+        ensures pairs { IfSome result (λ reply. (shard < self.now.amount) × IsTrue (alike_reply K.alike V.alike (Pairs (on (plain_rules K.eq S.BuildHasher S.Hasher.Hasher K.hash_input K.alike V.alike self.now).keys shard self.now.pairs)) (reply_of reply))) }
+        ensures refused { IsNone result → (self.now.amount ≤ shard) ⊎ (0 < length self.now.pairs) }
+    {
+        if shard >= self.amount {
+            return None;
+        }
+        let mut copies = Vec::new(*self.pairs.allocator());
+        for pair in &self.pairs {
+            if self.goes_to(&pair.0, shard) {
+                copies.push(pair.copy().ok()?).ok()?;
+            }
+        }
+        Some(Reply::Pairs(copies))
+    }
+
+    // What the action makes of a pair, if the pair goes to the shard: it goes on no, if not all stay. On copies.
+    fn swept<A: Action<K, V>>(
+        &self,
+        pair: &(K, V),
+        shard: usize,
+        action: &A,
+        all: bool,
+    ) -> Result<Option<(K, V)>, AllocError>
+        ensures { IfOk result (λ left. AlikeAt (plain_rules K.eq S.BuildHasher S.Hasher.Hasher K.hash_input K.alike V.alike self.now) (after (plain_rules K.eq S.BuildHasher S.Hasher.Hasher K.hash_input K.alike V.alike self.now).keys (Retain shard (keeping all (A.acts action.now))) pair.now.0 (Some pair.now)) left) }
+    {
+        let key = pair.0.copy()?;
+        if !self.goes_to(&pair.0, shard) {
+            return Ok(Some((key, pair.1.copy()?)));
+        }
+        let (changed, answer) = ask(&pair.0, &pair.1, action)?;
+        if all || answer {
+            return Ok(Some((key, changed)));
+        }
+        Ok(None)
+    }
+
+    // Lets the action change the values of a shard, if there is such a shard and memory. Where not all stay, the pairs with no go.
+    fn sweep<A: Action<K, V>>(
+        &mut self,
+        shard: usize,
+        action: &A,
+        all: bool,
+    ) -> Option<Reply<K, V>>
+        ensures done { IfSome result (λ reply. (reply ≡ Reply.Done) × (shard < self.old.amount)) }
+        ensures leaves { IsSome result → (j : K) → AlikeAt (plain_rules K.eq S.BuildHasher S.Hasher.Hasher K.hash_input K.alike V.alike self.old) (after (plain_rules K.eq S.BuildHasher S.Hasher.Hasher K.hash_input K.alike V.alike self.old).keys (Retain shard (keeping all (A.acts action.now))) j (at (plain_rules K.eq S.BuildHasher S.Hasher.Hasher K.hash_input K.alike V.alike self.old).keys self.old.pairs j)) (at (plain_rules K.eq S.BuildHasher S.Hasher.Hasher K.hash_input K.alike V.alike self.old).keys self.new.pairs j) }
+        ensures distinct { Distinct (plain_rules K.eq S.BuildHasher S.Hasher.Hasher K.hash_input K.alike V.alike self.old).keys self.new.pairs }
+        ensures stays { (self.new.hasher ≡ self.old.hasher) × (self.new.amount ≡ self.old.amount) }
+        ensures refused { IsNone result → (self.new ≡ self.old) × ((self.old.amount ≤ shard) ⊎ (0 < length self.old.pairs)) }
+    {
+        if shard >= self.amount {
+            return None;
+        }
+        let mut next = Vec::new(*self.pairs.allocator());
+        for pair in &self.pairs {
+            if let Some(left) = self.swept(pair, shard, action, all).ok()? {
+                next.push(left).ok()?;
+            }
+        }
+        self.pairs = next;
+        Some(Reply::Done)
+    }
+
+    // Makes of the pair at a key what was decided, and answers the reply.
+    fn make_change(&mut self, key: K, change: Change<V>, reply: Reply<K, V>) -> Reply<K, V>
         requires { HasPair change (at (plain_rules K.eq S.BuildHasher S.Hasher.Hasher K.hash_input K.alike V.alike self.old).keys self.old.pairs key) }
         ensures becomes { Becomes (plain_rules K.eq S.BuildHasher S.Hasher.Hasher K.hash_input K.alike V.alike self.old).keys (change_step key change) self.old.pairs self.new.pairs }
         ensures distinct { Distinct (plain_rules K.eq S.BuildHasher S.Hasher.Hasher K.hash_input K.alike V.alike self.old).keys self.new.pairs }
         ensures stays { (self.new.hasher ≡ self.old.hasher) × (self.new.amount ≡ self.old.amount) }
+        ensures reply { result ≡ reply }
     {
         let _ = &self.amount;
         match change {
-            Change::Stays => (),
+            Change::Stays | Change::Each(_) => (),
             Change::Goes => drop(self.remove(&key)),
             Change::Becomes(value) => drop(self.put(key, value)),
         }
+        reply
     }
 
     /// Takes a step as the step table says, or hands it back where there is no memory, or no shard of the number that it names.
@@ -149,32 +224,30 @@ impl<K: KeptKey + Drop, V: Kept + Drop, S: BuildHasher> Plain<K, V, S> {
             ShardStep::Remove(key) => Ok(Reply::Pair(self.remove(&key))),
             ShardStep::Contains(key) => Ok(Reply::Found(self.get(&key).is_some())),
             ShardStep::RemoveIf(key, action) => match plan_remove_if(self.get(&key), &action) {
-                Ok((reply, change)) => {
-                    self.make_change(key, change);
-                    Ok(reply)
-                }
+                Ok((reply, change)) => Ok(self.make_change(key, change, reply)),
                 Err(_) => Err(ShardStep::RemoveIf(key, action)),
             },
             ShardStep::RemoveIfMut(key, action) => {
                 match plan_remove_if_mut(self.get(&key), &action) {
-                    Ok((reply, change)) => {
-                        self.make_change(key, change);
-                        Ok(reply)
-                    }
+                    Ok((reply, change)) => Ok(self.make_change(key, change, reply)),
                     Err(_) => Err(ShardStep::RemoveIfMut(key, action)),
                 }
             }
             ShardStep::Alter(key, action) => match plan_alter(self.get(&key), &action) {
-                Ok((reply, change)) => {
-                    self.make_change(key, change);
-                    Ok(reply)
-                }
+                Ok((reply, change)) => Ok(self.make_change(key, change, reply)),
                 Err(_) => Err(ShardStep::Alter(key, action)),
             },
+            ShardStep::Read(shard) => self.read(shard).ok_or(ShardStep::Read(shard)),
             ShardStep::Count(shard) if shard < self.amount => {
                 Ok(Reply::Number(self.count(shard)))
             }
             ShardStep::Count(shard) => Err(ShardStep::Count(shard)),
+            ShardStep::AlterAll(shard, action) => self
+                .sweep(shard, &action, true)
+                .ok_or(ShardStep::AlterAll(shard, action)),
+            ShardStep::Retain(shard, action) => self
+                .sweep(shard, &action, false)
+                .ok_or(ShardStep::Retain(shard, action)),
         }
     }
 }

@@ -223,7 +223,8 @@ impl<K: KeptKey + Drop, V: Kept + Drop, S: BuildHasher, A: KeptAction<K, V> + Dr
         if !make_room(&mut self.history) {
             return Err(step);
         }
-        let Ok((reply, change)) = prepare(&self.shard, &step) else {
+        let alloc = *self.history.allocator();
+        let Ok((reply, change)) = prepare(alloc, &self.shard, &step) else {
             return Err(step);
         };
         let number = self.shard.number();

@@ -24,8 +24,14 @@ pub enum ShardStep<K, V, A = ()> {
     RemoveIfMut(K, A),
     /// Changes its value, whatever the action answers.
     Alter(K, A),
+    /// The pairs of the shard.
+    Read(usize),
     /// How many pairs the shard has.
     Count(usize),
+    /// Changes each value of the shard, whatever the action answers.
+    AlterAll(usize, A),
+    /// Changes each value of the shard, and takes out the pairs on which the action answers no.
+    Retain(usize, A),
 }
 
 /// What a step answers.
@@ -37,6 +43,8 @@ pub enum Reply<K, V> {
     Found(bool),
     /// The value that stood at the key.
     Old(Option<V>),
+    /// The pairs, each once, in any order.
+    Pairs(Vec<(K, V)>),
     /// How many pairs, held at 2^64 - 1.
     Number(u64),
     /// The step answers nothing.
@@ -76,7 +84,10 @@ impl<K, V: Kept, A> ShardStep<K, V, A> {
             | ShardStep::RemoveIf(key, _)
             | ShardStep::RemoveIfMut(key, _)
             | ShardStep::Alter(key, _) => determine_shard(hasher.hash_one(key), amount),
-            ShardStep::Count(shard) => *shard,
+            ShardStep::Read(shard)
+            | ShardStep::Count(shard)
+            | ShardStep::AlterAll(shard, _)
+            | ShardStep::Retain(shard, _) => *shard,
         }
     }
 
@@ -107,12 +118,17 @@ impl<K, V: Kept, A> ShardStep<K, V, A> {
                 let key = key.copy()?;
                 Ok(ShardStep::Alter(key, action.copy()?))
             }
+            ShardStep::Read(shard) => Ok(ShardStep::Read(*shard)),
             ShardStep::Count(shard) => Ok(ShardStep::Count(*shard)),
+            ShardStep::AlterAll(shard, action) => {
+                Ok(ShardStep::AlterAll(*shard, action.copy()?))
+            }
+            ShardStep::Retain(shard, action) => Ok(ShardStep::Retain(*shard, action.copy()?)),
         }
     }
 }
 
-impl<K: Kept + Drop, V: Kept> Reply<K, V> {
+impl<K: Kept + Drop, V: Kept + Drop> Reply<K, V> {
     ghost use Rattle.dash_history.specs.Alike.{alike_reply};
     ghost use Rattle.dash_history.specs.Steps.{reply_of};
 
@@ -129,6 +145,7 @@ impl<K: Kept + Drop, V: Kept> Reply<K, V> {
             Reply::Found(found) => Ok(Reply::Found(*found)),
             Reply::Old(None) => Ok(Reply::Old(None)),
             Reply::Old(Some(value)) => Ok(Reply::Old(Some(value.copy()?))),
+            Reply::Pairs(pairs) => Ok(Reply::Pairs(pairs.copy()?)),
             Reply::Number(number) => Ok(Reply::Number(*number)),
             Reply::Done => Ok(Reply::Done),
         }

@@ -12,17 +12,22 @@ use crate::action::KeptAction;
 use crate::change::{Change, copy_found, plan_alter, plan_remove_if, plan_remove_if_mut};
 use crate::kept::{Kept, KeptKey};
 use crate::step::{Reply, ShardStep};
+use crate::sweep::{ask_each, copy_pairs, put_each};
 use dash_shard::shard::{InsertRefused, Shard};
-use std::alloc::AllocError;
+use std::alloc::{AllocError, Global};
 use std::hash::BuildHasher;
 
-/// What the step may reply now, and what its action makes of the pair at its key. It takes memory for copies.
+/// What the step may reply now, and what its action makes of the pair at its key, or of each pair. It takes memory for copies.
 pub(super) fn prepare<
     K: KeptKey + Drop,
     V: Kept + Drop,
     S: BuildHasher,
     A: KeptAction<K, V> + Drop,
->(shard: &Shard<K, V, S>, step: &ShardStep<K, V, A>) -> Result<(Reply<K, V>, Change<V>), AllocError>
+>(
+    alloc: Global,
+    shard: &Shard<K, V, S>,
+    step: &ShardStep<K, V, A>,
+) -> Result<(Reply<K, V>, Change<V>), AllocError>
     requires { place_of (kinds_of K.eq S.BuildHasher S.Hasher.Hasher K.hash_input K.alike V.alike A.alike A.acts shard.now) step.now ≡ shard.now.number }
     ensures answers { IfOk result (λ plan. Answers (kinds_of K.eq S.BuildHasher S.Hasher.Hasher K.hash_input K.alike V.alike A.alike A.acts shard.now).rules (pairs shard.now) (step_of A.acts step.now) (reply_of plan.0)) }
     ensures decides { IfOk result (λ plan. Decides (kinds_of K.eq S.BuildHasher S.Hasher.Hasher K.hash_input K.alike V.alike A.alike A.acts shard.now) (pairs shard.now) step.now plan.1) }
@@ -39,7 +44,19 @@ pub(super) fn prepare<
         ShardStep::RemoveIf(key, action) => plan_remove_if(shard.get(key), action),
         ShardStep::RemoveIfMut(key, action) => plan_remove_if_mut(shard.get(key), action),
         ShardStep::Alter(key, action) => plan_alter(shard.get(key), action),
+        ShardStep::Read(_) => Ok((
+            Reply::Pairs(copy_pairs(alloc, shard.iter())?),
+            Change::Stays,
+        )),
         ShardStep::Count(_) => Ok((Reply::Number(shard.len() as u64), Change::Stays)),
+        ShardStep::AlterAll(_, action) => {
+            let made = ask_each(alloc, shard.iter(), action, true)?;
+            Ok((Reply::Done, Change::Each(made)))
+        }
+        ShardStep::Retain(_, action) => {
+            let made = ask_each(alloc, shard.iter(), action, false)?;
+            Ok((Reply::Done, Change::Each(made)))
+        }
     }
 }
 
@@ -56,7 +73,7 @@ fn make_change<K: KeptKey + Drop, V: Kept + Drop, S: BuildHasher>(
     ensures lawful { IsShard K.eq S.BuildHasher S.Hasher.Hasher K.hash_input shard.old → IsShard K.eq S.BuildHasher S.Hasher.Hasher K.hash_input shard.new }
 {
     match change {
-        Change::Stays => (),
+        Change::Stays | Change::Each(_) => (),
         Change::Goes => drop(shard.remove(&key)),
         Change::Becomes(value) => drop(shard.insert(key, value)),
     }
@@ -96,6 +113,12 @@ pub(super) fn carry_out<
             make_change(shard, key, decided);
             Ok(())
         }
-        ShardStep::Count(_) => Ok(()),
+        ShardStep::Read(_) | ShardStep::Count(_) => Ok(()),
+        ShardStep::AlterAll(_, _action) | ShardStep::Retain(_, _action) => {
+            if let Change::Each(made) = decided {
+                put_each(shard, made);
+            }
+            Ok(())
+        }
     }
 }

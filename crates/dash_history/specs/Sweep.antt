@@ -1,0 +1,19 @@
+-- What an action makes of copies of a shard's values, and how they are put in place.
+use Rattle.std.specs.Prelude.{◌≡◌, ◌||◌, Bool, List, [], ◌∷◌, IsTrue, ⊤}
+use Rattle.dash_shard.specs.Steps.{Act}
+
+module _ {K V : Type 0} where
+  -- the action, which answers yes always where all pairs stay
+  abbrev pub keeping : Bool → Act K V → Act K V
+  keeping all f k v = ((f k v).0, all || (f k v).1)
+
+  -- along these pairs the action gives values that are the same as these, with these answers
+  abbrev pub GivesEach : (V → V → Bool) → Act K V → List (K × V) → List (V × Bool) → Type 0
+  GivesEach same f [] ds = ds ≡ []
+  GivesEach same f (p ∷ ps) [] = ⊥
+  GivesEach same f (p ∷ ps) (d ∷ ds) = IsTrue (same (f p.0 p.1).0 d.0) × (d.1 ≡ (f p.0 p.1).1) × GivesEach same f ps ds
+
+-- the value is the next of these, and so is the answer, if there is one
+abbrev pub PutsNext : {V : Type 0} → List (V × Bool) → List (V × Bool) → V → Bool → Type 0
+PutsNext [] after v answer = ⊤
+PutsNext (d ∷ ds) after v answer = (v ≡ d.0) × (answer ≡ d.1) × (after ≡ ds)

@@ -1,0 +1,72 @@
+//! What a step makes of all pairs of a shard: copies of them, and what its action makes of copies of their values.
+ghost use Rattle.std.specs.Prelude.{◌≡◌, List, IsTrue, IfOk};
+ghost use Rattle.std.specs.Vec.Iter.{into_iter_items};
+ghost use Rattle.dash_shard.specs.Contents.{at};
+ghost use Rattle.dash_shard.specs.Steps.{Act, Retain, after};
+ghost use Rattle.dash_shard.specs.Shard.{pairs, keys_of, IsShard, SameShard};
+ghost use Rattle.dash_history.specs.Alike.{alike_list, alike_option, alike_pair};
+ghost use Rattle.dash_history.specs.Sweep.{keeping, GivesEach, PutsNext};
+
+use crate::action::Action;
+use crate::change::ask;
+use crate::kept::{Kept, KeptKey};
+use dash_shard::shard::{Iter, Shard};
+use std::alloc::{AllocError, Global};
+use std::hash::BuildHasher;
+
+/// Copies of these pairs, in their order.
+pub fn copy_pairs<K: Kept + Drop, V: Kept + Drop>(
+    alloc: Global,
+    pairs: Iter<'_, K, V>,
+) -> Result<Vec<(K, V)>, AllocError>
+    ensures { IfOk result (λ copies. IsTrue (alike_list (alike_pair K.alike V.alike) pairs.entry copies.items)) }
+{
+    let mut copies = Vec::with_capacity(alloc, pairs.len())?;
+    for (key, value) in pairs {
+        let key = key.copy()?;
+        copies.push((key, value.copy()?))?;
+    }
+    Ok(copies)
+}
+
+/// What the action makes of copies of the values, and what it answers: yes where all pairs stay.
+pub fn ask_each<K: Kept, V: Kept + Drop, A: Action<K, V>>(
+    alloc: Global,
+    pairs: Iter<'_, K, V>,
+    action: &A,
+    all: bool,
+) -> Result<Vec<(V, bool)>, AllocError>
+    ensures { IfOk result (λ made. GivesEach V.alike (keeping all (A.acts action.now)) pairs.entry made.items) }
+{
+    let mut made = Vec::with_capacity(alloc, pairs.len())?;
+    for (key, value) in pairs {
+        let (changed, answer) = ask(key, value, action)?;
+        made.push((changed, all || answer))?;
+    }
+    Ok(made)
+}
+
+/// Puts these values in the place of the shard's, in rising order of places, and takes out the pairs that have no yes beside theirs.
+pub(crate) fn put_each<K: KeptKey + Drop, V: Kept + Drop, S: BuildHasher>(
+    shard: &mut Shard<K, V, S>,
+    made: Vec<(V, bool)>,
+)
+    ensures leaves { (f : Act K V) → GivesEach V.alike f (pairs shard.old) made.items → (j : K) → IsTrue (alike_option (alike_pair K.alike V.alike) (after (keys_of K.eq S.BuildHasher S.Hasher.Hasher K.hash_input shard.old) (Retain shard.old.number f) j (at (keys_of K.eq S.BuildHasher S.Hasher.Hasher K.hash_input shard.old) (pairs shard.old) j)) (at (keys_of K.eq S.BuildHasher S.Hasher.Hasher K.hash_input shard.old) (pairs shard.new) j)) }
+    ensures stays { SameShard shard.old shard.new }
+    ensures lawful { IsShard K.eq S.BuildHasher S.Hasher.Hasher K.hash_input shard.old → IsShard K.eq S.BuildHasher S.Hasher.Hasher K.hash_input shard.new }
+{
+    let mut made = made.into_iter();
+    shard.retain(
+        |_key: &K, value: &mut V| -> bool
+            ensures { PutsNext (into_iter_items made.entry) (into_iter_items made.exit) value.new result }
+        {
+            match made.next() {
+                Some((changed, stays)) => {
+                    *value = changed;
+                    stays
+                }
+                None => true,
+            }
+        },
+    );
+}
