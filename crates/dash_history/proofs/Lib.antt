@@ -9,3 +9,4 @@ mod Maps
 pub mod Plains
 pub mod Recording
 pub mod Planning
+mod Sweeping
