@@ -10,3 +10,4 @@ pub mod Plains
 pub mod Recording
 pub mod Planning
 mod Sweeping
+mod PlainSweeps

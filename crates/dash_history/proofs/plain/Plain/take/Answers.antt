@@ -59,7 +59,7 @@ returns-in-Ok-plan_remove_if-clause-ok g c =
     let laws = lawful-by _ g.S.BuildHasher g.S.Hasher.Hasher _ _ _ g.met.K.Eq.laws g.met.K.Hash.respects_eq g.met.K.Kept.alike_laws g.met.V.Kept.alike_laws g.met.K.KeptKey.alike_equal c.args.self.now.hasher c.args.self.now.amount in
     let plain = subst (λ (x : PlainState g.row.K.Denot g.row.V.Denot g.row.S.Denot). IsPlain g.K.PartialEq.eq (route_by g.S.BuildHasher g.S.Hasher.Hasher g.K.Hash.hash_input) x) c.self.view_is c.self.invariant in
     let p = c.in-Ok-plan_remove_if.ensures.plan c.in-RemoveIf.key in
-    rw c.in-RemoveIf.is (takes-planned m laws _ _ c.in-RemoveIf.key _ _ _ _ _ _ c.get-in-RemoveIf.ensures refl p.0 p.1 (route_below _ _ (omega (arith, plain.amount.several))) c.make_change.ensures.becomes c.make_change.ensures.distinct)
+    rw (c.in-RemoveIf.is, c.make_change.ensures.reply) (takes-planned m laws _ _ c.in-RemoveIf.key _ _ _ _ _ _ c.get-in-RemoveIf.ensures refl p.0 p.1 (route_below _ _ (omega (arith, plain.amount.several))) c.make_change.ensures.becomes c.make_change.ensures.distinct)
 
 pub make_change-requires-in-Ok-plan_remove_if_mut : goal.make_change-requires-in-Ok-plan_remove_if_mut
 make_change-requires-in-Ok-plan_remove_if_mut g c = subst (λ o. HasPair c.in-Ok-plan_remove_if_mut.change o) c.get-in-RemoveIfMut.ensures (c.in-Ok-plan_remove_if_mut.ensures.plan c.in-RemoveIfMut.key).1.there
@@ -70,7 +70,7 @@ returns-in-Ok-plan_remove_if_mut-clause-ok g c =
     let laws = lawful-by _ g.S.BuildHasher g.S.Hasher.Hasher _ _ _ g.met.K.Eq.laws g.met.K.Hash.respects_eq g.met.K.Kept.alike_laws g.met.V.Kept.alike_laws g.met.K.KeptKey.alike_equal c.args.self.now.hasher c.args.self.now.amount in
     let plain = subst (λ (x : PlainState g.row.K.Denot g.row.V.Denot g.row.S.Denot). IsPlain g.K.PartialEq.eq (route_by g.S.BuildHasher g.S.Hasher.Hasher g.K.Hash.hash_input) x) c.self.view_is c.self.invariant in
     let p = c.in-Ok-plan_remove_if_mut.ensures.plan c.in-RemoveIfMut.key in
-    rw c.in-RemoveIfMut.is (takes-planned m laws _ _ c.in-RemoveIfMut.key _ _ _ _ _ _ c.get-in-RemoveIfMut.ensures refl p.0 p.1 (route_below _ _ (omega (arith, plain.amount.several))) c.make_change-in-Ok-plan_remove_if_mut.ensures.becomes c.make_change-in-Ok-plan_remove_if_mut.ensures.distinct)
+    rw (c.in-RemoveIfMut.is, c.make_change-in-Ok-plan_remove_if_mut.ensures.reply) (takes-planned m laws _ _ c.in-RemoveIfMut.key _ _ _ _ _ _ c.get-in-RemoveIfMut.ensures refl p.0 p.1 (route_below _ _ (omega (arith, plain.amount.several))) c.make_change-in-Ok-plan_remove_if_mut.ensures.becomes c.make_change-in-Ok-plan_remove_if_mut.ensures.distinct)
 
 pub make_change-requires-in-Ok-plan_alter : goal.make_change-requires-in-Ok-plan_alter
 make_change-requires-in-Ok-plan_alter g c = subst (λ o. HasPair c.in-Ok-plan_alter.change o) c.get-in-Alter.ensures (c.in-Ok-plan_alter.ensures.plan c.in-Alter.key).1.there
@@ -81,7 +81,7 @@ returns-in-Ok-plan_alter-clause-ok g c =
     let laws = lawful-by _ g.S.BuildHasher g.S.Hasher.Hasher _ _ _ g.met.K.Eq.laws g.met.K.Hash.respects_eq g.met.K.Kept.alike_laws g.met.V.Kept.alike_laws g.met.K.KeptKey.alike_equal c.args.self.now.hasher c.args.self.now.amount in
     let plain = subst (λ (x : PlainState g.row.K.Denot g.row.V.Denot g.row.S.Denot). IsPlain g.K.PartialEq.eq (route_by g.S.BuildHasher g.S.Hasher.Hasher g.K.Hash.hash_input) x) c.self.view_is c.self.invariant in
     let p = c.in-Ok-plan_alter.ensures.plan c.in-Alter.key in
-    rw c.in-Alter.is (takes-planned m laws _ _ c.in-Alter.key _ _ _ _ _ _ c.get-in-Alter.ensures refl p.0 p.1 (route_below _ _ (omega (arith, plain.amount.several))) c.make_change-in-Ok-plan_alter.ensures.becomes c.make_change-in-Ok-plan_alter.ensures.distinct)
+    rw (c.in-Alter.is, c.make_change-in-Ok-plan_alter.ensures.reply) (takes-planned m laws _ _ c.in-Alter.key _ _ _ _ _ _ c.get-in-Alter.ensures refl p.0 p.1 (route_below _ _ (omega (arith, plain.amount.several))) c.make_change-in-Ok-plan_alter.ensures.becomes c.make_change-in-Ok-plan_alter.ensures.distinct)
 
 pub returns-in-Contains-clause-ok : goal.returns-in-Contains-clause-ok
 returns-in-Contains-clause-ok g c =
@@ -100,3 +100,12 @@ returns-in-Count-clause-ok g c =
     let P = c.args.self.now.pairs in
     rw c.in-Count.is (takes-exactly m laws P P (table.Count c.in-Count.shard) (Number c.count.result) (subst (λ (x : PlainState g.row.K.Denot g.row.V.Denot g.row.S.Denot). c.in-Count.shard < x.amount) c.self.view_is c.if-shard-self.true)
     (record { told = Number c.count.result; replies = (on m.keys c.in-Count.shard P, record { distinct = on-distinct m.keys g.met.K.Eq.laws c.in-Count.shard P plain.distinct; same = λ _. refl }, ap Number c.count.ensures); alike = (reply_laws m laws).refl (Number c.count.result) }) (λ j. shown (m.keys.route j == c.in-Count.shard) (at m.keys P j)) plain.distinct)
+
+pub returns-in-Read-clause-ok : goal.returns-in-Read-clause-ok
+returns-in-Read-clause-ok g c = ?
+
+pub returns-in-AlterAll-clause-ok : goal.returns-in-AlterAll-clause-ok
+returns-in-AlterAll-clause-ok g c = ?
+
+pub returns-in-Retain-clause-ok : goal.returns-in-Retain-clause-ok
+returns-in-Retain-clause-ok g c = ?
