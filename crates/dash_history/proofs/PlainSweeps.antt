@@ -1,12 +1,20 @@
 -- A list of pairs after a sweep: what the step makes of each, in their order.
-use Rattle.std.proofs.Common.{◌≡◌, ℕ, ◌==◌, Bool, true, false, cond, List, [], ◌∷◌, ◌++◌, Option, Some, None, refl, sym, ap, subst, ◌∙◌, inl, inr}
+use Rattle.std.proofs.Common.{◌≡◌, ℕ, ◌==◌, Bool, true, false, cond, List, [], ◌∷◌, ◌++◌, Option, Some, None, Result, Ok, Err, refl, sym, ap, subst, ◌∙◌, inl, inr}
+use Rattle.std.specs.Prelude.{IfOk}
+use Rattle.std.specs.Result.{result_ok}
 use Rattle.std.specs.Option.{option_and_then}
+use Rattle.std.proofs.lemmas.Option.{none-some, same_Some}
 use Rattle.std.proofs.lemmas.Bool.{cases_Bool, and_parts}
 use Rattle.dash_shard.specs.Contents.{at, Distinct}
 use Rattle.dash_shard.specs.Steps.{Act, Retain, after, changed, if_yes}
-use Rattle.dash_shard.proofs.Equals.{along, apart, at-equal}
+use Rattle.dash_shard.proofs.Equals.{at-equal}
 use Rattle.dash_history.specs.Takes.{Rules, AlikeAt}
 use Rattle.dash_history.proofs.Copies.{Lawful}
+
+-- what an Ok has
+pub ok-is : {A E : Type 0} (r : Result A E) (x : A) (P : A → Type 0) → result_ok r ≡ Some x → IfOk r P → P x
+ok-is (Ok y) x P e h = subst P (same_Some y x e) h
+ok-is (Err y) x P e h = absurd (none-some x e)
 
 module _ {K V : Type 0} where
   -- with the pair in front, if there is one
