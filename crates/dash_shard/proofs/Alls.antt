@@ -10,7 +10,7 @@ use Rattle.dash_shard.specs.Hashing.{hash_of}
 use Rattle.dash_shard.specs.Contents.{Keys, at, IsOnShard}
 use Rattle.dash_shard.specs.Steps.{Act, Step, Retain, AlterAll, Done, on_shard, line, line_after, LineReplies}
 use Rattle.dash_shard.specs.Shard.{ShardState, place, taken, pairs, keys_of, IsShard, TakesExactly, StaysInPlace}
-use Rattle.dash_shard.specs.Each.{Sweeps, if_kept, altered, Retains, AltersAll, Clears}
+use Rattle.dash_shard.specs.Each.{Sweeps, if_kept, altered, Retains, AltersAll, SweepsShard, Clears}
 use Rattle.dash_shard.specs.declared.shard.table.Table.{Table}
 use Rattle.dash_shard.specs.Table.{pairs_of, hashes_of, IsHashed, IsTable}
 use Rattle.dash_shard.proofs.Remade.{KeepsKey, remade, fewer-remade, hashed-remade, on_shard-remade, becomes-remade, stays-remade, each-once, Acts, acts, makes}
@@ -94,6 +94,14 @@ module _ {K V S H : Type 0} (eq : K → K → Bool) (b : builder.Ghosts S H) (h 
         len = subst (λ xs. length (taken xs) ≤ length (taken (pairs_of t.nodes.items))) (sym did.made) (fewer-remade (makes T if_kept (keys_of eq b h input (of t)) laws did.act) (pairs_of t.nodes.items));
       })
 
+      pub sweeps-kept : length new.nodes.items ≡ length t.nodes.items → (z : ShardState K V S) → of t ≡ z → SweepsShard eq b h input T if_kept f swept.0 z (of new)
+      sweeps-kept room z view = subst (λ x. SweepsShard eq b h input T if_kept f swept.0 x (of new)) view (record {
+        swept = swept.1;
+        room = room;
+        stays = record { number = refl; amount = refl; hasher = refl };
+        lawful = remade-shard t new inside _ (kept-key did.act) did.made;
+      })
+
     -- the pairs whose values were altered
     module _ (swept : (last : F) × Sweeps T altered f (pairs_of t.nodes.items) (pairs_of new.nodes.items) last) where
       made : Acts T altered (keys_of eq b h input (of t)) laws f (pairs_of t.nodes.items) (pairs_of new.nodes.items) swept.0
@@ -114,6 +122,14 @@ module _ {K V S H : Type 0} (eq : K → K → Bool) (b : builder.Ghosts S H) (h 
         places = remade-stays t new inside _ (altered-key made.act) made.made (AlterAll number made.act) refl;
         room = room;
         len = same-length;
+      })
+
+      pub sweeps-altered : length new.nodes.items ≡ length t.nodes.items → (z : ShardState K V S) → of t ≡ z → SweepsShard eq b h input T altered f swept.0 z (of new)
+      sweeps-altered room z view = subst (λ x. SweepsShard eq b h input T altered f swept.0 x (of new)) view (record {
+        swept = swept.1;
+        room = room;
+        stays = record { number = refl; amount = refl; hasher = refl };
+        lawful = remade-shard t new inside _ (altered-key made.act) made.made;
       })
 
   -- no pair is left
