@@ -1,4 +1,3 @@
-mod Asked
 mod Distincts
 mod Found
 mod Lifting
@@ -7,4 +6,6 @@ mod Refusals
 mod Reserving
 mod Running
 mod Seeing
+mod Sweeping
+mod Turning
 mod Union

@@ -3,3 +3,4 @@ pub mod Map
 pub mod Alone
 pub mod Run
 pub mod Behind
+pub mod Whole

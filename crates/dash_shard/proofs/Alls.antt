@@ -28,7 +28,8 @@ kept-key {K} {V} act p q e = from ((act p.0 p.1).1) e
 pub altered-key : {K V : Type 0} (act : Act K V) → KeepsKey (λ p. altered p.0 (act p.0 p.1))
 altered-key {K} {V} act p q e = ap (λ (x : K × V). x.0) (sym (same_Some (p.0, (act p.0 p.1).0) q e))
 
-length-altered : {K V : Type 0} (act : Act K V) (xs : List (Option (K × V))) → length (taken (remade (λ p. altered p.0 (act p.0 p.1)) xs)) ≡ length (taken xs)
+-- as many pairs
+pub length-altered : {K V : Type 0} (act : Act K V) (xs : List (Option (K × V))) → length (taken (remade (λ p. altered p.0 (act p.0 p.1)) xs)) ≡ length (taken xs)
 length-altered act [] = refl
 length-altered act (None ∷ xs) = length-altered act xs
 length-altered act (Some p ∷ xs) = omega (arith, length-altered act xs)
