@@ -1,5 +1,6 @@
 mod Distincts
 mod Found
+mod Leaving
 mod Lifting
 mod Moves
 mod Refusals
