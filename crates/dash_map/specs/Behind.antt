@@ -1,6 +1,7 @@
 -- What calls of a map promise where others may change it: what they answer is so of shards that may stand behind its locks.
-use Rattle.std.specs.Prelude.{ℕ, ◌≡◌, Bool, true, false, length, Option, None, Some, Result, slice_get, if◌then◌else◌}
+use Rattle.std.specs.Prelude.{ℕ, ◌≡◌, Bool, true, false, List, length, Option, None, Some, Result, if◌then◌else◌}
 use Rattle.std.specs.Hash.{HashWrites}
+use Rattle.std.specs.Map.Calls.{CallableOnEachPair}
 use Rattle.std.specs.declared.hash.Hasher as hasher
 use Rattle.std.specs.declared.hash.BuildHasher as builder
 use Rattle.dash_shard.specs.Hashing.{route_by}
@@ -19,6 +20,10 @@ Asked answers (Some p) (Some q) = (q ≡ p) × answers p true
 abbrev pub Changed : {K V : Type 0} → (K × V → V × Bool → Type 0) → Option (K × V) → Option (K × V) → Type 0
 Changed changes None result = result ≡ None
 Changed {V = V} changes (Some p) result = (d : V × Bool) × changes p d × (result ≡ (if d.1 then Some (p.0, d.0) else None))
+
+-- f may be called at any pairs, one after the other
+abbrev pub CallableOnPairs : {F K V : Type 0} → (F → K → V → Bool → V → F → Type 0) → (F → K → V → Type 0) → F → Type 0
+CallableOnPairs {K = K} {V = V} T Q f = (ps : List (K × V)) → CallableOnEachPair T Q f ps
 
 module _ {K V S H : Type 0} (eq : K → K → Bool) (b : builder.Ghosts S H) (h : hasher.Ghosts H) (input : K → HashWrites) where
   -- P is so of what stood at the key, in a shard that stood in the place where the key goes
@@ -41,14 +46,13 @@ module _ {K V S H : Type 0} (eq : K → K → Bool) (b : builder.Ghosts S H) (h 
   abbrev pub SawShards : MapState S → (AloneState K V S → Type 0) → Type 0
   SawShards m P = (a : AloneState K V S) × IsBehind m a × P a
 
-  -- shards that stood behind the locks of this map, each when its turn came, and those that were left in their places: R of each and what
-  -- was left for it
-  pub record LeavesShards (m : MapState S) (R : ShardState K V S → ShardState K V S → Type 0) : Type 0 where
+  -- R of shards that stood behind the locks of this map, each when its turn came, and of those that were left in their places
+  pub record LeavesShards (m : MapState S) (R : AloneState K V S → AloneState K V S → Type 0) : Type 0 where
     pub before : AloneState K V S
     pub after : AloneState K V S
     pub stood : IsBehind m before
     pub stands : IsBehind m after
-    pub each : (i : ℕ) (s t : ShardState K V S) → slice_get before.row i ≡ Some s → slice_get after.row i ≡ Some t → R s t
+    pub leaves : R before after
 
 module _ {K S H : Type 0} (V : Type 0) (eq : K → K → Bool) (b : builder.Ghosts S H) (h : hasher.Ghosts H) (input : K → HashWrites) where
   -- shards behind the locks of this map were given room
