@@ -36,19 +36,19 @@ module _ {K V S : Type 0} where
   taken-places [] = refl
   taken-places (s ∷ row) = taken-append s.places (places_of row) ∙ ap (λ l. pairs s ++ l) (taken-places row)
 
-  places-more : (row : List (ShardState K V S)) (s : ShardState K V S) → places_of (row ++ s ∷ []) ≡ places_of row ++ s.places
+  pub places-more : (row : List (ShardState K V S)) (s : ShardState K V S) → places_of (row ++ s ∷ []) ≡ places_of row ++ s.places
   places-more row s = flat_map-append (λ x. x.places) row (s ∷ []) ∙ ap (λ l. places_of row ++ l) (append-nil s.places)
 
 module _ {F K V : Type 0} (T : F → K → V → Bool → V → F → Type 0) (leaves : K → V × Bool → Option (K × V)) where
   -- a walk over one row and then over another
-  sweeps-append : (f mid last : F) (xs ys zs news : List (Option (K × V))) → Sweeps T leaves f xs ys mid → Sweeps T leaves mid zs news last → Sweeps T leaves f (xs ++ zs) (ys ++ news) last
+  pub sweeps-append : (f mid last : F) (xs ys zs news : List (Option (K × V))) → Sweeps T leaves f xs ys mid → Sweeps T leaves mid zs news last → Sweeps T leaves f (xs ++ zs) (ys ++ news) last
   sweeps-append f mid last [] ys zs news s r = subst (λ l. Sweeps T leaves f zs (l ++ news) last) (sym s.0) (subst (λ x. Sweeps T leaves x zs news last) (sym s.1) r)
   sweeps-append f mid last (o ∷ xs) ys zs news s r =
       (s.0, s.1, s.2 ++ news, s.3, ap (λ l. l ++ news) s.4, sweeps-append s.1 mid last xs s.2 zs news s.5 r)
 
   module _ (Q : F → K → V → Type 0) where
     -- after a walk over the places in front the closure may be called at the pairs behind
-    callable-behind : (f mid : F) (xs ys : List (Option (K × V))) (ps : List (K × V)) → Sweeps T leaves f xs ys mid → CallableOnEachPair T Q f (taken xs ++ ps) → CallableOnEachPair T Q mid ps
+    pub callable-behind : (f mid : F) (xs ys : List (Option (K × V))) (ps : List (K × V)) → Sweeps T leaves f xs ys mid → CallableOnEachPair T Q f (taken xs ++ ps) → CallableOnEachPair T Q mid ps
     callable-behind f mid [] ys ps s c = subst (λ x. CallableOnEachPair T Q x ps) s.1 c
     callable-behind f mid (None ∷ xs) ys ps s c = callable-behind s.1 mid xs s.2 ps s.5 (subst (λ x. CallableOnEachPair T Q x (taken xs ++ ps)) s.3.1 c)
     callable-behind f mid (Some p ∷ xs) ys ps s c =

@@ -133,7 +133,8 @@ impl<K: Eq + Hash, V, S: BuildHasher> DashMap<K, V, S> {
         ensures { SawPair K.eq S.BuildHasher S.Hasher.Hasher K.hash_input self.now key.now (λ p. Changed (ChangesOn F.FnOnce f) p result) }
     {
         let (hash, place) = self.place_of(key);
-        self.shards_mut(rt, place).remove_if_mut_hashed(hash, key, f)
+        self.shards_mut(rt, place)
+            .remove_if_mut_hashed(hash, key, f)
     }
 
     /// What `f` answers on the pair whose key equals `key`. Waits until no writer has the key's shard. It takes no memory.

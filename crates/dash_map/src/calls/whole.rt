@@ -65,3 +65,6 @@ impl<K: Eq + Hash, V, S: BuildHasher> DashMap<K, V, S> {
         }
     }
 }
+
+#[cfg(test)]
+mod tests;
