@@ -11,7 +11,7 @@ use Rattle.std.specs.declared.hash.BuildHasher as builder
 use Rattle.dash_shard.specs.Hashing.{IsAmount}
 use Rattle.dash_shard.specs.Shard.{ShardState, SameShard, IsShard, taken}
 use Rattle.dash_shard.specs.Each.{Sweeps, SweepsShard, Clears, Shrinks, if_kept, altered}
-use Rattle.dash_map.specs.Alone.{AloneState, IsPlaced, IsAlone}
+use Rattle.dash_map.specs.Alone.{AloneState, IsPlaced}
 use Rattle.dash_map.specs.Behind.{LeavesShards, IsBehind}
 use Rattle.dash_map.specs.Map.{MapState}
 use Rattle.dash_map.specs.Whole.{SameRoom, ClearsAlone, ShrinksAlone, RetainsAlone, AltersAllAlone}
