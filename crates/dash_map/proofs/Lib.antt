@@ -1,5 +1,6 @@
 mod Distincts
 mod Found
+mod Lending
 mod Lifting
 mod Moves
 mod Refusals
