@@ -1,6 +1,7 @@
 mod Distincts
 mod Found
 mod Leaving
+mod Lending
 mod Lifting
 mod Moves
 mod Refusals

@@ -4,3 +4,4 @@ pub mod Alone
 pub mod Run
 pub mod Behind
 pub mod Whole
+pub mod Lends

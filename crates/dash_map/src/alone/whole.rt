@@ -57,3 +57,6 @@ impl<K: Eq + Hash + Drop, V: Drop, S: BuildHasher> Alone<K, V, S> {
         }
     }
 }
+
+#[cfg(test)]
+mod tests;
