@@ -111,7 +111,7 @@ fn a_refused_step_comes_back(rt: HostRuntime) -> Result<(), Fail> {
 }
 
 // The replies as text.
-fn replies<A>(alloc: Global, outcome: &RunOutcome<u64, u64, A>) -> Result<String, AllocError> {
+fn replies(alloc: Global, outcome: &RunOutcome<u64, u64>) -> Result<String, AllocError> {
     format!(in alloc; "{:?}", outcome.replies)
 }
 
@@ -210,7 +210,7 @@ fn steps_on_each_pair_of_a_shard(rt: HostRuntime) -> Result<(), Fail> {
         ShardStep::Retain(4, Adds(1)),
     ]?);
     assert_eq!(rt;
-        replies(rt.alloc(), &outcome)?.as_str(),
+        format!(in rt.alloc(); "{:?}", outcome.replies)?.as_str(),
         "[Old(None), Old(None), Old(None), Done, Pairs([(2, 20)]), Pair(Some((1, 11))), Pair(Some((5, 52))), Done, Pairs([(5, 54)]), Pairs([]), Number(1)]"
     );
     let (rest, fault) = outcome.stopped.ok_or("no stop")?;
