@@ -1,22 +1,27 @@
 -- Steps of a run: what was taken so far, and what is left.
-use Rattle.std.proofs.Common.{◌≡◌, ℕ, ◌<◌, ◌≤◌, ◌==◌, Bool, true, false, cond, List, [], ◌∷◌, ◌++◌, length, map, slice_get, Option, Some, None, refl, sym, ap, ap₂, subst, ◌∙◌, append_assoc, inl, inr, arith, eq-eqb}
+use Rattle.std.proofs.Common.{◌≡◌, ◌≢◌, ℕ, ◌<◌, ◌≤◌, ◌==◌, Bool, true, false, cond, List, [], ◌∷◌, ◌++◌, length, map, flat_map, get_or, slice_get, slice_set, Option, Some, None, IsTrue, refl, sym, ap, ap₂, subst, ◌∙◌, append_assoc, inl, inr, arith, eq-eqb}
 use Rattle.std.specs.Option.{option_and_then}
 use Rattle.std.specs.Prelude.{◌↔◌, reverse}
 use Rattle.std.specs.Cmp.{IsEquivalence}
 use Rattle.std.specs.Hash.{HashWrites}
 use Rattle.std.specs.declared.hash.Hasher as hasher
 use Rattle.std.specs.declared.hash.BuildHasher as builder
-use Rattle.std.proofs.lemmas.Bool.{cases_Bool, cases_eq, ne_eqb}
+use Rattle.std.proofs.lemmas.Bool.{cases_Bool, cases_eq, ne_eqb, and_from}
 use Rattle.std.proofs.lemmas.List.{map-append, reverse-append}
+use Rattle.std.proofs.lemmas.Option.{slice_get-get_or, slice_get_within}
+use Rattle.std.proofs.Math.ListN.{length-set}
+use Rattle.dash_shard.proofs.Rows.{slice_get-set_same, slice_get-set_other}
+use Rattle.dash_shard.proofs.Routing.{route_below}
+use Rattle.dash_shard.specs.Each.{CalledAlong, Retains}
 use Rattle.dash_shard.specs.Hashing.{hash_of, route_by, route_of_hash}
 use Rattle.dash_shard.specs.Contents.{Keys, keys, at, on, Distinct, EachOnce, IsOnShard}
 use Rattle.dash_shard.specs.Steps as table
 use Rattle.dash_shard.specs.Shard.{ShardState, pairs}
 use Rattle.dash_history.specs.Steps.{step_of, reply_of}
-use Rattle.dash_history.specs.Takes.{Rules, Answers, Takes, Runs}
+use Rattle.dash_history.specs.Takes.{Rules, AlikeAt, Answers, Takes, Runs}
 use Rattle.dash_history.specs.declared.step.ShardStep.{ShardStep}
 use Rattle.dash_history.specs.declared.step.Reply.{Reply}
-use Rattle.dash_history.proofs.Copies.{Lawful, takes-exactly, reply_laws}
+use Rattle.dash_history.proofs.Copies.{Lawful, takes-exactly, reply_laws, at_laws}
 use Rattle.dash_history.proofs.Growing.{runs-more}
 use Rattle.dash_history.proofs.Recording.{lawful-by}
 use Rattle.dash_map.specs.Alone.{AloneState, IsAlone, TakesAlone, contents, keys_in}
@@ -24,8 +29,8 @@ use Rattle.dash_map.specs.declared.run.Fault.{Fault}
 use Rattle.dash_map.specs.declared.run.Fault.TheVariants.{NoSuchShard, Memory}
 use Rattle.dash_map.specs.Run.{answered, rules_in, IsRefused}
 use Rattle.dash_map.proofs.Distincts.{distinct-contents}
-use Rattle.dash_map.proofs.Lifting.{on-shards}
-use Rattle.dash_map.proofs.Union.{at-union}
+use Rattle.dash_map.proofs.Lifting.{keys-same, on-shards, alone-set}
+use Rattle.dash_map.proofs.Union.{OnShards, at-union}
 
 module _ {K V A : Type 0} (m : Rules K V) (acts : A → table.Act K V) where
   -- The run so far: a front of the steps was taken, and the others are left, the next of them last.
@@ -76,6 +81,24 @@ pub shown : {X : Type 0} (t : Bool) (o : Option X) → o ≡ cond t (option_and_
 shown true None = refl
 shown true (Some x) = refl
 shown false o = refl
+
+-- Calls that did alike what the action f makes of each pair leave alike what it leaves.
+module _ {F K V : Type 0} (m : Rules K V) (laws : Lawful m) (T : F → K → V → Bool → V → F → Type 0) (f act : table.Act K V) (x : F)
+    (did : (k : K) (v : V) (yes : Bool) (new : V) (y : F) → T x k v yes new y → IsTrue (m.alike_value (f k v).0 new) × (yes ≡ (f k v).1) × (y ≡ x)) where
+  kept : (t u : Bool) (p q : K × V) → u ≡ t → AlikeAt m (Some p) (Some q) → AlikeAt m (cond t (Some p) None) (cond u (Some q) None)
+  kept true u p q e a = subst (λ x. AlikeAt m (Some p) (cond x (Some q) None)) (sym e) a
+  kept false u p q e a = subst (λ x. AlikeAt m None (cond x (Some q) None)) (sym e) refl
+
+  pub called-alike : (ps : List (K × V)) (last : F) → CalledAlong T act x ps last → (j : K)
+      → AlikeAt m (option_and_then (λ p. table.if_yes f p (table.changed f p)) (at m.keys ps j)) (option_and_then (λ p. table.if_yes act p (table.changed act p)) (at m.keys ps j))
+  called-alike [] last called j = refl
+  called-alike (p ∷ ps) last called j =
+      let here = did p.0 p.1 (act p.0 p.1).1 (act p.0 p.1).0 called.0 called.1 in
+      let rest : CalledAlong T act x ps last = subst (λ y. CalledAlong T act y ps last) here.2 called.2 in
+      elim (cases_Bool (m.keys.eq p.0 j)) as (λ _. AlikeAt m (option_and_then (λ q. table.if_yes f q (table.changed f q)) (at m.keys (p ∷ ps) j)) (option_and_then (λ q. table.if_yes act q (table.changed act q)) (at m.keys (p ∷ ps) j))) [
+        | inl equal ↦ rw equal (kept _ _ _ _ here.1 (and_from _ _ (laws.key.refl p.0) here.0))
+        | inr other ↦ rw other (called-alike ps last rest j)
+      ]
 
 -- the pairs on a shard, where equal keys have one route
 module _ {K V : Type 0} (w : Keys K) (laws : IsEquivalence w.eq) (route_same : (j k : K) → w.eq j k ≡ true → w.route j ≡ w.route k) (i : ℕ) where
@@ -136,3 +159,49 @@ module _ {K V S H : Type 0} (eq : K → K → Bool) (b : builder.Ghosts S H) (h 
         let shard : IsOnShard w i (pairs s) = subst (λ n. IsOnShard w n (pairs s)) (omega arith) (on-shards eq b h input a.hasher a.row lawful i s here) in
         each-on w equal (λ x y e. ap (λ z. route_of_hash (length a.row) (hash_of b h a.hasher z)) (respects x y e)) i (contents a) (pairs s) shard
         (λ j at_i. at-union w a.row j s (on-shards eq b h input a.hasher a.row lawful) (ap (slice_get a.row) at_i ∙ here))
+
+    -- Shard i was swept by calls that did alike what the action f makes.
+    module _ (a : AloneState K V S) (i : ℕ) (s t : ShardState K V S) (lawful : IsAlone eq b h input a) (here : slice_get a.row i ≡ Some s) {F : Type 0} {T : F → K → V → Bool → V → F → Type 0} {x : F} (r : Retains eq b h input T x s t) where
+      abbrev w : Keys K
+      w = keys_in eq b h input a
+
+      abbrev row' : List (ShardState K V S)
+      row' = slice_set a.row i t
+
+      pub alone-after : IsAlone eq b h input (record { hasher = a.hasher; row = row' })
+      alone-after = alone-set eq b h input a.hasher i a.row s t lawful here r.taken.stays r.taken.lawful
+
+      on' : OnShards w 0 row'
+      on' = subst (λ n. OnShards (keys eq (route_by b h input a.hasher n) n) 0 row') (length-set a.row i t) (on-shards eq b h input a.hasher row' alone-after)
+
+      stood : (j : K) → w.route j ≡ i → at w (contents a) j ≡ at w (pairs s) j
+      stood j same = at-union w a.row j s (on-shards eq b h input a.hasher a.row lawful) (ap (slice_get a.row) same ∙ here)
+
+      stands : (j : K) → w.route j ≡ i → at w (flat_map pairs row') j ≡ at w (pairs t) j
+      stands j same = at-union w row' j t on' (ap (slice_get row') same ∙ slice_get-set_same a.row i t (slice_get_within a.row i s here))
+
+      stays : (j : K) → w.route j ≢ i → at w (flat_map pairs row') j ≡ at w (contents a) j
+      stays j other =
+          let u = get_or row' (w.route j) t in
+          let there : slice_get row' (w.route j) ≡ Some u = slice_get-get_or row' (w.route j) t (omega (arith, length-set a.row i t, route_below (hash_of b h a.hasher (input j)) (length a.row) (omega (arith, lawful.amount.several)))) in
+          at-union w row' j u on' there ∙ sym (at-union w a.row j u (on-shards eq b h input a.hasher a.row lawful) (slice_get-set_other a.row i (w.route j) t u other there))
+
+      -- what the calls made of the shard
+      became : (j : K) → at w (pairs t) j ≡ table.after w (table.Retain i r.act) j (at w (pairs s) j)
+      became = subst (λ n. (j : K) → at w (pairs t) j ≡ table.after w (table.Retain n r.act) j (at w (pairs s) j)) (lawful.placed i s here).number
+          (subst (λ u. (j : K) → at u (pairs t) j ≡ table.after u (table.Retain s.number r.act) j (at u (pairs s) j)) (keys-same eq b h input a.hasher (length a.row) i s (lawful.placed i s here)) r.taken.becomes)
+
+      module _ (f : table.Act K V) (did : (j : K) (u : V) (yes : Bool) (new : V) (y : F) → T x j u yes new y → IsTrue (v (f j u).0 new) × (yes ≡ (f j u).1) × (y ≡ x)) where
+        each-key : (j : K) → AlikeAt (rules_in eq b h input k v a) (table.after w (table.Retain i f) j (at w (contents a) j)) (at w (flat_map pairs row') j)
+        each-key j = elim (cases_eq (w.route j) i) as (λ _. AlikeAt (rules_in eq b h input k v a) (table.after w (table.Retain i f) j (at w (contents a) j)) (at w (flat_map pairs row') j)) [
+          | inl same ↦ rw (eq-eqb (w.route j) i same, stood j same, stands j same ∙ became j, eq-eqb (w.route j) i same) (called-alike (rules_in eq b h input k v a) (laws-in a) T f r.act x did (pairs s) r.last r.called j)
+          | inr other ↦ rw (ne_eqb (w.route j) i other, stays j other) ((at_laws (rules_in eq b h input k v a) (laws-in a)).refl (at w (contents a) j))
+        ]
+
+        pub takes-sweep : Takes (rules_in eq b h input k v a) (contents a) (table.Retain i f) table.Done (flat_map pairs row')
+        takes-sweep = record {
+          in_range = slice_get_within a.row i s here;
+          answers = record { told = table.Done; replies = (pairs s, each-there a i s lawful here, refl); alike = refl };
+          each_key = each-key;
+          distinct = distinct-same a (record { hasher = a.hasher; row = row' }) refl (length-set a.row i t) alone-after;
+        }

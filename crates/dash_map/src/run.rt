@@ -1,10 +1,12 @@
 //! Runs: lists of steps that one owner takes, with their replies.
-ghost use Rattle.std.specs.Prelude.{◌≡◌, ◌<◌, ◌≤◌, ◌↔◌, IfOk, IfErr, length};
+ghost use Rattle.std.specs.Prelude.{◌≡◌, ◌<◌, ◌≤◌, ◌↔◌, IsTrue, IfOk, IfErr, length};
 ghost use Rattle.dash_shard.specs.Contents.{at};
+ghost use Rattle.dash_shard.specs.Steps as table;
 ghost use Rattle.dash_shard.specs.Steps.{Becomes, place};
 ghost use Rattle.dash_history.specs.Steps.{step_of, reply_of};
 ghost use Rattle.dash_history.specs.Takes.{Takes};
 ghost use Rattle.dash_history.specs.Plan.{change_step, HasPair};
+ghost use Rattle.dash_history.specs.Sweep.{keeping};
 ghost use Rattle.dash_map.specs.Alone.{IsAlone, contents, keys_in};
 
 use crate::alone::Alone;
@@ -14,6 +16,7 @@ use dash_history::action::Action;
 use dash_history::change::{Change, copy_found, plan_alter, plan_remove_if, plan_remove_if_mut};
 use dash_history::kept::{Kept, KeptKey};
 use dash_history::step::{Reply, ShardStep};
+use dash_history::sweep::copy_pairs;
 use std::hash::BuildHasher;
 use thiserror::Error;
 
@@ -49,7 +52,7 @@ impl<K: KeptKey + Drop, V: Kept + Drop, S: BuildHasher> Alone<K, V, S> {
     {
         let _ = &self.hasher;
         match change {
-            Change::Stays => (),
+            Change::Stays | Change::Each(_) => (),
             Change::Goes => drop(self.remove(&key)),
             Change::Becomes(value) => drop(self.insert(key, value)),
         }
@@ -66,6 +69,62 @@ impl<K: KeptKey + Drop, V: Kept + Drop, S: BuildHasher> Alone<K, V, S> {
         } else {
             Fault::NoSuchShard
         }
+    }
+
+    // The pairs of a shard, as a reply.
+    fn read(&self, shard: usize) -> Result<Reply<K, V>, Fault>
+        ensures taken { IfOk result (λ reply. Takes (rules_in K.eq S.BuildHasher S.Hasher.Hasher K.hash_input K.alike V.alike self.now) (contents self.now) (table.Read shard) (reply_of reply) (contents self.now)) }
+        ensures fault { IfErr result (λ fault. (fault ≡ Fault.NoSuchShard) ↔ (length self.now.row ≤ shard)) }
+    {
+        let _ = &self.hasher;
+        if shard >= self.row.len() {
+            return Err(Fault::NoSuchShard);
+        }
+        match copy_pairs(*self.row.allocator(), self.row[shard].iter()) {
+            Ok(pairs) => Ok(Reply::Pairs(pairs)),
+            Err(_) => Err(Fault::Memory),
+        }
+    }
+
+    // How many pairs a shard has, as a reply.
+    fn count(&self, shard: usize) -> Result<Reply<K, V>, Fault>
+        ensures taken { IfOk result (λ reply. Takes (rules_in K.eq S.BuildHasher S.Hasher.Hasher K.hash_input K.alike V.alike self.now) (contents self.now) (table.Count shard) (reply_of reply) (contents self.now)) }
+        ensures fault { IfErr result (λ fault. (fault ≡ Fault.NoSuchShard) ↔ (length self.now.row ≤ shard)) }
+    {
+        let _ = &self.hasher;
+        if shard >= self.row.len() {
+            return Err(Fault::NoSuchShard);
+        }
+        Ok(Reply::Number(self.row[shard].len() as u64))
+    }
+
+    // Changes each value of a shard, and takes out the pairs on which the action answers no, where not all of them stay.
+    fn sweep<A: Action<K, V>>(
+        &mut self,
+        shard: usize,
+        action: &A,
+        all: bool,
+    ) -> Result<Reply<K, V>, Fault>
+        ensures taken { IfOk result (λ reply. Takes (rules_in K.eq S.BuildHasher S.Hasher.Hasher K.hash_input K.alike V.alike self.old) (contents self.old) (table.Retain shard (keeping all (A.acts action.now))) (reply_of reply) (contents self.new)) }
+        ensures refused { IfErr result (λ fault. (fault ≡ Fault.NoSuchShard) × (length self.old.row ≤ shard) × (self.new ≡ self.old)) }
+        ensures hasher { self.new.hasher ≡ self.old.hasher }
+        ensures amount { length self.new.row ≡ length self.old.row }
+        ensures lawful { IsAlone K.eq S.BuildHasher S.Hasher.Hasher K.hash_input self.new }
+    {
+        let _ = &self.hasher;
+        if shard >= self.row.len() {
+            return Err(Fault::NoSuchShard);
+        }
+        self.row[shard].retain(
+            |key: &K, value: &mut V| -> bool
+                ensures value { IsTrue (V.alike (keeping all (A.acts action.entry.now) key.now value.old).0 value.new) }
+                ensures answer { result ≡ (keeping all (A.acts action.entry.now) key.now value.old).1 }
+            {
+                let answer = action.act(key, value);
+                all || answer
+            },
+        );
+        Ok(Reply::Done)
     }
 
     // Takes the step on the shard of its place, or hands it back where there is no such shard, or no memory.
@@ -115,10 +174,22 @@ impl<K: KeptKey + Drop, V: Kept + Drop, S: BuildHasher> Alone<K, V, S> {
                 }
                 Err(_) => Err((ShardStep::Alter(key, action), Fault::Memory)),
             },
-            ShardStep::Count(shard) if shard < self.row.len() => {
-                Ok(Reply::Number(self.row[shard].len() as u64))
-            }
-            ShardStep::Count(shard) => Err((ShardStep::Count(shard), Fault::NoSuchShard)),
+            ShardStep::Read(shard) => match self.read(shard) {
+                Ok(reply) => Ok(reply),
+                Err(fault) => Err((ShardStep::Read(shard), fault)),
+            },
+            ShardStep::Count(shard) => match self.count(shard) {
+                Ok(reply) => Ok(reply),
+                Err(fault) => Err((ShardStep::Count(shard), fault)),
+            },
+            ShardStep::AlterAll(shard, action) => match self.sweep(shard, &action, true) {
+                Ok(reply) => Ok(reply),
+                Err(fault) => Err((ShardStep::AlterAll(shard, action), fault)),
+            },
+            ShardStep::Retain(shard, action) => match self.sweep(shard, &action, false) {
+                Ok(reply) => Ok(reply),
+                Err(fault) => Err((ShardStep::Retain(shard, action), fault)),
+            },
         }
     }
 

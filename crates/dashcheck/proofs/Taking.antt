@@ -7,7 +7,7 @@ use Rattle.std.proofs.lemmas.List.Elements.{All-append, All-nil}
 use Rattle.dash_history.specs.declared.step.Reply.{Reply}
 use Rattle.dash_history.specs.declared.record.RecordFault.{RecordFault}
 use Rattle.dashcheck.specs.declared.script.Stop.TheVariants.{BadStep, Step}
-use Rattle.dashcheck.specs.Script.{ScriptStep, HasWords, line_of, text_of, StartsWithLines, IsReplyTo, Took, IsNext, StopsAt, step_lines, reply_lines}
+use Rattle.dashcheck.specs.Script.{ScriptStep, HasWords, line_of, text_of, StartsWithLines, IsToldOf, Took, IsNext, StopsAt, step_lines, reply_lines}
 use Rattle.dashcheck.specs.Lines.{ReadsPart, ReadsLine}
 use Rattle.dashcheck.proofs.Texts.{short-line, clean-line, same-word, no-longer}
 
@@ -27,7 +27,7 @@ Appends-nil None = tt
 Appends-nil (Some bytes) = sym (append-nil bytes)
 
 pub took-none : (input out : Option (List ℕ)) → Took input input out out []
-took-none input out = record { read = reads-none input; printed = Appends-nil out; replies = All-nil (λ d. HasWords d.0 × IsReplyTo d.0 d.1) }
+took-none input out = record { read = reads-none input; printed = Appends-nil out; replies = All-nil (λ d. HasWords d.0 × IsToldOf d.0 d.1) }
 
 pub going-none : (input left out : Option (List ℕ)) → left ≡ input → Going input left out out 1
 going-none input left out same = record { done = []; took = subst (λ l. Took input l out out []) (sym same) (took-none input out); count = refl }
@@ -112,11 +112,11 @@ All-one P x h zero d inside = h
 All-one P x h (suc k) d inside = absurd (omega (arith, inside))
 
 took-more : (input left new old now now' : Option (List ℕ)) (done : List (ScriptStep × Reply ℕ ℕ)) (step : ScriptStep) (reply : Reply ℕ ℕ) → Took input left old now done → HasWords step → ReadsPart left new (line_of step)
-    → IsReplyTo step reply → Appends now now' (text_of reply ++ 10 ∷ []) → Took input new old now' (done ++ (step, reply) ∷ [])
+    → IsToldOf step reply → Appends now now' (text_of reply ++ 10 ∷ []) → Took input new old now' (done ++ (step, reply) ∷ [])
 took-more input left new old now now' done step reply took words part answered printed = record {
   read = rw (← flat_map_more (λ d. line_of d.0 ++ 10 ∷ []) [] done (step, reply)) (read-more input left new (step_lines done) step words took.read part);
   printed = rw (← flat_map_more (λ d. text_of d.1 ++ 10 ∷ []) [] done (step, reply)) (Appends-more old now now' (reply_lines done) (text_of reply ++ 10 ∷ []) took.printed printed);
-  replies = All-append (λ d. HasWords d.0 × IsReplyTo d.0 d.1) done ((step, reply) ∷ []) took.replies (All-one (λ d. HasWords d.0 × IsReplyTo d.0 d.1) (step, reply) (words, answered));
+  replies = All-append (λ d. HasWords d.0 × IsToldOf d.0 d.1) done ((step, reply) ∷ []) took.replies (All-one (λ d. HasWords d.0 × IsToldOf d.0 d.1) (step, reply) (words, answered));
 }
 
 module _ (input left new old now : Option (List ℕ)) (line : ℕ) (text : List ℕ) (g : Going input left old now line) (more : Bool) (is : more ≡ true) (read : ReadsLine left new more text) where
@@ -142,7 +142,7 @@ module _ (input left new old now : Option (List ℕ)) (line : ℕ) (text : List 
     pub stops-fault : (fault : RecordFault) → StopsAt (Step line fault) input old now
     stops-fault fault = record { done = g.done; left = left; took = g.took; why = (g.count, refused left known) }
 
-    pub going-more : (now' : Option (List ℕ)) (reply : Reply ℕ ℕ) → IsReplyTo step reply → Appends now now' (text_of reply ++ 10 ∷ []) → Going input new old now' (line + 1)
+    pub going-more : (now' : Option (List ℕ)) (reply : Reply ℕ ℕ) → IsToldOf step reply → Appends now now' (text_of reply ++ 10 ∷ []) → Going input new old now' (line + 1)
     going-more now' reply answered printed = record {
       done = g.done ++ (step, reply) ∷ [];
       took = took-more input left new old now now' g.done step reply g.took words known answered printed;

@@ -15,7 +15,7 @@ use Rattle.std.proofs.lemmas.Str.{IsAscii-append, IsUtf8-from_ascii}
 use Rattle.std.proofs.lemmas.Str.Ascii.{IsAscii-cons, IsAscii-from_all}
 use Rattle.std.proofs.lemmas.Str.Parse.{numerals_by_value, tells_by_index}
 use Rattle.std.proofs.lemmas.Str.Pattern.{IsSplitOnceResult, split_parts, split_after}
-use Rattle.dash_history.specs.declared.step.ShardStep.TheVariants.{Get, Contains, Insert, Remove, RemoveIf, RemoveIfMut, Alter, Count}
+use Rattle.dash_history.specs.declared.step.ShardStep.TheVariants.{Get, Contains, Insert, Remove, RemoveIf, RemoveIfMut, Alter, Read, Count, AlterAll, Retain}
 use Rattle.dashcheck.specs.declared.change.Change.{Change}
 use Rattle.dashcheck.specs.declared.change.Change.TheVariants.{Add, Below, AddBelow}
 use Rattle.dashcheck.specs.Script.{IsFirst, ScriptStep, HasChange, HasWords, change_word, change_rest, change_text, step_word, step_rest, line_of}
@@ -92,7 +92,10 @@ letters-step (Remove k) = refl
 letters-step (RemoveIf k f) = refl
 letters-step (RemoveIfMut k f) = refl
 letters-step (Alter k f) = refl
+letters-step (Read i) = refl
 letters-step (Count i) = refl
+letters-step (AlterAll i f) = refl
+letters-step (Retain i f) = refl
 
 -- the first word of a step's line, of a change, and of a key with a change
 pub first-kind : (step : ScriptStep) → IsFirst (line_of step) (step_word step) (step_rest step)
@@ -111,7 +114,8 @@ words-change (Below n) = inr (inl refl)
 words-change (AddBelow n m) = inr (inr refl)
 
 pub words-step : (step : ScriptStep) → (step_word step ≡ codes "get") ⊎ ((step_word step ≡ codes "contains") ⊎ ((step_word step ≡ codes "insert") ⊎ ((step_word step ≡ codes "remove")
-    ⊎ ((step_word step ≡ codes "removeif") ⊎ ((step_word step ≡ codes "removeifmut") ⊎ ((step_word step ≡ codes "alter") ⊎ (step_word step ≡ codes "count")))))))
+    ⊎ ((step_word step ≡ codes "removeif") ⊎ ((step_word step ≡ codes "removeifmut") ⊎ ((step_word step ≡ codes "alter") ⊎ ((step_word step ≡ codes "read") ⊎ ((step_word step ≡ codes "count")
+    ⊎ ((step_word step ≡ codes "alterall") ⊎ (step_word step ≡ codes "retain"))))))))))
 words-step (Get k) = inl refl
 words-step (Contains k) = inr (inl refl)
 words-step (Insert k v) = inr (inr (inl refl))
@@ -119,7 +123,10 @@ words-step (Remove k) = inr (inr (inr (inl refl)))
 words-step (RemoveIf k f) = inr (inr (inr (inr (inl refl))))
 words-step (RemoveIfMut k f) = inr (inr (inr (inr (inr (inl refl)))))
 words-step (Alter k f) = inr (inr (inr (inr (inr (inr (inl refl))))))
-words-step (Count i) = inr (inr (inr (inr (inr (inr (inr refl))))))
+words-step (Read i) = inr (inr (inr (inr (inr (inr (inr (inl refl)))))))
+words-step (Count i) = inr (inr (inr (inr (inr (inr (inr (inr (inl refl))))))))
+words-step (AlterAll i f) = inr (inr (inr (inr (inr (inr (inr (inr (inr (inl refl)))))))))
+words-step (Retain i f) = inr (inr (inr (inr (inr (inr (inr (inr (inr (inr refl)))))))))
 
 IsAscii-two : (k : ℕ) (text : List ℕ) → k < 2 ^ 64 → IsAscii text → IsAscii (decimal k ++ 32 ∷ text)
 IsAscii-two k text small ascii = IsAscii-append (decimal k) (32 ∷ text) (IsAscii-decimal k small) (spaced text ascii)
@@ -140,7 +147,10 @@ IsAscii-rest (Remove k) small = IsAscii-decimal k small
 IsAscii-rest (RemoveIf k f) small = IsAscii-two k (change_text f) small.0 (IsAscii-change f small.1)
 IsAscii-rest (RemoveIfMut k f) small = IsAscii-two k (change_text f) small.0 (IsAscii-change f small.1)
 IsAscii-rest (Alter k f) small = IsAscii-two k (change_text f) small.0 (IsAscii-change f small.1)
+IsAscii-rest (Read i) small = IsAscii-decimal i small
 IsAscii-rest (Count i) small = IsAscii-decimal i small
+IsAscii-rest (AlterAll i f) small = IsAscii-two i (change_text f) small.0 (IsAscii-change f small.1)
+IsAscii-rest (Retain i f) small = IsAscii-two i (change_text f) small.0 (IsAscii-change f small.1)
 
 pub IsAscii-line : (step : ScriptStep) → HasWords step → IsAscii (line_of step)
 IsAscii-line step small = IsAscii-letters (step_word step) (letters-step step) (step_rest step) (IsAscii-rest step small)
@@ -169,7 +179,10 @@ short-rest (Remove k) small = omega (arith, short-decimal k small)
 short-rest (RemoveIf k f) small = short-two k (change_text f) 50 small.0 (short-change f small.1)
 short-rest (RemoveIfMut k f) small = short-two k (change_text f) 50 small.0 (short-change f small.1)
 short-rest (Alter k f) small = short-two k (change_text f) 50 small.0 (short-change f small.1)
+short-rest (Read i) small = omega (arith, short-decimal i small)
 short-rest (Count i) small = omega (arith, short-decimal i small)
+short-rest (AlterAll i f) small = short-two i (change_text f) 50 small.0 (short-change f small.1)
+short-rest (Retain i f) small = short-two i (change_text f) 50 small.0 (short-change f small.1)
 
 short-word : (step : ScriptStep) → length (step_word step) ≤ 11
 short-word (Get k) = omega arith
@@ -179,7 +192,10 @@ short-word (Remove k) = omega arith
 short-word (RemoveIf k f) = omega arith
 short-word (RemoveIfMut k f) = omega arith
 short-word (Alter k f) = omega arith
+short-word (Read i) = omega arith
 short-word (Count i) = omega arith
+short-word (AlterAll i f) = omega arith
+short-word (Retain i f) = omega arith
 
 -- a line of a step is short, and no line end is in it
 pub short-line : (step : ScriptStep) → HasWords step → length (line_of step) < 128
@@ -204,7 +220,10 @@ clean-rest (Remove k) small = clean-decimal k small
 clean-rest (RemoveIf k f) small = clean-two k (change_text f) small.0 (clean-change f small.1)
 clean-rest (RemoveIfMut k f) small = clean-two k (change_text f) small.0 (clean-change f small.1)
 clean-rest (Alter k f) small = clean-two k (change_text f) small.0 (clean-change f small.1)
+clean-rest (Read i) small = clean-decimal i small
 clean-rest (Count i) small = clean-decimal i small
+clean-rest (AlterAll i f) small = clean-two i (change_text f) small.0 (clean-change f small.1)
+clean-rest (Retain i f) small = clean-two i (change_text f) small.0 (clean-change f small.1)
 
 pub clean-line : (step : ScriptStep) → HasWords step → All (λ b. b ≢ 10) (line_of step)
 clean-line step small = clean-letters (step_word step) (letters-step step) (step_rest step) (clean-rest step small)

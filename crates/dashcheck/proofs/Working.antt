@@ -12,7 +12,7 @@ use Rattle.dash_history.specs.Map.{Logged}
 use Rattle.dash_history.specs.Steps.{alike_step}
 use Rattle.dash_history.specs.Takes.{kinds, rules}
 use Rattle.dash_history.specs.declared.step.ShardStep.{ShardStep}
-use Rattle.dash_history.specs.declared.step.ShardStep.TheVariants.{Get, Contains, Insert, Remove, RemoveIf, RemoveIfMut, Alter, Count}
+use Rattle.dash_history.specs.declared.step.ShardStep.TheVariants.{Get, Contains, Insert, Remove, RemoveIf, RemoveIfMut, Alter, Read, Count, AlterAll, Retain}
 use Rattle.dash_history.specs.declared.step.Reply.{Reply}
 use Rattle.dashcheck.specs.declared.threads.Worker.{Worker}
 use Rattle.dashcheck.specs.Threads.{IsSize, LogsStep, HasDone, IsIdle, Works, AllDone, idle, steps_in, IsThreadStep, thread_step, thread_steps}
@@ -30,7 +30,10 @@ same-step (Contains x) t known same = absurd known
 same-step (RemoveIf x a) t known same = absurd known
 same-step (RemoveIfMut x a) t known same = absurd known
 same-step (Alter x a) t known same = absurd known
+same-step (Read i) t known same = absurd known
 same-step (Count i) t known same = absurd known
+same-step (AlterAll i a) t known same = absurd known
+same-step (Retain i a) t known same = absurd known
 same-step s t known same = cc
 
 -- a step of a thread goes to the shard of its key, so to one of the shards

@@ -1,21 +1,22 @@
 -- How steps and replies are written in a script, and what a script reads and prints.
 use Rattle.std.specs.Prelude.{◌≡◌, ◌≢◌, ℕ, true, false, ◌+◌, ◌<◌, ◌≤◌, ◌^◌, ◌++◌, ◌⊎◌, List, [], ◌∷◌, length, All, flat_map, Option, Some, None, IfSome, IsSomeAnd, nat_eq, slice_index_or, codes, ⊤}
 use Rattle.std.specs.Fmt.{decimal}
+use Rattle.std.specs.List.Sorted.{IsPermutation, IsNonDecreasingBy}
 use Rattle.std.specs.Io.KnownBytes.{Appends}
 use Rattle.dash_shard.specs.Contents.{keys}
 use Rattle.dash_history.specs.Steps.{step_of, reply_of}
 use Rattle.dash_history.specs.Takes.{Answers, rules}
 use Rattle.dash_history.specs.declared.step.ShardStep.{ShardStep}
-use Rattle.dash_history.specs.declared.step.ShardStep.TheVariants.{Get, Contains, Insert, Remove, RemoveIf, RemoveIfMut, Alter, Count}
+use Rattle.dash_history.specs.declared.step.ShardStep.TheVariants.{Get, Contains, Insert, Remove, RemoveIf, RemoveIfMut, Alter, Read, Count, AlterAll, Retain}
 use Rattle.dash_history.specs.declared.step.Reply.{Reply}
-use Rattle.dash_history.specs.declared.step.Reply.TheVariants.{Pair, Found, Old, Number, Done}
+use Rattle.dash_history.specs.declared.step.Reply.TheVariants.{Pair, Found, Old, Pairs, Number, Done}
 use Rattle.dash_history.specs.declared.record.RecordFault.{RecordFault}
 use Rattle.dash_history.specs.declared.record.RecordFault.TheVariants as fault
 use Rattle.dashcheck.specs.declared.change.Change.{Change}
 use Rattle.dashcheck.specs.declared.change.Change.TheVariants.{Add, Below, AddBelow}
 use Rattle.dashcheck.specs.Change.{acts}
 use Rattle.dashcheck.specs.declared.script.Stop.{Stop}
-use Rattle.dashcheck.specs.declared.script.Stop.TheVariants.{BadStep, Step, Memory, Read}
+use Rattle.dashcheck.specs.declared.script.Stop.TheVariants as stops
 
 -- a digit first, and no zero in front of other digits
 pub record IsPlain (word : List ℕ) : Type 0 where
@@ -47,7 +48,10 @@ HasWords (Remove k) = k < 2 ^ 64
 HasWords (RemoveIf k f) = (k < 2 ^ 64) × HasChange f
 HasWords (RemoveIfMut k f) = (k < 2 ^ 64) × HasChange f
 HasWords (Alter k f) = (k < 2 ^ 64) × HasChange f
+HasWords (Read i) = i < 2 ^ 64
 HasWords (Count i) = i < 2 ^ 64
+HasWords (AlterAll i f) = (i < 2 ^ 64) × HasChange f
+HasWords (Retain i f) = (i < 2 ^ 64) × HasChange f
 
 -- the first words of a change, and what follows: `add N`, `below N`, `addbelow N M`
 abbrev pub change_word : Change → List ℕ
@@ -72,7 +76,10 @@ step_word (Remove k) = codes "remove"
 step_word (RemoveIf k f) = codes "removeif"
 step_word (RemoveIfMut k f) = codes "removeifmut"
 step_word (Alter k f) = codes "alter"
+step_word (Read i) = codes "read"
 step_word (Count i) = codes "count"
+step_word (AlterAll i f) = codes "alterall"
+step_word (Retain i f) = codes "retain"
 
 abbrev pub step_rest : ScriptStep → List ℕ
 step_rest (Get k) = decimal k
@@ -82,13 +89,21 @@ step_rest (Remove k) = decimal k
 step_rest (RemoveIf k f) = decimal k ++ 32 ∷ change_text f
 step_rest (RemoveIfMut k f) = decimal k ++ 32 ∷ change_text f
 step_rest (Alter k f) = decimal k ++ 32 ∷ change_text f
+step_rest (Read i) = decimal i
 step_rest (Count i) = decimal i
+step_rest (AlterAll i f) = decimal i ++ 32 ∷ change_text f
+step_rest (Retain i f) = decimal i ++ 32 ∷ change_text f
 
 -- the line of a step
 abbrev pub line_of : ScriptStep → List ℕ
 line_of step = step_word step ++ 32 ∷ step_rest step
 
--- a reply as it is printed: `pair none` or `pair K V`, `found yes` or `found no`, `old none` or `old V`, `number N`, `done`
+-- ` K:V`
+abbrev pub pair_text : ℕ × ℕ → List ℕ
+pair_text p = 32 ∷ decimal p.0 ++ 58 ∷ decimal p.1
+
+-- a reply as it is printed: `pair none` or `pair K V`, `found yes` or `found no`, `old none` or `old V`, `pairs` with ` K:V` for each pair,
+-- `number N`, `done`
 abbrev pub text_of : Reply ℕ ℕ → List ℕ
 text_of (Pair None) = codes "pair none"
 text_of (Pair (Some p)) = codes "pair " ++ decimal p.0 ++ 32 ∷ decimal p.1
@@ -96,6 +111,7 @@ text_of (Found true) = codes "found yes"
 text_of (Found false) = codes "found no"
 text_of (Old None) = codes "old none"
 text_of (Old (Some v)) = codes "old " ++ decimal v
+text_of (Pairs l) = codes "pairs" ++ flat_map pair_text l.items
 text_of (Number n) = codes "number " ++ decimal n
 text_of Done = codes "done"
 
@@ -107,6 +123,15 @@ StartsWithLines input lines rest = (input ≡ lines ++ rest) ⊎ (rest ≡ []) �
 abbrev pub IsReplyTo : ScriptStep → Reply ℕ ℕ → Type 0
 IsReplyTo step reply = (route : ℕ → ℕ) × (shards : ℕ) × (ps : List (ℕ × ℕ)) × Answers (rules nat_eq nat_eq (keys nat_eq route shards)) ps (step_of acts step) (reply_of reply)
 
+-- the same reply, with its pairs in rising order of their keys
+abbrev pub IsInOrder : Reply ℕ ℕ → Reply ℕ ℕ → Type 0
+IsInOrder (Pairs l) (Pairs m) = IsPermutation l.items m.items × IsNonDecreasingBy (λ p. p.0) m.items
+IsInOrder reply told = told ≡ reply
+
+-- what is told for a reply to the step
+abbrev pub IsToldOf : ScriptStep → Reply ℕ ℕ → Type 0
+IsToldOf step told = (reply : Reply ℕ ℕ) × IsReplyTo step reply × IsInOrder reply told
+
 -- the lines of the steps, and those of their replies
 abbrev pub step_lines : List (ScriptStep × Reply ℕ ℕ) → List ℕ
 step_lines done = flat_map (λ d. line_of d.0 ++ 10 ∷ []) done
@@ -114,12 +139,12 @@ step_lines done = flat_map (λ d. line_of d.0 ++ 10 ∷ []) done
 abbrev pub reply_lines : List (ScriptStep × Reply ℕ ℕ) → List ℕ
 reply_lines done = flat_map (λ d. text_of d.1 ++ 10 ∷ []) done
 
--- The steps were taken, each with a reply to it: their lines come first in the input, which has this left, and the output grew by the
--- lines of the replies.
+-- The steps were taken, each with what is told for a reply to it: their lines come first in the input, which has this left, and the output
+-- grew by the lines of what is told.
 pub record Took (input left old new : Option (List ℕ)) (done : List (ScriptStep × Reply ℕ ℕ)) : Type 0 where
   pub read : IfSome input (λ bytes. IsSomeAnd left (StartsWithLines bytes (step_lines done)))
   pub printed : Appends old new (reply_lines done)
-  pub replies : All (λ d. HasWords d.0 × IsReplyTo d.0 d.1) done
+  pub replies : All (λ d. HasWords d.0 × IsToldOf d.0 d.1) done
 
 -- the whole input was taken
 abbrev pub TakesAll : Option (List ℕ) → Option (List ℕ) → Option (List ℕ) → Type 0
@@ -136,17 +161,17 @@ fault_text fault.Memory = codes "no memory (19)"
 fault_text fault.NoSuchShard = codes "no such shard (20)"
 
 abbrev pub stop_text : Stop → List ℕ
-stop_text (BadStep line) = codes "refused line " ++ decimal line ++ codes ": bad step"
-stop_text (Step line fault) = codes "refused line " ++ decimal line ++ codes ": " ++ fault_text fault
-stop_text Memory = codes "refused: no memory (8)"
-stop_text Read = codes "refused: read failed"
+stop_text (stops.BadStep line) = codes "refused line " ++ decimal line ++ codes ": bad step"
+stop_text (stops.Step line fault) = codes "refused line " ++ decimal line ++ codes ": " ++ fault_text fault
+stop_text stops.Memory = codes "refused: no memory (8)"
+stop_text stops.Read = codes "refused: read failed"
 
 -- when it stops so, after so many steps, with this left of its input
 abbrev pub StopsFor : Stop → ℕ → Option (List ℕ) → Type 0
-StopsFor (BadStep line) n left = (line ≡ n + 1) × IfSome left (λ bytes. (bytes ≢ []) × ((step : ScriptStep) → IsNext bytes step → ⊥))
-StopsFor (Step line _) n left = (line ≡ n + 1) × IfSome left (λ bytes. (step : ScriptStep) × IsNext bytes step)
-StopsFor Memory n left = n ≡ 0
-StopsFor Read n left = ⊤
+StopsFor (stops.BadStep line) n left = (line ≡ n + 1) × IfSome left (λ bytes. (bytes ≢ []) × ((step : ScriptStep) → IsNext bytes step → ⊥))
+StopsFor (stops.Step line _) n left = (line ≡ n + 1) × IfSome left (λ bytes. (step : ScriptStep) × IsNext bytes step)
+StopsFor stops.Memory n left = n ≡ 0
+StopsFor stops.Read n left = ⊤
 
 -- the steps up to the stop were taken
 pub record StopsAt (stop : Stop) (input old new : Option (List ℕ)) : Type 0 where

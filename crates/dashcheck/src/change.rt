@@ -69,6 +69,7 @@ impl KeptAction<u64, u64> for Change {
 #[cfg(test)]
 mod tests {
     use super::*;
+    use crate::step::{Printed, in_order};
     use dash_history::alone::RecAlone;
     use dash_history::plain::Plain;
     use dash_history::step::ShardStep;
@@ -92,9 +93,10 @@ mod tests {
     }
 
     fn step(state: &mut u64) -> ShardStep<u64, u64, Change> {
-        let kind = next(state) % 10;
+        let kind = next(state) % 14;
         let key = next(state) % 12;
         let number = next(state);
+        let shard = (key % 4) as usize;
         match kind {
             0 => ShardStep::Get(key),
             1 => ShardStep::Contains(key),
@@ -102,7 +104,10 @@ mod tests {
             3 => ShardStep::RemoveIf(key, change(number)),
             4 => ShardStep::RemoveIfMut(key, change(number)),
             5 => ShardStep::Alter(key, change(number)),
-            6 => ShardStep::Count((key % 4) as usize),
+            6 => ShardStep::Read(shard),
+            7 => ShardStep::Count(shard),
+            8 => ShardStep::AlterAll(shard, change(number)),
+            9 => ShardStep::Retain(shard, change(number)),
             _ => ShardStep::Insert(key, number % 50),
         }
     }
@@ -126,8 +131,9 @@ mod tests {
             assert!(rt; log.caller() < alone.callers());
             let reply = alone.apply(log, step)?;
             let want = plain.take(copy)?;
-            let reply = format!(in rt.alloc(); "{reply:?}")?;
-            assert_eq!(rt; reply, format!(in rt.alloc(); "{want:?}")?, "at {i}");
+            let reply = format!(in rt.alloc(); "{}", Printed(&in_order(reply)))?;
+            let want = format!(in rt.alloc(); "{}", Printed(&in_order(want)))?;
+            assert_eq!(rt; reply, want, "at {i}");
         }
         Ok(())
     }

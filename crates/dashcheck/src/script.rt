@@ -6,7 +6,7 @@ ghost use Rattle.dashcheck.specs.Script.{text_of, fault_text, IsReplyTo, TakesAl
 use crate::change::Change;
 use crate::command::Status;
 use crate::lines::Lines;
-use crate::step::{Printed, Step, parse};
+use crate::step::{Printed, Step, in_order, parse};
 use dash_history::record::map::RecordedMap;
 use dash_history::record::{CallerLog, RecordFault};
 use dash_history::step::Reply;
@@ -20,7 +20,7 @@ use std::sync::Wait;
 
 const SHARDS: usize = 4;
 
-// No line of a reply has so many bytes.
+// Only the pairs of a shard may take a line of so many bytes.
 const LIMIT: usize = 128;
 
 /// Why a script stops before its end.
@@ -70,7 +70,7 @@ struct Session {
 }
 
 /// Takes each step of the input and prints its reply, up to the first refusal, which it prints on `errors`. Where the output fails
-/// it prints nothing more. It fails where a write does.
+/// it prints nothing more. It fails where a write does, or where there is no memory for the line of a shard's pairs.
 pub fn run<T: Wait + Clock, R: Read, O: Write, E: Write>(
     rt: &T,
     alloc: Global,
@@ -120,7 +120,7 @@ fn take_steps<T: Wait + Clock, R: Read, O: Write>(
             return Ok(Some(Stop::BadStep { line }));
         };
         match session.take(rt, step) {
-            Ok(reply) => print(&reply, &mut text, output)?,
+            Ok(reply) => print(&in_order(reply), &mut text, output)?,
             Err(fault) => return Ok(Some(Stop::Step { line, fault })),
         }
     }

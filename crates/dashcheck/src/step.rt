@@ -3,7 +3,7 @@ ghost use Rattle.std.specs.Prelude.{◌≡◌, ◌↔◌, ℕ, ◌<◌, ◌^◌,
 ghost use Rattle.std.specs.Fmt.{decimal};
 ghost use Rattle.std.specs.Str.{IsAscii};
 ghost use Rattle.dashcheck.specs.declared.change.Change.{Change};
-ghost use Rattle.dashcheck.specs.Script.{IsPlain, IsFirst, ScriptStep, HasChange, HasWords, change_text, line_of};
+ghost use Rattle.dashcheck.specs.Script.{IsPlain, IsFirst, ScriptStep, HasChange, HasWords, IsInOrder, change_text, line_of};
 
 use crate::change::Change;
 use dash_history::step::{Reply, ShardStep};
@@ -39,7 +39,16 @@ pub fn parse(line: &[u8]) -> Option<Step>
             let (key, change) = changed(rest)?;
             Some(ShardStep::Alter(key, change))
         }
+        "read" => Some(ShardStep::Read(shard(rest)?)),
         "count" => Some(ShardStep::Count(shard(rest)?)),
+        "alterall" => {
+            let (shard, change) = changed(rest)?;
+            Some(ShardStep::AlterAll(shard as usize, change))
+        }
+        "retain" => {
+            let (shard, change) = changed(rest)?;
+            Some(ShardStep::Retain(shard as usize, change))
+        }
         _ => None,
     }
 }
@@ -69,7 +78,7 @@ fn numbers(text: &str) -> Option<(u64, u64)>
     Some((number(key)?, number(value)?))
 }
 
-// A key and a change of its value.
+// The key of a pair or the number of a shard, and a change of values there.
 fn changed(text: &str) -> Option<(u64, Change)>
     ensures some { IfSome result (λ p. text.now ≡ decimal p.0 ++ 32 ∷ change_text p.1) }
     ensures words { IfSome result (λ p. HasChange p.1) }
@@ -142,8 +151,40 @@ impl fmt::Display for Printed<'_> {
             Reply::Found(false) => write!(f, "found no"),
             Reply::Old(None) => write!(f, "old none"),
             Reply::Old(Some(value)) => write!(f, "old {value}"),
+            Reply::Pairs(pairs) => write!(f, "pairs{}", Listed(pairs)),
             Reply::Number(number) => write!(f, "number {number}"),
             Reply::Done => write!(f, "done"),
         }
+    }
+}
+
+// Pairs as they are printed, in their order.
+#[derive(Drop)]
+struct Listed<'a>(&'a [(u64, u64)]);
+
+impl fmt::Display for Listed<'_> {
+    ghost use Rattle.std.specs.Prelude.{Some, flat_map};
+    ghost use Rattle.dashcheck.specs.Script.{pair_text};
+
+    ghost output = { λ listed. Some (flat_map pair_text listed.0.now) };
+
+    fn fmt<W: fmt::Write>(&self, f: &mut fmt::Formatter<W>) -> fmt::Result {
+        for (key, value) in self.0 {
+            write!(f, " {key}:{value}")?;
+        }
+        Ok(())
+    }
+}
+
+/// The reply with its pairs in rising order of their keys.
+pub fn in_order(reply: Reply<u64, u64>) -> Reply<u64, u64>
+    ensures { IsInOrder reply result }
+{
+    match reply {
+        Reply::Pairs(mut pairs) => {
+            pairs.sort_unstable_by_key(|pair| pair.0);
+            Reply::Pairs(pairs)
+        }
+        reply => reply,
     }
 }

@@ -167,8 +167,54 @@ fn takes_changes(rt: HostRuntime) -> Result<(), Fail> {
 }
 
 #[test]
+fn takes_steps_on_shards(rt: HostRuntime) -> Result<(), Fail> {
+    check(
+        &rt,
+        rt.alloc(),
+        b"insert 1 10\ninsert 5 50\ninsert 1 11\nget 1\ncount 1\nread 1\nremove 5\ncontains 5\n",
+        "old none\nold none\nold 10\npair 1 11\nnumber 2\npairs 1:11 5:50\npair 5 50\nfound no\n",
+        "",
+    )?;
+    check(
+        &rt,
+        rt.alloc(),
+        b"insert 0 5\ninsert 4 9\nretain 0 addbelow 1 10\nread 0\nremoveif 0 below 6\nremoveifmut 0 addbelow 1 7\nremoveifmut 0 addbelow 0 8\ncount 0\n",
+        "old none\nold none\ndone\npairs 0:6\npair none\npair none\npair 0 7\nnumber 0\n",
+        "",
+    )?;
+    check(
+        &rt,
+        rt.alloc(),
+        b"insert 9 1\ninsert 1 9\ninsert 18446744073709551613 0\ninsert 5 5\ninsert 6 6\nalterall 1 add 1\nread 1\nread 2\nread 3\n",
+        "old none\nold none\nold none\nold none\nold none\ndone\npairs 1:10 5:6 9:2 18446744073709551613:1\npairs 6:6\npairs\n",
+        "",
+    )?;
+    check(
+        &rt,
+        rt.alloc(),
+        b"get 1\nread 4\n",
+        "pair none\n",
+        "refused line 2: no such shard (20)\n",
+    )?;
+    check(
+        &rt,
+        rt.alloc(),
+        b"alterall 18446744073709551615 add 1\n",
+        "",
+        "refused line 1: no such shard (20)\n",
+    )?;
+    check(
+        &rt,
+        rt.alloc(),
+        b"retain 4 below 1",
+        "",
+        "refused line 1: no such shard (20)\n",
+    )
+}
+
+#[test]
 fn refuses_bad_steps(rt: HostRuntime) -> Result<(), Fail> {
-    let bad: [&[u8]; 39] = [
+    let bad: [&[u8]; 48] = [
         b"\n",
         b" get 1\n",
         b"get 1 \n",
@@ -208,6 +254,15 @@ fn refuses_bad_steps(rt: HostRuntime) -> Result<(), Fail> {
         b"alter 1 add 18446744073709551616\n",
         b"count -1\n",
         b"count\n",
+        b"read\n",
+        b"read 1 2\n",
+        b"read 18446744073709551616\n",
+        b"alterall 1\n",
+        b"alterall add 1\n",
+        b"alterall 1 1 add 1\n",
+        b"retain 1\n",
+        b"retain 18446744073709551616 below 1\n",
+        b"retain 1 below\n",
     ];
     for line in bad {
         check(&rt, rt.alloc(), line, "", "refused line 1: bad step\n")?;

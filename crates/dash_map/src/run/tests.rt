@@ -172,6 +172,54 @@ fn a_shard_that_is_not_there(rt: HostRuntime) -> Result<(), Fail> {
     Ok(())
 }
 
+// Adds the number, wrapped, and answers yes where the new value is even.
+#[derive(Debug, Drop)]
+struct Adds(u64);
+
+impl Action<u64, u64> for Adds {
+    ghost use Rattle.std.specs.Prelude.{◌+◌, ◌%◌, ◌^◌, ◌==◌, refl};
+    ghost use Rattle.std.specs.Cmp.{nat_eq_equiv};
+    ghost use Rattle.std.proofs.Common.{eqb-true};
+
+    ghost acts = { λ f k v. ((v + f.0) % 2 ^ 64, (v + f.0) % 2 ^ 64 % 2 == 0) };
+
+    fn act(&self, _key: &u64, value: &mut u64) -> bool {
+        *value = value.wrapping_add(self.0);
+        *value % 2 == 0
+    }
+
+    ghost acts_alike = { λ f j k u v key value. rw (eqb-true u v value) (nat_eq_equiv.refl ((v + f.0) % 2 ^ 64), refl) };
+}
+
+#[test]
+fn steps_on_each_pair_of_a_shard(rt: HostRuntime) -> Result<(), Fail> {
+    let mut map = map_of_four(rt.alloc())?;
+    let outcome = map.run(vec![in rt.alloc();
+        ShardStep::Insert(1, 10),
+        ShardStep::Insert(5, 51),
+        ShardStep::Insert(2, 20),
+        ShardStep::AlterAll(1, Adds(1)),
+        ShardStep::Read(2),
+        ShardStep::Get(1),
+        ShardStep::Get(5),
+        ShardStep::Retain(1, Adds(2)),
+        ShardStep::Read(1),
+        ShardStep::Read(0),
+        ShardStep::Count(1),
+        ShardStep::Read(4),
+        ShardStep::Retain(4, Adds(1)),
+    ]?);
+    assert_eq!(rt;
+        format!(in rt.alloc(); "{:?}", outcome.replies)?.as_str(),
+        "[Old(None), Old(None), Old(None), Done, Pairs([(2, 20)]), Pair(Some((1, 11))), Pair(Some((5, 52))), Done, Pairs([(5, 54)]), Pairs([]), Number(1)]"
+    );
+    let (rest, fault) = outcome.stopped.ok_or("no stop")?;
+    assert_eq!(rt; fault, Fault::NoSuchShard);
+    let rest = format!(in rt.alloc(); "{rest:?}")?;
+    assert_eq!(rt; rest.as_str(), "[Read(4), Retain(4, Adds(1))]");
+    Ok(())
+}
+
 #[test]
 fn no_steps(rt: HostRuntime) -> Result<(), Fail> {
     let mut map = map_of_four(rt.alloc())?;

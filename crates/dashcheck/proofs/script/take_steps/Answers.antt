@@ -24,4 +24,4 @@ returns-in-Err-clause-part g c =
 
 pub loop-line-preserved : goal.loop-line-preserved
 loop-line-preserved g c =
-    going-more _ _ _ _ _ _ _ c.loop-line.invariant c.in-Ok-read.is_line c.if-not-is_line.false c.in-Ok-read.ensures c.in-Some.step (sym c.line.ensures ∙ c.in-Some.ensures.some) c.in-Some.ensures.words _ c.in-Ok-take.reply c.in-Ok-take.ensures c.in_ok-print-in-Ok-take.ensures
+    going-more _ _ _ _ _ _ _ c.loop-line.invariant c.in-Ok-read.is_line c.if-not-is_line.false c.in-Ok-read.ensures c.in-Some.step (sym c.line.ensures ∙ c.in-Some.ensures.some) c.in-Some.ensures.words _ c.in_order.result (c.in-Ok-take.reply, c.in-Ok-take.ensures, c.in_order.ensures) c.in_ok-print-in-Ok-take.ensures

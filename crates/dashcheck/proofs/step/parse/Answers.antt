@@ -22,5 +22,8 @@ returns-in_default-clause-none c step words is =
       | inr (inr (inr (inr (inl removeif)))) ↦ c.in_default.not-removeif (same ∙ removeif)
       | inr (inr (inr (inr (inr (inl removeifmut))))) ↦ c.in_default.not-removeifmut (same ∙ removeifmut)
       | inr (inr (inr (inr (inr (inr (inl alter)))))) ↦ c.in_default.not-alter (same ∙ alter)
-      | inr (inr (inr (inr (inr (inr (inr count)))))) ↦ c.in_default.not-count (same ∙ count)
+      | inr (inr (inr (inr (inr (inr (inr (inl read))))))) ↦ c.in_default.not-read (same ∙ read)
+      | inr (inr (inr (inr (inr (inr (inr (inr (inl count)))))))) ↦ c.in_default.not-count (same ∙ count)
+      | inr (inr (inr (inr (inr (inr (inr (inr (inr (inl alterall))))))))) ↦ c.in_default.not-alterall (same ∙ alterall)
+      | inr (inr (inr (inr (inr (inr (inr (inr (inr (inr retain))))))))) ↦ c.in_default.not-retain (same ∙ retain)
     ]

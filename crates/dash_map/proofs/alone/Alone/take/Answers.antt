@@ -106,21 +106,3 @@ pub returns-in-Err-plan_alter-clause-fault : goal.returns-in-Err-plan_alter-clau
 returns-in-Err-plan_alter-clause-fault g c =
     let lawful = subst (λ (x : AloneState g.row.K.Denot g.row.V.Denot g.row.S.Denot). IsAlone g.K.PartialEq.eq g.S.BuildHasher g.S.Hasher.Hasher g.K.Hash.hash_input x) c.self.view_is c.self.invariant.0 in
     rw c.in-Alter.is (not-missing _ _ (route_below _ _ (omega (arith, lawful.amount.several))))
-
-pub returns-in-Count-clause-taken : goal.returns-in-Count-clause-taken
-returns-in-Count-clause-taken g c =
-    let a = c.args.self.now in
-    let lawful = subst (λ (x : AloneState g.row.K.Denot g.row.V.Denot g.row.S.Denot). IsAlone g.K.PartialEq.eq g.S.BuildHasher g.S.Hasher.Hasher g.K.Hash.hash_input x) c.self.view_is c.self.invariant.0 in
-    let w = keys_in g.K.PartialEq.eq g.S.BuildHasher g.S.Hasher.Hasher g.K.Hash.hash_input a in
-    let i = c.in-Count.shard in
-    let s = c.index.result.now in
-    let row = c.self.inside.row in
-    let within : i < length row.items = omega (arith, c.if-shard-len.true, c.len.ensures, row.ok.0) in
-    let here : slice_get a.row i ≡ Some s = subst (λ (x : AloneState g.row.K.Denot g.row.V.Denot g.row.S.Denot). slice_get x.row i ≡ Some s) c.self.view_is (slice_get-get_or row.items i s within ∙ ap Some (sym c.index.ensures)) in
-    let below : i < length a.row = subst (λ (x : AloneState g.row.K.Denot g.row.V.Denot g.row.S.Denot). i < length x.row) c.self.view_is within in
-    rw c.in-Count.is (takes-look _ _ _ _ _ _ g.met.K.Eq.laws g.met.K.Hash.respects_eq g.met.K.Kept.alike_laws g.met.V.Kept.alike_laws g.met.K.KeptKey.alike_equal a (Count i) (Number c.len-in-Count.result) below lawful
-    (record {
-      told = Number c.len-in-Count.result;
-      replies = (pairs s, each-there _ _ _ _ _ _ g.met.K.Eq.laws g.met.K.Hash.respects_eq g.met.K.Kept.alike_laws g.met.V.Kept.alike_laws g.met.K.KeptKey.alike_equal a i s lawful here, ap Number (omega (arith, c.len-in-Count.ensures.len, c.len-in-Count.type_inv)));
-      alike = (reply_laws (rules_in g.K.PartialEq.eq g.S.BuildHasher g.S.Hasher.Hasher g.K.Hash.hash_input g.K.Kept.alike g.V.Kept.alike a) (laws-in _ _ _ _ _ _ g.met.K.Eq.laws g.met.K.Hash.respects_eq g.met.K.Kept.alike_laws g.met.V.Kept.alike_laws g.met.K.KeptKey.alike_equal a)).refl (Number c.len-in-Count.result);
-    }) (λ j. shown (w.route j == i) (at w (contents a) j)))

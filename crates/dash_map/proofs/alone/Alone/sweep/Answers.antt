@@ -1,0 +1,39 @@
+use Rattle.std.proofs.Common.{rules, ◌≡◌, ◌<◌, Some, sym, ap, subst, ◌∙◌, length, arith, flat_map, slice_set}
+use Rattle.std.proofs.lemmas.Option.{slice_get-get_or}
+use Rattle.dash_shard.specs.Shard.{pairs}
+use Rattle.dash_shard.specs.Steps.{Retain, Done}
+use Rattle.dash_history.specs.Sweep.{keeping}
+use Rattle.dash_history.specs.Takes.{Takes}
+use Rattle.dash_map.specs.Alone.{AloneState, contents}
+use Rattle.dash_map.specs.Run.{rules_in}
+use Rattle.dash_map.proofs.Lifting.{alone-set}
+use Rattle.dash_map.proofs.Running.{takes-sweep}
+use Rattle.dash_map.proofs.alone.Alone.sweep.Goals as goal
+
+pub invariant_of-self : goal.invariant_of-self
+invariant_of-self g c =
+    let row = c.self.inside.row in
+    let within : c.args.shard < length row.items = omega (arith, c.if-shard-len.false, c.len.ensures, row.ok.0) in
+    let here = slice_get-get_or row.items c.args.shard c.index_mut.result.now within ∙ ap Some (sym c.index_mut.ensures.value) in
+    let x = c.retain.ensures.taken in
+    (alone-set g.K.PartialEq.eq g.S.BuildHasher g.S.Hasher.Hasher g.K.Hash.hash_input _ c.args.shard row.items c.index_mut.result.now c.retain.new.self c.self.invariant.0 here x.stays x.lawful, c.self.invariant.1, c.self.invariant.2)
+
+pub returns-clause-lawful : goal.returns-clause-lawful
+returns-clause-lawful g c =
+    let row = c.self.inside.row in
+    let within : c.args.shard < length row.items = omega (arith, c.if-shard-len.false, c.len.ensures, row.ok.0) in
+    let here = slice_get-get_or row.items c.args.shard c.index_mut.result.now within ∙ ap Some (sym c.index_mut.ensures.value) in
+    let x = c.retain.ensures.taken in
+    alone-set g.K.PartialEq.eq g.S.BuildHasher g.S.Hasher.Hasher g.K.Hash.hash_input _ c.args.shard row.items c.index_mut.result.now c.retain.new.self c.self.invariant.0 here x.stays x.lawful
+
+pub returns-clause-taken : goal.returns-clause-taken
+returns-clause-taken g c =
+    let At : Type 0 = AloneState g.row.K.Denot g.row.V.Denot g.row.S.Denot in
+    let row = c.self.inside.row in
+    let a : At = record { hasher = c.self.inside.hasher; row = row.items } in
+    let f = keeping c.args.all (g.A.Action.acts c.args.action.now) in
+    let within : c.args.shard < length row.items = omega (arith, c.if-shard-len.false, c.len.ensures, row.ok.0) in
+    let here = slice_get-get_or row.items c.args.shard c.index_mut.result.now within ∙ ap Some (sym c.index_mut.ensures.value) in
+    subst (λ (x : At). Takes (rules_in g.K.PartialEq.eq g.S.BuildHasher g.S.Hasher.Hasher g.K.Hash.hash_input g.K.Kept.alike g.V.Kept.alike x) (contents x) (Retain c.args.shard f) Done (flat_map pairs (slice_set row.items c.args.shard c.retain.new.self))) c.self.view_is
+    (takes-sweep _ _ _ _ _ _ g.met.K.Eq.laws g.met.K.Hash.respects_eq g.met.K.Kept.alike_laws g.met.V.Kept.alike_laws g.met.K.KeptKey.alike_equal a c.args.shard c.index_mut.result.now c.retain.new.self c.self.invariant.0 here c.retain.ensures f
+    (λ k v yes new y called. search rules))
