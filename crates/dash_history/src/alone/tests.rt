@@ -127,6 +127,32 @@ fn a_removed_pair_is_gone(rt: HostRuntime) -> Result<(), Fail> {
     Ok(())
 }
 
+#[test]
+fn reads_and_sweeps_a_shard(rt: HostRuntime) -> Result<(), Fail> {
+    let (mut alone, mut logs) = Alone::new(rt.alloc(), PlaceState, 4, 1)?;
+    assert_eq!(rt; logs.len(), 1);
+    let log = &mut logs[0];
+    apply(&rt, &mut alone, log, ShardStep::Insert(1, 10))?;
+    apply(&rt, &mut alone, log, ShardStep::Insert(6, 60))?;
+    for (step, text) in [
+        (ShardStep::Read(1), "Pairs([(1, 10)])"),
+        (ShardStep::Read(0), "Pairs([])"),
+        (ShardStep::AlterAll(1, ()), "Done"),
+        (ShardStep::Retain(2, ()), "Done"),
+        (ShardStep::Read(2), "Pairs([(6, 60)])"),
+    ] {
+        let reply = apply(&rt, &mut alone, log, step)?;
+        assert_eq!(rt; format!(in rt.alloc(); "{reply:?}")?.as_str(), text);
+    }
+    assert_eq!(rt; log.entries().len(), 7);
+    assert!(rt; log.caller() < alone.callers());
+    match alone.apply(log, ShardStep::Read(4)) {
+        Ok(reply) => assert!(rt; false, "{reply:?}"),
+        Err(refused) => assert_eq!(rt; refused.1, RecordFault::NoSuchShard),
+    }
+    Ok(())
+}
+
 // The next of a fixed row of numbers.
 fn next(state: &mut u64) -> u64 {
     *state = state

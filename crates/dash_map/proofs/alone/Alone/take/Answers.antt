@@ -1,8 +1,5 @@
-use Rattle.std.proofs.Common.{◌≡◌, ◌<◌, ◌==◌, Some, refl, sym, ap, subst, ◌∙◌, length, arith, slice_get}
-use Rattle.std.proofs.lemmas.Option.{slice_get-get_or}
-use Rattle.dash_shard.specs.Contents.{at}
-use Rattle.dash_shard.specs.Shard.{pairs}
-use Rattle.dash_shard.specs.Steps.{Get, Contains, Insert, Remove, Count, Pair, Found, Old, Number}
+use Rattle.std.proofs.Common.{refl, subst, arith}
+use Rattle.dash_shard.specs.Steps.{Get, Contains, Insert, Remove, Pair, Found, Old}
 use Rattle.dash_shard.proofs.Routing.{route_below}
 use Rattle.dash_history.specs.Plan.{HasPair}
 use Rattle.dash_history.proofs.Copies.{reply_laws}
@@ -10,7 +7,7 @@ use Rattle.dash_history.proofs.Plains.{looked}
 use Rattle.dash_history.proofs.Planning.{answers-found, same_found, takes-planned}
 use Rattle.dash_map.specs.Alone.{AloneState, IsAlone, contents, keys_in}
 use Rattle.dash_map.specs.Run.{rules_in}
-use Rattle.dash_map.proofs.Running.{not-missing, shown, laws-in, distinct-same, takes-look, takes-alone, each-there}
+use Rattle.dash_map.proofs.Running.{not-missing, laws-in, distinct-same, takes-look, takes-alone}
 use Rattle.dash_map.proofs.alone.Alone.take.Goals as goal
 
 pub returns-in-Ok-clause-taken : goal.returns-in-Ok-clause-taken
