@@ -1,4 +1,4 @@
-use Rattle.std.proofs.Common.{◌≡◌, ◌<◌, ◌==◌, Some, IsTrue, refl, sym, ap, subst, ◌∙◌, length, arith, slice_get}
+use Rattle.std.proofs.Common.{◌≡◌, ◌<◌, ◌==◌, Some, sym, ap, subst, ◌∙◌, length, arith, slice_get}
 use Rattle.std.proofs.lemmas.Option.{slice_get-get_or}
 use Rattle.dash_shard.specs.Contents.{at}
 use Rattle.dash_shard.specs.Shard.{pairs}

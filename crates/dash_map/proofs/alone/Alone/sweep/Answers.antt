@@ -1,4 +1,4 @@
-use Rattle.std.proofs.Common.{rules, ◌≡◌, ◌<◌, Some, sym, ap, subst, ◌∙◌, length, arith, flat_map, slice_set}
+use Rattle.std.proofs.Common.{rules, ◌<◌, Some, sym, ap, subst, ◌∙◌, length, arith, flat_map, slice_set}
 use Rattle.std.proofs.lemmas.Option.{slice_get-get_or}
 use Rattle.dash_shard.specs.Shard.{pairs}
 use Rattle.dash_shard.specs.Steps.{Retain, Done}
