@@ -4,9 +4,9 @@ use Rattle.std.specs.Option.{option_and_then, option_map}
 use Rattle.std.specs.Cmp.{IsEquivalence}
 use Rattle.std.proofs.lemmas.Bool.{and_parts, and_from}
 use Rattle.dash_shard.specs.Contents.{at, on, Distinct, EachOnce}
-use Rattle.dash_shard.specs.Steps.{Line, at_key, on_shard, Step, Reply, Act, line, line_place, line_after, LineReplies, place, after, Becomes, Pair, Found, Old, Number, key_or, value, changed, if_yes, if_no}
+use Rattle.dash_shard.specs.Steps.{Line, at_key, on_shard, Step, Reply, Act, line, line_place, line_after, LineReplies, place, after, Becomes, Pair, Found, Old, Pairs, Number, key_or, value, changed, if_yes, if_no}
 use Rattle.dash_history.specs.declared.step.ShardStep.{ShardStep}
-use Rattle.dash_history.specs.declared.step.ShardStep.TheVariants.{Get, Contains, Insert, Remove, RemoveIf, RemoveIfMut, Alter, Count}
+use Rattle.dash_history.specs.declared.step.ShardStep.TheVariants.{Get, Contains, Insert, Remove, RemoveIf, RemoveIfMut, Alter, Read, Count, AlterAll, Retain}
 use Rattle.dash_history.specs.Alike.{alike_option, alike_pair, alike_reply}
 use Rattle.dash_history.specs.Steps.{step_of, alike_step}
 use Rattle.dash_history.specs.Takes.{Rules, Kinds, AlikeAt, Answers, Takes}
@@ -142,5 +142,8 @@ module _ {K V A : Type 0} (m : Kinds K V A) (laws : Lawful m.rules) (alike_acts 
   line-alike (RemoveIf j f) (RemoveIf k g) h = let p = and_parts _ _ h in (p.0, if_no-own f g p.1, if_yes-own f g p.1)
   line-alike (RemoveIfMut j f) (RemoveIfMut k g) h = let p = and_parts _ _ h in (p.0, if_no-changed f g p.1, if_yes-changed f g p.1)
   line-alike (Alter j f) (Alter k g) h = let p = and_parts _ _ h in (p.0, all-changed f g p.1, λ o. refl)
+  line-alike (Read i) (Read j) h = (eqb-true i j h, λ p. (at_laws m.rules laws).refl (Some p), λ l. (reply_laws m.rules laws).refl (Pairs l))
   line-alike (Count i) (Count j) h = (eqb-true i j h, λ p. (at_laws m.rules laws).refl (Some p), λ l. (reply_laws m.rules laws).refl (Number (min (length l) (2 ^ 64 - 1))))
+  line-alike (AlterAll i f) (AlterAll j g) h = let p = and_parts _ _ h in (eqb-true i j p.0, changed-alike f g p.1, λ l. refl)
+  line-alike (Retain i f) (Retain j g) h = let p = and_parts _ _ h in (eqb-true i j p.0, λ q. if_yes-changed f g p.1 (Some q), λ l. refl)
   line-alike s t h = cc

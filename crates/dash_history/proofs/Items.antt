@@ -5,7 +5,7 @@ use Rattle.std.proofs.lemmas.List.{take_more, drop_more, drop_all}
 use Rattle.dash_history.specs.Alike.{alike_list}
 
 module _ {X : Type 0} (e : X → X → Bool) where
-  pushed : (xs ys : List X) (x y : X) → alike_list e xs ys ≡ true → e x y ≡ true → alike_list e (xs ++ x ∷ []) (ys ++ y ∷ []) ≡ true
+  pub pushed : (xs ys : List X) (x y : X) → alike_list e xs ys ≡ true → e x y ≡ true → alike_list e (xs ++ x ∷ []) (ys ++ y ∷ []) ≡ true
   pushed [] [] x y h k = and_from (e x y) true k refl
   pushed [] (b ∷ ys) x y h k = cc
   pushed (a ∷ xs) [] x y h k = cc

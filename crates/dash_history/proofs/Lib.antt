@@ -9,3 +9,5 @@ mod Maps
 pub mod Plains
 pub mod Recording
 pub mod Planning
+mod Sweeping
+mod PlainSweeps

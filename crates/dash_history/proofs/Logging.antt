@@ -1,9 +1,9 @@
 -- What a step leaves in the caller's log.
-use Rattle.std.proofs.Common.{◌≡◌, ℕ, ◌&&◌, Bool, true, sym, ◌∙◌, arith, IsTrue, eqb-true}
+use Rattle.std.proofs.Common.{◌≡◌, ◌==◌, ℕ, ◌&&◌, Bool, true, sym, ◌∙◌, arith, IsTrue, eqb-true}
 use Rattle.std.proofs.lemmas.Bool.{and_parts, and_from}
 use Rattle.std.specs.Cmp.{IsEquivalence, nat_eq_equiv}
 use Rattle.dash_history.specs.declared.step.ShardStep.{ShardStep}
-use Rattle.dash_history.specs.declared.step.ShardStep.TheVariants.{Get, Contains, Insert, Remove, RemoveIf, RemoveIfMut, Alter, Count}
+use Rattle.dash_history.specs.declared.step.ShardStep.TheVariants.{Get, Contains, Insert, Remove, RemoveIf, RemoveIfMut, Alter, Read, Count, AlterAll, Retain}
 use Rattle.dash_history.specs.declared.step.Reply as program
 use Rattle.dash_history.specs.declared.step.Record.{Record}
 use Rattle.dash_history.specs.Steps.{reply_of, alike_step, alike_record}
@@ -13,6 +13,12 @@ use Rattle.dash_history.specs.Map.{Logged}
 use Rattle.dash_history.proofs.AlikeLaws.{chained, reply_equiv}
 
 module _ {K V A : Type 0} {k : K → K → Bool} {v : V → V → Bool} {f : A → A → Bool} (lk : IsEquivalence k) (lv : IsEquivalence v) (lf : IsEquivalence f) where
+  both_at : (i j l : ℕ) (a b c : A) → ((i == j) && f a b) ≡ true → ((j == l) && f b c) ≡ true → ((i == l) && f a c) ≡ true
+  both_at i j l a b c h g =
+      let p = and_parts (i == j) (f a b) h in
+      let q = and_parts (j == l) (f b c) g in
+      and_from _ _ (chained nat_eq_equiv i j l p.0 q.0) (chained lf a b c p.1 q.1)
+
   both : (i j l : K) (a b c : A) → (k i j && f a b) ≡ true → (k j l && f b c) ≡ true → (k i l && f a c) ≡ true
   both i j l a b c h g =
       let p = and_parts (k i j) (f a b) h in
@@ -30,7 +36,10 @@ module _ {K V A : Type 0} {k : K → K → Bool} {v : V → V → Bool} {f : A �
   step-chained (RemoveIf i a) (RemoveIf j b) (RemoveIf l c) h g = both i j l a b c h g
   step-chained (RemoveIfMut i a) (RemoveIfMut j b) (RemoveIfMut l c) h g = both i j l a b c h g
   step-chained (Alter i a) (Alter j b) (Alter l c) h g = both i j l a b c h g
+  step-chained (Read i) (Read j) (Read l) h g = chained nat_eq_equiv i j l h g
   step-chained (Count i) (Count j) (Count l) h g = chained nat_eq_equiv i j l h g
+  step-chained (AlterAll i a) (AlterAll j b) (AlterAll l c) h g = both_at i j l a b c h g
+  step-chained (Retain i a) (Retain j b) (Retain l c) h g = both_at i j l a b c h g
   step-chained x y z h g = cc
 
   -- what a record says, the same record says

@@ -13,7 +13,7 @@ use Rattle.dash_history.specs.declared.change.Change.{Change}
 use Rattle.dash_history.specs.declared.change.Change.TheVariants as change
 use Rattle.dash_history.specs.Takes.{Rules, AlikeAt, Answers, Takes}
 use Rattle.dash_history.specs.Alike.{alike_reply}
-use Rattle.dash_history.specs.Plan.{change_step, changed_by, Fits}
+use Rattle.dash_history.specs.Plan.{change_step, changed_by, HasPair, Fits}
 use Rattle.dash_history.proofs.Copies.{Lawful, at_laws}
 
 module _ {K V : Type 0} (w : Keys K) (laws : IsEquivalence w.eq) (i : ℕ) where
@@ -68,12 +68,13 @@ module _ {K V : Type 0} (m : Rules K V) (laws : Lawful m) (P Q : List (K × V)) 
   -- a step at k that was carried out by the change that was decided
   pub decided : (b : Option (K × V) → Option (K × V)) (d : Change V) → Fits m.alike_key m.alike_value k b (at m.keys P k) d
       → Becomes m.keys (change_step k d) P Q → (j : K) → AlikeAt m (cond (m.keys.eq k j) (b (at m.keys P j)) (at m.keys P j)) (at m.keys Q j)
-  decided b d h becomes j = subst (λ o. AlikeAt m (cond (m.keys.eq k j) (b (at m.keys P j)) (at m.keys P j)) o) (sym (becomes j)) (by d h.makes)
+  decided b d h becomes j = subst (λ o. AlikeAt m (cond (m.keys.eq k j) (b (at m.keys P j)) (at m.keys P j)) o) (sym (becomes j)) (by d h.there h.makes)
     where
-      by : (e : Change V) → AlikeAt m (b (at m.keys P k)) (changed_by k e (at m.keys P k)) → AlikeAt m (cond (m.keys.eq k j) (b (at m.keys P j)) (at m.keys P j)) (after m.keys (change_step k e) j (at m.keys P j))
-      by change.Stays made = lines-alike b (λ o. o) made j
-      by change.Goes made = lines-alike b (λ _. None) made j
-      by (change.Becomes v) made = lines-alike b (λ o. Some (key_or k o, v)) made j
+      by : (e : Change V) → HasPair e (at m.keys P k) → AlikeAt m (b (at m.keys P k)) (changed_by k e (at m.keys P k)) → AlikeAt m (cond (m.keys.eq k j) (b (at m.keys P j)) (at m.keys P j)) (after m.keys (change_step k e) j (at m.keys P j))
+      by change.Stays there made = lines-alike b (λ o. o) made j
+      by change.Goes there made = lines-alike b (λ _. None) made j
+      by (change.Becomes v) there made = lines-alike b (λ o. Some (key_or k o, v)) made j
+      by (change.Each l) there made = absurd there
 
 -- a reply to a step at k, from what a look-up found there
 module _ {K V : Type 0} where

@@ -34,6 +34,11 @@ module _ {K V : Type 0} where
   HasPair (Each made) o = ⊥
   HasPair _ o = ⊤
 
+  -- the change is what the action makes of each of these pairs
+  abbrev pub MakesEach : (V → V → Bool) → table.Act K V → List (K × V) → Change V → Type 0
+  MakesEach v f P (Each made) = GivesEach v f P made.items
+  MakesEach v f P change = ⊥
+
   module _ (k : K → K → Bool) (v : V → V → Bool) where
     -- the change is what the line makes of the pair that stands at its key
     pub record Fits (key : K) (becomes : Option (K × V) → Option (K × V)) (o : Option (K × V)) (change : Change V) : Type 0 where
@@ -56,10 +61,8 @@ module _ {K V A : Type 0} (m : Kinds K V A) (P : List (K × V)) where
   Decides (RemoveIf k f) change = FitsLine m.rules.alike_key m.rules.alike_value (line (table.RemoveIf k (m.acts f))) (at m.rules.keys P k) change
   Decides (RemoveIfMut k f) change = FitsLine m.rules.alike_key m.rules.alike_value (line (table.RemoveIfMut k (m.acts f))) (at m.rules.keys P k) change
   Decides (Alter k f) change = FitsLine m.rules.alike_key m.rules.alike_value (line (table.Alter k (m.acts f))) (at m.rules.keys P k) change
-  Decides (AlterAll i f) (Each made) = GivesEach m.rules.alike_value (keeping true (m.acts f)) P made.items
-  Decides (AlterAll i f) change = ⊥
-  Decides (Retain i f) (Each made) = GivesEach m.rules.alike_value (keeping false (m.acts f)) P made.items
-  Decides (Retain i f) change = ⊥
+  Decides (AlterAll i f) change = MakesEach m.rules.alike_value (keeping true (m.acts f)) P change
+  Decides (Retain i f) change = MakesEach m.rules.alike_value (keeping false (m.acts f)) P change
   Decides _ change = ⊤
 
   -- the step leaves Q, up to alike

@@ -159,12 +159,7 @@ impl<K: KeptKey + Drop, V: Kept + Drop, S: BuildHasher> Plain<K, V, S> {
     }
 
     // Lets the action change the values of a shard, if there is such a shard and memory. Where not all stay, the pairs with no go.
-    fn sweep<A: Action<K, V>>(
-        &mut self,
-        shard: usize,
-        action: &A,
-        all: bool,
-    ) -> Option<Reply<K, V>>
+    fn sweep<A: Action<K, V>>(&mut self, shard: usize, action: &A, all: bool) -> Option<Reply<K, V>>
         ensures done { IfSome result (λ reply. (reply ≡ Reply.Done) × (shard < self.old.amount)) }
         ensures leaves { IsSome result → (j : K) → AlikeAt (plain_rules K.eq S.BuildHasher S.Hasher.Hasher K.hash_input K.alike V.alike self.old) (after (plain_rules K.eq S.BuildHasher S.Hasher.Hasher K.hash_input K.alike V.alike self.old).keys (Retain shard (keeping all (A.acts action.now))) j (at (plain_rules K.eq S.BuildHasher S.Hasher.Hasher K.hash_input K.alike V.alike self.old).keys self.old.pairs j)) (at (plain_rules K.eq S.BuildHasher S.Hasher.Hasher K.hash_input K.alike V.alike self.old).keys self.new.pairs j) }
         ensures distinct { Distinct (plain_rules K.eq S.BuildHasher S.Hasher.Hasher K.hash_input K.alike V.alike self.old).keys self.new.pairs }

@@ -1,6 +1,5 @@
 //! What a step makes of all pairs of a shard: copies of them, and what its action makes of copies of their values.
 ghost use Rattle.std.specs.Prelude.{◌≡◌, List, IsTrue, IfOk};
-ghost use Rattle.std.specs.Vec.Iter.{into_iter_items};
 ghost use Rattle.dash_shard.specs.Contents.{at};
 ghost use Rattle.dash_shard.specs.Steps.{Act, Retain, after};
 ghost use Rattle.dash_shard.specs.Shard.{pairs, keys_of, IsShard, SameShard};
@@ -12,6 +11,7 @@ use crate::change::ask;
 use crate::kept::{Kept, KeptKey};
 use dash_shard::shard::{Iter, Shard};
 use std::alloc::{AllocError, Global};
+use std::collections::VecDeque;
 use std::hash::BuildHasher;
 
 /// Copies of these pairs, in their order.
@@ -55,12 +55,12 @@ pub(crate) fn put_each<K: KeptKey + Drop, V: Kept + Drop, S: BuildHasher>(
     ensures stays { SameShard shard.old shard.new }
     ensures lawful { IsShard K.eq S.BuildHasher S.Hasher.Hasher K.hash_input shard.old → IsShard K.eq S.BuildHasher S.Hasher.Hasher K.hash_input shard.new }
 {
-    let mut made = made.into_iter();
+    let mut made = VecDeque::from(made);
     shard.retain(
         |_key: &K, value: &mut V| -> bool
-            ensures { PutsNext (into_iter_items made.entry) (into_iter_items made.exit) value.new result }
+            ensures { PutsNext made.entry.items made.exit.items value.new result }
         {
-            match made.next() {
+            match made.pop_front() {
                 Some((changed, stays)) => {
                     *value = changed;
                     stays

@@ -8,7 +8,7 @@ use Rattle.dash_shard.specs.Steps.{Reply, Pair}
 
 module _ {K V : Type 0} (w : Keys K) where
   -- the key of what stands at a key equals it
-  at-key : (ps : List (K × V)) (k : K) (p : K × V) → at w ps k ≡ Some p → w.eq p.0 k ≡ true
+  pub at-key : (ps : List (K × V)) (k : K) (p : K × V) → at w ps k ≡ Some p → w.eq p.0 k ≡ true
   at-key [] k p e = absurd (none-some p e)
   at-key (q ∷ ps) k p e = elim (cases_Bool (w.eq q.0 k)) as (λ _. w.eq p.0 k ≡ true) [
     | inl same ↦ ap (λ r. w.eq r.0 k) (sym (same_Some q p (sym (ap (λ b. cond b (Some q) (at w ps k)) same) ∙ e))) ∙ same

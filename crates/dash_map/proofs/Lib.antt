@@ -1,10 +1,13 @@
-mod Asked
 mod Distincts
 mod Found
+mod Leaving
+mod Lending
 mod Lifting
 mod Moves
 mod Refusals
 mod Reserving
 mod Running
 mod Seeing
+mod Sweeping
+mod Turning
 mod Union

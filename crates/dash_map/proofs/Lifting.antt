@@ -33,7 +33,7 @@ module _ {K V S H : Type 0} (eq : K → K → Bool) (b : builder.Ghosts S H) (h 
   pub on-shards : (base : S) (row : List (ShardState K V S)) → IsAlone eq b h input (record { hasher = base; row = row }) → OnShards (keys eq (route_by b h input base (length row)) (length row)) 0 row
   on-shards base row a = λ j s e. subst (λ i. IsOnShard (keys eq (route_by b h input base (length row)) (length row)) i (pairs s)) (omega arith) (on-shard base (length row) j s (a.placed j s e))
 
-  placed-moved : (base : S) (n i : ℕ) (s t : ShardState K V S) → IsPlaced eq b h input base n i s → SameShard s t → IsShard eq b h input t → IsPlaced eq b h input base n i t
+  pub placed-moved : (base : S) (n i : ℕ) (s t : ShardState K V S) → IsPlaced eq b h input base n i s → SameShard s t → IsShard eq b h input t → IsPlaced eq b h input base n i t
   placed-moved base n i s t p stays new = record {
     number = stays.number ∙ p.number;
     amount = stays.amount ∙ p.amount;

@@ -1,10 +1,10 @@
 -- What is seen of a shard that is held.
-use Rattle.std.proofs.Common.{Bor, ◌≡◌, ◌⊎◌, ℕ, zero, suc, ◌+◌, ◌<◌, Bool, [], ◌∷◌, ◌++◌, slice_get, inl, inr, true, List, Option, None, Some, length, get_or, ◌-◌, ◌^◌, flat_map, min, sum_by, length-append, arith, refl, sym, ap, subst, ◌∙◌}
+use Rattle.std.proofs.Common.{Bor, ◌≡◌, ◌⊎◌, ℕ, zero, suc, ◌+◌, ◌<◌, Bool, [], ◌∷◌, ◌++◌, slice_get, inl, inr, true, false, cond, List, Option, None, Some, length, get_or, ◌-◌, ◌^◌, flat_map, min, sum_by, length-append, arith, refl, sym, ap, subst, ◌∙◌}
 use Rattle.std.proofs.lemmas.Grind.{flat_map-append}
 use Rattle.std.proofs.lemmas.List.{length_push}
 use Rattle.std.proofs.lemmas.List.Sums.{sum_by-append}
 use Rattle.std.proofs.lemmas.Option.{same_Some, none-some}
-use Rattle.std.specs.Prelude.{is_some}
+use Rattle.std.specs.Prelude.{is_some, option_and_then, IfSome, IsTrue}
 use Rattle.std.specs.Option.{option_map}
 use Rattle.std.specs.Map.Iter.{deref_pair}
 use Rattle.std.specs.Hash.{HashWrites}
@@ -13,17 +13,20 @@ use Rattle.std.specs.declared.hash.BuildHasher as builder
 use Rattle.crossbeam_utils.specs.declared.cache_padded.CachePadded.{CachePadded}
 use Rattle.crossbeam_utils.specs.Padded.{padded_value}
 use Rattle.dash_shard.specs.Hashing.{IsAmount, route_by}
+use Rattle.dash_shard.specs.Contents.{Keys, at}
+use Rattle.dash_shard.specs.Steps.{Act}
 use Rattle.dash_shard.specs.Held.{FitsPlace}
 use Rattle.dash_shard.specs.Shard.{ShardState, Routes, pairs, shard_len}
 use Rattle.dash_shard.specs.declared.shard.held.ShardTag.{ShardTag}
 use Rattle.dash_map.specs.Alone.{IsPlaced}
-use Rattle.dash_map.specs.Behind.{Asked, IsBehind}
+use Rattle.dash_map.specs.Behind.{Asked, Changed, IsBehind}
 use Rattle.dash_map.specs.Map.{MapState, IsMap}
 use Rattle.dash_map.proofs.Lifting.{keys-same}
+use Rattle.dash_map.proofs.Found.{at-key}
 use Rattle.dash_map.proofs.Moves.{placed-held}
 
 -- what stands in a list with one item more: what stood there, or the item, at its end
-append-cases : {A : Type 0} (xs : List A) (y : A) (i : ℕ) (x : A) → slice_get (xs ++ y ∷ []) i ≡ Some x → (slice_get xs i ≡ Some x) ⊎ ((i ≡ length xs) × (y ≡ x))
+pub append-cases : {A : Type 0} (xs : List A) (y : A) (i : ℕ) (x : A) → slice_get (xs ++ y ∷ []) i ≡ Some x → (slice_get xs i ≡ Some x) ⊎ ((i ≡ length xs) × (y ≡ x))
 append-cases [] y zero x e = inr (refl, same_Some y x e)
 append-cases [] y (suc i) x e = absurd (none-some x e)
 append-cases (z ∷ xs) y zero x e = inl e
@@ -80,8 +83,23 @@ module _ {K V S H : Type 0} (eq : K → K → Bool) (b : builder.Ghosts S H) (h 
         };
       }
 
-pub asked : {K V : Type 0} (answers : K × V → Bool → Type 0) (o r : Option (K × V)) (p : K × V) → Some p ≡ o → r ≡ o → answers p true → Asked answers o r
-asked answers o r p stood taken said = subst (λ x. Asked answers x r) stood (subst (λ x. Asked answers (Some p) x) (sym (taken ∙ sym stood)) (refl, said))
+-- a removal that was asked first, through what the step table replies
+pub asked : {K V : Type 0} (answers : K × V → Bool → Type 0) (o r : Option (K × V)) (answer : Bool) → r ≡ option_and_then (λ p. cond answer (Some p) None) o → IfSome o (λ p. answers p answer) → Asked answers o r
+asked answers None r answer e said = e
+asked answers (Some p) r true e said = subst (λ x. Asked answers (Some p) x) (sym e) (refl, said)
+asked answers (Some p) r false e said = subst (λ x. Asked answers (Some p) x) (sym e) said
+
+pub changed : {K V : Type 0} (changes : K × V → V × Bool → Type 0) (act : Act K V) (o r : Option (K × V)) → r ≡ option_and_then (λ p. cond (act p.0 p.1).1 (Some (p.0, (act p.0 p.1).0)) None) o → IfSome o (λ p. changes p (act p.0 p.1)) → Changed changes o r
+changed changes act None r e said = e
+changed changes act (Some p) r e said = (act p.0 p.1, said, e)
+
+-- what holds of each pair with an equal key holds of the one that stands at it
+pub at-each : {K V : Type 0} (w : Keys K) (ps : List (K × V)) (k : K) (P : K × V → Type 0) → ((p : K × V) → IsTrue (w.eq p.0 k) → P p) → IfSome (at w ps k) P
+at-each {K} {V} w ps k P each = from (at w ps k) refl
+  where
+    from : (o : Option (K × V)) → at w ps k ≡ o → IfSome o P
+    from None e = tt
+    from (Some p) e = each p (at-key w ps k p e)
 
 pub shown : {K V : Type 0} (o : Option (Bor K × Bor V)) → is_some o ≡ is_some (option_map deref_pair o)
 shown None = refl

@@ -5,7 +5,7 @@ use Rattle.std.specs.declared.hash.Hasher as hasher
 use Rattle.std.specs.declared.hash.BuildHasher as builder
 use Rattle.dash_shard.specs.Hashing.{IsAmount, HashAlike, route_by}
 use Rattle.dash_shard.specs.Contents.{Keys, keys, at}
-use Rattle.dash_shard.specs.Steps.{Step, Reply, RemoveIf, Pair, Replies, Becomes}
+use Rattle.dash_shard.specs.Steps.{Act, Step, Reply, RemoveIf, RemoveIfMut, Alter, Pair, Done, Replies, Becomes}
 use Rattle.dash_shard.specs.Shard.{ShardState, pairs, shard_len, IsShard}
 
 -- what contracts see of the map
@@ -54,3 +54,11 @@ module _ {K V S : Type 0} where
       pub hasher : new.hasher ≡ old.hasher
       pub amount : length new.row ≡ length old.row
       pub lawful : IsAlone new
+
+    -- takes a removal that was asked first of an action that may write the value, and that may do on the pair with an equal key what it does
+    abbrev pub TakesChanged : (K × V → V × Bool → Type 0) → AloneState K V S → AloneState K V S → K → Option (K × V) → Type 0
+    TakesChanged changes old new key result = (act : Act K V) × TakesAlone old new (RemoveIfMut key act) (Pair result) × IfSome (at (keys_in old) (contents old) key) (λ p. changes p (act p.0 p.1))
+
+    -- takes an alteration by an action that may give on the pair with an equal key the value that it gives
+    abbrev pub TakesAltered : (K × V → V → Type 0) → AloneState K V S → AloneState K V S → K → Type 0
+    TakesAltered gives old new key = (act : Act K V) × TakesAlone old new (Alter key act) Done × IfSome (at (keys_in old) (contents old) key) (λ p. gives p (act p.0 p.1).0)

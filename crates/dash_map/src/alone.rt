@@ -26,6 +26,9 @@ use std::hash::{BuildHasher, Hash};
 use std::marker::Model;
 use std::snapshot::Snapshot;
 
+mod changes;
+mod whole;
+
 /// A map of one owner: its shards without locks. The original lends the map by `&mut` for this.
 ///
 /// A contract sees its hasher and the row of its shards.
@@ -168,11 +171,7 @@ impl<K: Eq + Hash + Drop, V: Drop, S: BuildHasher> Alone<K, V, S> {
         ensures { TakesAsked K.eq S.BuildHasher S.Hasher.Hasher K.hash_input (AnswersOn F.FnOnce f) self.old self.new key.now result }
     {
         let (hash, place) = self.place_of(key);
-        let (stored, value) = self.get_hashed(hash, place, key)?;
-        if f(stored, value) {
-            return self.remove_hashed(hash, place, key);
-        }
-        None
+        self.row[place].remove_if_hashed(hash, key, f)
     }
 
     /// The pair whose key equals `key`.

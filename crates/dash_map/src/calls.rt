@@ -2,10 +2,11 @@
 ghost use Rattle.std.specs.Prelude.{◌≡◌, ◌<◌, ◌==◌, ◌-◌, ◌^◌, min, length, sum_by, Option, IsTrue, IfSome, IfErr, is_some};
 ghost use Rattle.std.specs.Option.{option_map};
 ghost use Rattle.std.specs.Map.Iter.{deref_pair};
-ghost use Rattle.dash_shard.specs.Closures.{MayAsk, AnswersOn, Viewed};
+ghost use Rattle.dash_shard.specs.Closures.{MayAsk, AnswersOn, Viewed, MayChange, ChangesOn, MayGive, GivesOn};
 ghost use Rattle.dash_shard.specs.Contents.{at};
 ghost use Rattle.dash_shard.specs.Shard.{keys_of, pairs, IsShard};
-ghost use Rattle.dash_map.specs.Behind.{Asked, ReservesBehind, SawPair, SawShards};
+ghost use Rattle.dash_shard.specs.Held.{Alters};
+ghost use Rattle.dash_map.specs.Behind.{Asked, Changed, ReservesBehind, SawPair, SawShards, LeavesShard};
 ghost use Rattle.dash_shard.specs.Hashing.{hash_of, route_by};
 ghost use Rattle.dash_map.specs.Alone.{AloneState, IsPlaced, contents};
 ghost use Rattle.dash_ref.specs.Ref.{Stands};
@@ -19,6 +20,8 @@ use dash_shard::shard::{InsertRefused, Shard};
 use std::hash::{BuildHasher, Hash};
 use std::rt::Clock;
 use std::sync::Wait;
+
+mod whole;
 
 // The pair of a held shard whose key equals `key`, by the key's hash.
 #[inline]
@@ -112,12 +115,26 @@ impl<K: Eq + Hash, V, S: BuildHasher> DashMap<K, V, S> {
         ensures { SawPair K.eq S.BuildHasher S.Hasher.Hasher K.hash_input self.now key.now (λ p. Asked (AnswersOn F.FnOnce f) p result) }
     {
         let (hash, place) = self.place_of(key);
-        let guard = self.row[place].write(rt);
-        let (stored, value) = find(&guard, hash, key)?;
-        if f(stored, value) {
-            return guard.shard().remove_hashed(hash, key);
-        }
-        None
+        self.shards_mut(rt, place).remove_if_hashed(hash, key, f)
+    }
+
+    /// As `remove_if`, where `f` may write the value. On yes the pair is answered as `f` left it, and on no it stays so. Waits for the key's
+    /// shard. It takes no memory.
+    ///
+    /// The shard is held while `f` runs: a call of this map from `f` on a key of that shard waits for ever.
+    #[inline]
+    pub fn remove_if_mut<R: Wait + Clock, F: FnOnce(&K, &mut V) -> bool>(
+        &self,
+        rt: &R,
+        key: &K,
+        f: F,
+    ) -> Option<(K, V)>
+        requires { (p : K × V) → IsTrue (K.eq p.0 key.now) → MayChange F.FnOnce f p }
+        ensures { SawPair K.eq S.BuildHasher S.Hasher.Hasher K.hash_input self.now key.now (λ p. Changed (ChangesOn F.FnOnce f) p result) }
+    {
+        let (hash, place) = self.place_of(key);
+        self.shards_mut(rt, place)
+            .remove_if_mut_hashed(hash, key, f)
     }
 
     /// What `f` answers on the pair whose key equals `key`. Waits until no writer has the key's shard. It takes no memory.
@@ -137,6 +154,19 @@ impl<K: Eq + Hash, V, S: BuildHasher> DashMap<K, V, S> {
         let guard = self.row[place].read(rt);
         let (key, value) = find(&guard, hash, key)?;
         Some(f(key, value))
+    }
+
+    /// Gives the pair whose key equals `key` the value that `f` makes of its own; without such a pair it does nothing. Waits for the key's
+    /// shard. It takes no memory.
+    ///
+    /// The shard is held while `f` runs: a call of this map from `f` on a key of that shard waits for ever.
+    #[inline]
+    pub fn alter<R: Wait + Clock, F: FnOnce(&K, V) -> V>(&self, rt: &R, key: &K, f: F)
+        requires { (p : K × V) → IsTrue (K.eq p.0 key.now) → MayGive F.FnOnce f p }
+        ensures { LeavesShard K.eq S.BuildHasher S.Hasher.Hasher K.hash_input self.now key.now (λ s t. Alters K.eq S.BuildHasher S.Hasher.Hasher K.hash_input (GivesOn F.FnOnce f) s t key.now) }
+    {
+        let (hash, place) = self.place_of(key);
+        self.shards_mut(rt, place).alter_hashed(hash, key, f);
     }
 
     /// Whether there is a pair whose key equals `key`. Waits until no writer has the key's shard. It takes no memory.

@@ -10,7 +10,7 @@ use Rattle.dash_shard.specs.Hashing.{hash_of}
 use Rattle.dash_shard.specs.Contents.{Keys, at, IsOnShard}
 use Rattle.dash_shard.specs.Steps.{Act, Step, Retain, AlterAll, Done, on_shard, line, line_after, LineReplies}
 use Rattle.dash_shard.specs.Shard.{ShardState, place, taken, pairs, keys_of, IsShard, TakesExactly, StaysInPlace}
-use Rattle.dash_shard.specs.Each.{Sweeps, if_kept, altered, Retains, AltersAll, Clears}
+use Rattle.dash_shard.specs.Each.{Sweeps, if_kept, altered, Retains, AltersAll, SweepsShard, Clears}
 use Rattle.dash_shard.specs.declared.shard.table.Table.{Table}
 use Rattle.dash_shard.specs.Table.{pairs_of, hashes_of, IsHashed, IsTable}
 use Rattle.dash_shard.proofs.Remade.{KeepsKey, remade, fewer-remade, hashed-remade, on_shard-remade, becomes-remade, stays-remade, each-once, Acts, acts, makes}
@@ -28,7 +28,8 @@ kept-key {K} {V} act p q e = from ((act p.0 p.1).1) e
 pub altered-key : {K V : Type 0} (act : Act K V) → KeepsKey (λ p. altered p.0 (act p.0 p.1))
 altered-key {K} {V} act p q e = ap (λ (x : K × V). x.0) (sym (same_Some (p.0, (act p.0 p.1).0) q e))
 
-length-altered : {K V : Type 0} (act : Act K V) (xs : List (Option (K × V))) → length (taken (remade (λ p. altered p.0 (act p.0 p.1)) xs)) ≡ length (taken xs)
+-- as many pairs
+pub length-altered : {K V : Type 0} (act : Act K V) (xs : List (Option (K × V))) → length (taken (remade (λ p. altered p.0 (act p.0 p.1)) xs)) ≡ length (taken xs)
 length-altered act [] = refl
 length-altered act (None ∷ xs) = length-altered act xs
 length-altered act (Some p ∷ xs) = omega (arith, length-altered act xs)
@@ -94,6 +95,14 @@ module _ {K V S H : Type 0} (eq : K → K → Bool) (b : builder.Ghosts S H) (h 
         len = subst (λ xs. length (taken xs) ≤ length (taken (pairs_of t.nodes.items))) (sym did.made) (fewer-remade (makes T if_kept (keys_of eq b h input (of t)) laws did.act) (pairs_of t.nodes.items));
       })
 
+      pub sweeps-kept : length new.nodes.items ≡ length t.nodes.items → (z : ShardState K V S) → of t ≡ z → SweepsShard eq b h input T if_kept f swept.0 z (of new)
+      sweeps-kept room z view = subst (λ x. SweepsShard eq b h input T if_kept f swept.0 x (of new)) view (record {
+        swept = swept.1;
+        room = room;
+        stays = record { number = refl; amount = refl; hasher = refl };
+        lawful = remade-shard t new inside _ (kept-key did.act) did.made;
+      })
+
     -- the pairs whose values were altered
     module _ (swept : (last : F) × Sweeps T altered f (pairs_of t.nodes.items) (pairs_of new.nodes.items) last) where
       made : Acts T altered (keys_of eq b h input (of t)) laws f (pairs_of t.nodes.items) (pairs_of new.nodes.items) swept.0
@@ -114,6 +123,14 @@ module _ {K V S H : Type 0} (eq : K → K → Bool) (b : builder.Ghosts S H) (h 
         places = remade-stays t new inside _ (altered-key made.act) made.made (AlterAll number made.act) refl;
         room = room;
         len = same-length;
+      })
+
+      pub sweeps-altered : length new.nodes.items ≡ length t.nodes.items → (z : ShardState K V S) → of t ≡ z → SweepsShard eq b h input T altered f swept.0 z (of new)
+      sweeps-altered room z view = subst (λ x. SweepsShard eq b h input T altered f swept.0 x (of new)) view (record {
+        swept = swept.1;
+        room = room;
+        stays = record { number = refl; amount = refl; hasher = refl };
+        lawful = remade-shard t new inside _ (altered-key made.act) made.made;
       })
 
   -- no pair is left

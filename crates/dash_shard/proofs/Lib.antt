@@ -1,5 +1,5 @@
 mod Altering
-mod Alls
+pub mod Alls
 mod Amounts
 mod Asking
 mod Carrying
@@ -8,7 +8,7 @@ mod Changing
 pub mod Equals
 mod Exchanging
 mod HoldFields
-mod Lending
+pub mod Lending
 mod LockBorrows
 mod LockShown
 pub mod Moving
@@ -16,7 +16,7 @@ mod Nodes
 mod Passing
 mod Places
 mod Positions
-mod Remade
+pub mod Remade
 mod RoundParts
 mod Rewriting
 mod Rounds

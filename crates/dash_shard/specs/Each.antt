@@ -85,3 +85,10 @@ module _ {K V S H : Type 0} (eq : K → K → Bool) (b : builder.Ghosts S H) (h 
     pub none : shard_len old ≡ 0 → new.capacity ≡ 0
     pub stays : SameShard old new
     pub lawful : IsShard eq b h input new
+
+  -- all that a walk over a shard with f promises: what became of the pair of each place, in rising order, and how f was left
+  pub record SweepsShard {F : Type 0} (T : F → K → V → Bool → V → F → Type 0) (leaves : K → V × Bool → Option (K × V)) (f last : F) (old new : ShardState K V S) : Type 0 where
+    pub swept : Sweeps T leaves f old.places new.places last
+    pub room : new.capacity ≡ old.capacity
+    pub stays : SameShard old new
+    pub lawful : IsShard eq b h input new

@@ -203,6 +203,22 @@ impl<K: Eq + Hash, V, S: BuildHasher> Shard<K, V, S> {
         ensures { RemovesAsked K.eq S.BuildHasher S.Hasher.Hasher K.hash_input (AnswersOn F.FnOnce f) self.old self.new key.now result }
     {
         let hash = self.hasher.hash_one(key);
+        self.remove_if_hashed(hash, key, f)
+    }
+
+    /// As `remove_if`, for a caller who has the key's hash.
+    #[inline]
+    pub fn remove_if_hashed<F: FnOnce(&K, &V) -> bool>(
+        &mut self,
+        hash: u64,
+        key: &K,
+        f: F,
+    ) -> Option<(K, V)>
+        requires hash { hash ≡ hash_of S.BuildHasher S.Hasher.Hasher self.old.hasher (K.hash_input key.now) }
+        requires route { Routes K.eq S.BuildHasher S.Hasher.Hasher K.hash_input self.old key.now }
+        requires callable { IfSome (at (keys_of K.eq S.BuildHasher S.Hasher.Hasher K.hash_input self.old) (pairs self.old) key.now) (MayAsk F.FnOnce f) }
+        ensures { RemovesAsked K.eq S.BuildHasher S.Hasher.Hasher K.hash_input (AnswersOn F.FnOnce f) self.old self.new key.now result }
+    {
         let place = self.position_of_hashed(hash, key)?;
         let (stored, value) = self.at(place);
         if f(stored, value) {
@@ -219,6 +235,22 @@ impl<K: Eq + Hash, V, S: BuildHasher> Shard<K, V, S> {
         ensures { RemovesChanged K.eq S.BuildHasher S.Hasher.Hasher K.hash_input (ChangesOn F.FnOnce f) self.old self.new key.now result }
     {
         let hash = self.hasher.hash_one(key);
+        self.remove_if_mut_hashed(hash, key, f)
+    }
+
+    /// As `remove_if_mut`, for a caller who has the key's hash.
+    #[inline]
+    pub fn remove_if_mut_hashed<F: FnOnce(&K, &mut V) -> bool>(
+        &mut self,
+        hash: u64,
+        key: &K,
+        f: F,
+    ) -> Option<(K, V)>
+        requires hash { hash ≡ hash_of S.BuildHasher S.Hasher.Hasher self.old.hasher (K.hash_input key.now) }
+        requires route { Routes K.eq S.BuildHasher S.Hasher.Hasher K.hash_input self.old key.now }
+        requires callable { IfSome (at (keys_of K.eq S.BuildHasher S.Hasher.Hasher K.hash_input self.old) (pairs self.old) key.now) (MayChange F.FnOnce f) }
+        ensures { RemovesChanged K.eq S.BuildHasher S.Hasher.Hasher K.hash_input (ChangesOn F.FnOnce f) self.old self.new key.now result }
+    {
         let place = self.position_of_hashed(hash, key)?;
         let (key, value) = self.table.pair_mut(place);
         if f(key, value) {
@@ -236,6 +268,17 @@ impl<K: Eq + Hash, V, S: BuildHasher> Shard<K, V, S> {
         ensures { Alters K.eq S.BuildHasher S.Hasher.Hasher K.hash_input (GivesOn F.FnOnce f) self.old self.new key.now }
     {
         let hash = self.hasher.hash_one(key);
+        self.alter_hashed(hash, key, f);
+    }
+
+    /// As `alter`, for a caller who has the key's hash.
+    #[inline]
+    pub fn alter_hashed<F: FnOnce(&K, V) -> V>(&mut self, hash: u64, key: &K, f: F)
+        requires hash { hash ≡ hash_of S.BuildHasher S.Hasher.Hasher self.old.hasher (K.hash_input key.now) }
+        requires route { Routes K.eq S.BuildHasher S.Hasher.Hasher K.hash_input self.old key.now }
+        requires callable { IfSome (at (keys_of K.eq S.BuildHasher S.Hasher.Hasher K.hash_input self.old) (pairs self.old) key.now) (MayGive F.FnOnce f) }
+        ensures { Alters K.eq S.BuildHasher S.Hasher.Hasher K.hash_input (GivesOn F.FnOnce f) self.old self.new key.now }
+    {
         if let Some(place) = self.position_of_hashed(hash, key) {
             self.table.alter(place, f);
         }
@@ -258,7 +301,19 @@ impl<K: Eq + Hash, V, S: BuildHasher> Shard<K, V, S> {
         ensures value { option_copied_mut result ≡ option_map (λ p. p.1) (at (keys_of K.eq S.BuildHasher S.Hasher.Hasher K.hash_input self.old) (pairs self.old) key.now) }
         ensures lawful { IsShard K.eq S.BuildHasher S.Hasher.Hasher K.hash_input self.old }
     {
-        match self.position_of(key) {
+        let hash = self.hasher.hash_one(key);
+        self.get_mut_hashed(hash, key)
+    }
+
+    /// As `get_mut`, for a caller who has the key's hash.
+    #[inline]
+    pub fn get_mut_hashed(&mut self, hash: u64, key: &K) -> Option<&mut V>
+        requires { hash ≡ hash_of S.BuildHasher S.Hasher.Hasher self.old.hasher (K.hash_input key.now) }
+        ensures* writes_back { sem 𝓛 (lends_get K.row V.row S.row S.Hasher.row K.Hash S.BuildHasher S.Hasher.Hasher self.entry key.now result) }
+        ensures value { option_copied_mut result ≡ option_map (λ p. p.1) (at (keys_of K.eq S.BuildHasher S.Hasher.Hasher K.hash_input self.old) (pairs self.old) key.now) }
+        ensures lawful { IsShard K.eq S.BuildHasher S.Hasher.Hasher K.hash_input self.old }
+    {
+        match self.position_of_hashed(hash, key) {
             Some(position) => Some(self.at_mut(position).1),
             None => None,
         }

@@ -1,12 +1,13 @@
 //! What a step will do to a shard: it is made first, since it takes memory, and carried out once all copies are there.
-ghost use Rattle.std.specs.Prelude.{◌≡◌, IfOk, IfErr, OnOk};
+ghost use Rattle.std.specs.Prelude.{◌≡◌, IfOk, IfErr, OnOk, IsTrue};
+ghost use Rattle.dash_history.specs.Alike.{alike_option, alike_pair};
 ghost use Rattle.dash_shard.specs.Contents.{at};
-ghost use Rattle.dash_shard.specs.Steps.{Becomes};
+ghost use Rattle.dash_shard.specs.Steps.{Act, Retain, Becomes, after};
 ghost use Rattle.dash_shard.specs.Shard.{pairs, keys_of, Routes, IsShard, SameShard};
 ghost use Rattle.dash_history.specs.Steps.{step_of, reply_of};
 ghost use Rattle.dash_history.specs.Takes.{Answers};
 ghost use Rattle.dash_history.specs.History.{kinds_of, place_of};
-ghost use Rattle.dash_history.specs.Plan.{change_step, Decides, HasPair, Leaves};
+ghost use Rattle.dash_history.specs.Plan.{change_step, Decides, HasPair, Leaves, MakesEach};
 
 use crate::action::KeptAction;
 use crate::change::{Change, copy_found, plan_alter, plan_remove_if, plan_remove_if_mut};
@@ -79,6 +80,21 @@ fn make_change<K: KeptKey + Drop, V: Kept + Drop, S: BuildHasher>(
     }
 }
 
+// Makes of each pair what was decided.
+fn change_each<K: KeptKey + Drop, V: Kept + Drop, S: BuildHasher>(
+    shard: &mut Shard<K, V, S>,
+    change: Change<V>,
+)
+    ensures leaves { (f : Act K V) → MakesEach V.alike f (pairs shard.old) change → (j : K) → IsTrue (alike_option (alike_pair K.alike V.alike) (after (keys_of K.eq S.BuildHasher S.Hasher.Hasher K.hash_input shard.old) (Retain shard.old.number f) j (at (keys_of K.eq S.BuildHasher S.Hasher.Hasher K.hash_input shard.old) (pairs shard.old) j)) (at (keys_of K.eq S.BuildHasher S.Hasher.Hasher K.hash_input shard.old) (pairs shard.new) j)) }
+    ensures stays { SameShard shard.old shard.new }
+    ensures lawful { IsShard K.eq S.BuildHasher S.Hasher.Hasher K.hash_input shard.old → IsShard K.eq S.BuildHasher S.Hasher.Hasher K.hash_input shard.new }
+{
+    let Change::Each(made) = change else {
+        return;
+    };
+    put_each(shard, made);
+}
+
 /// Does to the shard what the step says, where its action decided so, or hands the step back, where there is no memory for a new key.
 pub(super) fn carry_out<
     K: KeptKey + Drop,
@@ -114,10 +130,8 @@ pub(super) fn carry_out<
             Ok(())
         }
         ShardStep::Read(_) | ShardStep::Count(_) => Ok(()),
-        ShardStep::AlterAll(_, _action) | ShardStep::Retain(_, _action) => {
-            if let Change::Each(made) = decided {
-                put_each(shard, made);
-            }
+        ShardStep::AlterAll(_shard, _action) | ShardStep::Retain(_shard, _action) => {
+            change_each(shard, decided);
             Ok(())
         }
     }

@@ -188,6 +188,7 @@ fn four_threads_share_a_map(rt: HostRuntime) -> Result<(), Fail> {
     }
     assert_eq!(rt; value_at(&rt, &map, 37), Some(2));
     assert_eq!(rt; value_at(&rt, &map, 64), None);
+    assert_eq!(rt; map.len(&rt), 64);
     Ok(())
 }
 

@@ -205,6 +205,29 @@ impl<K: Eq + Hash, V, S: BuildHasher> ShardMut<'_, K, V, S> {
         )
     }
 
+    /// As `remove_if`, for a caller who has the key's hash.
+    #[inline]
+    pub fn remove_if_hashed<F: FnOnce(&K, &V) -> bool>(
+        &mut self,
+        hash: u64,
+        key: &K,
+        f: F,
+    ) -> Option<(K, V)>
+        requires hash { hash ≡ hash_of S.BuildHasher S.Hasher.Hasher self.old.hasher (K.hash_input key.now) }
+        requires route { Routes K.eq S.BuildHasher S.Hasher.Hasher K.hash_input self.old key.now }
+        requires callable { IfSome (at (keys_of K.eq S.BuildHasher S.Hasher.Hasher K.hash_input self.old) (pairs self.old) key.now) (MayAsk F.FnOnce f) }
+        ensures { RemovesAsked K.eq S.BuildHasher S.Hasher.Hasher K.hash_input (AnswersOn F.FnOnce f) self.old self.new key.now result }
+    {
+        self.guard.change(
+            |shard: &mut Shard<K, V, S>| -> Option<(K, V)>
+                requires hash { hash ≡ hash_of S.BuildHasher S.Hasher.Hasher shard.old.hasher (K.hash_input key.now) }
+                requires route { Routes K.eq S.BuildHasher S.Hasher.Hasher K.hash_input shard.old key.now }
+                requires callable { IfSome (at (keys_of K.eq S.BuildHasher S.Hasher.Hasher K.hash_input shard.old) (pairs shard.old) key.now) (MayAsk F.FnOnce f) }
+                ensures { RemovesAsked K.eq S.BuildHasher S.Hasher.Hasher K.hash_input (AnswersOn F.FnOnce f) shard.old shard.new key.entry.now result }
+            { shard.remove_if_hashed(hash, key, f) },
+        )
+    }
+
     /// As `remove_if`, where `f` may write the value. On yes the pair is answered as `f` left it, and on no it stays so.
     #[inline]
     pub fn remove_if_mut<F: FnOnce(&K, &mut V) -> bool>(&mut self, key: &K, f: F) -> Option<(K, V)>
@@ -218,6 +241,29 @@ impl<K: Eq + Hash, V, S: BuildHasher> ShardMut<'_, K, V, S> {
                 requires callable { IfSome (at (keys_of K.eq S.BuildHasher S.Hasher.Hasher K.hash_input shard.old) (pairs shard.old) key.now) (MayChange F.FnOnce f) }
                 ensures { RemovesChanged K.eq S.BuildHasher S.Hasher.Hasher K.hash_input (ChangesOn F.FnOnce f) shard.old shard.new key.entry.now result }
             { shard.remove_if_mut(key, f) },
+        )
+    }
+
+    /// As `remove_if_mut`, for a caller who has the key's hash.
+    #[inline]
+    pub fn remove_if_mut_hashed<F: FnOnce(&K, &mut V) -> bool>(
+        &mut self,
+        hash: u64,
+        key: &K,
+        f: F,
+    ) -> Option<(K, V)>
+        requires hash { hash ≡ hash_of S.BuildHasher S.Hasher.Hasher self.old.hasher (K.hash_input key.now) }
+        requires route { Routes K.eq S.BuildHasher S.Hasher.Hasher K.hash_input self.old key.now }
+        requires callable { IfSome (at (keys_of K.eq S.BuildHasher S.Hasher.Hasher K.hash_input self.old) (pairs self.old) key.now) (MayChange F.FnOnce f) }
+        ensures { RemovesChanged K.eq S.BuildHasher S.Hasher.Hasher K.hash_input (ChangesOn F.FnOnce f) self.old self.new key.now result }
+    {
+        self.guard.change(
+            |shard: &mut Shard<K, V, S>| -> Option<(K, V)>
+                requires hash { hash ≡ hash_of S.BuildHasher S.Hasher.Hasher shard.old.hasher (K.hash_input key.now) }
+                requires route { Routes K.eq S.BuildHasher S.Hasher.Hasher K.hash_input shard.old key.now }
+                requires callable { IfSome (at (keys_of K.eq S.BuildHasher S.Hasher.Hasher K.hash_input shard.old) (pairs shard.old) key.now) (MayChange F.FnOnce f) }
+                ensures { RemovesChanged K.eq S.BuildHasher S.Hasher.Hasher K.hash_input (ChangesOn F.FnOnce f) shard.old shard.new key.entry.now result }
+            { shard.remove_if_mut_hashed(hash, key, f) },
         )
     }
 
@@ -235,6 +281,24 @@ impl<K: Eq + Hash, V, S: BuildHasher> ShardMut<'_, K, V, S> {
                 requires callable { IfSome (at (keys_of K.eq S.BuildHasher S.Hasher.Hasher K.hash_input shard.old) (pairs shard.old) key.now) (MayGive F.FnOnce f) }
                 ensures { Alters K.eq S.BuildHasher S.Hasher.Hasher K.hash_input (GivesOn F.FnOnce f) shard.old shard.new key.entry.now }
             { shard.alter(key, f) },
+        );
+    }
+
+    /// As `alter`, for a caller who has the key's hash.
+    #[inline]
+    pub fn alter_hashed<F: FnOnce(&K, V) -> V>(&mut self, hash: u64, key: &K, f: F)
+        requires hash { hash ≡ hash_of S.BuildHasher S.Hasher.Hasher self.old.hasher (K.hash_input key.now) }
+        requires route { Routes K.eq S.BuildHasher S.Hasher.Hasher K.hash_input self.old key.now }
+        requires callable { IfSome (at (keys_of K.eq S.BuildHasher S.Hasher.Hasher K.hash_input self.old) (pairs self.old) key.now) (MayGive F.FnOnce f) }
+        ensures { Alters K.eq S.BuildHasher S.Hasher.Hasher K.hash_input (GivesOn F.FnOnce f) self.old self.new key.now }
+    {
+        self.guard.change(
+            |shard: &mut Shard<K, V, S>|
+                requires hash { hash ≡ hash_of S.BuildHasher S.Hasher.Hasher shard.old.hasher (K.hash_input key.now) }
+                requires route { Routes K.eq S.BuildHasher S.Hasher.Hasher K.hash_input shard.old key.now }
+                requires callable { IfSome (at (keys_of K.eq S.BuildHasher S.Hasher.Hasher K.hash_input shard.old) (pairs shard.old) key.now) (MayGive F.FnOnce f) }
+                ensures { Alters K.eq S.BuildHasher S.Hasher.Hasher K.hash_input (GivesOn F.FnOnce f) shard.old shard.new key.entry.now }
+            { shard.alter_hashed(hash, key, f) },
         );
     }
 

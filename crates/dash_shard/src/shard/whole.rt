@@ -2,7 +2,7 @@
 ghost use Rattle.std.specs.Prelude.{◌≡◌};
 ghost use Rattle.std.specs.Map.Calls.{CalledAtPair, TakesPair, CallableOnEachPair};
 ghost use Rattle.dash_shard.specs.Shard.{pairs, IsShard};
-ghost use Rattle.dash_shard.specs.Each.{CalledOnPair, TakesOnPair, Retains, AltersAll, Clears, Shrinks};
+ghost use Rattle.dash_shard.specs.Each.{CalledOnPair, TakesOnPair, if_kept, altered, Retains, AltersAll, SweepsShard, Clears, Shrinks};
 
 use super::Shard;
 use super::table::walk::Iter;
@@ -13,12 +13,23 @@ impl<K: Eq + Hash, V, S: BuildHasher> Shard<K, V, S> {
     ///
     /// `f` is called once at each pair, in rising order of places. The pairs that stay keep their places, and the room stays. It takes
     /// no memory, and can't be refused.
-    pub fn retain<F: FnMut(&K, &mut V) -> bool>(&mut self, f: F)
+    pub fn retain<F: FnMut(&K, &mut V) -> bool>(&mut self, mut f: F)
     where
         K: Drop,
         V: Drop,
         requires { CallableOnEachPair (CalledAtPair F.FnMut) (TakesPair F.FnMut) f (pairs self.old) }
         ensures { Retains K.eq S.BuildHasher S.Hasher.Hasher K.hash_input (CalledAtPair F.FnMut) f self.old self.new }
+    {
+        self.table.retain(&mut f);
+    }
+
+    /// As `retain`, with an `f` that is lent: the caller may go on with it.
+    pub fn retain_by<F: FnMut(&K, &mut V) -> bool>(&mut self, f: &mut F)
+    where
+        K: Drop,
+        V: Drop,
+        requires { CallableOnEachPair (CalledAtPair F.FnMut) (TakesPair F.FnMut) f.old (pairs self.old) }
+        ensures { SweepsShard K.eq S.BuildHasher S.Hasher.Hasher K.hash_input (CalledAtPair F.FnMut) if_kept f.old f.new self.old self.new }
     {
         self.table.retain(f);
     }
@@ -26,9 +37,17 @@ impl<K: Eq + Hash, V, S: BuildHasher> Shard<K, V, S> {
     /// Puts what `f` makes of each value in its place.
     ///
     /// `f` is called once at each pair, in rising order of places. The pairs keep their places. It takes no memory, and can't be refused.
-    pub fn alter_all<F: FnMut(&K, V) -> V>(&mut self, f: F)
+    pub fn alter_all<F: FnMut(&K, V) -> V>(&mut self, mut f: F)
         requires { CallableOnEachPair (CalledOnPair F.FnMut) (TakesOnPair F.FnMut) f (pairs self.old) }
         ensures { AltersAll K.eq S.BuildHasher S.Hasher.Hasher K.hash_input (CalledOnPair F.FnMut) f self.old self.new }
+    {
+        self.table.alter_all(&mut f);
+    }
+
+    /// As `alter_all`, with an `f` that is lent: the caller may go on with it.
+    pub fn alter_all_by<F: FnMut(&K, V) -> V>(&mut self, f: &mut F)
+        requires { CallableOnEachPair (CalledOnPair F.FnMut) (TakesOnPair F.FnMut) f.old (pairs self.old) }
+        ensures { SweepsShard K.eq S.BuildHasher S.Hasher.Hasher K.hash_input (CalledOnPair F.FnMut) altered f.old f.new self.old self.new }
     {
         self.table.alter_all(f);
     }

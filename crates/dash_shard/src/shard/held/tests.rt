@@ -93,6 +93,31 @@ fn a_held_shard_takes_a_hash_from_its_caller(rt: HostRuntime) -> Result<(), Fail
 }
 
 #[test]
+#[tactic(auto, unfolding(crate::specs::Hashing::hash_of))]
+fn a_held_shard_asks_by_a_hash_from_its_caller(rt: HostRuntime) -> Result<(), Fail> {
+    assert!(rt; is_shard_amount(4));
+    let shard = Shard::<u64, u64, PlaceState>::new(rt.alloc(), PlaceState, 1, 4, 0)?;
+    let tag = ShardTag::of(&shard);
+    let lock = RwLock::new(shard, &tag);
+    let mut held = lock.write(&rt).shard();
+    let hash = PlaceState.hash_one(&5u64);
+    assert!(rt; held.routes(&5));
+    assert_eq!(rt; held.insert_hashed(hash, 5, 50)?, None);
+    assert!(rt; held.routes(&5));
+    held.alter_hashed(hash, &5, |_: &u64, value: u64| value.wrapping_add(1));
+    assert!(rt; held.routes(&5));
+    let gone = held.remove_if_hashed(hash, &5, |_: &u64, value: &u64| *value < 51);
+    assert_eq!(rt; gone, None);
+    assert!(rt; held.routes(&5));
+    let gone = held.remove_if_mut_hashed(hash, &5, |_: &u64, value: &mut u64| {
+        *value = value.wrapping_add(1);
+        true
+    });
+    assert_eq!(rt; gone, Some((5, 52)));
+    Ok(())
+}
+
+#[test]
 fn a_leaked_hold_leaves_a_shard(rt: HostRuntime) -> Result<(), Fail> {
     assert!(rt; is_shard_amount(4));
     let shard = Shard::<u64, u64, PlaceState>::new(rt.alloc(), PlaceState, 1, 4, 0)?;

@@ -2,7 +2,7 @@
 ghost use Rattle.std.specs.Prelude.{◌≡◌};
 ghost use Rattle.std.specs.Map.Calls.{CalledAtPair, TakesPair, CallableOnEachPair};
 ghost use Rattle.dash_shard.specs.Shard.{pairs, IsShard};
-ghost use Rattle.dash_shard.specs.Each.{CalledOnPair, TakesOnPair, Retains, AltersAll, Clears, Shrinks};
+ghost use Rattle.dash_shard.specs.Each.{CalledOnPair, TakesOnPair, if_kept, altered, Retains, AltersAll, SweepsShard, Clears, Shrinks};
 
 use super::ShardMut;
 use crate::shard::{Iter, Shard};
@@ -28,6 +28,26 @@ impl<K: Eq + Hash, V, S: BuildHasher> ShardMut<'_, K, V, S> {
         )
     }
 
+    /// As `retain`, and hands `f` back, so that the caller may go on with it.
+    pub fn retain_by<F: FnMut(&K, &mut V) -> bool>(&mut self, f: F) -> F
+    where
+        K: Drop,
+        V: Drop,
+        requires { CallableOnEachPair (CalledAtPair F.FnMut) (TakesPair F.FnMut) f (pairs self.old) }
+        ensures { SweepsShard K.eq S.BuildHasher S.Hasher.Hasher K.hash_input (CalledAtPair F.FnMut) if_kept f result self.old self.new }
+    {
+        self.guard.change(
+            |shard: &mut Shard<K, V, S>| -> F
+                requires { CallableOnEachPair (CalledAtPair F.FnMut) (TakesPair F.FnMut) f (pairs shard.old) }
+                ensures { SweepsShard K.eq S.BuildHasher S.Hasher.Hasher K.hash_input (CalledAtPair F.FnMut) if_kept f result shard.old shard.new }
+            {
+                let mut f = f;
+                shard.retain_by(&mut f);
+                f
+            },
+        )
+    }
+
     /// Puts what `f` makes of each value in its place.
     ///
     /// `f` is called once at each pair, in rising order of places. The pairs keep their places. It takes no memory, and can't be refused.
@@ -40,6 +60,23 @@ impl<K: Eq + Hash, V, S: BuildHasher> ShardMut<'_, K, V, S> {
                 requires { CallableOnEachPair (CalledOnPair F.FnMut) (TakesOnPair F.FnMut) f (pairs shard.old) }
                 ensures { AltersAll K.eq S.BuildHasher S.Hasher.Hasher K.hash_input (CalledOnPair F.FnMut) f shard.old shard.new }
             { shard.alter_all(f) },
+        )
+    }
+
+    /// As `alter_all`, and hands `f` back, so that the caller may go on with it.
+    pub fn alter_all_by<F: FnMut(&K, V) -> V>(&mut self, f: F) -> F
+        requires { CallableOnEachPair (CalledOnPair F.FnMut) (TakesOnPair F.FnMut) f (pairs self.old) }
+        ensures { SweepsShard K.eq S.BuildHasher S.Hasher.Hasher K.hash_input (CalledOnPair F.FnMut) altered f result self.old self.new }
+    {
+        self.guard.change(
+            |shard: &mut Shard<K, V, S>| -> F
+                requires { CallableOnEachPair (CalledOnPair F.FnMut) (TakesOnPair F.FnMut) f (pairs shard.old) }
+                ensures { SweepsShard K.eq S.BuildHasher S.Hasher.Hasher K.hash_input (CalledOnPair F.FnMut) altered f result shard.old shard.new }
+            {
+                let mut f = f;
+                shard.alter_all_by(&mut f);
+                f
+            },
         )
     }
 

@@ -27,21 +27,21 @@ impl<K, V> Table<K, V> {
     }
 
     /// Keeps the pairs on which `f` answers yes, with the values that it leaves.
-    pub fn retain<F: FnMut(&K, &mut V) -> bool>(&mut self, mut f: F)
+    pub fn retain<F: FnMut(&K, &mut V) -> bool>(&mut self, f: &mut F)
     where
         K: Drop,
         V: Drop,
         requires table { IsTable self.old }
         requires counted { self.old.len ≡ length (taken (pairs_of self.old.nodes.items)) }
-        requires callable { CallableOnEachPair (CalledAtPair F.FnMut) (TakesPair F.FnMut) f (taken (pairs_of self.old.nodes.items)) }
-        ensures swept { (last : F) × Sweeps (CalledAtPair F.FnMut) if_kept f (pairs_of self.old.nodes.items) (pairs_of self.new.nodes.items) last }
+        requires callable { CallableOnEachPair (CalledAtPair F.FnMut) (TakesPair F.FnMut) f.old (taken (pairs_of self.old.nodes.items)) }
+        ensures swept { Sweeps (CalledAtPair F.FnMut) if_kept f.old (pairs_of self.old.nodes.items) (pairs_of self.new.nodes.items) f.new }
         ensures hashes { hashes_of self.new.nodes.items ≡ hashes_of self.old.nodes.items }
         ensures counted { self.new.len ≡ length (taken (pairs_of self.new.nodes.items)) }
         ensures places { length self.new.nodes.items ≡ length self.old.nodes.items }
         ensures table { IsTable self.new }
     {
         for place in 0..self.nodes.len() {
-            if !self.ask_at(place, &mut f) {
+            if !self.ask_at(place, f) {
                 drop(self.take(place));
             }
         }
@@ -76,17 +76,17 @@ impl<K, V> Table<K, V> {
     }
 
     /// Puts what `f` makes of each value in its place.
-    pub fn alter_all<F: FnMut(&K, V) -> V>(&mut self, mut f: F)
+    pub fn alter_all<F: FnMut(&K, V) -> V>(&mut self, f: &mut F)
         requires table { IsTable self.old }
-        requires callable { CallableOnEachPair (CalledOnPair F.FnMut) (TakesOnPair F.FnMut) f (taken (pairs_of self.old.nodes.items)) }
-        ensures swept { (last : F) × Sweeps (CalledOnPair F.FnMut) altered f (pairs_of self.old.nodes.items) (pairs_of self.new.nodes.items) last }
+        requires callable { CallableOnEachPair (CalledOnPair F.FnMut) (TakesOnPair F.FnMut) f.old (taken (pairs_of self.old.nodes.items)) }
+        ensures swept { Sweeps (CalledOnPair F.FnMut) altered f.old (pairs_of self.old.nodes.items) (pairs_of self.new.nodes.items) f.new }
         ensures hashes { hashes_of self.new.nodes.items ≡ hashes_of self.old.nodes.items }
         ensures len { self.new.len ≡ self.old.len }
         ensures places { length self.new.nodes.items ≡ length self.old.nodes.items }
         ensures table { IsTable self.new }
     {
         for place in 0..self.nodes.len() {
-            self.alter_at(place, &mut f);
+            self.alter_at(place, f);
         }
     }
 
@@ -103,6 +103,6 @@ impl<K, V> Table<K, V> {
         ensures places { length self.new.nodes.items ≡ length self.old.nodes.items }
         ensures table { IsTable self.new }
     {
-        self.retain(|_, _| false);
+        self.retain(&mut |_, _| false);
     }
 }

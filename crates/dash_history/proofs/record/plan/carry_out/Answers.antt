@@ -1,4 +1,9 @@
-use Rattle.std.proofs.Common.{⊎_elim}
+use Rattle.std.proofs.Common.{⊎_elim, true, false, sym, subst}
+use Rattle.dash_shard.specs.Contents.{at}
+use Rattle.dash_shard.specs.Steps.{Step, AlterAll, Retain, after}
+use Rattle.dash_shard.specs.Shard.{pairs}
+use Rattle.dash_history.specs.Sweep.{keeping}
+use Rattle.dash_history.specs.Takes.{AlikeAt}
 use Rattle.dash_history.specs.History.{kinds_of}
 use Rattle.dash_history.proofs.Recording.{lawful-by}
 use Rattle.dash_history.proofs.Planning.{decided}
@@ -12,3 +17,13 @@ returns-in-RemoveIf-clause-ok g c j =
     ⊎_elim (λ is. rw is (decided m.rules laws _ _ c.in-RemoveIf.key _ c.args.decided (rw is at c.requires.decides) c.make_change.ensures.becomes j))
     (⊎_elim (λ is. rw is (decided m.rules laws _ _ c.in-RemoveIf.key _ c.args.decided (rw is at c.requires.decides) c.make_change.ensures.becomes j))
     (λ is. rw is (decided m.rules laws _ _ c.in-RemoveIf.key _ c.args.decided (rw is at c.requires.decides) c.make_change.ensures.becomes j))) c.in-RemoveIf.is
+
+pub returns-clause-ok : goal.returns-clause-ok
+returns-clause-ok g c j =
+    let s = c.args.shard.now in
+    let m = kinds_of g.K.PartialEq.eq g.S.BuildHasher g.S.Hasher.Hasher g.K.Hash.hash_input g.K.Kept.alike g.V.Kept.alike g.A.Kept.alike g.A.Action.acts s in
+    let i = c.in-AlterAll._shard in
+    let f = g.A.Action.acts c.in-AlterAll._action in
+    let Left = λ (step : Step g.row.K.Denot g.row.V.Denot). AlikeAt m.rules (after m.rules.keys step j (at m.rules.keys (pairs s) j)) (at m.rules.keys (pairs c.change_each.new.shard) j) in
+    ⊎_elim (λ is. rw is (subst (λ n. Left (AlterAll n f)) (sym (rw is at c.requires.place)) (c.change_each.ensures.leaves (keeping true f) (rw is at c.requires.decides) j)))
+    (λ is. rw is (subst (λ n. Left (Retain n f)) (sym (rw is at c.requires.place)) (c.change_each.ensures.leaves (keeping false f) (rw is at c.requires.decides) j))) c.in-AlterAll.is

@@ -1,10 +1,11 @@
-use Rattle.std.proofs.Common.{◌≡◌, ◌⊎◌, IsTrue, List, Option, Some, None, refl, ap, sym, subst, arith, inl, inr}
-use Rattle.dash_shard.specs.Contents.{at, IsOnShard}
-use Rattle.dash_shard.specs.Steps.{Act, Reply, Pair, Found, Old, Number, value, line, RemoveIf, RemoveIfMut, Alter}
+use Rattle.std.proofs.Common.{◌≡◌, ◌⊎◌, ℕ, IsTrue, List, Option, Some, None, refl, ap, sym, subst, arith, inl, inr}
+use Rattle.std.specs.Cmp.{IsEquivalence}
+use Rattle.dash_shard.specs.Contents.{Keys, at, on, EachOnce, IsOnShard}
+use Rattle.dash_shard.specs.Steps.{Act, Reply, Pair, Found, Old, Pairs, Number, Done, value, line, RemoveIf, RemoveIfMut, Alter}
 use Rattle.dash_shard.specs.Shard.{pairs, keys_of}
 use Rattle.dash_history.specs.declared.step.ShardStep.{ShardStep}
 use Rattle.dash_history.specs.declared.step.ShardStep.TheVariants.{Get, Remove}
-use Rattle.dash_history.specs.Alike.{alike_option, alike_pair}
+use Rattle.dash_history.specs.Alike.{alike_option, alike_list, alike_pair}
 use Rattle.dash_history.specs.Steps.{step_of}
 use Rattle.dash_history.specs.Takes.{Rules, Answers}
 use Rattle.dash_history.proofs.AlikeLaws.{reply_equiv}
@@ -77,3 +78,30 @@ pub returns-in-Alter-clause-decides : goal.returns-in-Alter-clause-decides
 returns-in-Alter-clause-decides g c =
     let same = same_found _ _ c.get-in-Alter.ensures.pair in
     rw c.in-Alter.is (IfOk-weaker c.plan_alter.result _ _ (λ plan p. subst (λ o. FitsLine g.K.Kept.alike g.V.Kept.alike (line (Alter c.in-Alter.key (g.A.Action.acts c.in-Alter.action))) o plan.1) same (p c.in-Alter.key).1) c.plan_alter.ensures.plan)
+
+-- the pairs of the step's shard
+own : {K V : Type 0} (w : Keys K) (laws : IsEquivalence w.eq) (i n : ℕ) (P : List (K × V)) → i ≡ n → IsOnShard w n P → EachOnce w (on w i P) P
+own w laws i n P here h = each-own w laws i P (subst (λ x. IsOnShard w x P) (sym here) h)
+
+pub returns-in_ok-copy_pairs-in-Read-clause-answers : goal.returns-in_ok-copy_pairs-in-Read-clause-answers
+returns-in_ok-copy_pairs-in-Read-clause-answers g c =
+    let s = c.args.shard.now in
+    let w = keys_of g.K.PartialEq.eq g.S.BuildHasher g.S.Hasher.Hasher g.K.Hash.hash_input s in
+    let copies = c.in_ok-copy_pairs-in-Read.field-0.items in
+    rw c.in-Read.is (record {
+      told = Pairs (pairs s);
+      replies = (pairs s, own w g.met.K.Eq.laws c.in-Read.field-0 s.number (pairs s) (rw c.in-Read.is at c.requires) c.iter.ensures.lawful.contents, refl);
+      alike = subst (λ l. IsTrue (alike_list (alike_pair g.K.Kept.alike g.V.Kept.alike) l copies)) c.iter.ensures.pairs c.in_ok-copy_pairs-in-Read.ensures;
+    })
+
+pub returns-in_ok-made-in-AlterAll-clause-answers : goal.returns-in_ok-made-in-AlterAll-clause-answers
+returns-in_ok-made-in-AlterAll-clause-answers g c =
+    let s = c.args.shard.now in
+    let w = keys_of g.K.PartialEq.eq g.S.BuildHasher g.S.Hasher.Hasher g.K.Hash.hash_input s in
+    rw c.in-AlterAll.is (record { told = Done; replies = (pairs s, own w g.met.K.Eq.laws c.in-AlterAll.field-0 s.number (pairs s) (rw c.in-AlterAll.is at c.requires) c.iter-in-AlterAll.ensures.lawful.contents, refl); alike = refl })
+
+pub returns-in_ok-made-in-Retain-clause-answers : goal.returns-in_ok-made-in-Retain-clause-answers
+returns-in_ok-made-in-Retain-clause-answers g c =
+    let s = c.args.shard.now in
+    let w = keys_of g.K.PartialEq.eq g.S.BuildHasher g.S.Hasher.Hasher g.K.Hash.hash_input s in
+    rw c.in-Retain.is (record { told = Done; replies = (pairs s, own w g.met.K.Eq.laws c.in-Retain.field-0 s.number (pairs s) (rw c.in-Retain.is at c.requires) c.iter-in-Retain.ensures.lawful.contents, refl); alike = refl })

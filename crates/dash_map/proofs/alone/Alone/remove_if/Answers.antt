@@ -1,25 +1,42 @@
-use Rattle.std.proofs.Common.{Option, true, false, refl, ap, subst}
-use Rattle.std.specs.Prelude.{IfSome}
-use Rattle.dash_shard.specs.Closures.{AnswersOn}
-use Rattle.dash_map.specs.Alone.{keys_in}
-use Rattle.dash_map.proofs.Asked.{asked-yes, asked-no}
-use Rattle.dash_map.proofs.Found.{replied}
+use Rattle.std.proofs.Common.{◌<◌, Option, refl, sym, ap, subst, length, arith}
+use Rattle.std.specs.Prelude.{IfSome, option_and_then}
+use Rattle.dash_shard.specs.Closures.{MayAsk, AnswersOn}
+use Rattle.dash_shard.specs.Steps.{RemoveIf, Pair, if_yes, if_no}
+use Rattle.dash_map.proofs.Lifting.{goes_there, hashed_there, here, stands, alone-set, taken}
 use Rattle.dash_map.proofs.alone.Alone.remove_if.Goals as goal
 
-pub returns-then-f : goal.returns-then-f
-returns-then-f g c =
-    let w = keys_in g.K.PartialEq.eq g.S.BuildHasher g.S.Hasher.Hasher g.K.Hash.hash_input c.args.self.now in (
-      true,
-      asked-yes g.K.PartialEq.eq g.S.BuildHasher g.S.Hasher.Hasher g.K.Hash.hash_input _ _ _ _ c.remove_hashed.ensures,
-      subst (λ (o : Option (g.row.K.Denot × g.row.V.Denot)). IfSome o (λ p. AnswersOn g.F.FnOnce c.args.f p true)) (ap (replied w) c.in_ok-stored.ensures.pair)
-          (record { key = c.in_ok-stored.stored; value = c.in_ok-stored.value; shows = (refl, refl); says = c.if-f.ensures }),
-    )
+pub remove_if_hashed-requires-clause-hash : goal.remove_if_hashed-requires-clause-hash
+remove_if_hashed-requires-clause-hash g c =
+    let row = c.self.inside.row in
+    let within : c.place_of-hash.result.1 < length row.items = omega (arith, c.place_of-hash.ensures.below, ap (λ a. length a.row) c.self.view_is) in
+    hashed_there g.K.PartialEq.eq g.S.BuildHasher g.S.Hasher.Hasher g.K.Hash.hash_input g.met.K.Eq.laws g.met.K.Hash.respects_eq _ _ _ c.self.view_is c.self.invariant.0 c.args.key.now c.place_of-hash.result.1 c.place_of-hash.ensures.place c.index_mut.result.now within c.index_mut.ensures.value c.place_of-hash.result.0 c.place_of-hash.ensures.hash
+
+pub remove_if_hashed-requires-clause-route : goal.remove_if_hashed-requires-clause-route
+remove_if_hashed-requires-clause-route g c =
+    let row = c.self.inside.row in
+    let within : c.place_of-hash.result.1 < length row.items = omega (arith, c.place_of-hash.ensures.below, ap (λ a. length a.row) c.self.view_is) in
+    goes_there g.K.PartialEq.eq g.S.BuildHasher g.S.Hasher.Hasher g.K.Hash.hash_input g.met.K.Eq.laws g.met.K.Hash.respects_eq _ _ _ c.self.view_is c.self.invariant.0 c.args.key.now c.place_of-hash.result.1 c.place_of-hash.ensures.place c.index_mut.result.now within c.index_mut.ensures.value
+
+pub remove_if_hashed-requires-clause-callable : goal.remove_if_hashed-requires-clause-callable
+remove_if_hashed-requires-clause-callable g c =
+    let row = c.self.inside.row in
+    let within : c.place_of-hash.result.1 < length row.items = omega (arith, c.place_of-hash.ensures.below, ap (λ a. length a.row) c.self.view_is) in
+    subst (λ (o : Option (g.row.K.Denot × g.row.V.Denot)). IfSome o (MayAsk g.F.FnOnce c.args.f)) (stands g.K.PartialEq.eq g.S.BuildHasher g.S.Hasher.Hasher g.K.Hash.hash_input g.met.K.Eq.laws g.met.K.Hash.respects_eq _ _ _ c.self.view_is c.self.invariant.0 c.args.key.now c.place_of-hash.result.1 c.place_of-hash.ensures.place c.index_mut.result.now within c.index_mut.ensures.value) c.requires
+
+pub invariant_of-self : goal.invariant_of-self
+invariant_of-self g c =
+    let row = c.self.inside.row in
+    let within : c.place_of-hash.result.1 < length row.items = omega (arith, c.place_of-hash.ensures.below, ap (λ a. length a.row) c.self.view_is) in
+    let x = c.remove_if_hashed.ensures.1.taken in
+    (alone-set g.K.PartialEq.eq g.S.BuildHasher g.S.Hasher.Hasher g.K.Hash.hash_input _ c.place_of-hash.result.1 row.items c.index_mut.result.now c.remove_if_hashed.new.self c.self.invariant.0 (here g.K.PartialEq.eq g.S.BuildHasher g.S.Hasher.Hasher g.K.Hash.hash_input g.met.K.Eq.laws g.met.K.Hash.respects_eq _ _ _ c.self.view_is c.self.invariant.0 c.args.key.now c.place_of-hash.result.1 c.place_of-hash.ensures.place c.index_mut.result.now within c.index_mut.ensures.value) x.stays x.lawful, c.self.invariant.1, c.self.invariant.2)
 
 pub returns : goal.returns
 returns g c =
-    let w = keys_in g.K.PartialEq.eq g.S.BuildHasher g.S.Hasher.Hasher g.K.Hash.hash_input c.args.self.now in (
-      false,
-      asked-no g.K.PartialEq.eq g.S.BuildHasher g.S.Hasher.Hasher g.K.Hash.hash_input c.args.self.now c.args.key.now c.get_hashed.ensures.lawful,
-      subst (λ (o : Option (g.row.K.Denot × g.row.V.Denot)). IfSome o (λ p. AnswersOn g.F.FnOnce c.args.f p false)) (ap (replied w) c.in_ok-stored.ensures.pair)
-          (record { key = c.in_ok-stored.stored; value = c.in_ok-stored.value; shows = (refl, refl); says = c.if-f.ensures }),
+    let row = c.self.inside.row in
+    let within : c.place_of-hash.result.1 < length row.items = omega (arith, c.place_of-hash.ensures.below, ap (λ a. length a.row) c.self.view_is) in
+    let did = c.remove_if_hashed.ensures in
+    let x = did.1.taken in (
+      did.0,
+      taken g.K.PartialEq.eq g.S.BuildHasher g.S.Hasher.Hasher g.K.Hash.hash_input g.met.K.Eq.laws g.met.K.Hash.respects_eq _ _ _ c.self.view_is c.self.invariant.0 c.args.key.now c.place_of-hash.result.1 c.place_of-hash.ensures.place c.index_mut.result.now within c.index_mut.ensures.value c.remove_if_hashed.new.self x.stays x.lawful (option_and_then (λ p. if_no (λ _ v. (v, did.0)) p p)) (λ o. Pair (option_and_then (λ p. if_yes (λ _ v. (v, did.0)) p p) o)) (RemoveIf c.args.key.now (λ _ v. (v, did.0))) (Pair c.remove_if_hashed.result) refl x.replies x.becomes,
+      subst (λ (o : Option (g.row.K.Denot × g.row.V.Denot)). IfSome o (λ p. AnswersOn g.F.FnOnce c.args.f p did.0)) (sym (stands g.K.PartialEq.eq g.S.BuildHasher g.S.Hasher.Hasher g.K.Hash.hash_input g.met.K.Eq.laws g.met.K.Hash.respects_eq _ _ _ c.self.view_is c.self.invariant.0 c.args.key.now c.place_of-hash.result.1 c.place_of-hash.ensures.place c.index_mut.result.now within c.index_mut.ensures.value)) did.2,
     )

@@ -1,12 +1,7 @@
-use Rattle.std.proofs.Common.{Some, refl, sym, ap, inl, ◌∙◌}
-use Rattle.std.specs.Option.{option_map}
-use Rattle.dash_shard.proofs.Lending.{lent-found}
+use Rattle.std.proofs.Common.{ap, ◌∙◌}
+use Rattle.dash_shard.specs.Hashing.{hash_of}
 use Rattle.dash_shard.proofs.shard.Shard.get_mut.Goals as goal
 
-pub returns-in-Some : goal.returns-in-Some
-returns-in-Some g c =
-    let found = c.in-Some.ensures in
-    let i = c.in-Some.position in (
-      (λ j. inl (c.at_mut.result.1.ghost_name, λ w. (lent-found g.K.PartialEq.eq c.args.key.now w c.args.self.now (Some i) found.position i refl) j)),
-      record { writes_back = tt; value = ap (λ o. option_map (λ p. p.1) o) (sym c.at_mut.ensures.pair ∙ found.pair); lawful = found.lawful },
-    )
+pub get_mut_hashed-requires : goal.get_mut_hashed-requires
+unfolding hash_of
+get_mut_hashed-requires g c = c.hash_one-hash.ensures ∙ ap (λ s. hash_of g.S.BuildHasher g.S.Hasher.Hasher s.hasher (g.K.Hash.hash_input c.args.key.now)) c.self.view_is

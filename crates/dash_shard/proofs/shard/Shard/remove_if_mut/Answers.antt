@@ -1,75 +1,7 @@
-use Rattle.std.proofs.Common.{true, false, is_some, refl, sym, subst, ap, ◌∙◌}
-use Rattle.std.specs.Prelude.{IfSome}
+use Rattle.std.proofs.Common.{ap, ◌∙◌}
 use Rattle.dash_shard.specs.Hashing.{hash_of}
-use Rattle.dash_shard.specs.Shard.{HasKey}
-use Rattle.dash_shard.specs.Closures.{ChangesOn}
-use Rattle.dash_shard.proofs.Altering.{idle, to, unremoved, altered-inside, gone-inside, gone-changed, stays-changed, stood}
-use Rattle.dash_shard.proofs.Rewriting.{holds-pair, valued-rewritten, valued-place}
 use Rattle.dash_shard.proofs.shard.Shard.remove_if_mut.Goals as goal
 
-pub position_of_hashed-requires : goal.position_of_hashed-requires
+pub remove_if_mut_hashed-requires-clause-hash : goal.remove_if_mut_hashed-requires-clause-hash
 unfolding hash_of
-position_of_hashed-requires g c = c.hash_one-hash.ensures ∙ ap (λ s. hash_of g.S.BuildHasher g.S.Hasher.Hasher s.hasher (g.K.Hash.hash_input c.args.key.now)) c.self.view_is
-
-pub returns-in_err-place : goal.returns-in_err-place
-returns-in_err-place g c =
-    let none = c.in_err-place.ensures.absent.0 refl in
-    rw c.from_residual.ensures (
-      idle,
-      unremoved g.K.PartialEq.eq g.S.BuildHasher g.S.Hasher.Hasher g.K.Hash.hash_input c.args.self.now c.args.key.now c.in_err-place.ensures.lawful,
-      subst (λ o. IfSome o (λ p. ChangesOn g.F.FnOnce c.args.f p (p.1, false))) (sym none) tt,
-    )
-
-pub take-requires-clause-table : goal.take-requires-clause-table
-take-requires-clause-table g c = (valued-rewritten c.self.inside.table c.in_ok-place.place _ c.f.new.arg3 c.self.invariant.table c.pair_mut-value.ensures.pair).table
-
-pub take-requires-clause-taken : goal.take-requires-clause-taken
-take-requires-clause-taken g c = ap is_some (valued-place c.self.inside.table c.in_ok-place.place _ c.f.new.arg3 c.self.invariant.table c.pair_mut-value.ensures.pair)
-
-pub invariant_of-self : goal.invariant_of-self
-invariant_of-self g c =
-    let t = c.self.inside.table in
-    let i = c.in_ok-place.place in
-    let there = c.pair_mut-value.ensures.pair in
-    let v = c.f.new.arg3 in
-    let found = holds-pair g.K.PartialEq.eq t.nodes.items c.args.key.now i _ there (subst (λ s. HasKey g.K.PartialEq.eq s c.args.key.now i) (sym c.self.view_is) ((c.in_ok-place.ensures.position i).0 refl)) in
-    let r = c.take.ensures in
-    gone-inside _ _ _ _ g.met.K.Eq.laws g.met.K.Hash.respects_eq _ _ _ _ _ c.self.invariant _ i found _ c.self.view_is c.requires.route v _ (valued-rewritten t i _ v c.self.invariant.table there) r.pairs r.hashes r.len r.table
-
-pub returns-then-f : goal.returns-then-f
-returns-then-f g c =
-    let t = c.self.inside.table in
-    let i = c.in_ok-place.place in
-    let there = c.pair_mut-value.ensures.pair in
-    let v = c.f.new.arg3 in
-    let found = holds-pair g.K.PartialEq.eq t.nodes.items c.args.key.now i _ there (subst (λ s. HasKey g.K.PartialEq.eq s c.args.key.now i) (sym c.self.view_is) ((c.in_ok-place.ensures.position i).0 refl)) in
-    let r = c.take.ensures in
-    let gone = gone-changed _ _ _ _ g.met.K.Eq.laws g.met.K.Hash.respects_eq _ _ _ _ _ c.self.invariant _ i found _ c.self.view_is c.requires.route v _ (valued-rewritten t i _ v c.self.invariant.table there) r.pairs r.hashes r.len r.table in (
-      to v true,
-      rw (sym r.old ∙ valued-place t i _ v c.self.invariant.table there) gone,
-      stood _ _ _ _ g.met.K.Eq.laws g.met.K.Hash.respects_eq _ _ _ _ t c.self.invariant _ i found _ c.self.view_is (λ p. ChangesOn g.F.FnOnce c.args.f p (v, true))
-          (record { key = c.pair_mut-value.result.0; value = c.pair_mut-value.result.1; shows = (refl, refl); left = _; leaves = refl; says = c.if-f.ensures }),
-    )
-
-pub invariant_of-self-else-f : goal.invariant_of-self-else-f
-invariant_of-self-else-f g c =
-    let t = c.self.inside.table in
-    let i = c.in_ok-place.place in
-    let there = c.pair_mut-value.ensures.pair in
-    let v = c.f.new.arg3 in
-    let found = holds-pair g.K.PartialEq.eq t.nodes.items c.args.key.now i _ there (subst (λ s. HasKey g.K.PartialEq.eq s c.args.key.now i) (sym c.self.view_is) ((c.in_ok-place.ensures.position i).0 refl)) in
-    altered-inside _ _ _ _ g.met.K.Eq.laws g.met.K.Hash.respects_eq _ _ _ _ _ c.self.invariant _ i found _ c.self.view_is v (valued-rewritten t i _ v c.self.invariant.table there)
-
-pub returns : goal.returns
-returns g c =
-    let t = c.self.inside.table in
-    let i = c.in_ok-place.place in
-    let there = c.pair_mut-value.ensures.pair in
-    let v = c.f.new.arg3 in
-    let found = holds-pair g.K.PartialEq.eq t.nodes.items c.args.key.now i _ there (subst (λ s. HasKey g.K.PartialEq.eq s c.args.key.now i) (sym c.self.view_is) ((c.in_ok-place.ensures.position i).0 refl)) in
-    let r = valued-rewritten t i _ v c.self.invariant.table there in (
-      to v false,
-      stays-changed _ _ _ _ g.met.K.Eq.laws g.met.K.Hash.respects_eq _ _ _ _ _ c.self.invariant _ i found _ c.self.view_is v r,
-      stood _ _ _ _ g.met.K.Eq.laws g.met.K.Hash.respects_eq _ _ _ _ t c.self.invariant _ i found _ c.self.view_is (λ p. ChangesOn g.F.FnOnce c.args.f p (v, false))
-          (record { key = c.pair_mut-value.result.0; value = c.pair_mut-value.result.1; shows = (refl, refl); left = _; leaves = refl; says = c.if-f.ensures }),
-    )
+remove_if_mut_hashed-requires-clause-hash g c = c.hash_one-hash.ensures ∙ ap (λ s. hash_of g.S.BuildHasher g.S.Hasher.Hasher s.hasher (g.K.Hash.hash_input c.args.key.now)) c.self.view_is

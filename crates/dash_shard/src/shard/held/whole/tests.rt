@@ -39,3 +39,21 @@ fn each_pair_of_a_held_shard_is_asked(rt: HostRuntime) -> Result<(), Fail> {
     assert_eq!(rt; held.capacity(), 0);
     Ok(())
 }
+
+#[test]
+fn a_closure_comes_back_from_a_held_shard(rt: HostRuntime) -> Result<(), Fail> {
+    assert!(rt; is_shard_amount(4));
+    let shard = Shard::<u64, u64, PlaceState>::new(rt.alloc(), PlaceState, 1, 4, 0)?;
+    let tag = ShardTag::of(&shard);
+    let lock = RwLock::new(shard, &tag);
+    let mut held = lock.write(&rt).shard();
+    for (key, value) in [(1, 15), (5, 22)] {
+        assert!(rt; held.routes(&key), "{key}");
+        assert_eq!(rt; held.insert(key, value)?, None, "{key}");
+    }
+    drop(held.alter_all_by(|key: &u64, value: u64| value.wrapping_add(*key)));
+    drop(held.retain_by(|_: &u64, value: &mut u64| *value > 20));
+    assert_eq!(rt; held.get(&1), None);
+    assert_eq!(rt; held.get(&5), Some((&5, &27)));
+    Ok(())
+}

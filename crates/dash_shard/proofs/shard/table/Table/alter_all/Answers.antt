@@ -22,4 +22,4 @@ loop-place-preserved g c =
     }
 
 pub returns-clause-swept : goal.returns-clause-swept
-returns-clause-swept g c = (_, sweeping-last _ _ _ _ _ _ _ c.loop-place.place (omega (arith, length-map c.loop-place.self.nodes.items (λ n. n.pair))) c.loop-place.invariant.sweeping)
+returns-clause-swept g c = sweeping-last _ _ _ _ _ _ _ c.loop-place.place (omega (arith, length-map c.loop-place.self.nodes.items (λ n. n.pair))) c.loop-place.invariant.sweeping

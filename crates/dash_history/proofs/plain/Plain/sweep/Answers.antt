@@ -1,0 +1,73 @@
+use Rattle.std.proofs.Common.{◌≡◌, ◌+◌, ◌++◌, ◌∷◌, [], Some, true, is_some, take, arith, refl, sym, ap, subst, ◌∙◌, append-nil}
+use Rattle.std.proofs.lemmas.List.{take_more, take_all}
+use Rattle.std.specs.Result.{is_ok}
+use Rattle.dash_shard.specs.Hashing.{route_by}
+use Rattle.dash_shard.specs.Contents.{Distinct}
+use Rattle.dash_history.specs.Plain.{PlainState, IsPlain, plain_rules}
+use Rattle.dash_shard.specs.Steps.{Retain, after}
+use Rattle.dash_history.specs.Takes.{AlikeAt}
+use Rattle.dash_history.specs.Sweep.{keeping}
+use Rattle.dash_history.proofs.PlainSweeps.{ok-is, with_first, Swept, swept-more, swept-at, swept-distinct}
+use Rattle.dash_history.proofs.Recording.{lawful-by}
+use Rattle.dash_history.proofs.plain.Plain.sweep.Goals as goal
+use Rattle.dash_history.proofs.plain.Plain.sweep.Goals.{in-Some+in_ok-ok, in_default}
+
+pub loop-pair-preserved : goal.loop-pair-preserved
+loop-pair-preserved g c =
+    let m = plain_rules g.K.PartialEq.eq g.S.BuildHasher g.S.Hasher.Hasher g.K.Hash.hash_input g.K.Kept.alike g.V.Kept.alike c.args.self.now in
+    let items = c.deref-pair-items.result.now in
+    let i = c.loop-pair.pair-index in
+    let p = c.pair-item.result in
+    let next : take (i + 1) items ≡ take i items ++ p ∷ [] = take_more items i p c.loop-pair-test.true ∙ ap (λ x. take i items ++ x ∷ []) (sym c.pair-item.is) in
+    let more = swept-more m c.args.shard (keeping c.args.all (g.A.Action.acts c.args.action.now)) (take i items) c.loop-pair.next.items p in
+    let left = c.in_ok-left.field-0 in
+    let makes = ok-is c.swept.result left (λ o. AlikeAt m (after m.keys (Retain c.args.shard (keeping c.args.all (g.A.Action.acts c.args.action.now))) p.0 (Some p)) o) (sym c.ok.ensures.value ∙ c.in_ok-left.was) c.swept.ensures in
+    rw next (subst (λ l. Swept m c.args.shard (keeping c.args.all (g.A.Action.acts c.args.action.now)) (take i items ++ p ∷ []) l) (sym pushed) (more left c.loop-pair.invariant makes))
+  where
+    pushed : c.match-branch-2.next.items ≡ c.loop-pair.next.items ++ with_first c.in_ok-left.field-0 []
+    pushed = elim c.match-branch-2.branch [
+      | in-Some+in_ok-ok y ↦
+          let fits : is_ok y.push.result ≡ true = sym y.ok-in-Some.ensures.variant ∙ ap is_some y.in_ok-ok.was in
+          rw (y.next-is, y.push.ensures.items, fits, y.in-Some.is) refl
+      | in_default y ↦ rw (y.next-is, y.in_default.is, append-nil c.loop-pair.next.items) refl
+    ]
+
+pub invariant_of-self : goal.invariant_of-self
+invariant_of-self g c =
+    let At : Type 0 = PlainState g.row.K.Denot g.row.V.Denot g.row.S.Denot in
+    let now = c.args.self.now in
+    let m = plain_rules g.K.PartialEq.eq g.S.BuildHasher g.S.Hasher.Hasher g.K.Hash.hash_input g.K.Kept.alike g.V.Kept.alike now in
+    let f = keeping c.args.all (g.A.Action.acts c.args.action.now) in
+    let laws = lawful-by _ g.S.BuildHasher g.S.Hasher.Hasher _ _ _ g.met.K.Eq.laws g.met.K.Hash.respects_eq g.met.K.Kept.alike_laws g.met.V.Kept.alike_laws g.met.K.KeptKey.alike_equal now.hasher now.amount in
+    let plain = subst (λ (x : At). IsPlain g.K.PartialEq.eq (route_by g.S.BuildHasher g.S.Hasher.Hasher g.K.Hash.hash_input) x) c.self.view_is c.self.invariant in
+    let all = take_all c.loop-pair.pair-index c.deref-pair-items.result.now (omega (arith, c.loop-pair-test.false)) ∙ c.deref-pair-items.ensures.value ∙ ap (λ (x : At). x.pairs) c.self.view_is in
+    let swept = subst (λ P. Swept m c.args.shard f P c.loop-pair.next.items) all c.loop-pair.invariant in
+    let distinct = swept-distinct m c.args.shard f laws now.pairs c.loop-pair.next.items plain.distinct swept in
+    record {
+      distinct = subst (λ (x : At). Distinct (plain_rules g.K.PartialEq.eq g.S.BuildHasher g.S.Hasher.Hasher g.K.Hash.hash_input g.K.Kept.alike g.V.Kept.alike x).keys c.loop-pair.next.items) (sym c.self.view_is) distinct;
+      amount = c.self.invariant.amount;
+    }
+
+pub returns-clause-leaves : goal.returns-clause-leaves
+returns-clause-leaves g c e j =
+    let At : Type 0 = PlainState g.row.K.Denot g.row.V.Denot g.row.S.Denot in
+    let now = c.args.self.now in
+    let m = plain_rules g.K.PartialEq.eq g.S.BuildHasher g.S.Hasher.Hasher g.K.Hash.hash_input g.K.Kept.alike g.V.Kept.alike now in
+    let f = keeping c.args.all (g.A.Action.acts c.args.action.now) in
+    let laws = lawful-by _ g.S.BuildHasher g.S.Hasher.Hasher _ _ _ g.met.K.Eq.laws g.met.K.Hash.respects_eq g.met.K.Kept.alike_laws g.met.V.Kept.alike_laws g.met.K.KeptKey.alike_equal now.hasher now.amount in
+    let plain = subst (λ (x : At). IsPlain g.K.PartialEq.eq (route_by g.S.BuildHasher g.S.Hasher.Hasher g.K.Hash.hash_input) x) c.self.view_is c.self.invariant in
+    let all = take_all c.loop-pair.pair-index c.deref-pair-items.result.now (omega (arith, c.loop-pair-test.false)) ∙ c.deref-pair-items.ensures.value ∙ ap (λ (x : At). x.pairs) c.self.view_is in
+    let swept = subst (λ P. Swept m c.args.shard f P c.loop-pair.next.items) all c.loop-pair.invariant in
+    swept-at m c.args.shard f laws now.pairs c.loop-pair.next.items plain.distinct swept j
+
+pub returns-clause-distinct : goal.returns-clause-distinct
+returns-clause-distinct g c =
+    let At : Type 0 = PlainState g.row.K.Denot g.row.V.Denot g.row.S.Denot in
+    let now = c.args.self.now in
+    let m = plain_rules g.K.PartialEq.eq g.S.BuildHasher g.S.Hasher.Hasher g.K.Hash.hash_input g.K.Kept.alike g.V.Kept.alike now in
+    let f = keeping c.args.all (g.A.Action.acts c.args.action.now) in
+    let laws = lawful-by _ g.S.BuildHasher g.S.Hasher.Hasher _ _ _ g.met.K.Eq.laws g.met.K.Hash.respects_eq g.met.K.Kept.alike_laws g.met.V.Kept.alike_laws g.met.K.KeptKey.alike_equal now.hasher now.amount in
+    let plain = subst (λ (x : At). IsPlain g.K.PartialEq.eq (route_by g.S.BuildHasher g.S.Hasher.Hasher g.K.Hash.hash_input) x) c.self.view_is c.self.invariant in
+    let all = take_all c.loop-pair.pair-index c.deref-pair-items.result.now (omega (arith, c.loop-pair-test.false)) ∙ c.deref-pair-items.ensures.value ∙ ap (λ (x : At). x.pairs) c.self.view_is in
+    let swept = subst (λ P. Swept m c.args.shard f P c.loop-pair.next.items) all c.loop-pair.invariant in
+    swept-distinct m c.args.shard f laws now.pairs c.loop-pair.next.items plain.distinct swept

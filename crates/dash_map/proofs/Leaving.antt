@@ -1,0 +1,134 @@
+-- Shards that are changed one after the other behind their locks.
+use Rattle.std.proofs.Common.{◌≡◌, ℕ, ◌+◌, Bool, List, [], ◌∷◌, ◌++◌, length, Option, Some, slice_get, inl, inr, refl, sym, ap, subst, ◌∙◌, arith}
+use Rattle.std.proofs.lemmas.Option.{none-some, slice_get_within}
+use Rattle.std.proofs.Math.ListN.{take}
+use Rattle.std.proofs.Math.Seq.{take-length}
+use Rattle.std.specs.Cmp.{IsEquivalence}
+use Rattle.std.specs.Hash.{HashWrites}
+use Rattle.std.specs.Map.Calls.{CallableOnEachPair}
+use Rattle.std.specs.declared.hash.Hasher as hasher
+use Rattle.std.specs.declared.hash.BuildHasher as builder
+use Rattle.dash_shard.specs.Hashing.{IsAmount}
+use Rattle.dash_shard.specs.Shard.{ShardState, SameShard, IsShard, taken}
+use Rattle.dash_shard.specs.Each.{Sweeps, SweepsShard, Clears, Shrinks, if_kept, altered}
+use Rattle.dash_map.specs.Alone.{AloneState, IsPlaced}
+use Rattle.dash_map.specs.Behind.{LeavesShards, IsBehind}
+use Rattle.dash_map.specs.Map.{MapState}
+use Rattle.dash_map.specs.Whole.{SameRoom, ClearsAlone, ShrinksAlone, RetainsAlone, AltersAllAlone}
+use Rattle.dash_map.proofs.Lifting.{placed-moved}
+use Rattle.dash_map.proofs.Seeing.{SoFar, append-cases, none-yet, one-more, all-seen}
+use Rattle.dash_map.proofs.Sweeping.{Sweeping, places_of, places-more, sweeps-append, callable-behind, retains-alone, alters-all-alone}
+use Rattle.dash_map.proofs.Turning.{Turning, clears-alone, shrinks-alone}
+
+-- what holds of items at one place of two lists, and of one item more of each
+pub each-more : {A : Type 0} (R : A → A → Type 0) (olds news : List A) (s t : A) → length olds ≡ length news → ((i : ℕ) (x y : A) → slice_get olds i ≡ Some x → slice_get news i ≡ Some y → R x y) → R s t
+    → (i : ℕ) (x y : A) → slice_get (olds ++ s ∷ []) i ≡ Some x → slice_get (news ++ t ∷ []) i ≡ Some y → R x y
+each-more R olds news s t long each here i x y e e' = elim (append-cases olds s i x e) as (λ _. R x y) [
+  | inl old ↦ elim (append-cases news t i y e') as (λ _. R x y) [
+    | inl new ↦ each i x y old new
+    | inr last ↦ absurd (omega (arith, slice_get_within olds i x old, last.0, long))
+  ]
+  | inr last ↦ elim (append-cases news t i y e') as (λ _. R x y) [
+    | inl new ↦ absurd (omega (arith, slice_get_within news i y new, last.0, long))
+    | inr new ↦ subst (λ a. R a y) last.1 (subst (λ a. R s a) new.1 here)
+  ]
+]
+
+module _ {K V S H : Type 0} (eq : K → K → Bool) (b : builder.Ghosts S H) (h : hasher.Ghosts H) (input : K → HashWrites) (m : MapState S) where
+  -- the shards in front of n, each as it stood and as it was left
+  pub record Leaving (R : ShardState K V S → ShardState K V S → Type 0) (n : ℕ) : Type 0 where
+    pub olds : List (ShardState K V S)
+    pub news : List (ShardState K V S)
+    pub stood : SoFar eq b h input m n olds
+    pub stands : SoFar eq b h input m n news
+    pub each : (i : ℕ) (s t : ShardState K V S) → slice_get olds i ≡ Some s → slice_get news i ≡ Some t → R s t
+
+  -- a row of this map
+  abbrev row-of : List (ShardState K V S) → AloneState K V S
+  row-of row = record { hasher = m.hasher; row = row }
+
+  module _ (R : ShardState K V S → ShardState K V S → Type 0) where
+    abbrev pub none-left : Leaving R 0
+    none-left = record { olds = []; news = []; stood = none-yet eq b h input m; stands = none-yet eq b h input m; each = λ i s t e e'. absurd (none-some s e) }
+
+    module _ (n : ℕ) (so : Leaving R n) where
+      abbrev pub one-left : (s t : ShardState K V S) → IsPlaced eq b h input m.hasher m.amount n s → SameShard s t → IsShard eq b h input t → R s t → Leaving R (n + 1)
+      one-left s t placed stays lawful is = record {
+        olds = so.olds ++ s ∷ [];
+        news = so.news ++ t ∷ [];
+        stood = one-more eq b h input m n so.olds so.stood s placed;
+        stands = one-more eq b h input m n so.news so.stands t (placed-moved eq b h input m.hasher m.amount n s t placed stays lawful);
+        each = each-more R so.olds so.news s t (so.stood.count ∙ sym so.stands.count) so.each is;
+      }
+
+      module _ (all : n ≡ m.amount) (amount : IsAmount m.amount) where
+        all-stood : IsBehind eq b h input m (row-of so.olds)
+        all-stood = all-seen eq b h input m n so.olds so.stood all amount
+
+        all-stand : IsBehind eq b h input m (row-of so.news)
+        all-stand = all-seen eq b h input m n so.news so.stands all amount
+
+        all-turned : Turning eq b h input R n (row-of so.olds) (row-of so.news)
+        all-turned = record {
+          done = λ j s t _ e e'. so.each j s t e e';
+          rest = λ j t from e. absurd (omega (arith, from, slice_get_within so.news j t e, so.stands.count));
+          hasher = refl;
+          amount = so.stands.count ∙ sym so.stood.count;
+          lawful = all-stand.lawful;
+        }
+
+        all-left : (Q : AloneState K V S → AloneState K V S → Type 0) → Q (row-of so.olds) (row-of so.news) → LeavesShards eq b h input m Q
+        all-left Q did = record { before = row-of so.olds; after = row-of so.news; stood = all-stood; stands = all-stand; leaves = did }
+
+  pub all-cleared : (n : ℕ) → Leaving (Clears eq b h input) n → n ≡ m.amount → IsAmount m.amount → LeavesShards {V = V} eq b h input m (ClearsAlone eq b h input)
+  all-cleared n so all amount =
+      all-left (Clears eq b h input) n so all amount (ClearsAlone eq b h input)
+      (clears-alone eq b h input n (row-of so.olds) (row-of so.news) (all-turned (Clears eq b h input) n so all amount) (sym so.stands.count))
+
+  pub all-shrunk : IsEquivalence eq → (n : ℕ) → Leaving (Shrinks eq b h input) n → n ≡ m.amount → IsAmount m.amount → LeavesShards {V = V} eq b h input m (ShrinksAlone eq b h input)
+  all-shrunk laws n so all amount =
+      all-left (Shrinks eq b h input) n so all amount (ShrinksAlone eq b h input)
+      (shrinks-alone eq b h input laws n (row-of so.olds) (row-of so.news) (all-stood (Shrinks eq b h input) n so all amount).lawful (all-turned (Shrinks eq b h input) n so all amount) (sym so.stands.count))
+
+  module _ {F : Type 0} (T : F → K → V → Bool → V → F → Type 0) (Q : F → K → V → Type 0) (leaves : K → V × Bool → Option (K × V)) (first : F) where
+    -- the closure went over the shards in front of n, and may go on
+    pub record Going (n : ℕ) (f : F) : Type 0 where
+      pub left : Leaving SameRoom n
+      pub swept : Sweeps T leaves first (places_of left.olds) (places_of left.news) f
+      pub ready : (ps : List (K × V)) → CallableOnEachPair T Q f ps
+
+    pub going-first : ((ps : List (K × V)) → CallableOnEachPair T Q first ps) → Going 0 first
+    going-first callable = record { left = none-left SameRoom; swept = (refl, refl); ready = callable }
+
+    module _ (n : ℕ) (f : F) (so : Going n f) where
+      pub going-next : (s t : ShardState K V S) (f' : F) → IsPlaced eq b h input m.hasher m.amount n s → SweepsShard eq b h input T leaves f f' s t → Going (n + 1) f'
+      going-next s t f' placed x = record {
+        left = one-left SameRoom n so.left s t placed x.stays x.lawful x.room;
+        swept = subst (λ l. Sweeps T leaves first l (places_of (so.left.news ++ t ∷ [])) f') (sym (places-more so.left.olds s))
+            (subst (λ l. Sweeps T leaves first (places_of so.left.olds ++ s.places) l f') (sym (places-more so.left.news t))
+            (sweeps-append T leaves first f f' (places_of so.left.olds) (places_of so.left.news) s.places t.places so.swept x.swept));
+        ready = λ ps. callable-behind T leaves Q f f' s.places t.places ps x.swept (so.ready (taken s.places ++ ps));
+      }
+
+      module _ (all : n ≡ m.amount) (amount : IsAmount m.amount) where
+        whole : (row : List (ShardState K V S)) → length row ≡ n → take n row ≡ row
+        whole row count = ap (λ k. take k row) (sym count) ∙ take-length row
+
+        gone : Sweeping eq b h input T Q leaves first n (row-of so.left.olds) (row-of so.left.news) f
+        gone = record {
+          turning = all-turned SameRoom n so.left all amount;
+          swept = subst (λ l. Sweeps T leaves first (places_of l) (places_of (take n so.left.news)) f) (sym (whole so.left.olds so.left.stood.count))
+              (subst (λ l. Sweeps T leaves first (places_of so.left.olds) (places_of l) f) (sym (whole so.left.news so.left.stands.count)) so.swept);
+          ready = so.ready _;
+        }
+
+  module _ {F : Type 0} (T : F → K → V → Bool → V → F → Type 0) (Q : F → K → V → Type 0) (first : F) (laws : IsEquivalence eq) (n : ℕ) (f : F) (all : n ≡ m.amount) (amount : IsAmount m.amount) where
+    pub all-retained : Going T Q if_kept first n f → LeavesShards eq b h input m (RetainsAlone eq b h input T first)
+    all-retained so =
+        all-left SameRoom n so.left all amount (RetainsAlone eq b h input T first)
+        (retains-alone eq b h input T Q first laws n (row-of so.left.olds) (row-of so.left.news) f (all-stood SameRoom n so.left all amount).lawful (sym so.left.stands.count) (gone T Q if_kept first n f so all amount))
+
+    pub all-altered : Going T Q altered first n f → LeavesShards eq b h input m (AltersAllAlone eq b h input T first)
+    all-altered so =
+        all-left SameRoom n so.left all amount (AltersAllAlone eq b h input T first)
+        (alters-all-alone eq b h input T Q first laws n (row-of so.left.olds) (row-of so.left.news) f (all-stood SameRoom n so.left all amount).lawful (sym so.left.stands.count) (gone T Q altered first n f so all amount))

@@ -1,0 +1,167 @@
+-- A closure that is called along the shards of a map, one after the other.
+use Rattle.std.proofs.Common.{◌≡◌, ℕ, suc, ◌+◌, ◌≤◌, Bool, List, [], ◌∷◌, ◌++◌, length, Option, Some, None, slice_get, slice_set, flat_map, sym, ap, subst, refl, ◌∙◌, arith, append_assoc, append-nil}
+use Rattle.std.specs.Prelude.{option_and_then, option_map}
+use Rattle.std.specs.Cmp.{IsEquivalence}
+use Rattle.std.specs.Hash.{HashWrites}
+use Rattle.std.specs.declared.hash.Hasher as hasher
+use Rattle.std.specs.declared.hash.BuildHasher as builder
+use Rattle.std.specs.Map.Calls.{CallableOnEachPair}
+use Rattle.std.proofs.Math.ListN.{take, drop}
+use Rattle.std.proofs.Math.Seq.{drop-cons, take-length}
+use Rattle.std.proofs.lemmas.Grind.{flat_map-append}
+use Rattle.std.proofs.lemmas.List.{take_more, take_more_set, drop-set-lt}
+use Rattle.std.proofs.lemmas.Option.{slice_get_within, get_or_from_slice_get}
+use Rattle.dash_shard.specs.Contents.{Keys, at, Distinct}
+use Rattle.dash_shard.specs.Steps.{changed}
+use Rattle.dash_shard.specs.Shard.{ShardState, taken, pairs}
+use Rattle.dash_shard.specs.Each.{CalledAlong, Sweeps, SweepsShard, if_kept, altered}
+use Rattle.dash_shard.proofs.Alls.{kept-key, altered-key, length-altered}
+use Rattle.dash_shard.proofs.Remade.{KeepsKey, remade, at-remade, fewer-remade, Acts, acts, makes}
+use Rattle.dash_map.specs.Alone.{AloneState, IsAlone, contents, keys_in}
+use Rattle.dash_map.specs.Whole.{SameRoom, RetainsAlone, AltersAllAlone}
+use Rattle.dash_map.proofs.Distincts.{distinct-contents}
+use Rattle.dash_map.proofs.Turning.{Turning, turning-first, turned, each-turned}
+
+taken-append : {A : Type 0} (xs ys : List (Option A)) → taken (xs ++ ys) ≡ taken xs ++ taken ys
+taken-append [] ys = refl
+taken-append (None ∷ xs) ys = taken-append xs ys
+taken-append (Some x ∷ xs) ys = ap (λ l. x ∷ l) (taken-append xs ys)
+
+module _ {K V S : Type 0} where
+  -- the places of all shards
+  abbrev pub places_of : List (ShardState K V S) → List (Option (K × V))
+  places_of row = flat_map (λ s. s.places) row
+
+  taken-places : (row : List (ShardState K V S)) → taken (places_of row) ≡ flat_map pairs row
+  taken-places [] = refl
+  taken-places (s ∷ row) = taken-append s.places (places_of row) ∙ ap (λ l. pairs s ++ l) (taken-places row)
+
+  pub places-more : (row : List (ShardState K V S)) (s : ShardState K V S) → places_of (row ++ s ∷ []) ≡ places_of row ++ s.places
+  places-more row s = flat_map-append (λ x. x.places) row (s ∷ []) ∙ ap (λ l. places_of row ++ l) (append-nil s.places)
+
+module _ {F K V : Type 0} (T : F → K → V → Bool → V → F → Type 0) (leaves : K → V × Bool → Option (K × V)) where
+  -- a walk over one row and then over another
+  pub sweeps-append : (f mid last : F) (xs ys zs news : List (Option (K × V))) → Sweeps T leaves f xs ys mid → Sweeps T leaves mid zs news last → Sweeps T leaves f (xs ++ zs) (ys ++ news) last
+  sweeps-append f mid last [] ys zs news s r = subst (λ l. Sweeps T leaves f zs (l ++ news) last) (sym s.0) (subst (λ x. Sweeps T leaves x zs news last) (sym s.1) r)
+  sweeps-append f mid last (o ∷ xs) ys zs news s r =
+      (s.0, s.1, s.2 ++ news, s.3, ap (λ l. l ++ news) s.4, sweeps-append s.1 mid last xs s.2 zs news s.5 r)
+
+  module _ (Q : F → K → V → Type 0) where
+    -- after a walk over the places in front the closure may be called at the pairs behind
+    pub callable-behind : (f mid : F) (xs ys : List (Option (K × V))) (ps : List (K × V)) → Sweeps T leaves f xs ys mid → CallableOnEachPair T Q f (taken xs ++ ps) → CallableOnEachPair T Q mid ps
+    callable-behind f mid [] ys ps s c = subst (λ x. CallableOnEachPair T Q x ps) s.1 c
+    callable-behind f mid (None ∷ xs) ys ps s c = callable-behind s.1 mid xs s.2 ps s.5 (subst (λ x. CallableOnEachPair T Q x (taken xs ++ ps)) s.3.1 c)
+    callable-behind f mid (Some p ∷ xs) ys ps s c =
+        callable-behind s.1 mid xs s.2 ps s.5 (record { at = λ before after g k x e r. c.at (p ∷ before) after g k x (ap (λ m. p ∷ m) e) (s.1, (s.3.0, s.3.1, s.3.2), r) })
+
+    callable-front : (f : F) (ps qs : List (K × V)) → CallableOnEachPair T Q f (ps ++ qs) → CallableOnEachPair T Q f ps
+    callable-front f ps qs c = record { at = λ before after g k x e r. c.at before (after ++ qs) g k x (ap (λ l. l ++ qs) e ∙ append_assoc before ((k, x) ∷ after) qs) r }
+
+module _ {K V S H F : Type 0} (eq : K → K → Bool) (b : builder.Ghosts S H) (h : hasher.Ghosts H) (input : K → HashWrites)
+    (T : F → K → V → Bool → V → F → Type 0) (Q : F → K → V → Type 0) (leaves : K → V × Bool → Option (K × V)) (first : F) where
+  -- the closure was called along the shards below i, and may be called along those from i on
+  pub record Sweeping (i : ℕ) (old now : AloneState K V S) (f : F) : Type 0 where
+    pub turning : Turning eq b h input SameRoom i old now
+    pub swept : Sweeps T leaves first (places_of (take i old.row)) (places_of (take i now.row)) f
+    pub ready : CallableOnEachPair T Q f (flat_map pairs (drop i now.row))
+
+  pub sweeping-first : (old now : AloneState K V S) → now ≡ old → IsAlone eq b h input now → CallableOnEachPair T Q first (contents old) → Sweeping 0 old now first
+  sweeping-first old now same lawful callable = record {
+    turning = turning-first eq b h input SameRoom old now same lawful;
+    swept = (refl, refl);
+    ready = subst (λ x. CallableOnEachPair T Q first (contents x)) (sym same) callable;
+  }
+
+  module _ (i : ℕ) (old : AloneState K V S) (base : S) (row : List (ShardState K V S)) (f : F) (r : Sweeping i old (record { hasher = base; row = row }) f) (s : ShardState K V S) (here : slice_get row i ≡ Some s) where
+    splits : drop i row ≡ s ∷ drop (i + 1) row
+    splits =
+        let lt = slice_get_within row i s here in
+        drop-cons row i s lt ∙ ap (λ x. x ∷ drop (suc i) row) (get_or_from_slice_get row i s s here) ∙ ap (λ n. s ∷ drop n row) (let e : suc i ≡ i + 1 = omega arith in e)
+
+    ready-both : CallableOnEachPair T Q f (pairs s ++ flat_map pairs (drop (i + 1) row))
+    ready-both = subst (λ xs. CallableOnEachPair T Q f (flat_map pairs xs)) splits r.ready
+
+    -- the closure may be called along the shard i
+    pub sweeping-ready : CallableOnEachPair T Q f (pairs s)
+    sweeping-ready = callable-front T leaves Q f (pairs s) (flat_map pairs (drop (i + 1) row)) ready-both
+
+    -- and was
+    pub sweeping-next : (t : ShardState K V S) (f' : F) → SweepsShard eq b h input T leaves f f' s t → Sweeping (i + 1) old (record { hasher = base; row = slice_set row i t }) f'
+    sweeping-next t f' x =
+        let lt = slice_get_within row i s here in
+        let was : slice_get old.row i ≡ Some s = r.turning.rest i s (omega arith) here in
+        let before : take (i + 1) old.row ≡ take i old.row ++ s ∷ [] = take_more old.row i s (slice_get_within old.row i s was) ∙ ap (λ y. take i old.row ++ y ∷ []) (get_or_from_slice_get old.row i s s was) in
+        let after : take (i + 1) (slice_set row i t) ≡ take i row ++ t ∷ [] = take_more_set row i t lt in
+        record {
+          turning = turned eq b h input SameRoom i old base row r.turning s t here x.stays x.lawful x.room;
+          swept = subst (λ l. Sweeps T leaves first l (places_of (take (i + 1) (slice_set row i t))) f') (sym (ap places_of before ∙ places-more (take i old.row) s))
+              (subst (λ l. Sweeps T leaves first (places_of (take i old.row) ++ s.places) l f') (sym (ap places_of after ∙ places-more (take i row) t))
+              (sweeps-append T leaves first f f' (places_of (take i old.row)) (places_of (take i row)) s.places t.places r.swept x.swept));
+          ready = subst (λ l. CallableOnEachPair T Q f' (flat_map pairs l)) (sym (drop-set-lt (i + 1) row i t (omega arith)))
+              (callable-behind T leaves Q f f' s.places t.places (flat_map pairs (drop (i + 1) row)) x.swept ready-both);
+        }
+
+  -- along all of them
+  module _ (laws : IsEquivalence eq) (i : ℕ) (old now : AloneState K V S) (last : F) (a : IsAlone eq b h input old) (r : Sweeping i old now last) (all : i ≡ length now.row) where
+    abbrev w : Keys K
+    w = keys_in eq b h input old
+
+    whole : Sweeps T leaves first (places_of old.row) (places_of now.row) last
+    whole =
+        let none-more : take i old.row ≡ old.row = ap (λ n. take n old.row) (all ∙ r.turning.amount) ∙ take-length old.row in
+        let none-left : take i now.row ≡ now.row = ap (λ n. take n now.row) all ∙ take-length now.row in
+        subst (λ l. Sweeps T leaves first (places_of l) (places_of now.row) last) none-more (subst (λ l. Sweeps T leaves first (places_of (take i old.row)) (places_of l) last) none-left r.swept)
+
+    distinct : Distinct w (taken (places_of old.row))
+    distinct = subst (Distinct w) (sym (taken-places old.row)) (distinct-contents eq b h input laws old a)
+
+    pub did : Acts T leaves w laws first (places_of old.row) (places_of now.row) last
+    did = acts T leaves w laws first (places_of old.row) (places_of now.row) last distinct whole
+
+    pub called-all : CalledAlong T did.act first (contents old) last
+    called-all = subst (λ ps. CalledAlong T did.act first ps last) (taken-places old.row) did.called
+
+    -- what the map has: what the places have
+    pub made-all : contents now ≡ taken (remade (makes T leaves w laws did.act) (places_of old.row))
+    made-all = sym (taken-places now.row) ∙ ap taken did.made
+
+    pub each-made : KeepsKey (makes T leaves w laws did.act) → (j : K) → at w (contents now) j ≡ option_and_then (makes T leaves w laws did.act) (at w (contents old) j)
+    each-made keeps j = ap (λ ps. at w ps j) made-all ∙ at-remade (makes T leaves w laws did.act) keeps w laws (places_of old.row) distinct j
+        ∙ ap (λ ps. option_and_then (makes T leaves w laws did.act) (at w ps j)) (taken-places old.row)
+
+map-then : {A B : Type 0} (g : A → B) (o : Option A) → option_and_then (λ x. Some (g x)) o ≡ option_map g o
+map-then g None = refl
+map-then g (Some x) = refl
+
+module _ {K V S H F : Type 0} (eq : K → K → Bool) (b : builder.Ghosts S H) (h : hasher.Ghosts H) (input : K → HashWrites)
+    (T : F → K → V → Bool → V → F → Type 0) (Q : F → K → V → Type 0) (first : F) (laws : IsEquivalence eq) (i : ℕ) (old now : AloneState K V S) (last : F) (a : IsAlone eq b h input old) (all : i ≡ length now.row) where
+  pub retains-alone : Sweeping eq b h input T Q if_kept first i old now last → RetainsAlone eq b h input T first old now
+  retains-alone r =
+      let d = did eq b h input T Q if_kept first laws i old now last a r all in
+      record {
+        act = d.act;
+        last = last;
+        called = called-all eq b h input T Q if_kept first laws i old now last a r all;
+        each = each-made eq b h input T Q if_kept first laws i old now last a r all (kept-key d.act);
+        len = subst (λ n. length (contents now) ≤ n) (ap length (taken-places old.row))
+            (subst (λ ps. length ps ≤ length (taken (places_of old.row))) (sym (made-all eq b h input T Q if_kept first laws i old now last a r all)) (fewer-remade (makes T if_kept (keys_in eq b h input old) laws d.act) (places_of old.row)));
+        room = each-turned eq b h input SameRoom i old now r.turning all;
+        hasher = r.turning.hasher;
+        amount = r.turning.amount;
+        lawful = r.turning.lawful;
+      }
+
+  pub alters-all-alone : Sweeping eq b h input T Q altered first i old now last → AltersAllAlone eq b h input T first old now
+  alters-all-alone r =
+      let d = did eq b h input T Q altered first laws i old now last a r all in
+      record {
+        act = d.act;
+        last = last;
+        called = called-all eq b h input T Q altered first laws i old now last a r all;
+        each = λ j. each-made eq b h input T Q altered first laws i old now last a r all (altered-key d.act) j ∙ map-then (changed d.act) (at (keys_in eq b h input old) (contents old) j);
+        len = ap length (made-all eq b h input T Q altered first laws i old now last a r all) ∙ length-altered d.act (places_of old.row) ∙ ap length (taken-places old.row);
+        room = each-turned eq b h input SameRoom i old now r.turning all;
+        hasher = r.turning.hasher;
+        amount = r.turning.amount;
+        lawful = r.turning.lawful;
+      }

@@ -1,0 +1,122 @@
+-- A row of shards that have their turns one after the other.
+use Rattle.std.proofs.Common.{◌≡◌, ℕ, zero, suc, ◌+◌, ◌<◌, ◌≤◌, Bool, List, [], ◌∷◌, ◌++◌, length, Some, slice_get, slice_set, flat_map, get_or, length-append, sym, ap, ap₂, subst, refl, ◌∙◌, inl, inr, arith}
+use Rattle.std.proofs.lemmas.Bool.{cases_eq}
+use Rattle.std.proofs.lemmas.Option.{slice_get_within, slice_get-get_or, same_Some}
+use Rattle.std.proofs.Math.ListN.{length-set}
+use Rattle.std.specs.Cmp.{IsEquivalence}
+use Rattle.std.specs.Hash.{HashWrites}
+use Rattle.std.specs.declared.hash.Hasher as hasher
+use Rattle.std.specs.declared.hash.BuildHasher as builder
+use Rattle.dash_shard.proofs.Rows.{slice_get-set_same, slice_get-set_other}
+use Rattle.dash_shard.proofs.Routing.{route_below}
+use Rattle.dash_shard.specs.Hashing.{hash_of, route_by}
+use Rattle.dash_shard.specs.Contents.{Keys, keys, at, Distinct}
+use Rattle.dash_shard.specs.Shard.{ShardState, SameShard, IsShard, pairs, shard_len}
+use Rattle.dash_shard.specs.Each.{Clears, Shrinks}
+use Rattle.dash_map.specs.Alone.{AloneState, IsAlone, contents, keys_in}
+use Rattle.dash_map.specs.Whole.{EachShard, ClearsAlone, ShrinksAlone}
+use Rattle.dash_map.proofs.Distincts.{distinct-contents}
+use Rattle.dash_map.proofs.Lifting.{alone-set, on-shards}
+use Rattle.dash_map.proofs.Union.{OnShards, at-union}
+
+module _ {K V S : Type 0} where
+  -- no shard has a pair
+  none-there : (row : List (ShardState K V S)) → ((j : ℕ) (s : ShardState K V S) → slice_get row j ≡ Some s → pairs s ≡ []) → flat_map pairs row ≡ []
+  none-there [] each = refl
+  none-there (s ∷ row) each = ap (λ l. l ++ flat_map pairs row) (each zero s refl) ∙ none-there row (λ j. each (suc j))
+
+  some-there : (row : List (ShardState K V S)) (i : ℕ) → i < length row → (s : ShardState K V S) × (slice_get row i ≡ Some s)
+  some-there [] i lt = absurd (omega arith)
+  some-there (s ∷ row) zero lt = (s, refl)
+  some-there (s ∷ row) (suc i) lt = some-there row i (omega (arith, lt))
+
+  -- each shard has as many pairs
+  as-many : (xs ys : List (ShardState K V S)) → length ys ≡ length xs → ((j : ℕ) (s t : ShardState K V S) → slice_get xs j ≡ Some s → slice_get ys j ≡ Some t → shard_len t ≡ shard_len s)
+      → length (flat_map pairs ys) ≡ length (flat_map pairs xs)
+  as-many [] [] long each = refl
+  as-many [] (y ∷ ys) long each = absurd (omega (arith, long))
+  as-many (x ∷ xs) [] long each = absurd (omega (arith, long))
+  as-many (x ∷ xs) (y ∷ ys) long each =
+      omega (arith, length-append (pairs x) (flat_map pairs xs), length-append (pairs y) (flat_map pairs ys), each zero x y refl refl, as-many xs ys (omega (arith, long)) (λ j. each (suc j)))
+
+module _ {K V S H : Type 0} (eq : K → K → Bool) (b : builder.Ghosts S H) (h : hasher.Ghosts H) (input : K → HashWrites) where
+  -- maps of one hasher and amount know the same of their keys
+  pub known-same : (old new : AloneState K V S) → new.hasher ≡ old.hasher → length new.row ≡ length old.row → keys_in eq b h input new ≡ keys_in eq b h input old
+  known-same old new base amount = ap₂ (λ s n. keys eq (route_by b h input s n) n) base amount
+
+  module _ (R : ShardState K V S → ShardState K V S → Type 0) where
+    -- the shards below i had their turn, and R says what became of each; those from i on are as they were
+    pub record Turning (i : ℕ) (old now : AloneState K V S) : Type 0 where
+      pub done : (j : ℕ) (s t : ShardState K V S) → j < i → slice_get old.row j ≡ Some s → slice_get now.row j ≡ Some t → R s t
+      pub rest : (j : ℕ) (t : ShardState K V S) → i ≤ j → slice_get now.row j ≡ Some t → slice_get old.row j ≡ Some t
+      pub hasher : now.hasher ≡ old.hasher
+      pub amount : length now.row ≡ length old.row
+      pub lawful : IsAlone eq b h input now
+
+    pub turning-first : (old now : AloneState K V S) → now ≡ old → IsAlone eq b h input now → Turning 0 old now
+    turning-first old now same lawful = record {
+      done = λ j s t below. absurd (omega (arith, below));
+      rest = λ j t from e. subst (λ x. slice_get x.row j ≡ Some t) same e;
+      hasher = ap (λ x. x.hasher) same;
+      amount = ap (λ x. length x.row) same;
+      lawful = lawful;
+    }
+
+    -- the shard i had its turn
+    pub turned : (i : ℕ) (old : AloneState K V S) (base : S) (row : List (ShardState K V S)) → Turning i old (record { hasher = base; row = row }) → (s t : ShardState K V S) → slice_get row i ≡ Some s
+        → SameShard s t → IsShard eq b h input t → R s t → Turning (i + 1) old (record { hasher = base; row = slice_set row i t })
+    turned i old base row r s t here stays new did = record {
+      done = λ j x y below e f. elim (cases_eq j i) as (λ _. R x y) [
+        | inl this ↦
+            let was : s ≡ x = same_Some s x (sym (r.rest i s (omega arith) here) ∙ ap (λ n. slice_get old.row n) (sym this) ∙ e) in
+            let put : t ≡ y = same_Some t y (sym (slice_get-set_same row i t (slice_get_within row i s here)) ∙ ap (λ n. slice_get (slice_set row i t) n) (sym this) ∙ f) in
+            subst (λ a. R a y) was (subst (λ c. R s c) put did)
+        | inr other ↦ r.done j x y (omega (arith, below, other)) e (slice_get-set_other row i j t y other f)
+      ];
+      rest = λ j y from f. r.rest j y (omega (arith, from)) (slice_get-set_other row i j t y (λ e. absurd (omega (arith, from, e))) f);
+      hasher = r.hasher;
+      amount = length-set row i t ∙ r.amount;
+      lawful = alone-set eq b h input base i row s t r.lawful here stays new;
+    }
+
+    -- all had
+    pub each-turned : (i : ℕ) (old now : AloneState K V S) → Turning i old now → i ≡ length now.row → EachShard R old now
+    each-turned i old now r all j s t e f = r.done j s t (omega (arith, all, slice_get_within now.row j t f)) e f
+
+  pub clears-alone : (i : ℕ) (old now : AloneState K V S) → Turning (Clears eq b h input) i old now → i ≡ length now.row → ClearsAlone eq b h input old now
+  clears-alone i old now r all =
+      let each = each-turned (Clears eq b h input) i old now r all in
+      record {
+        empty = none-there now.row (λ j t f. (each j (get_or old.row j t) t (slice_get-get_or old.row j t (omega (arith, slice_get_within now.row j t f, r.amount))) f).empty);
+        room = λ j s t e f. (each j s t e f).room;
+        hasher = r.hasher;
+        amount = r.amount;
+        lawful = r.lawful;
+      }
+
+  pub shrinks-alone : IsEquivalence eq → (i : ℕ) (old now : AloneState K V S) → IsAlone eq b h input old → Turning (Shrinks eq b h input) i old now → i ≡ length now.row → ShrinksAlone eq b h input old now
+  shrinks-alone laws i old now a r all =
+      let each = each-turned (Shrinks eq b h input) i old now r all in
+      let w : Keys K = keys_in eq b h input old in
+      let known : keys_in eq b h input now ≡ w = known-same old now r.hasher r.amount in
+      let on : OnShards w 0 old.row = on-shards eq b h input old.hasher old.row a in
+      let on' : OnShards w 0 now.row = subst (λ x. OnShards x 0 now.row) known (on-shards eq b h input now.hasher now.row r.lawful) in
+      record {
+        pairs = record {
+          distinct = subst (λ x. Distinct x (contents now)) known (distinct-contents eq b h input laws now r.lawful);
+          same = λ k. same-there k on on' each;
+        };
+        len = as-many old.row now.row r.amount (λ j s t e f. (each j s t e f).len);
+        shards = each;
+        hasher = r.hasher;
+        amount = r.amount;
+        lawful = r.lawful;
+      }
+    where
+      same-there : (k : K) → OnShards (keys_in eq b h input old) 0 old.row → OnShards (keys_in eq b h input old) 0 now.row → EachShard (Shrinks eq b h input) old now → at (keys_in eq b h input old) (contents now) k ≡ at (keys_in eq b h input old) (contents old) k
+      same-there k on on' each =
+          let w : Keys K = keys_in eq b h input old in
+          let below : w.route k < length old.row = route_below (hash_of b h old.hasher (input k)) (length old.row) (omega (arith, a.amount.several)) in
+          let s = some-there old.row (w.route k) below in
+          let t = some-there now.row (w.route k) (omega (arith, below, r.amount)) in
+          at-union w now.row k t.0 on' t.1 ∙ (each (w.route k) s.0 t.0 s.1 t.1).pairs.same k ∙ sym (at-union w old.row k s.0 on s.1)

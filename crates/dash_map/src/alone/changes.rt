@@ -1,0 +1,47 @@
+//! Calls of a map of one owner that change the pair of a key.
+ghost use Rattle.std.specs.Prelude.{◌≡◌, IfSome};
+ghost use Rattle.std.specs.Borrow.{sem};
+ghost use Rattle.std.specs.Option.{option_map, option_copied_mut};
+ghost use Rattle.dash_shard.specs.Contents.{at};
+ghost use Rattle.dash_shard.specs.Closures.{MayChange, ChangesOn, MayGive, GivesOn};
+ghost use Rattle.dash_map.specs.Alone.{IsAlone, TakesChanged, TakesAltered, contents, keys_in};
+
+use super::Alone;
+use std::hash::{BuildHasher, Hash};
+
+impl<K: Eq + Hash + Drop, V: Drop, S: BuildHasher> Alone<K, V, S> {
+    ghost use Rattle.dash_map.specs.Lends.{lends_value};
+
+    /// As `remove_if`, where `f` may write the value. On yes the pair is answered as `f` left it, and on no it stays so. It takes no memory,
+    /// can't be refused, and waits for nobody.
+    #[inline]
+    pub fn remove_if_mut<F: FnOnce(&K, &mut V) -> bool>(&mut self, key: &K, f: F) -> Option<(K, V)>
+        requires { IfSome (at (keys_in K.eq S.BuildHasher S.Hasher.Hasher K.hash_input self.old) (contents self.old) key.now) (MayChange F.FnOnce f) }
+        ensures { TakesChanged K.eq S.BuildHasher S.Hasher.Hasher K.hash_input (ChangesOn F.FnOnce f) self.old self.new key.now result }
+    {
+        let (hash, place) = self.place_of(key);
+        self.row[place].remove_if_mut_hashed(hash, key, f)
+    }
+
+    /// Gives the pair whose key equals `key` the value that `f` makes of its own; without such a pair it does nothing. It takes no memory,
+    /// can't be refused, and waits for nobody.
+    #[inline]
+    pub fn alter<F: FnOnce(&K, V) -> V>(&mut self, key: &K, f: F)
+        requires { IfSome (at (keys_in K.eq S.BuildHasher S.Hasher.Hasher K.hash_input self.old) (contents self.old) key.now) (MayGive F.FnOnce f) }
+        ensures { TakesAltered K.eq S.BuildHasher S.Hasher.Hasher K.hash_input (GivesOn F.FnOnce f) self.old self.new key.now }
+    {
+        let (hash, place) = self.place_of(key);
+        self.row[place].alter_hashed(hash, key, f);
+    }
+
+    /// The value of the pair whose key equals `key`, to be written. It takes no memory, and waits for nobody.
+    #[inline]
+    pub fn get_mut(&mut self, key: &K) -> Option<&mut V>
+        ensures* writes_back { sem 𝓛 (lends_value K.row V.row S.row S.Hasher.row K.Hash S.BuildHasher S.Hasher.Hasher self.entry key.now result) }
+        ensures value { option_copied_mut result ≡ option_map (λ p. p.1) (at (keys_in K.eq S.BuildHasher S.Hasher.Hasher K.hash_input self.old) (contents self.old) key.now) }
+        ensures lawful { IsAlone K.eq S.BuildHasher S.Hasher.Hasher K.hash_input self.old }
+    {
+        let (hash, place) = self.place_of(key);
+        self.row[place].get_mut_hashed(hash, key)
+    }
+}

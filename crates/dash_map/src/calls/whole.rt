@@ -1,0 +1,70 @@
+//! Calls of threads on all pairs of a map that they share: shard after shard, each in its turn held for writing.
+ghost use Rattle.std.specs.Map.Calls.{CalledAtPair, TakesPair};
+ghost use Rattle.dash_shard.specs.Each.{CalledOnPair, TakesOnPair};
+ghost use Rattle.dash_map.specs.Behind.{CallableOnPairs, LeavesShards};
+ghost use Rattle.dash_map.specs.Whole.{ClearsAlone, ShrinksAlone, RetainsAlone, AltersAllAlone};
+
+use crate::map::DashMap;
+use std::hash::{BuildHasher, Hash};
+use std::rt::Clock;
+use std::sync::Wait;
+
+impl<K: Eq + Hash, V, S: BuildHasher> DashMap<K, V, S> {
+    /// Keeps the pairs on which `f` answers yes, each with the value that `f` leaves, and lets the others go. It waits until nobody has a
+    /// shard, for one shard after the other, in rising order. It takes no memory, and can't be refused.
+    ///
+    /// `f` is called once at each pair, while the pair's shard is held: a call of this map from `f` waits for ever where it wants that shard.
+    /// Others may change the shards that it left, and those that it comes to.
+    pub fn retain<R: Wait + Clock, F: FnMut(&K, &mut V) -> bool>(&self, rt: &R, mut f: F)
+    where
+        K: Drop,
+        V: Drop,
+        requires { CallableOnPairs (CalledAtPair F.FnMut) (TakesPair F.FnMut) f }
+        ensures { LeavesShards K.eq S.BuildHasher S.Hasher.Hasher K.hash_input self.now (RetainsAlone K.eq S.BuildHasher S.Hasher.Hasher K.hash_input (CalledAtPair F.FnMut) f) }
+    {
+        for place in 0..self.row.len() {
+            f = self.shards_mut(rt, place).retain_by(f);
+        }
+    }
+
+    /// Lets all pairs go; the room stays. It waits until nobody has a shard, for one shard after the other, in rising order: others may put
+    /// pairs in those that it left. It takes no memory, and can't be refused.
+    pub fn clear<R: Wait + Clock>(&self, rt: &R)
+    where
+        K: Drop,
+        V: Drop,
+        ensures { LeavesShards K.eq S.BuildHasher S.Hasher.Hasher K.hash_input self.now (ClearsAlone {V = V} K.eq S.BuildHasher S.Hasher.Hasher K.hash_input) }
+    {
+        for place in 0..self.row.len() {
+            self.shards_mut(rt, place).clear();
+        }
+    }
+
+    /// Puts what `f` makes of each value in its place. It waits as `retain` does, and holds each shard while `f` runs over its pairs. It takes
+    /// no memory, and can't be refused.
+    pub fn alter_all<R: Wait + Clock, F: FnMut(&K, V) -> V>(&self, rt: &R, mut f: F)
+        requires { CallableOnPairs (CalledOnPair F.FnMut) (TakesOnPair F.FnMut) f }
+        ensures { LeavesShards K.eq S.BuildHasher S.Hasher.Hasher K.hash_input self.now (AltersAllAlone K.eq S.BuildHasher S.Hasher.Hasher K.hash_input (CalledOnPair F.FnMut) f) }
+    {
+        for place in 0..self.row.len() {
+            f = self.shards_mut(rt, place).alter_all_by(f);
+        }
+    }
+
+    /// Gives back what memory the shards have for more pairs than they hold; the pairs stay. It waits as `clear` does.
+    ///
+    /// A shard takes memory for its new places, and keeps the old ones where there is none, so that it can't be refused.
+    pub fn shrink_to_fit<R: Wait + Clock>(&self, rt: &R)
+    where
+        K: Drop,
+        V: Drop,
+        ensures { LeavesShards K.eq S.BuildHasher S.Hasher.Hasher K.hash_input self.now (ShrinksAlone {V = V} K.eq S.BuildHasher S.Hasher.Hasher K.hash_input) }
+    {
+        for place in 0..self.row.len() {
+            self.shards_mut(rt, place).shrink_to_fit();
+        }
+    }
+}
+
+#[cfg(test)]
+mod tests;
