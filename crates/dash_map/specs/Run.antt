@@ -1,5 +1,5 @@
 -- A run: a list of steps, taken one after the other on a map of one owner, up to the first that is refused.
-use Rattle.std.specs.Prelude.{◌≡◌, ◌≤◌, ◌↔◌, Bool, List, [], ◌∷◌, ◌++◌, map, IfSome}
+use Rattle.std.specs.Prelude.{◌≡◌, ◌≤◌, ◌↔◌, Bool, List, [], ◌∷◌, ◌++◌, map, IfSome, ⊤}
 use Rattle.std.specs.Option.{option_map_or}
 use Rattle.std.specs.Hash.{HashWrites}
 use Rattle.std.specs.declared.hash.Hasher as hasher
@@ -8,6 +8,7 @@ use Rattle.dash_shard.specs.Steps as table
 use Rattle.dash_history.specs.Steps.{step_of, reply_of}
 use Rattle.dash_history.specs.Takes.{Rules, rules, Runs}
 use Rattle.dash_history.specs.declared.step.ShardStep.{ShardStep}
+use Rattle.dash_history.specs.declared.step.ShardStep.TheVariants.{Get, Contains, Insert, Remove, Read, Count, AlterAll, Retain}
 use Rattle.dash_history.specs.declared.step.Reply.{Reply}
 use Rattle.dash_map.specs.Alone.{AloneState, contents, keys_in}
 use Rattle.dash_map.specs.Behind.{IsBehind}
@@ -17,6 +18,22 @@ use Rattle.dash_map.specs.declared.run.Fault.TheVariants.{NoSuchShard}
 use Rattle.dash_map.specs.declared.run.RunOutcome.{RunOutcome}
 
 module _ {K V A : Type 0} where
+  -- the step is on the pair at its key, and has no action
+  abbrev pub IsPlain : ShardStep K V A → Type 0
+  IsPlain (Get k) = ⊤
+  IsPlain (Contains k) = ⊤
+  IsPlain (Insert k v) = ⊤
+  IsPlain (Remove k) = ⊤
+  IsPlain _ = ⊥
+
+  -- the step names its shard by its number
+  abbrev pub NamesShard : ShardStep K V A → Type 0
+  NamesShard (Read i) = ⊤
+  NamesShard (Count i) = ⊤
+  NamesShard (AlterAll i f) = ⊤
+  NamesShard (Retain i f) = ⊤
+  NamesShard _ = ⊥
+
   -- the steps that a run leaves: those from the refused one on, or none
   abbrev pub rest_of : RunOutcome K V A → List (ShardStep K V A)
   rest_of outcome = option_map_or (λ stop. stop.0.items) outcome.stopped []

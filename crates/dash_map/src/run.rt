@@ -40,7 +40,7 @@ pub struct RunOutcome<K, V, A = ()> {
 }
 
 impl<K: KeptKey + Drop, V: Kept + Drop, S: BuildHasher> Alone<K, V, S> {
-    ghost use Rattle.dash_map.specs.Run.{Ran, IsRefused, rules_in};
+    ghost use Rattle.dash_map.specs.Run.{IsPlain, NamesShard, Ran, IsRefused, rules_in};
 
     // Makes of the pair at a key what was decided.
     fn make_change(&mut self, key: K, change: Change<V>)
@@ -127,6 +127,74 @@ impl<K: KeptKey + Drop, V: Kept + Drop, S: BuildHasher> Alone<K, V, S> {
         Ok(Reply::Done)
     }
 
+    // Takes a step that asks its action of the pair at its key, or one on a shard that it names, as `take` does.
+    fn take_asked<A: Action<K, V> + Drop>(
+        &mut self,
+        step: ShardStep<K, V, A>,
+    ) -> Result<Reply<K, V>, (ShardStep<K, V, A>, Fault)>
+        requires { IsPlain step → ⊥ }
+        ensures taken { IfOk result (λ reply. Takes (rules_in K.eq S.BuildHasher S.Hasher.Hasher K.hash_input K.alike V.alike self.old) (contents self.old) (step_of A.acts step) (reply_of reply) (contents self.new)) }
+        ensures refused { IfErr result (λ e. (e.0 ≡ step) × (self.new ≡ self.old)) }
+        ensures fault { IfErr result (λ e. (e.1 ≡ Fault.NoSuchShard) ↔ (length self.old.row ≤ place (keys_in K.eq S.BuildHasher S.Hasher.Hasher K.hash_input self.old) (step_of A.acts step))) }
+        ensures hasher { self.new.hasher ≡ self.old.hasher }
+        ensures amount { length self.new.row ≡ length self.old.row }
+        ensures lawful { IsAlone K.eq S.BuildHasher S.Hasher.Hasher K.hash_input self.new }
+    {
+        let _ = &self.hasher;
+        match step {
+            ShardStep::RemoveIf(key, action) => match plan_remove_if(self.get(&key), &action) {
+                Ok((reply, change)) => {
+                    self.make_change(key, change);
+                    Ok(reply)
+                }
+                Err(_) => Err((ShardStep::RemoveIf(key, action), Fault::Memory)),
+            },
+            ShardStep::RemoveIfMut(key, action) => {
+                match plan_remove_if_mut(self.get(&key), &action) {
+                    Ok((reply, change)) => {
+                        self.make_change(key, change);
+                        Ok(reply)
+                    }
+                    Err(_) => Err((ShardStep::RemoveIfMut(key, action), Fault::Memory)),
+                }
+            }
+            ShardStep::Alter(key, action) => match plan_alter(self.get(&key), &action) {
+                Ok((reply, change)) => {
+                    self.make_change(key, change);
+                    Ok(reply)
+                }
+                Err(_) => Err((ShardStep::Alter(key, action), Fault::Memory)),
+            },
+            step => match self.take_on_shard(&step) {
+                Ok(reply) => Ok(reply),
+                Err(fault) => Err((step, fault)),
+            },
+        }
+    }
+
+    // Takes a step on the shard that it names.
+    fn take_on_shard<A: Action<K, V>>(
+        &mut self,
+        step: &ShardStep<K, V, A>,
+    ) -> Result<Reply<K, V>, Fault>
+        requires { NamesShard step.now }
+        ensures taken { IfOk result (λ reply. Takes (rules_in K.eq S.BuildHasher S.Hasher.Hasher K.hash_input K.alike V.alike self.old) (contents self.old) (step_of A.acts step.now) (reply_of reply) (contents self.new)) }
+        ensures refused { IfErr result (λ fault. self.new ≡ self.old) }
+        ensures fault { IfErr result (λ fault. (fault ≡ Fault.NoSuchShard) ↔ (length self.old.row ≤ place (keys_in K.eq S.BuildHasher S.Hasher.Hasher K.hash_input self.old) (step_of A.acts step.now))) }
+        ensures hasher { self.new.hasher ≡ self.old.hasher }
+        ensures amount { length self.new.row ≡ length self.old.row }
+        ensures lawful { IsAlone K.eq S.BuildHasher S.Hasher.Hasher K.hash_input self.new }
+    {
+        let _ = &self.hasher;
+        match step {
+            ShardStep::Read(shard) => self.read(*shard),
+            ShardStep::Count(shard) => self.count(*shard),
+            ShardStep::AlterAll(shard, action) => self.sweep(*shard, action, true),
+            ShardStep::Retain(shard, action) => self.sweep(*shard, action, false),
+            _ => unreachable!(),
+        }
+    }
+
     // Takes the step on the shard of its place, or hands it back where there is no such shard, or no memory.
     fn take<A: Action<K, V> + Drop>(
         &mut self,
@@ -151,53 +219,16 @@ impl<K: KeptKey + Drop, V: Kept + Drop, S: BuildHasher> Alone<K, V, S> {
                 Err(refused) => Err((ShardStep::Insert(refused.key, refused.value), Fault::Memory)),
             },
             ShardStep::Remove(key) => Ok(Reply::Pair(self.remove(&key))),
-            ShardStep::RemoveIf(key, action) => match plan_remove_if(self.get(&key), &action) {
-                Ok((reply, change)) => {
-                    self.make_change(key, change);
-                    Ok(reply)
-                }
-                Err(_) => Err((ShardStep::RemoveIf(key, action), Fault::Memory)),
-            },
-            ShardStep::RemoveIfMut(key, action) => {
-                match plan_remove_if_mut(self.get(&key), &action) {
-                    Ok((reply, change)) => {
-                        self.make_change(key, change);
-                        Ok(reply)
-                    }
-                    Err(_) => Err((ShardStep::RemoveIfMut(key, action), Fault::Memory)),
-                }
-            }
-            ShardStep::Alter(key, action) => match plan_alter(self.get(&key), &action) {
-                Ok((reply, change)) => {
-                    self.make_change(key, change);
-                    Ok(reply)
-                }
-                Err(_) => Err((ShardStep::Alter(key, action), Fault::Memory)),
-            },
-            ShardStep::Read(shard) => match self.read(shard) {
-                Ok(reply) => Ok(reply),
-                Err(fault) => Err((ShardStep::Read(shard), fault)),
-            },
-            ShardStep::Count(shard) => match self.count(shard) {
-                Ok(reply) => Ok(reply),
-                Err(fault) => Err((ShardStep::Count(shard), fault)),
-            },
-            ShardStep::AlterAll(shard, action) => match self.sweep(shard, &action, true) {
-                Ok(reply) => Ok(reply),
-                Err(fault) => Err((ShardStep::AlterAll(shard, action), fault)),
-            },
-            ShardStep::Retain(shard, action) => match self.sweep(shard, &action, false) {
-                Ok(reply) => Ok(reply),
-                Err(fault) => Err((ShardStep::Retain(shard, action), fault)),
-            },
+            step => self.take_asked(step),
         }
     }
 
     /// Takes the steps in their order, each on the shard of its place, up to the first that is refused (13, 14), and answers what they
     /// reply. It waits for nobody.
     ///
-    /// It takes memory for the replies, before the first step, for an `Insert` as `insert` does, and for the copy that a `Get` answers.
-    /// The steps that it leaves take none. The original has no such call.
+    /// It takes memory for the replies, before the first step, for an `Insert` as `insert` does, and for copies of pairs: those that a `Get`
+    /// or a `Read` answers, and the one that an action is asked of. `AlterAll` and `Retain` change the shard in place, and take none, nor do
+    /// the steps that it leaves. The original has no such call.
     pub fn run<A: Action<K, V> + Drop>(
         &mut self,
         mut steps: Vec<ShardStep<K, V, A>>,

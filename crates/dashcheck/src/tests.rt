@@ -188,7 +188,11 @@ fn takes_steps_on_shards(rt: HostRuntime) -> Result<(), Fail> {
         b"insert 9 1\ninsert 1 9\ninsert 18446744073709551613 0\ninsert 5 5\ninsert 6 6\nalterall 1 add 1\nread 1\nread 2\nread 3\n",
         "old none\nold none\nold none\nold none\nold none\ndone\npairs 1:10 5:6 9:2 18446744073709551613:1\npairs 6:6\npairs\n",
         "",
-    )?;
+    )
+}
+
+#[test]
+fn refuses_steps_on_missing_shards(rt: HostRuntime) -> Result<(), Fail> {
     check(
         &rt,
         rt.alloc(),
