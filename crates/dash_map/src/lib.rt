@@ -5,3 +5,4 @@ pub mod alone;
 mod calls;
 pub mod map;
 pub mod run;
+pub mod t;

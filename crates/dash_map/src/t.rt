@@ -1,0 +1,275 @@
+//! The calls of a map that threads share, as a trait: code may be written for any such map.
+ghost use Rattle.std.specs.Prelude.{◌≡◌, ◌<◌, ◌==◌, ◌-◌, ◌^◌, min, length, sum_by, Option, IsTrue, IfOk, IfSome, IfErr, is_some};
+ghost use Rattle.std.specs.Map.Calls.{CalledAtPair, TakesPair};
+ghost use Rattle.dash_shard.specs.Closures.{MayAsk, AnswersOn, Viewed, MayChange, ChangesOn, MayGive, GivesOn};
+ghost use Rattle.dash_shard.specs.Each.{CalledOnPair, TakesOnPair};
+ghost use Rattle.dash_shard.specs.Hashing.{route_by};
+ghost use Rattle.dash_shard.specs.Held.{Alters};
+ghost use Rattle.dash_map.specs.Alone.{AloneState, IsPlaced, contents};
+ghost use Rattle.dash_map.specs.Behind.{Asked, Changed, SawPair, SawShards, LeavesShard, LeavesShards, CallableOnPairs};
+ghost use Rattle.dash_map.specs.Map.{MapState};
+ghost use Rattle.dash_map.specs.Whole.{ClearsAlone, ShrinksAlone, RetainsAlone, AltersAllAlone};
+ghost use Rattle.dash_ref.specs.Ref.{Stands};
+
+use crate::map::DashMap;
+use dash_ref::mapref::one::Ref;
+use dash_shard::shard::InsertRefused;
+use dash_shard::shard::held::ShardMut;
+use std::alloc::AllocError;
+use std::hash::{BuildHasher, Hash};
+use std::rt::Clock;
+use std::sync::Wait;
+
+/// A map that threads share, for code that is generic in it: the original's `Map`.
+///
+/// Each call does what that of `DashMap` does whose name it has after its underscore.
+pub trait Map<K: Eq + Hash, V, S: BuildHasher> {
+    // What contracts see of the map.
+    ghost state: { Self → MapState S };
+
+    /// The number of the shards.
+    fn _shard_count(&self) -> usize
+        ensures { result ≡ (state self.now).amount };
+
+    /// As `DashMap::shards_mut`.
+    fn _yield_write_shard<R: Wait + Clock>(&self, rt: &R, shard: usize) -> ShardMut<'_, K, V, S>
+        requires { shard < (state self.now).amount }
+        ensures { IsPlaced K.eq S.BuildHasher S.Hasher.Hasher K.hash_input (state self.now).hasher (state self.now).amount shard result };
+
+    /// As `DashMap::insert`.
+    fn _insert<R: Wait + Clock>(
+        &self,
+        rt: &R,
+        key: K,
+        value: V,
+    ) -> Result<Option<V>, InsertRefused<K, V>>
+    where
+        K: Drop,
+        V: Drop,
+        ensures refused { IfErr result (λ e. (e.key ≡ key) × (e.value ≡ value)) };
+
+    /// As `DashMap::remove`.
+    fn _remove<R: Wait + Clock>(&self, rt: &R, key: &K) -> Option<(K, V)>
+        ensures equal { IfSome result (λ pair. IsTrue (K.eq pair.0 key.now)) };
+
+    /// As `DashMap::remove_if`.
+    fn _remove_if<R: Wait + Clock, F: FnOnce(&K, &V) -> bool>(
+        &self,
+        rt: &R,
+        key: &K,
+        f: F,
+    ) -> Option<(K, V)>
+        requires { (p : K × V) → IsTrue (K.eq p.0 key.now) → MayAsk F.FnOnce f p }
+        ensures { SawPair K.eq S.BuildHasher S.Hasher.Hasher K.hash_input (state self.now) key.now (λ p. Asked (AnswersOn F.FnOnce f) p result) };
+
+    /// As `DashMap::remove_if_mut`.
+    fn _remove_if_mut<R: Wait + Clock, F: FnOnce(&K, &mut V) -> bool>(
+        &self,
+        rt: &R,
+        key: &K,
+        f: F,
+    ) -> Option<(K, V)>
+        requires { (p : K × V) → IsTrue (K.eq p.0 key.now) → MayChange F.FnOnce f p }
+        ensures { SawPair K.eq S.BuildHasher S.Hasher.Hasher K.hash_input (state self.now) key.now (λ p. Changed (ChangesOn F.FnOnce f) p result) };
+
+    /// As `DashMap::get`.
+    fn _get<R: Wait + Clock>(&self, rt: &R, key: &K) -> Option<Ref<'_, K, V, S>>
+        ensures equal { IfSome result (λ found. IsTrue (K.eq found.key key.now)) }
+        ensures stands { IfSome result Stands }
+        ensures placed { IfSome result (λ found. IsPlaced K.eq S.BuildHasher S.Hasher.Hasher K.hash_input (state self.now).hasher (state self.now).amount (route_by S.BuildHasher S.Hasher.Hasher K.hash_input (state self.now).hasher (state self.now).amount key.now) found.shard) };
+
+    /// As `DashMap::shrink_to_fit`.
+    fn _shrink_to_fit<R: Wait + Clock>(&self, rt: &R)
+    where
+        K: Drop,
+        V: Drop,
+        ensures { LeavesShards K.eq S.BuildHasher S.Hasher.Hasher K.hash_input (state self.now) (ShrinksAlone {V = V} K.eq S.BuildHasher S.Hasher.Hasher K.hash_input) };
+
+    /// As `DashMap::retain`.
+    fn _retain<R: Wait + Clock, F: FnMut(&K, &mut V) -> bool>(&self, rt: &R, f: F)
+    where
+        K: Drop,
+        V: Drop,
+        requires { CallableOnPairs (CalledAtPair F.FnMut) (TakesPair F.FnMut) f }
+        ensures { LeavesShards K.eq S.BuildHasher S.Hasher.Hasher K.hash_input (state self.now) (RetainsAlone K.eq S.BuildHasher S.Hasher.Hasher K.hash_input (CalledAtPair F.FnMut) f) };
+
+    /// As `DashMap::len`.
+    fn _len<R: Wait + Clock>(&self, rt: &R) -> usize
+        ensures { SawShards K.eq S.BuildHasher S.Hasher.Hasher K.hash_input (state self.now) (λ (a : AloneState K V S). result ≡ min (length (contents a)) (2 ^ 64 - 1)) };
+
+    /// As `DashMap::capacity`.
+    fn _capacity<R: Wait + Clock>(&self, rt: &R) -> usize
+        ensures { SawShards K.eq S.BuildHasher S.Hasher.Hasher K.hash_input (state self.now) (λ (a : AloneState K V S). result ≡ min (sum_by (λ s. s.capacity) a.row) (2 ^ 64 - 1)) };
+
+    /// As `DashMap::alter`.
+    fn _alter<R: Wait + Clock, F: FnOnce(&K, V) -> V>(&self, rt: &R, key: &K, f: F)
+        requires { (p : K × V) → IsTrue (K.eq p.0 key.now) → MayGive F.FnOnce f p }
+        ensures { LeavesShard K.eq S.BuildHasher S.Hasher.Hasher K.hash_input (state self.now) key.now (λ s t. Alters K.eq S.BuildHasher S.Hasher.Hasher K.hash_input (GivesOn F.FnOnce f) s t key.now) };
+
+    /// As `DashMap::alter_all`.
+    fn _alter_all<R: Wait + Clock, F: FnMut(&K, V) -> V>(&self, rt: &R, f: F)
+        requires { CallableOnPairs (CalledOnPair F.FnMut) (TakesOnPair F.FnMut) f }
+        ensures { LeavesShards K.eq S.BuildHasher S.Hasher.Hasher K.hash_input (state self.now) (AltersAllAlone K.eq S.BuildHasher S.Hasher.Hasher K.hash_input (CalledOnPair F.FnMut) f) };
+
+    /// As `DashMap::view`.
+    fn _view<R: Wait + Clock, T, F: FnOnce(&K, &V) -> T>(&self, rt: &R, key: &K, f: F) -> Option<T>
+        requires { (p : K × V) → IsTrue (K.eq p.0 key.now) → MayAsk F.FnOnce f p }
+        ensures { SawPair K.eq S.BuildHasher S.Hasher.Hasher K.hash_input (state self.now) key.now (λ p. Viewed F.FnOnce f p result) };
+
+    /// A copy of `DashMap::hasher`, refused where it finds no memory.
+    fn _hasher(&self) -> Result<S, AllocError>
+    where
+        S: Clone,
+        ensures { IfOk result (S.is_clone (state self.now).hasher) };
+
+    /// As `DashMap::clear`.
+    fn _clear<R: Wait + Clock>(&self, rt: &R)
+    where
+        K: Drop,
+        V: Drop,
+        ensures { LeavesShards K.eq S.BuildHasher S.Hasher.Hasher K.hash_input (state self.now) (ClearsAlone {V = V} K.eq S.BuildHasher S.Hasher.Hasher K.hash_input) };
+
+    /// As `DashMap::contains_key`.
+    fn _contains_key<R: Wait + Clock>(&self, rt: &R, key: &K) -> bool
+        ensures { SawPair K.eq S.BuildHasher S.Hasher.Hasher K.hash_input (state self.now) key.now (λ (p : Option (K × V)). result ≡ is_some p) };
+
+    /// As `DashMap::is_empty`.
+    fn _is_empty<R: Wait + Clock>(&self, rt: &R) -> bool
+        ensures { SawShards K.eq S.BuildHasher S.Hasher.Hasher K.hash_input (state self.now) (λ (a : AloneState K V S). result ≡ (length (contents a) == 0)) };
+}
+
+impl<K: Eq + Hash, V, S: BuildHasher> Map<K, V, S> for DashMap<K, V, S> {
+    ghost state = { λ m. m };
+
+    #[inline]
+    fn _shard_count(&self) -> usize {
+        self.row.len()
+    }
+
+    #[inline]
+    fn _yield_write_shard<R: Wait + Clock>(&self, rt: &R, shard: usize) -> ShardMut<'_, K, V, S> {
+        self.shards_mut(rt, shard)
+    }
+
+    #[inline]
+    fn _insert<R: Wait + Clock>(
+        &self,
+        rt: &R,
+        key: K,
+        value: V,
+    ) -> Result<Option<V>, InsertRefused<K, V>>
+    where
+        K: Drop,
+        V: Drop,
+    {
+        self.insert(rt, key, value)
+    }
+
+    #[inline]
+    fn _remove<R: Wait + Clock>(&self, rt: &R, key: &K) -> Option<(K, V)> {
+        self.remove(rt, key)
+    }
+
+    #[inline]
+    fn _remove_if<R: Wait + Clock, F: FnOnce(&K, &V) -> bool>(
+        &self,
+        rt: &R,
+        key: &K,
+        f: F,
+    ) -> Option<(K, V)> {
+        self.remove_if(rt, key, f)
+    }
+
+    #[inline]
+    fn _remove_if_mut<R: Wait + Clock, F: FnOnce(&K, &mut V) -> bool>(
+        &self,
+        rt: &R,
+        key: &K,
+        f: F,
+    ) -> Option<(K, V)> {
+        self.remove_if_mut(rt, key, f)
+    }
+
+    #[inline]
+    fn _get<R: Wait + Clock>(&self, rt: &R, key: &K) -> Option<Ref<'_, K, V, S>> {
+        self.get(rt, key)
+    }
+
+    #[inline]
+    fn _shrink_to_fit<R: Wait + Clock>(&self, rt: &R)
+    where
+        K: Drop,
+        V: Drop,
+    {
+        self.shrink_to_fit(rt)
+    }
+
+    #[inline]
+    fn _retain<R: Wait + Clock, F: FnMut(&K, &mut V) -> bool>(&self, rt: &R, f: F)
+    where
+        K: Drop,
+        V: Drop,
+    {
+        self.retain(rt, f)
+    }
+
+    #[inline]
+    fn _len<R: Wait + Clock>(&self, rt: &R) -> usize {
+        self.len(rt)
+    }
+
+    #[inline]
+    fn _capacity<R: Wait + Clock>(&self, rt: &R) -> usize {
+        self.capacity(rt)
+    }
+
+    #[inline]
+    fn _alter<R: Wait + Clock, F: FnOnce(&K, V) -> V>(&self, rt: &R, key: &K, f: F) {
+        self.alter(rt, key, f)
+    }
+
+    #[inline]
+    fn _alter_all<R: Wait + Clock, F: FnMut(&K, V) -> V>(&self, rt: &R, f: F) {
+        self.alter_all(rt, f)
+    }
+
+    #[inline]
+    fn _view<R: Wait + Clock, T, F: FnOnce(&K, &V) -> T>(
+        &self,
+        rt: &R,
+        key: &K,
+        f: F,
+    ) -> Option<T> {
+        self.view(rt, key, f)
+    }
+
+    #[inline]
+    fn _hasher(&self) -> Result<S, AllocError>
+    where
+        S: Clone,
+    {
+        self.hasher().clone()
+    }
+
+    #[inline]
+    fn _clear<R: Wait + Clock>(&self, rt: &R)
+    where
+        K: Drop,
+        V: Drop,
+    {
+        self.clear(rt)
+    }
+
+    #[inline]
+    fn _contains_key<R: Wait + Clock>(&self, rt: &R, key: &K) -> bool {
+        self.contains_key(rt, key)
+    }
+
+    #[inline]
+    fn _is_empty<R: Wait + Clock>(&self, rt: &R) -> bool {
+        self.is_empty(rt)
+    }
+}
+
+#[cfg(test)]
+mod tests;

@@ -1,0 +1,69 @@
+//! Code for any map that threads share, called with a `DashMap`.
+use super::*;
+use dash_shard::hash::PlaceState;
+use std::process::Abort;
+use std::test::Fail;
+
+// The calls on a shard and on a pair, on a map of four shards without pairs. They leave the pair (5, 55).
+fn calls_on_pairs<R: Abort + Wait + Clock, M: Map<u64, u64, PlaceState>>(
+    rt: &R,
+    map: &M,
+) -> Result<(), Fail> {
+    assert_eq!(rt; map._insert(rt, 1, 10)?, None);
+    assert_eq!(rt; map._insert(rt, 5, 50)?, None);
+    let amount = map._shard_count();
+    assert_eq!(rt; amount, 4);
+    for i in 0..amount {
+        let shard = map._yield_write_shard(rt, i);
+        assert_eq!(rt; shard.len(), if i == 1 { 2 } else { 0 }, "at {i}");
+    }
+    assert!(rt; map._contains_key(rt, &5));
+    assert!(rt; !map._contains_key(rt, &9));
+    assert_eq!(rt; map._view(rt, &5, |_, value| *value), Some(50));
+    map._alter(rt, &5, |_, value| value.wrapping_add(5));
+    assert_eq!(rt; map._remove_if(rt, &5, |_, value| *value < 55), None);
+    let less = |_: &u64, value: &mut u64| {
+        *value = value.wrapping_sub(1);
+        *value < 9
+    };
+    assert_eq!(rt; map._remove_if_mut(rt, &1, less), None);
+    let found = map._get(rt, &1).ok_or("no pair")?;
+    assert_eq!(rt; *found.value(), 9);
+    drop(found);
+    assert_eq!(rt; map._remove(rt, &1), Some((1, 9)));
+    assert_eq!(rt; map._remove(rt, &1), None);
+    Ok(())
+}
+
+// The calls on all pairs, on a map of four shards with the pair (5, 55).
+fn calls_on_all<R: Abort + Wait + Clock, M: Map<u64, u64, PlaceState>>(
+    rt: &R,
+    map: &M,
+) -> Result<(), Fail> {
+    assert_eq!(rt; map._insert(rt, 2, 20)?, None);
+    assert_eq!(rt; map._len(rt), 2);
+    map._alter_all(rt, |_, value| value.wrapping_add(1));
+    assert_eq!(rt; map._view(rt, &5, |_, value| *value), Some(56));
+    assert_eq!(rt; map._view(rt, &2, |_, value| *value), Some(21));
+    map._retain(rt, |_, value| *value > 21);
+    assert_eq!(rt; map._len(rt), 1);
+    assert!(rt; !map._is_empty(rt));
+    map._clear(rt);
+    assert!(rt; map._is_empty(rt));
+    assert!(rt; map._capacity(rt) > 0);
+    map._shrink_to_fit(rt);
+    assert_eq!(rt; map._capacity(rt), 0);
+    assert_eq!(rt; map._hasher()?.hash_one(&2u64), 1 << 56);
+    Ok(())
+}
+
+#[test]
+fn every_call(rt: HostRuntime) -> Result<(), Fail> {
+    let map = DashMap::<u64, u64, PlaceState>::with_hasher_and_shard_amount(
+        rt.alloc(),
+        PlaceState,
+        4,
+    )?;
+    calls_on_pairs(&rt, &map)?;
+    calls_on_all(&rt, &map)
+}
