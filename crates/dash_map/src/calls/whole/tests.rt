@@ -44,10 +44,10 @@ fn each_value_is_altered(rt: HostRuntime) -> Result<(), Fail> {
     map.insert(&rt, "Wins", 4)?;
     map.insert(&rt, "Losses", 2)?;
     map.alter_all(&rt, |_, value| value.wrapping_add(1));
-    for (name, count) in [("Wins", 5), ("Losses", 3)] {
-        let found = map.get(&rt, &name).ok_or("no pair")?;
-        assert_eq!(rt; *found.value(), count, "{name}");
-    }
+    let wins = map.get(&rt, &"Wins").ok_or("no pair")?;
+    assert_eq!(rt; *wins.value(), 5);
+    let losses = map.get(&rt, &"Losses").ok_or("no pair")?;
+    assert_eq!(rt; *losses.value(), 3);
     Ok(())
 }
 
