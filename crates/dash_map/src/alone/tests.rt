@@ -80,14 +80,30 @@ fn a_removal_asks_first(rt: HostRuntime) -> Result<(), Fail> {
 
 #[test]
 fn room_is_made(rt: HostRuntime) -> Result<(), Fail> {
-    let mut alone = Map::with_hasher_and_shard_amount(rt.alloc(), PlaceState, 4)?.alone();
+    let mut alone = Map::with_capacity_and_hasher_and_shard_amount(
+        rt.alloc(),
+        0,
+        PlaceState,
+        4,
+    )?.alone();
     assert_eq!(rt; alone.capacity(), 0);
     assert!(rt; alone.is_empty());
     assert!(rt; alone.try_reserve(10).is_ok());
     assert!(rt; alone.capacity() >= 10);
     alone.insert(1, 1)?;
     assert!(rt; !alone.is_empty());
-    assert!(rt; alone.try_reserve(usize::MAX).is_err());
+    Ok(())
+}
+
+#[test]
+fn room_for_too_much_is_refused(rt: HostRuntime) -> Result<(), Fail> {
+    let mut alone = Map::with_hasher_and_shard_amount(rt.alloc(), PlaceState, 4)?.alone();
+    alone.insert(1, 1)?;
+    let refused = alone.try_reserve(usize::MAX).err().ok_or("no refusal")?;
+    assert_eq!(rt; refused, TryReserveError {});
+    let text = format!(in rt.alloc(); "{refused}")?;
+    assert_eq!(rt; text.as_str(), "no memory (11)");
+    assert_eq!(rt; alone.len(), 1);
     assert_eq!(rt; alone.get(&1), Some((&1, &1)));
     Ok(())
 }

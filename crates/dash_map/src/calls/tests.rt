@@ -1,6 +1,6 @@
 //! A map that threads share: what is put is found, and taken once.
 use super::*;
-use dash_shard::hash::{FixedState, PlaceState};
+use dash_shard::hash::{FixedState, PlaceState, ZeroState};
 use std::alloc::{AllocError, Global};
 use std::hash::RandomState;
 use std::process::Abort;
@@ -89,8 +89,9 @@ fn a_removal_asks_first(rt: HostRuntime) -> Result<(), Fail> {
 
 #[test]
 fn room_is_made(rt: HostRuntime) -> Result<(), Fail> {
-    let mut map = DashMap::<u64, u64, PlaceState>::with_hasher_and_shard_amount(
+    let mut map = DashMap::<u64, u64, PlaceState>::with_capacity_and_hasher_and_shard_amount(
         rt.alloc(),
+        0,
         PlaceState,
         4,
     )?;
@@ -98,11 +99,58 @@ fn room_is_made(rt: HostRuntime) -> Result<(), Fail> {
     assert!(rt; map.is_empty(&rt));
     assert!(rt; map.try_reserve(10).is_ok());
     assert!(rt; map.capacity(&rt) >= 10);
+    assert!(rt; map.alone().capacity() >= 10);
+    Ok(())
+}
+
+#[test]
+fn room_for_too_much_is_refused(rt: HostRuntime) -> Result<(), Fail> {
+    let mut map = DashMap::<u64, u64, FixedState>::with_shard_amount(rt.alloc(), 4)?;
     map.insert(&rt, 1, 1)?;
-    assert!(rt; map.try_reserve(usize::MAX).is_err());
-    let alone = map.alone();
-    assert!(rt; alone.capacity() >= 10);
-    assert_eq!(rt; alone.get(&1), Some((&1, &1)));
+    let refused = map.try_reserve(usize::MAX).err().ok_or("no refusal")?;
+    assert_eq!(rt; refused, TryReserveError {});
+    let text = format!(in rt.alloc(); "{refused}")?;
+    assert_eq!(rt; text.as_str(), "no memory (11)");
+    assert_eq!(rt; map.len(&rt), 1);
+    assert_eq!(rt; value_at(&rt, &map, 1), Some(1));
+    Ok(())
+}
+
+#[test]
+fn a_value_is_doubled_in_its_place(rt: HostRuntime) -> Result<(), Fail> {
+    let map = DashMap::<&str, u64, FixedState>::new(rt.alloc(), 1)?;
+    map.insert(&rt, "Goals", 4)?;
+    map.alter(&rt, &"Goals", |_, goals| goals.wrapping_mul(2));
+    let found = map.get(&rt, &"Goals").ok_or("no pair")?;
+    assert_eq!(rt; *found.value(), 8);
+    Ok(())
+}
+
+#[test]
+fn one_shard_may_have_all_keys(rt: HostRuntime) -> Result<(), Fail> {
+    let map = DashMap::<u64, u64, ZeroState>::with_hasher_and_shard_amount(
+        rt.alloc(),
+        ZeroState,
+        4,
+    )?;
+    for key in 0..200u64 {
+        assert_eq!(rt; map.determine_map(&key), 0, "{key}");
+        assert_eq!(rt; map.insert(&rt, key, key)?, None, "{key}");
+    }
+    for key in 0..200u64 {
+        assert_eq!(rt; value_at(&rt, &map, key), Some(key), "{key}");
+    }
+    assert_eq!(rt; map.len(&rt), 200);
+    for half in 0..100u64 {
+        let key = 2 * half;
+        assert_eq!(rt; map.remove(&rt, &key), Some((key, key)), "{key}");
+    }
+    for half in 0..100u64 {
+        let key = 2 * half;
+        assert_eq!(rt; value_at(&rt, &map, key), None, "{key}");
+        assert_eq!(rt; value_at(&rt, &map, key + 1), Some(key + 1), "{key} + 1");
+    }
+    assert_eq!(rt; map.len(&rt), 100);
     Ok(())
 }
 

@@ -163,6 +163,33 @@ fn takes_a_hash_from_its_caller(rt: HostRuntime) -> Result<(), Fail> {
 }
 
 #[test]
+#[tactic(auto, unfolding(crate::specs::Hashing::hash_of))]
+fn asks_by_a_hash_from_its_caller(rt: HostRuntime) -> Result<(), Fail> {
+    assert!(rt; is_shard_amount(4));
+    let mut shard = Shard::<u64, u64, PlaceState>::new(rt.alloc(), PlaceState, 1, 4, 0)?;
+    let hash = PlaceState.hash_one(&5u64);
+    assert!(rt; shard.routes(&5));
+    shard.insert_hashed(hash, 5, 50)?;
+    assert!(rt; shard.routes(&5));
+    shard.alter_hashed(hash, &5, |_: &u64, value: u64| value.wrapping_add(1));
+    assert!(rt; shard.routes(&5));
+    let gone = shard.remove_if_hashed(hash, &5, |_: &u64, value: &u64| *value < 51);
+    assert_eq!(rt; gone, None);
+    assert!(rt; shard.routes(&5));
+    let gone = shard.remove_if_mut_hashed(hash, &5, |_: &u64, value: &mut u64| {
+        *value = value.wrapping_add(1);
+        false
+    });
+    assert_eq!(rt; gone, None);
+    match shard.get_mut_hashed(hash, &5) {
+        Some(value) => *value = value.wrapping_mul(2),
+        None => return Err(Fail::from("no pair")),
+    }
+    assert_eq!(rt; shard.get(&5), Some((&5, &104)));
+    Ok(())
+}
+
+#[test]
 fn grows(rt: HostRuntime) -> Result<(), Fail> {
     assert!(rt; is_shard_amount(4));
     let mut shard = Shard::<u64, u64, PlaceState>::new(rt.alloc(), PlaceState, 1, 4, 0)?;

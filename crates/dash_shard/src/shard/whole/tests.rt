@@ -47,6 +47,26 @@ fn alter_all_changes_each_value(rt: HostRuntime) -> Result<(), Fail> {
 }
 
 #[test]
+fn a_lent_closure_goes_on(rt: HostRuntime) -> Result<(), Fail> {
+    assert!(rt; is_shard_amount(4));
+    let mut shard = Shard::<u64, u64, PlaceState>::new(rt.alloc(), PlaceState, 1, 4, 0)?;
+    for (key, value) in [(1, 15), (5, 22)] {
+        assert!(rt; shard.routes(&key), "{key}");
+        assert_eq!(rt; shard.insert(key, value)?, None, "{key}");
+    }
+    let mut add_key = |key: &u64, value: u64| value.wrapping_add(*key);
+    shard.alter_all_by(&mut add_key);
+    shard.alter_all_by(&mut add_key);
+    assert_eq!(rt; shard.get(&1), Some((&1, &17)));
+    let mut is_large = |_: &u64, value: &mut u64| *value > 20;
+    shard.retain_by(&mut is_large);
+    shard.retain_by(&mut is_large);
+    assert_eq!(rt; shard.get(&1), None);
+    assert_eq!(rt; shard.get(&5), Some((&5, &32)));
+    Ok(())
+}
+
+#[test]
 fn clear_leaves_the_room(rt: HostRuntime) -> Result<(), Fail> {
     assert!(rt; is_shard_amount(4));
     let mut shard = Shard::<u64, u64, PlaceState>::new(rt.alloc(), PlaceState, 1, 4, 0)?;
