@@ -151,6 +151,15 @@ module _ {K V : Type 0} where
 abbrev pub IsHashed : {K V : Type 0} → (K → ℕ) → List (Option (K × V)) → List ℕ → Type 0
 IsHashed {K} {V} hash places hashes = (i : ℕ) (p : K × V) → place places i ≡ Some p → slice_index hashes i ≡ hash p.0
 
+module _ {K V S : Type 0} where
+  -- the shard with this table
+  abbrev pub with_table : ShardState K V S → Table K V → ShardState K V S
+  with_table s t = record s { places = pairs_of t.nodes.items; capacity = length t.nodes.items }
+
+  -- a shard behind a lock, with its hold's table once that one was lent from
+  abbrev pub held_state : ShardState K V S → Table K V → Bool → ShardState K V S
+  held_state s t is_lent = record s { places = if is_lent then pairs_of t.nodes.items else s.places; capacity = if is_lent then length t.nodes.items else s.capacity }
+
 -- a shard's table and state
 module _ {K V S H : Type 0} (eq : K → K → Bool) (b : builder.Ghosts S H) (h : hasher.Ghosts H) (input : K → HashWrites) where
   pub record IsInside (t : Table K V) (s : ShardState K V S) : Type 0 where
@@ -158,3 +167,14 @@ module _ {K V S H : Type 0} (eq : K → K → Bool) (b : builder.Ghosts S H) (h 
     pub table : IsTable t
     pub hashed : IsHashed (λ k. hash_of b h s.hasher (input k)) s.places (hashes_of t.nodes.items)
     pub counted : t.len ≡ shard_len s
+
+  -- a shard's table was exchanged for t, and was r
+  pub record SwapsTable (old new : ShardState K V S) (t r : Table K V) : Type 0 where
+    pub shard : new ≡ with_table old t
+    pub inside : IsInside r (with_table old r)
+    pub was : with_table old r ≡ old
+
+  -- a hold's table, beside the shard behind the lock: one of the two has the pairs, and the other no places
+  abbrev pub IsHeld : ShardState K V S → Table K V → Bool → Type 0
+  IsHeld s t true = IsInside t (with_table s t) × (s.capacity ≡ 0)
+  IsHeld s t false = IsTable t × (length t.nodes.items ≡ 0)

@@ -121,6 +121,14 @@ impl<K: Eq + Hash, V, S: BuildHasher> Shard<K, V, S> {
         determine_shard(self.hasher.hash_one(key), self.amount) == self.number
     }
 
+    // The hash of a key, by the shard's hasher.
+    #[inline(always)]
+    fn hash_one(&self, key: &K) -> u64
+        ensures { result ≡ hash_of S.BuildHasher S.Hasher.Hasher self.now.hasher (K.hash_input key.now) }
+    {
+        self.hasher.hash_one(key)
+    }
+
     /// Puts the pair, or where an equal key is there the value under the stored key, and answers the old value.
     ///
     /// Takes memory for a new key where the shard is full, and is refused (1) only then.
@@ -140,7 +148,7 @@ impl<K: Eq + Hash, V, S: BuildHasher> Shard<K, V, S> {
         ensures absent { OnErr result (at (keys_of K.eq S.BuildHasher S.Hasher.Hasher K.hash_input self.old) (pairs self.old) key ≡ None) }
         ensures full { OnErr result (shard_len self.old ≡ self.old.capacity) }
     {
-        let hash = self.hasher.hash_one(&key);
+        let hash = self.hash_one(&key);
         self.insert_hashed(hash, key, value)
     }
 
@@ -180,7 +188,7 @@ impl<K: Eq + Hash, V, S: BuildHasher> Shard<K, V, S> {
         ensures room { self.new.capacity ≡ self.old.capacity }
         ensures places { StaysInPlace K.eq S.BuildHasher S.Hasher.Hasher K.hash_input self.old self.new (Remove key.now) }
     {
-        let hash = self.hasher.hash_one(key);
+        let hash = self.hash_one(key);
         self.remove_hashed(hash, key)
     }
 
@@ -202,7 +210,7 @@ impl<K: Eq + Hash, V, S: BuildHasher> Shard<K, V, S> {
         requires callable { IfSome (at (keys_of K.eq S.BuildHasher S.Hasher.Hasher K.hash_input self.old) (pairs self.old) key.now) (MayAsk F.FnOnce f) }
         ensures { RemovesAsked K.eq S.BuildHasher S.Hasher.Hasher K.hash_input (AnswersOn F.FnOnce f) self.old self.new key.now result }
     {
-        let hash = self.hasher.hash_one(key);
+        let hash = self.hash_one(key);
         self.remove_if_hashed(hash, key, f)
     }
 
@@ -234,7 +242,7 @@ impl<K: Eq + Hash, V, S: BuildHasher> Shard<K, V, S> {
         requires callable { IfSome (at (keys_of K.eq S.BuildHasher S.Hasher.Hasher K.hash_input self.old) (pairs self.old) key.now) (MayChange F.FnOnce f) }
         ensures { RemovesChanged K.eq S.BuildHasher S.Hasher.Hasher K.hash_input (ChangesOn F.FnOnce f) self.old self.new key.now result }
     {
-        let hash = self.hasher.hash_one(key);
+        let hash = self.hash_one(key);
         self.remove_if_mut_hashed(hash, key, f)
     }
 
@@ -267,7 +275,7 @@ impl<K: Eq + Hash, V, S: BuildHasher> Shard<K, V, S> {
         requires callable { IfSome (at (keys_of K.eq S.BuildHasher S.Hasher.Hasher K.hash_input self.old) (pairs self.old) key.now) (MayGive F.FnOnce f) }
         ensures { Alters K.eq S.BuildHasher S.Hasher.Hasher K.hash_input (GivesOn F.FnOnce f) self.old self.new key.now }
     {
-        let hash = self.hasher.hash_one(key);
+        let hash = self.hash_one(key);
         self.alter_hashed(hash, key, f);
     }
 
@@ -301,7 +309,7 @@ impl<K: Eq + Hash, V, S: BuildHasher> Shard<K, V, S> {
         ensures value { option_copied_mut result ≡ option_map (λ p. p.1) (at (keys_of K.eq S.BuildHasher S.Hasher.Hasher K.hash_input self.old) (pairs self.old) key.now) }
         ensures lawful { IsShard K.eq S.BuildHasher S.Hasher.Hasher K.hash_input self.old }
     {
-        let hash = self.hasher.hash_one(key);
+        let hash = self.hash_one(key);
         self.get_mut_hashed(hash, key)
     }
 

@@ -8,14 +8,18 @@ ghost use Rattle.dash_shard.specs.Steps.{Get, Contains, Pair, Found, Replies};
 ghost use Rattle.dash_shard.specs.Shard.{place, pairs, shard_len, keys_of, Routes, IsShard};
 ghost use Rattle.dash_shard.specs.Closures.{MayAsk, AnswersOn, Viewed, MayChange, ChangesOn, MayGive, GivesOn};
 ghost use Rattle.dash_shard.specs.Held.{FitsPlace, Inserts, Removes, RemovesAsked, RemovesChanged, Alters, Reserves};
+ghost use Rattle.dash_shard.specs.Table.{IsInside, with_table};
 
 use crate::error::TryReserveError;
 use crate::lock::{RwLockWriteGuard, Tagged};
+use crate::shard::table::Table;
 use crate::shard::{InsertRefused, Shard};
+use lent::put_back;
 use std::hash::{BuildHasher, Hash};
-use std::marker::Model;
+use std::marker::{Model, PhantomData};
 use std::snapshot::Snapshot;
 
+mod lent;
 mod positions;
 mod whole;
 
@@ -51,27 +55,41 @@ impl<K: Eq + Hash, V, S: BuildHasher> Tagged for Shard<K, V, S> {
 
 /// A shard that is held for writing, as the original's write guard of one shard: the hold ends when it is dropped.
 ///
-/// Calls are those of `Shard`, in place. To take or to end a hold takes no memory, and to end one waits for nobody and can't fail.
-/// A contract sees it as the shard.
+/// Calls are those of `Shard`, in place, but for `get_mut` and `at_mut`. To take or to end a hold takes no memory, and to end one waits for
+/// nobody and can't fail. A contract sees it as the shard.
 #[must_use]
 pub struct ShardMut<'a, K: Eq + Hash, V, S: BuildHasher> {
     guard: RwLockWriteGuard<'a, Shard<K, V, S>>,
+    // Empty, but from a loan of a value to the next change: then it is the shard's, and the one behind the lock is empty.
+    table: Table<K, V>,
+    is_lent: bool,
+    marker: PhantomData<&'a mut V>,
 }
 
 impl<'a, K: Eq + Hash, V, S: BuildHasher> Model for ShardMut<'a, K, V, S> {
     ghost use Rattle.dash_shard.specs.Shard.{ShardState, shard_code};
+    ghost use Rattle.dash_shard.specs.Table.{held_state, IsHeld};
 
     ghost Value = { ShardState K V S };
 
     ghost coded = { shard_code K.code V.code S.code };
 
-    ghost view = { λ s. s.guard.value };
+    ghost view = { λ s. held_state s.guard.value s.table s.is_lent };
+
+    ghost invariant = { λ s. IsHeld K.eq S.BuildHasher S.Hasher.Hasher K.hash_input s.guard.value s.table s.is_lent };
 }
 
 impl<K: Eq + Hash, V, S: BuildHasher> Drop for ShardMut<'_, K, V, S> {
     #[inline]
     fn drop(self) {
-        let Self { guard } = self;
+        let Self {
+            mut guard,
+            mut table,
+            is_lent,
+            marker: _,
+        } = self;
+        put_back(&mut guard, &mut table, is_lent);
+        table.end_blank();
         drop(guard);
     }
 }
@@ -83,11 +101,30 @@ impl<'a, K: Eq + Hash, V, S: BuildHasher> RwLockWriteGuard<'a, Shard<K, V, S>> {
         ensures value { result ≡ self.entry.value }
         ensures fits { FitsPlace K.eq S.BuildHasher S.Hasher.Hasher K.hash_input self.entry.tag result }
     {
-        ShardMut { guard: self }
+        let table = Table::new(self.table.allocator());
+        ShardMut {
+            guard: self,
+            table,
+            is_lent: false,
+            marker: PhantomData,
+        }
     }
 }
 
 impl<K: Eq + Hash, V, S: BuildHasher> ShardMut<'_, K, V, S> {
+    // The table that has the pairs.
+    #[inline]
+    fn table(&self) -> &Table<K, V>
+        ensures inside { IsInside K.eq S.BuildHasher S.Hasher.Hasher K.hash_input result.now self.now }
+        ensures table { with_table self.now result.now ≡ self.now }
+    {
+        if self.is_lent {
+            &self.table
+        } else {
+            &self.guard.table
+        }
+    }
+
     /// The shard's number among the map's shards.
     #[inline]
     pub fn number(&self) -> usize
@@ -125,12 +162,8 @@ impl<K: Eq + Hash, V, S: BuildHasher> ShardMut<'_, K, V, S> {
         requires { Routes K.eq S.BuildHasher S.Hasher.Hasher K.hash_input self.old key }
         ensures { Inserts K.eq S.BuildHasher S.Hasher.Hasher K.hash_input self.old self.new key value result }
     {
-        self.guard.change(
-            |shard: &mut Shard<K, V, S>| -> Result<Option<V>, InsertRefused<K, V>>
-                requires { Routes K.eq S.BuildHasher S.Hasher.Hasher K.hash_input shard.old key }
-                ensures { Inserts K.eq S.BuildHasher S.Hasher.Hasher K.hash_input shard.old shard.new key value result }
-            { shard.insert(key, value) },
-        )
+        let hash = self.guard.hash_one(&key);
+        self.insert_hashed(hash, key, value)
     }
 
     /// As `insert`, for a caller who has the key's hash.
@@ -148,6 +181,8 @@ impl<K: Eq + Hash, V, S: BuildHasher> ShardMut<'_, K, V, S> {
         requires route { Routes K.eq S.BuildHasher S.Hasher.Hasher K.hash_input self.old key }
         ensures { Inserts K.eq S.BuildHasher S.Hasher.Hasher K.hash_input self.old self.new key value result }
     {
+        put_back(&mut self.guard, &mut self.table, self.is_lent);
+        self.is_lent = false;
         self.guard.change(
             |shard: &mut Shard<K, V, S>| -> Result<Option<V>, InsertRefused<K, V>>
                 requires hash { hash ≡ hash_of S.BuildHasher S.Hasher.Hasher shard.old.hasher (K.hash_input key) }
@@ -165,12 +200,8 @@ impl<K: Eq + Hash, V, S: BuildHasher> ShardMut<'_, K, V, S> {
         requires { Routes K.eq S.BuildHasher S.Hasher.Hasher K.hash_input self.old key.now }
         ensures { Removes K.eq S.BuildHasher S.Hasher.Hasher K.hash_input self.old self.new key.now result }
     {
-        self.guard.change(
-            |shard: &mut Shard<K, V, S>| -> Option<(K, V)>
-                requires { Routes K.eq S.BuildHasher S.Hasher.Hasher K.hash_input shard.old key.now }
-                ensures { Removes K.eq S.BuildHasher S.Hasher.Hasher K.hash_input shard.old shard.new key.entry.now result }
-            { shard.remove(key) },
-        )
+        let hash = self.guard.hash_one(key);
+        self.remove_hashed(hash, key)
     }
 
     /// As `remove`, for a caller who has the key's hash.
@@ -180,6 +211,8 @@ impl<K: Eq + Hash, V, S: BuildHasher> ShardMut<'_, K, V, S> {
         requires route { Routes K.eq S.BuildHasher S.Hasher.Hasher K.hash_input self.old key.now }
         ensures { Removes K.eq S.BuildHasher S.Hasher.Hasher K.hash_input self.old self.new key.now result }
     {
+        put_back(&mut self.guard, &mut self.table, self.is_lent);
+        self.is_lent = false;
         self.guard.change(
             |shard: &mut Shard<K, V, S>| -> Option<(K, V)>
                 requires hash { hash ≡ hash_of S.BuildHasher S.Hasher.Hasher shard.old.hasher (K.hash_input key.now) }
@@ -196,13 +229,8 @@ impl<K: Eq + Hash, V, S: BuildHasher> ShardMut<'_, K, V, S> {
         requires callable { IfSome (at (keys_of K.eq S.BuildHasher S.Hasher.Hasher K.hash_input self.old) (pairs self.old) key.now) (MayAsk F.FnOnce f) }
         ensures { RemovesAsked K.eq S.BuildHasher S.Hasher.Hasher K.hash_input (AnswersOn F.FnOnce f) self.old self.new key.now result }
     {
-        self.guard.change(
-            |shard: &mut Shard<K, V, S>| -> Option<(K, V)>
-                requires route { Routes K.eq S.BuildHasher S.Hasher.Hasher K.hash_input shard.old key.now }
-                requires callable { IfSome (at (keys_of K.eq S.BuildHasher S.Hasher.Hasher K.hash_input shard.old) (pairs shard.old) key.now) (MayAsk F.FnOnce f) }
-                ensures { RemovesAsked K.eq S.BuildHasher S.Hasher.Hasher K.hash_input (AnswersOn F.FnOnce f) shard.old shard.new key.entry.now result }
-            { shard.remove_if(key, f) },
-        )
+        let hash = self.guard.hash_one(key);
+        self.remove_if_hashed(hash, key, f)
     }
 
     /// As `remove_if`, for a caller who has the key's hash.
@@ -218,6 +246,8 @@ impl<K: Eq + Hash, V, S: BuildHasher> ShardMut<'_, K, V, S> {
         requires callable { IfSome (at (keys_of K.eq S.BuildHasher S.Hasher.Hasher K.hash_input self.old) (pairs self.old) key.now) (MayAsk F.FnOnce f) }
         ensures { RemovesAsked K.eq S.BuildHasher S.Hasher.Hasher K.hash_input (AnswersOn F.FnOnce f) self.old self.new key.now result }
     {
+        put_back(&mut self.guard, &mut self.table, self.is_lent);
+        self.is_lent = false;
         self.guard.change(
             |shard: &mut Shard<K, V, S>| -> Option<(K, V)>
                 requires hash { hash ≡ hash_of S.BuildHasher S.Hasher.Hasher shard.old.hasher (K.hash_input key.now) }
@@ -235,13 +265,8 @@ impl<K: Eq + Hash, V, S: BuildHasher> ShardMut<'_, K, V, S> {
         requires callable { IfSome (at (keys_of K.eq S.BuildHasher S.Hasher.Hasher K.hash_input self.old) (pairs self.old) key.now) (MayChange F.FnOnce f) }
         ensures { RemovesChanged K.eq S.BuildHasher S.Hasher.Hasher K.hash_input (ChangesOn F.FnOnce f) self.old self.new key.now result }
     {
-        self.guard.change(
-            |shard: &mut Shard<K, V, S>| -> Option<(K, V)>
-                requires route { Routes K.eq S.BuildHasher S.Hasher.Hasher K.hash_input shard.old key.now }
-                requires callable { IfSome (at (keys_of K.eq S.BuildHasher S.Hasher.Hasher K.hash_input shard.old) (pairs shard.old) key.now) (MayChange F.FnOnce f) }
-                ensures { RemovesChanged K.eq S.BuildHasher S.Hasher.Hasher K.hash_input (ChangesOn F.FnOnce f) shard.old shard.new key.entry.now result }
-            { shard.remove_if_mut(key, f) },
-        )
+        let hash = self.guard.hash_one(key);
+        self.remove_if_mut_hashed(hash, key, f)
     }
 
     /// As `remove_if_mut`, for a caller who has the key's hash.
@@ -257,6 +282,8 @@ impl<K: Eq + Hash, V, S: BuildHasher> ShardMut<'_, K, V, S> {
         requires callable { IfSome (at (keys_of K.eq S.BuildHasher S.Hasher.Hasher K.hash_input self.old) (pairs self.old) key.now) (MayChange F.FnOnce f) }
         ensures { RemovesChanged K.eq S.BuildHasher S.Hasher.Hasher K.hash_input (ChangesOn F.FnOnce f) self.old self.new key.now result }
     {
+        put_back(&mut self.guard, &mut self.table, self.is_lent);
+        self.is_lent = false;
         self.guard.change(
             |shard: &mut Shard<K, V, S>| -> Option<(K, V)>
                 requires hash { hash ≡ hash_of S.BuildHasher S.Hasher.Hasher shard.old.hasher (K.hash_input key.now) }
@@ -275,13 +302,8 @@ impl<K: Eq + Hash, V, S: BuildHasher> ShardMut<'_, K, V, S> {
         requires callable { IfSome (at (keys_of K.eq S.BuildHasher S.Hasher.Hasher K.hash_input self.old) (pairs self.old) key.now) (MayGive F.FnOnce f) }
         ensures { Alters K.eq S.BuildHasher S.Hasher.Hasher K.hash_input (GivesOn F.FnOnce f) self.old self.new key.now }
     {
-        self.guard.change(
-            |shard: &mut Shard<K, V, S>|
-                requires route { Routes K.eq S.BuildHasher S.Hasher.Hasher K.hash_input shard.old key.now }
-                requires callable { IfSome (at (keys_of K.eq S.BuildHasher S.Hasher.Hasher K.hash_input shard.old) (pairs shard.old) key.now) (MayGive F.FnOnce f) }
-                ensures { Alters K.eq S.BuildHasher S.Hasher.Hasher K.hash_input (GivesOn F.FnOnce f) shard.old shard.new key.entry.now }
-            { shard.alter(key, f) },
-        );
+        let hash = self.guard.hash_one(key);
+        self.alter_hashed(hash, key, f);
     }
 
     /// As `alter`, for a caller who has the key's hash.
@@ -292,6 +314,8 @@ impl<K: Eq + Hash, V, S: BuildHasher> ShardMut<'_, K, V, S> {
         requires callable { IfSome (at (keys_of K.eq S.BuildHasher S.Hasher.Hasher K.hash_input self.old) (pairs self.old) key.now) (MayGive F.FnOnce f) }
         ensures { Alters K.eq S.BuildHasher S.Hasher.Hasher K.hash_input (GivesOn F.FnOnce f) self.old self.new key.now }
     {
+        put_back(&mut self.guard, &mut self.table, self.is_lent);
+        self.is_lent = false;
         self.guard.change(
             |shard: &mut Shard<K, V, S>|
                 requires hash { hash ≡ hash_of S.BuildHasher S.Hasher.Hasher shard.old.hasher (K.hash_input key.now) }
@@ -308,7 +332,8 @@ impl<K: Eq + Hash, V, S: BuildHasher> ShardMut<'_, K, V, S> {
         ensures pair { Replies (keys_of K.eq S.BuildHasher S.Hasher.Hasher K.hash_input self.now) (Get key.now) (pairs self.now) (Pair (option_map deref_pair result)) }
         ensures lawful { IsShard K.eq S.BuildHasher S.Hasher.Hasher K.hash_input self.now }
     {
-        self.guard.get(key)
+        let position = self.position_of(key)?;
+        Some(self.at(position))
     }
 
     /// Whether there is a pair whose key equals `key`.
@@ -317,7 +342,7 @@ impl<K: Eq + Hash, V, S: BuildHasher> ShardMut<'_, K, V, S> {
         ensures found { Replies (keys_of K.eq S.BuildHasher S.Hasher.Hasher K.hash_input self.now) (Contains key.now) (pairs self.now) (Found result) }
         ensures lawful { IsShard K.eq S.BuildHasher S.Hasher.Hasher K.hash_input self.now }
     {
-        self.guard.contains_key(key)
+        self.get(key).is_some()
     }
 
     /// What `f` answers on the pair whose key equals `key`.
@@ -327,7 +352,9 @@ impl<K: Eq + Hash, V, S: BuildHasher> ShardMut<'_, K, V, S> {
         ensures viewed { Viewed F.FnOnce f (at (keys_of K.eq S.BuildHasher S.Hasher.Hasher K.hash_input self.now) (pairs self.now) key.now) result }
         ensures lawful { IsShard K.eq S.BuildHasher S.Hasher.Hasher K.hash_input self.now }
     {
-        self.guard.view(key, f)
+        let place = self.position_of(key)?;
+        let (key, value) = self.at(place);
+        Some(f(key, value))
     }
 
     /// How many pairs there are.
@@ -337,7 +364,7 @@ impl<K: Eq + Hash, V, S: BuildHasher> ShardMut<'_, K, V, S> {
         ensures within { result ≤ self.now.capacity }
         ensures lawful { IsShard K.eq S.BuildHasher S.Hasher.Hasher K.hash_input self.now }
     {
-        self.guard.len()
+        self.table().len()
     }
 
     /// How many pairs there may be before the shard takes memory.
@@ -345,7 +372,7 @@ impl<K: Eq + Hash, V, S: BuildHasher> ShardMut<'_, K, V, S> {
     pub fn capacity(&self) -> usize
         ensures { result ≡ self.now.capacity }
     {
-        self.guard.capacity()
+        self.table().places()
     }
 
     /// Makes room for so many pairs more, where there is less. It is refused (11) only where there is no memory for it; the pairs stay, and
@@ -353,6 +380,8 @@ impl<K: Eq + Hash, V, S: BuildHasher> ShardMut<'_, K, V, S> {
     pub fn try_reserve(&mut self, additional: usize) -> Result<(), TryReserveError>
         ensures { Reserves K.eq S.BuildHasher S.Hasher.Hasher K.hash_input additional self.old self.new result }
     {
+        put_back(&mut self.guard, &mut self.table, self.is_lent);
+        self.is_lent = false;
         self.guard.change(
             |shard: &mut Shard<K, V, S>| -> Result<(), TryReserveError>
                 ensures { Reserves K.eq S.BuildHasher S.Hasher.Hasher K.hash_input additional shard.old shard.new result }

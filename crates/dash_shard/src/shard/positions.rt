@@ -21,7 +21,7 @@ impl<K: Eq + Hash, V, S: BuildHasher> Shard<K, V, S> {
         ensures absent { IsNone result ↔ (at (keys_of K.eq S.BuildHasher S.Hasher.Hasher K.hash_input self.now) (pairs self.now) key.now ≡ None) }
         ensures lawful { IsShard K.eq S.BuildHasher S.Hasher.Hasher K.hash_input self.now }
     {
-        self.position_of_hashed(self.hasher.hash_one(key), key)
+        self.position_of_hashed(self.hash_one(key), key)
     }
 
     /// As `position_of`, for a caller who has the key's hash.
@@ -65,7 +65,7 @@ impl<K: Eq + Hash, V, S: BuildHasher> Shard<K, V, S> {
         requires room { shard_len self.old < self.old.capacity }
         ensures { InsertsNew K.eq S.BuildHasher S.Hasher.Hasher K.hash_input self.old self.new key value result }
     {
-        let hash = self.hasher.hash_one(&key);
+        let hash = self.hash_one(&key);
         self.table.push(hash, key, value)
     }
 

@@ -7,7 +7,7 @@ ghost use Rattle.std.specs.Map.Iter.{deref_pair};
 
 use links::{bucket, free_from, link_all, put, take};
 use std::alloc::{AllocError, Global};
-use std::mem;
+use std::mem::{self, ManuallyDrop};
 
 mod links;
 mod shrink;
@@ -61,6 +61,21 @@ impl<K, V> Table<K, V> {
             len: 0,
             free: 0,
         }
+    }
+
+    /// Where the places are taken from.
+    #[inline]
+    pub fn allocator(&self) -> Global {
+        *self.nodes.allocator()
+    }
+
+    /// Ends a table with no places.
+    #[inline]
+    pub fn end_blank(self)
+        requires { length self.nodes.items ≡ 0 }
+    {
+        // There is no pair to drop, and no memory to give back.
+        let _ = unsafe { ManuallyDrop::new_unchecked(self) };
     }
 
     /// An empty table of at least `capacity` places, a power of two unless 0.

@@ -7,6 +7,7 @@ ghost use Rattle.dash_shard.specs.Shard.{place, pairs, shard_len, HasKey, IsNext
 ghost use Rattle.dash_shard.specs.Held.{InsertsNew, Finds, Replaces};
 
 use super::ShardMut;
+use super::lent::put_back;
 use crate::shard::Shard;
 use std::hash::{BuildHasher, Hash};
 
@@ -16,7 +17,7 @@ impl<K: Eq + Hash, V, S: BuildHasher> ShardMut<'_, K, V, S> {
     pub fn position_of(&self, key: &K) -> Option<usize>
         ensures { Finds K.eq S.BuildHasher S.Hasher.Hasher K.hash_input self.now key.now result }
     {
-        self.guard.position_of(key)
+        self.position_of_hashed(self.guard.hash_one(key), key)
     }
 
     /// As `position_of`, for a caller who has the key's hash.
@@ -25,7 +26,7 @@ impl<K: Eq + Hash, V, S: BuildHasher> ShardMut<'_, K, V, S> {
         requires { hash ≡ hash_of S.BuildHasher S.Hasher.Hasher self.now.hasher (K.hash_input key.now) }
         ensures { Finds K.eq S.BuildHasher S.Hasher.Hasher K.hash_input self.now key.now result }
     {
-        self.guard.position_of_hashed(hash, key)
+        self.table().find(hash, key)
     }
 
     /// The pair of a taken place, without a look at any other.
@@ -35,7 +36,7 @@ impl<K: Eq + Hash, V, S: BuildHasher> ShardMut<'_, K, V, S> {
         ensures pair { place self.now.places position ≡ Some (deref_pair result) }
         ensures lawful { IsShard K.eq S.BuildHasher S.Hasher.Hasher K.hash_input self.now }
     {
-        self.guard.at(position)
+        self.table().at(position)
     }
 
     /// Puts a pair whose key is new in room that is there, and answers its place. It takes no memory, and can't be refused.
@@ -49,6 +50,8 @@ impl<K: Eq + Hash, V, S: BuildHasher> ShardMut<'_, K, V, S> {
         requires room { shard_len self.old < self.old.capacity }
         ensures { InsertsNew K.eq S.BuildHasher S.Hasher.Hasher K.hash_input self.old self.new key value result }
     {
+        put_back(&mut self.guard, &mut self.table, self.is_lent);
+        self.is_lent = false;
         self.guard.change(
             |shard: &mut Shard<K, V, S>| -> usize
                 requires route { Routes K.eq S.BuildHasher S.Hasher.Hasher K.hash_input shard.old key }
@@ -69,6 +72,8 @@ impl<K: Eq + Hash, V, S: BuildHasher> ShardMut<'_, K, V, S> {
         requires { HasKey K.eq self.old key position }
         ensures { Replaces K.eq S.BuildHasher S.Hasher.Hasher K.hash_input self.old self.new position key value result }
     {
+        put_back(&mut self.guard, &mut self.table, self.is_lent);
+        self.is_lent = false;
         self.guard.change(
             |shard: &mut Shard<K, V, S>| -> (K, V)
                 requires { HasKey K.eq shard.old key position }
@@ -83,6 +88,6 @@ impl<K: Eq + Hash, V, S: BuildHasher> ShardMut<'_, K, V, S> {
         ensures next { IsNextTaken self.now.places position result }
         ensures lawful { IsShard K.eq S.BuildHasher S.Hasher.Hasher K.hash_input self.now }
     {
-        self.guard.next_taken(position)
+        self.table().next_taken(position)
     }
 }

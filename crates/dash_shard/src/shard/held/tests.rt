@@ -72,6 +72,47 @@ fn a_held_value_is_written_in_its_place(rt: HostRuntime) -> Result<(), Fail> {
 }
 
 #[test]
+fn a_held_value_is_lent(rt: HostRuntime) -> Result<(), Fail> {
+    assert!(rt; is_shard_amount(4));
+    let shard = Shard::<u64, u64, PlaceState>::new(rt.alloc(), PlaceState, 1, 4, 0)?;
+    let tag = ShardTag::of(&shard);
+    let lock = RwLock::new(shard, &tag);
+    let mut held = lock.write(&rt).shard();
+    for (key, value) in [(1, 10), (5, 50)] {
+        assert!(rt; held.routes(&key), "{key}");
+        assert_eq!(rt; held.insert(key, value)?, None, "{key}");
+    }
+    match held.get_mut(&1) {
+        Some(value) => *value = value.wrapping_mul(2),
+        None => return Err(Fail::from("no pair")),
+    }
+    assert!(rt; held.get_mut(&9).is_none());
+    // What was lent is seen before the table is back, and after it.
+    assert_eq!(rt; held.get(&1), Some((&1, &20)));
+    assert_eq!(rt; held.len(), 2);
+    let Some(position) = held.position_of(&5) else {
+        return Err(Fail::from("no place"));
+    };
+    let (key, value) = held.at_mut(position);
+    *value = value.wrapping_add(*key);
+    assert_eq!(rt; held.at(position), (&5, &55));
+    assert!(rt; held.routes(&9));
+    assert_eq!(rt; held.insert(9, 90)?, None);
+    assert_eq!(rt; held.get(&5), Some((&5, &55)));
+    match held.get_mut(&9) {
+        Some(value) => *value = 91,
+        None => return Err(Fail::from("no pair")),
+    }
+    drop(held);
+    let shard = lock.into_inner();
+    assert_eq!(rt; shard.len(), 3);
+    for (key, value) in [(1, 20), (5, 55), (9, 91)] {
+        assert_eq!(rt; shard.get(&key), Some((&key, &value)), "{key}");
+    }
+    Ok(())
+}
+
+#[test]
 #[tactic(auto, unfolding(crate::specs::Hashing::hash_of))]
 fn a_held_shard_takes_a_hash_from_its_caller(rt: HostRuntime) -> Result<(), Fail> {
     assert!(rt; is_shard_amount(4));
@@ -86,8 +127,12 @@ fn a_held_shard_takes_a_hash_from_its_caller(rt: HostRuntime) -> Result<(), Fail
         return Err(Fail::from("no place"));
     };
     assert_eq!(rt; held.at(position), (&5, &50));
+    match held.get_mut_hashed(hash, &5) {
+        Some(value) => *value = 51,
+        None => return Err(Fail::from("no pair")),
+    }
     assert!(rt; held.routes(&5));
-    assert_eq!(rt; held.remove_hashed(hash, &5), Some((5, 50)));
+    assert_eq!(rt; held.remove_hashed(hash, &5), Some((5, 51)));
     assert_eq!(rt; held.len(), 0);
     Ok(())
 }
@@ -129,6 +174,16 @@ fn a_leaked_hold_leaves_a_shard(rt: HostRuntime) -> Result<(), Fail> {
     mem::forget(held);
     assert!(rt; lock.try_write().is_none(), "the writer is never gone");
     assert_eq!(rt; lock.into_inner().get(&5), Some((&5, &50)));
+
+    let shard = Shard::<u64, u64, PlaceState>::new(rt.alloc(), PlaceState, 1, 4, 0)?;
+    let lock = RwLock::new(shard, &tag);
+    let mut held = lock.write(&rt).shard();
+    assert!(rt; held.routes(&5));
+    assert_eq!(rt; held.insert(5, 50)?, None);
+    assert!(rt; held.get_mut(&5).is_some());
+    mem::forget(held);
+    // The pairs are leaked with the hold that lent one.
+    assert_eq!(rt; lock.into_inner().len(), 0);
 
     let shard = Shard::<u64, u64, PlaceState>::new(rt.alloc(), PlaceState, 1, 4, 0)?;
     let lock = RwLock::new(shard, &tag);

@@ -5,6 +5,7 @@ ghost use Rattle.dash_shard.specs.Shard.{pairs, IsShard};
 ghost use Rattle.dash_shard.specs.Each.{CalledOnPair, TakesOnPair, if_kept, altered, Retains, AltersAll, SweepsShard, Clears, Shrinks};
 
 use super::ShardMut;
+use super::lent::put_back;
 use crate::shard::{Iter, Shard};
 use std::hash::{BuildHasher, Hash};
 
@@ -20,6 +21,8 @@ impl<K: Eq + Hash, V, S: BuildHasher> ShardMut<'_, K, V, S> {
         requires { CallableOnEachPair (CalledAtPair F.FnMut) (TakesPair F.FnMut) f (pairs self.old) }
         ensures { Retains K.eq S.BuildHasher S.Hasher.Hasher K.hash_input (CalledAtPair F.FnMut) f self.old self.new }
     {
+        put_back(&mut self.guard, &mut self.table, self.is_lent);
+        self.is_lent = false;
         self.guard.change(
             |shard: &mut Shard<K, V, S>|
                 requires { CallableOnEachPair (CalledAtPair F.FnMut) (TakesPair F.FnMut) f (pairs shard.old) }
@@ -36,6 +39,8 @@ impl<K: Eq + Hash, V, S: BuildHasher> ShardMut<'_, K, V, S> {
         requires { CallableOnEachPair (CalledAtPair F.FnMut) (TakesPair F.FnMut) f (pairs self.old) }
         ensures { SweepsShard K.eq S.BuildHasher S.Hasher.Hasher K.hash_input (CalledAtPair F.FnMut) if_kept f result self.old self.new }
     {
+        put_back(&mut self.guard, &mut self.table, self.is_lent);
+        self.is_lent = false;
         self.guard.change(
             |shard: &mut Shard<K, V, S>| -> F
                 requires { CallableOnEachPair (CalledAtPair F.FnMut) (TakesPair F.FnMut) f (pairs shard.old) }
@@ -55,6 +60,8 @@ impl<K: Eq + Hash, V, S: BuildHasher> ShardMut<'_, K, V, S> {
         requires { CallableOnEachPair (CalledOnPair F.FnMut) (TakesOnPair F.FnMut) f (pairs self.old) }
         ensures { AltersAll K.eq S.BuildHasher S.Hasher.Hasher K.hash_input (CalledOnPair F.FnMut) f self.old self.new }
     {
+        put_back(&mut self.guard, &mut self.table, self.is_lent);
+        self.is_lent = false;
         self.guard.change(
             |shard: &mut Shard<K, V, S>|
                 requires { CallableOnEachPair (CalledOnPair F.FnMut) (TakesOnPair F.FnMut) f (pairs shard.old) }
@@ -68,6 +75,8 @@ impl<K: Eq + Hash, V, S: BuildHasher> ShardMut<'_, K, V, S> {
         requires { CallableOnEachPair (CalledOnPair F.FnMut) (TakesOnPair F.FnMut) f (pairs self.old) }
         ensures { SweepsShard K.eq S.BuildHasher S.Hasher.Hasher K.hash_input (CalledOnPair F.FnMut) altered f result self.old self.new }
     {
+        put_back(&mut self.guard, &mut self.table, self.is_lent);
+        self.is_lent = false;
         self.guard.change(
             |shard: &mut Shard<K, V, S>| -> F
                 requires { CallableOnEachPair (CalledOnPair F.FnMut) (TakesOnPair F.FnMut) f (pairs shard.old) }
@@ -87,6 +96,8 @@ impl<K: Eq + Hash, V, S: BuildHasher> ShardMut<'_, K, V, S> {
         V: Drop,
         ensures { Clears K.eq S.BuildHasher S.Hasher.Hasher K.hash_input self.old self.new }
     {
+        put_back(&mut self.guard, &mut self.table, self.is_lent);
+        self.is_lent = false;
         self.guard.change(
             |shard: &mut Shard<K, V, S>|
                 ensures { Clears K.eq S.BuildHasher S.Hasher.Hasher K.hash_input shard.old shard.new }
@@ -104,6 +115,8 @@ impl<K: Eq + Hash, V, S: BuildHasher> ShardMut<'_, K, V, S> {
         V: Drop,
         ensures { Shrinks K.eq S.BuildHasher S.Hasher.Hasher K.hash_input self.old self.new }
     {
+        put_back(&mut self.guard, &mut self.table, self.is_lent);
+        self.is_lent = false;
         self.guard.change(
             |shard: &mut Shard<K, V, S>|
                 ensures { Shrinks K.eq S.BuildHasher S.Hasher.Hasher K.hash_input shard.old shard.new }
@@ -117,7 +130,7 @@ impl<K: Eq + Hash, V, S: BuildHasher> ShardMut<'_, K, V, S> {
         ensures pairs { result ≡ pairs self.now }
         ensures lawful { IsShard K.eq S.BuildHasher S.Hasher.Hasher K.hash_input self.now }
     {
-        self.guard.iter()
+        self.table().iter()
     }
 }
 

@@ -8,4 +8,4 @@ pub returns : goal.returns
 returns g c =
     let ran = c.change.ensures.ran in
     let P = λ (old new : ShardState g.row.K.Denot g.row.V.Denot g.row.S.Denot). Alters g.K.PartialEq.eq g.S.BuildHasher g.S.Hasher.Hasher g.K.Hash.hash_input (GivesOn g.F.FnOnce c.args.f) old new c.args.key.now in
-    subst (λ old. P old c.change.new.self.value) (ran.shows ∙ c.self.view_is) (subst (λ new. P ran.shown.now new) ran.leaves ran.met)
+    subst (λ old. P old c.change.new.self.value) (ran.shows ∙ c.put_back.ensures.value ∙ c.self.view_is) (subst (λ new. P ran.shown.now new) ran.leaves ran.met)
