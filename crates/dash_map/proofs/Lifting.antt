@@ -17,7 +17,6 @@ use Rattle.dash_shard.specs.Steps.{Step, Reply, Insert, Old, Becomes, line, line
 use Rattle.std.specs.Prelude.{IfOk, IfErr, IsSomeAnd}
 use Rattle.dash_shard.specs.declared.shard.InsertRefused.{InsertRefused}
 use Rattle.dash_shard.specs.Shard.{ShardState, SameShard, IsShard, TakesExactly, pairs, shard_len, keys_of}
-use Rattle.dash_shard.specs.Held.{Inserts}
 use Rattle.dash_map.specs.Alone.{AloneState, IsPlaced, IsAlone, TakesAlone, contents, keys_in}
 use Rattle.dash_map.proofs.Union.{OnShards, at-union}
 
@@ -41,10 +40,6 @@ module _ {K V S H : Type 0} (eq : K → K → Bool) (b : builder.Ghosts S H) (h 
     hashes = subst (λ x. HashAlike b h base x) (sym stays.hasher) p.hashes;
     shard = new;
   }
-
-  pub placed-inserted : (base : S) (n i : ℕ) (s t : ShardState K V S) → IsPlaced eq b h input base n i s → (k : K) (v : V) (r : Result (Option V) (InsertRefused K V)) → Inserts eq b h input s t k v r → IsPlaced eq b h input base n i t
-  placed-inserted base n i s t p k v (Ok o) did = placed-moved base n i s t p did.taken.stays did.taken.lawful
-  placed-inserted base n i s t p k v (Err e) did = subst (IsPlaced eq b h input base n i) (sym did.refused.2) p
 
   -- one shard changed in its place
   pub alone-set : (base : S) (i : ℕ) (row : List (ShardState K V S)) (s t : ShardState K V S) → IsAlone eq b h input (record { hasher = base; row = row }) → slice_get row i ≡ Some s

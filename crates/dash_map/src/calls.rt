@@ -5,11 +5,11 @@ ghost use Rattle.std.specs.Map.Iter.{deref_pair};
 ghost use Rattle.dash_shard.specs.Closures.{MayAsk, AnswersOn, Viewed, MayChange, ChangesOn, MayGive, GivesOn};
 ghost use Rattle.dash_shard.specs.Contents.{at};
 ghost use Rattle.dash_shard.specs.Shard.{keys_of, pairs, IsShard};
-ghost use Rattle.dash_shard.specs.Held.{Inserts, Removes, Alters};
+ghost use Rattle.dash_shard.specs.Held.{Alters};
 ghost use Rattle.dash_map.specs.Behind.{Asked, Changed, ReservesBehind, SawPair, SawShards, LeavesShard};
 ghost use Rattle.dash_shard.specs.Hashing.{hash_of, route_by};
 ghost use Rattle.dash_map.specs.Alone.{AloneState, IsPlaced, contents};
-ghost use Rattle.dash_ref.specs.Ref.{Stands, pair_of};
+ghost use Rattle.dash_ref.specs.Ref.{Stands};
 
 use crate::map::DashMap;
 use core::mem::replace_with;
@@ -73,7 +73,6 @@ impl<K: Eq + Hash, V, S: BuildHasher> DashMap<K, V, S> {
     where
         K: Drop,
         V: Drop,
-        ensures leaves { LeavesShard K.eq S.BuildHasher S.Hasher.Hasher K.hash_input self.now key (λ s t. Inserts K.eq S.BuildHasher S.Hasher.Hasher K.hash_input s t key value result) }
         ensures refused { IfErr result (λ e. (e.key ≡ key) × (e.value ≡ value)) }
     {
         let (hash, place) = self.place_of(&key);
@@ -83,7 +82,6 @@ impl<K: Eq + Hash, V, S: BuildHasher> DashMap<K, V, S> {
     /// Takes the pair whose key equals `key` out, and answers it. Waits for the key's shard. It takes no memory.
     #[inline]
     pub fn remove<R: Wait + Clock>(&self, rt: &R, key: &K) -> Option<(K, V)>
-        ensures leaves { LeavesShard K.eq S.BuildHasher S.Hasher.Hasher K.hash_input self.now key.now (λ s t. Removes K.eq S.BuildHasher S.Hasher.Hasher K.hash_input s t key.now result) }
         ensures equal { IfSome result (λ pair. IsTrue (K.eq pair.0 key.now)) }
     {
         let (hash, place) = self.place_of(key);
@@ -95,7 +93,6 @@ impl<K: Eq + Hash, V, S: BuildHasher> DashMap<K, V, S> {
     /// Till the reference is dropped, whoever wants to write the shard waits, this thread too. It takes no memory.
     #[inline]
     pub fn get<R: Wait + Clock>(&self, rt: &R, key: &K) -> Option<Ref<'_, K, V, S>>
-        ensures saw { SawPair K.eq S.BuildHasher S.Hasher.Hasher K.hash_input self.now key.now (λ p. p ≡ option_map pair_of result) }
         ensures equal { IfSome result (λ found. IsTrue (K.eq found.key key.now)) }
         ensures stands { IfSome result Stands }
         ensures placed { IfSome result (λ found. IsPlaced K.eq S.BuildHasher S.Hasher.Hasher K.hash_input self.now.hasher self.now.amount (route_by S.BuildHasher S.Hasher.Hasher K.hash_input self.now.hasher self.now.amount key.now) found.shard) }

@@ -1,16 +1,15 @@
 //! The calls of a map that threads share, as a trait: code may be written for any such map.
 ghost use Rattle.std.specs.Prelude.{◌≡◌, ◌<◌, ◌==◌, ◌-◌, ◌^◌, min, length, sum_by, Option, IsTrue, IfOk, IfSome, IfErr, is_some};
-ghost use Rattle.std.specs.Option.{option_map};
 ghost use Rattle.std.specs.Map.Calls.{CalledAtPair, TakesPair};
 ghost use Rattle.dash_shard.specs.Closures.{MayAsk, AnswersOn, Viewed, MayChange, ChangesOn, MayGive, GivesOn};
 ghost use Rattle.dash_shard.specs.Each.{CalledOnPair, TakesOnPair};
 ghost use Rattle.dash_shard.specs.Hashing.{route_by};
-ghost use Rattle.dash_shard.specs.Held.{Inserts, Removes, Alters};
+ghost use Rattle.dash_shard.specs.Held.{Alters};
 ghost use Rattle.dash_map.specs.Alone.{AloneState, IsPlaced, contents};
 ghost use Rattle.dash_map.specs.Behind.{Asked, Changed, SawPair, SawShards, LeavesShard, LeavesShards, CallableOnPairs};
 ghost use Rattle.dash_map.specs.Map.{MapState};
 ghost use Rattle.dash_map.specs.Whole.{ClearsAlone, ShrinksAlone, RetainsAlone, AltersAllAlone};
-ghost use Rattle.dash_ref.specs.Ref.{Stands, pair_of};
+ghost use Rattle.dash_ref.specs.Ref.{Stands};
 
 use crate::map::DashMap;
 use dash_ref::mapref::one::Ref;
@@ -47,12 +46,10 @@ pub trait Map<K: Eq + Hash, V, S: BuildHasher> {
     where
         K: Drop,
         V: Drop,
-        ensures leaves { LeavesShard K.eq S.BuildHasher S.Hasher.Hasher K.hash_input (state self.now) key (λ s t. Inserts K.eq S.BuildHasher S.Hasher.Hasher K.hash_input s t key value result) }
         ensures refused { IfErr result (λ e. (e.key ≡ key) × (e.value ≡ value)) };
 
     /// As `DashMap::remove`.
     fn _remove<R: Wait + Clock>(&self, rt: &R, key: &K) -> Option<(K, V)>
-        ensures leaves { LeavesShard K.eq S.BuildHasher S.Hasher.Hasher K.hash_input (state self.now) key.now (λ s t. Removes K.eq S.BuildHasher S.Hasher.Hasher K.hash_input s t key.now result) }
         ensures equal { IfSome result (λ pair. IsTrue (K.eq pair.0 key.now)) };
 
     /// As `DashMap::remove_if`.
@@ -77,7 +74,6 @@ pub trait Map<K: Eq + Hash, V, S: BuildHasher> {
 
     /// As `DashMap::get`.
     fn _get<R: Wait + Clock>(&self, rt: &R, key: &K) -> Option<Ref<'_, K, V, S>>
-        ensures saw { SawPair K.eq S.BuildHasher S.Hasher.Hasher K.hash_input (state self.now) key.now (λ p. p ≡ option_map pair_of result) }
         ensures equal { IfSome result (λ found. IsTrue (K.eq found.key key.now)) }
         ensures stands { IfSome result Stands }
         ensures placed { IfSome result (λ found. IsPlaced K.eq S.BuildHasher S.Hasher.Hasher K.hash_input (state self.now).hasher (state self.now).amount (route_by S.BuildHasher S.Hasher.Hasher K.hash_input (state self.now).hasher (state self.now).amount key.now) found.shard) };
