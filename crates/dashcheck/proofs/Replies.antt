@@ -1,5 +1,5 @@
 -- What a recorded map answers.
-use Rattle.std.proofs.Common.{◌≡◌, ℕ, Ok, Err, refl, ap, subst, ◌∙◌, inl, inr, arith}
+use Rattle.std.proofs.Common.{◌≡◌, ℕ, ◌<◌, ◌≤◌, Ok, Err, refl, sym, ap, subst, ◌∙◌, inl, inr, arith}
 use Rattle.std.specs.Prelude.{◌↔◌, ◌⊎◌, Result, IfOk, IfErr, IsErrAnd, IsErrOf, MatchResult, nat_eq}
 use Rattle.dash_shard.specs.Contents.{keys}
 use Rattle.dash_shard.specs.Hashing.{IsAmount}
@@ -7,19 +7,41 @@ use Rattle.dash_shard.specs.declared.error.ConstructError.{ConstructError}
 use Rattle.dash_shard.specs.declared.error.ConstructError.TheVariants.{ShardAmount, Memory, Callers}
 use Rattle.dash_history.specs.Alone.{IsCallers}
 use Rattle.dash_history.specs.Map.{Logged}
-use Rattle.dash_history.specs.History.{LogState}
+use Rattle.dash_history.specs.History.{LogState, place_of}
 use Rattle.dash_history.specs.Takes.{kinds, rules}
 use Rattle.dashcheck.specs.Change.{acts, alike_change}
 use Rattle.dashcheck.specs.declared.change.Change.{Change}
 use Rattle.dash_history.specs.declared.step.Reply.{Reply}
-use Rattle.dashcheck.specs.Script.{ScriptStep, IsReplyTo}
+use Rattle.dash_history.specs.declared.step.ShardStep.TheVariants.{Get, Contains, Insert, Remove, RemoveIf, RemoveIfMut, Alter, Read, Count, AlterAll, Retain}
+use Rattle.dash_history.specs.declared.record.RecordFault.{RecordFault}
+use Rattle.dash_history.specs.declared.record.RecordFault.TheVariants.{NoSuchShard}
+use Rattle.dashcheck.specs.Script.{ScriptStep, IsReplyTo, NamesMissing, IsFaultOf}
 
--- a step that is in the log has a reply of the step table, also where the refusal is told in other words
-pub replied : {E F : Type 0} (route : ℕ → ℕ) (n : ℕ) (l l' : LogState ℕ ℕ Change) (step : ScriptStep) (r : Result (Reply ℕ ℕ) E) (s : Result (Reply ℕ ℕ) F) (P : E → F → Type 0)
-    → MatchResult r (λ reply. s ≡ Ok reply) (λ e. IsErrAnd s (P e)) → IfOk r (Logged (kinds alike_change acts (rules nat_eq nat_eq (keys nat_eq route n))) l l' step) → IfOk s (IsReplyTo step)
-replied route n l l' step (Ok reply) s P told logged = rw told (route, n, logged.contents, logged.answers)
-replied route n l l' step (Err e) (Ok reply) s told logged = absurd told
-replied route n l l' step (Err e) (Err f) P told logged = tt
+-- the step goes outside a map of four shards exactly where it names a missing one
+module _ (route : ℕ → ℕ) (below : (k : ℕ) → route k < 4) where
+  abbrev place-in : ScriptStep → ℕ
+  place-in step = place_of (kinds alike_change acts (rules nat_eq nat_eq (keys nat_eq route 4))) step
+
+  outside : (step : ScriptStep) → (4 ≤ place-in step) ↔ NamesMissing step
+  outside (Get k) = ((λ far. absurd (omega (arith, below k, far))), (λ named. absurd named))
+  outside (Contains k) = ((λ far. absurd (omega (arith, below k, far))), (λ named. absurd named))
+  outside (Insert k v) = ((λ far. absurd (omega (arith, below k, far))), (λ named. absurd named))
+  outside (Remove k) = ((λ far. absurd (omega (arith, below k, far))), (λ named. absurd named))
+  outside (RemoveIf k f) = ((λ far. absurd (omega (arith, below k, far))), (λ named. absurd named))
+  outside (RemoveIfMut k f) = ((λ far. absurd (omega (arith, below k, far))), (λ named. absurd named))
+  outside (Alter k f) = ((λ far. absurd (omega (arith, below k, far))), (λ named. absurd named))
+  outside (Read i) = ((λ far. far), (λ named. named))
+  outside (Count i) = ((λ far. far), (λ named. named))
+  outside (AlterAll i f) = ((λ far. far), (λ named. named))
+  outside (Retain i f) = ((λ far. far), (λ named. named))
+
+  -- a map of four shards refuses a step for want of its shard exactly where it names a missing one
+  pub faulted : {R : Type 0} (step : ScriptStep) (r : Result R (ScriptStep × RecordFault)) (e : ScriptStep × RecordFault) → r ≡ Err e → e.0 ≡ step
+      → ((r ≡ Err (step, NoSuchShard)) ↔ (4 ≤ place-in step)) → IsFaultOf step e.1
+  faulted step r e is back missing = (
+    (λ none. (outside step).0 (missing.0 (is ∙ ap (λ s. Err (s, e.1)) back ∙ ap (λ w. Err (step, w)) none))),
+    (λ named. let same = missing.1 ((outside step).1 named) in cc),
+  )
 
 -- why a recorded map isn't made
 abbrev Kinds : ConstructError → Type 0

@@ -7,7 +7,7 @@ use Rattle.std.proofs.lemmas.List.Elements.{All-append, All-nil}
 use Rattle.dash_history.specs.declared.step.Reply.{Reply}
 use Rattle.dash_history.specs.declared.record.RecordFault.{RecordFault}
 use Rattle.dashcheck.specs.declared.script.Stop.TheVariants.{BadStep, Step}
-use Rattle.dashcheck.specs.Script.{ScriptStep, HasWords, line_of, text_of, StartsWithLines, IsToldOf, Took, IsNext, StopsAt, step_lines, reply_lines}
+use Rattle.dashcheck.specs.Script.{ScriptStep, HasWords, line_of, text_of, StartsWithLines, IsToldOf, Took, IsNext, IsFaultOf, StopsAt, step_lines, reply_lines}
 use Rattle.dashcheck.specs.Lines.{ReadsPart, ReadsLine}
 use Rattle.dashcheck.proofs.Texts.{short-line, clean-line, same-word, no-longer}
 
@@ -135,12 +135,12 @@ module _ (input left new old now : Option (List ℕ)) (line : ℕ) (text : List 
     known : ReadsPart left new (line_of step)
     known = subst (λ t. ReadsPart left new t) same part.1
 
-    refused : (l : Option (List ℕ)) → ReadsPart l new (line_of step) → IfSome l (λ bytes. (s : ScriptStep) × IsNext bytes s)
-    refused None p = tt
-    refused (Some bytes) p = let next = next-line bytes new step words p in (step, (words, next.0, starts-next bytes (line_of step) next.0 next.2))
+    refused : (fault : RecordFault) → IsFaultOf step fault → (l : Option (List ℕ)) → ReadsPart l new (line_of step) → IfSome l (λ bytes. (s : ScriptStep) × IsNext bytes s × IsFaultOf s fault)
+    refused fault of None p = tt
+    refused fault of (Some bytes) p = let next = next-line bytes new step words p in (step, (words, next.0, starts-next bytes (line_of step) next.0 next.2), of)
 
-    pub stops-fault : (fault : RecordFault) → StopsAt (Step line fault) input old now
-    stops-fault fault = record { done = g.done; left = left; took = g.took; why = (g.count, refused left known) }
+    pub stops-fault : (fault : RecordFault) → IsFaultOf step fault → StopsAt (Step line fault) input old now
+    stops-fault fault of = record { done = g.done; left = left; took = g.took; why = (g.count, refused fault of left known) }
 
     pub going-more : (now' : Option (List ℕ)) (reply : Reply ℕ ℕ) → IsToldOf step reply → Appends now now' (text_of reply ++ 10 ∷ []) → Going input new old now' (line + 1)
     going-more now' reply answered printed = record {

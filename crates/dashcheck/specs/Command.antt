@@ -3,6 +3,8 @@ use Rattle.std.specs.Prelude.{◌≡◌, ◌⊎◌, ℕ, List, [], ◌∷◌, co
 use Rattle.dashcheck.specs.Threads.{IsThreads}
 use Rattle.dashcheck.specs.declared.command.Command.{Command}
 use Rattle.dashcheck.specs.declared.command.Command.TheVariants.{Script, Threads}
+use Rattle.dashcheck.specs.declared.command.Status.{Status}
+use Rattle.dashcheck.specs.declared.command.Status.TheVariants.{Good, Refused, BadCommandLine}
 
 -- the bytes of `script`
 abbrev pub script : List ℕ
@@ -24,3 +26,9 @@ IsCommand words = IsScript words ⊎ (c : ℕ) × (n : ℕ) × IsThreads words c
 -- what a bad command line is told
 abbrev pub usage : List ℕ
 usage = codes "usage: dashcheck script | dashcheck threads C N"
+
+-- the exit status
+abbrev pub code_of : Status → ℕ
+code_of Good = 0
+code_of Refused = 1
+code_of BadCommandLine = 2

@@ -1,5 +1,5 @@
 -- How steps and replies are written in a script, and what a script reads and prints.
-use Rattle.std.specs.Prelude.{◌≡◌, ◌≢◌, ℕ, true, false, ◌+◌, ◌<◌, ◌≤◌, ◌^◌, ◌++◌, ◌⊎◌, List, [], ◌∷◌, length, All, flat_map, Option, Some, None, IfSome, IsSomeAnd, nat_eq, slice_index_or, codes, ⊤}
+use Rattle.std.specs.Prelude.{◌≡◌, ◌≢◌, ◌↔◌, ℕ, true, false, ◌+◌, ◌<◌, ◌≤◌, ◌^◌, ◌++◌, ◌⊎◌, List, [], ◌∷◌, length, All, flat_map, Option, Some, None, IfSome, IsSomeAnd, nat_eq, slice_index_or, codes, ⊤}
 use Rattle.std.specs.Fmt.{decimal}
 use Rattle.std.specs.List.Sorted.{IsPermutation, IsNonDecreasingBy}
 use Rattle.std.specs.Io.KnownBytes.{Appends}
@@ -154,6 +154,18 @@ TakesAll input old new = (done : List (ScriptStep × Reply ℕ ℕ)) × Took inp
 abbrev pub IsNext : List ℕ → ScriptStep → Type 0
 IsNext input step = HasWords step × (rest : List ℕ) × StartsWithLines input (line_of step ++ 10 ∷ []) rest
 
+-- the step names a shard that a map of four doesn't have
+abbrev pub NamesMissing : ScriptStep → Type 0
+NamesMissing (Read i) = 4 ≤ i
+NamesMissing (Count i) = 4 ≤ i
+NamesMissing (AlterAll i f) = 4 ≤ i
+NamesMissing (Retain i f) = 4 ≤ i
+NamesMissing _ = ⊥
+
+-- a fault of the step: that its shard is missing exactly where it names a missing one
+abbrev pub IsFaultOf : ScriptStep → RecordFault → Type 0
+IsFaultOf step why = (why ≡ fault.NoSuchShard) ↔ NamesMissing step
+
 -- what is said of a refused step, and of a stop
 abbrev pub fault_text : RecordFault → List ℕ
 fault_text fault.LastStamp = codes "last stamp (18)"
@@ -169,7 +181,7 @@ stop_text stops.Read = codes "refused: read failed"
 -- when it stops so, after so many steps, with this left of its input
 abbrev pub StopsFor : Stop → ℕ → Option (List ℕ) → Type 0
 StopsFor (stops.BadStep line) n left = (line ≡ n + 1) × IfSome left (λ bytes. (bytes ≢ []) × ((step : ScriptStep) → IsNext bytes step → ⊥))
-StopsFor (stops.Step line _) n left = (line ≡ n + 1) × IfSome left (λ bytes. (step : ScriptStep) × IsNext bytes step)
+StopsFor (stops.Step line why) n left = (line ≡ n + 1) × IfSome left (λ bytes. (step : ScriptStep) × IsNext bytes step × IsFaultOf step why)
 StopsFor stops.Memory n left = n ≡ 0
 StopsFor stops.Read n left = ⊤
 

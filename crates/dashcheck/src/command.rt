@@ -1,7 +1,7 @@
 //! The command line.
-ghost use Rattle.std.specs.Prelude.{◌≡◌, ◌↔◌, ℕ, ◌*◌, ◌++◌, ◌∷◌, [], IsTrue, IfSome, IfNone, IfOk, OnOk, map, string_bytes};
+ghost use Rattle.std.specs.Prelude.{◌≡◌, ◌↔◌, ℕ, ◌*◌, ◌++◌, ◌∷◌, [], IsTrue, IfSome, IfNone, IfOk, OnOk, OnErr, map, string_bytes};
 ghost use Rattle.std.specs.Io.KnownBytes.{Appends};
-ghost use Rattle.dashcheck.specs.Command.{IsScript, IsCommand, Asks, usage};
+ghost use Rattle.dashcheck.specs.Command.{IsScript, IsCommand, Asks, code_of, usage};
 ghost use Rattle.dashcheck.specs.Script.{TakesAll, Refuses, stop_text};
 ghost use Rattle.dashcheck.specs.Threads.{IsThreads, SaysRefusal, entries_line};
 
@@ -22,21 +22,6 @@ pub enum Status {
     Good,
     Refused,
     BadCommandLine,
-}
-
-impl Status {
-    /// The exit status.
-    pub fn code(self) -> u8
-        ensures good { self ≡ Status.Good → result ≡ 0 }
-        ensures refused { self ≡ Status.Refused → result ≡ 1 }
-        ensures bad { self ≡ Status.BadCommandLine → result ≡ 2 }
-    {
-        match self {
-            Status::Good => 0,
-            Status::Refused => 1,
-            Status::BadCommandLine => 2,
-        }
-    }
 }
 
 /// What the words ask for.
@@ -85,14 +70,29 @@ pub fn run_words<T: Threads + Wait + Clock + Sync, R: Read, O: Write, E: Write>(
     }
 }
 
-/// How the program ended where `run_words` failed: a bad command line is one also where the usage can't be printed.
-pub fn failed(words: &[String]) -> Status
-    ensures bad { (result ≡ Status.BadCommandLine) ↔ (IsCommand (map string_bytes words.now) → ⊥) }
-    ensures command { IsCommand (map string_bytes words.now) → result ≡ Status.Refused }
+/// The exit status, from what `run_words` answered on the words: 0, 1 or 2. Where a write failed it is 1, but 2 of a bad command line,
+/// whose usage couldn't be printed.
+pub fn exit_code(words: &[String], ran: io::Result<Status>) -> u8
+    ensures ran { IfOk ran (λ status. result ≡ code_of status) }
+    ensures failed { OnErr ran (IsCommand (map string_bytes words.now) → result ≡ 1) }
+    ensures bad { OnErr ran ((IsCommand (map string_bytes words.now) → ⊥) → result ≡ 2) }
 {
-    match asked(words) {
-        Some(_) => Status::Refused,
-        None => Status::BadCommandLine,
+    match (ran, asked(words)) {
+        (Ok(status), _) => status.code(),
+        (Err(_), Some(_)) => Status::Refused.code(),
+        (Err(_), None) => Status::BadCommandLine.code(),
+    }
+}
+
+impl Status {
+    fn code(self) -> u8
+        ensures { result ≡ code_of self }
+    {
+        match self {
+            Status::Good => 0,
+            Status::Refused => 1,
+            Status::BadCommandLine => 2,
+        }
     }
 }
 
@@ -135,11 +135,16 @@ fn print_usage<E: Write>(errors: &mut E) -> io::Result<()>
     writeln!(errors, "{USAGE}")
 }
 
-/// Says that no memory was found for the words themselves.
-pub(crate) fn refuse_memory<E: Write>(errors: &mut E) -> io::Result<Status>
-    ensures status { IfOk result (λ status. status ≡ Status.Refused) }
-    ensures said { OnOk result (Appends (E.contents errors.old) (E.contents errors.new) (stop_text Stop.Memory ++ 10 ∷ [])) }
+/// Says that no memory was found for the words themselves. It answers the exit status, also where that couldn't be said.
+pub fn refuse_memory<E: Write>(errors: &mut E) -> u8
+    ensures { result ≡ code_of Status.Refused }
 {
-    writeln!(errors, "{}", Stop::Memory)?;
-    Ok(Status::Refused)
+    let _ = print_memory(errors);
+    Status::Refused.code()
+}
+
+fn print_memory<E: Write>(errors: &mut E) -> io::Result<()>
+    ensures { OnOk result (Appends (E.contents errors.old) (E.contents errors.new) (stop_text Stop.Memory ++ 10 ∷ [])) }
+{
+    writeln!(errors, "{}", Stop::Memory)
 }

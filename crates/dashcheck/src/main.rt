@@ -10,7 +10,7 @@ mod step;
 mod tests;
 mod threads;
 
-use command::{Status, failed, refuse_memory, run_words};
+use command::{exit_code, refuse_memory, run_words};
 use std::process::ExitCode;
 use std::{env, io};
 
@@ -19,22 +19,20 @@ fn main(rt: HostRuntime) -> ExitCode {
     let words = match words(&rt) {
         Ok(words) => words,
         Err(e) if e.kind() == io::ErrorKind::OutOfMemory => {
-            let status = refuse_memory(errors).unwrap_or(Status::Refused);
-            return ExitCode::from(status.code());
+            return ExitCode::from(refuse_memory(errors));
         }
         // A word that is no text.
         Err(_) => Vec::new(rt.alloc()),
     };
-    let status = run_words(
+    let ran = run_words(
         &rt,
         rt.alloc(),
         words.as_slice(),
         &mut rt.stdin(),
         &mut rt.stdout(),
         errors,
-    )
-    .unwrap_or_else(|_| failed(words.as_slice()));
-    ExitCode::from(status.code())
+    );
+    ExitCode::from(exit_code(words.as_slice(), ran))
 }
 
 // The words after the program's name.

@@ -1,7 +1,7 @@
 //! `dashcheck script`: steps from the input, one a line, and their replies on the output.
 ghost use Rattle.std.specs.Prelude.{◌≡◌, ◌≢◌, ◌<◌, ◌++◌, ◌∷◌, [], Some, IfSome, IfNone, IfOk, IfErr, OnOk};
 ghost use Rattle.std.specs.Io.KnownBytes.{Appends};
-ghost use Rattle.dashcheck.specs.Script.{text_of, fault_text, IsReplyTo, TakesAll, StopsAt, Refuses};
+ghost use Rattle.dashcheck.specs.Script.{text_of, fault_text, IsReplyTo, IsFaultOf, TakesAll, StopsAt, Refuses};
 
 use crate::change::Change;
 use crate::command::Status;
@@ -61,12 +61,13 @@ fn fault_text(fault: RecordFault) -> &'static str
     }
 }
 
-// A recorded map and the log of its caller.
+// A recorded map of four shards and the log of its caller.
 #[derive(Drop)]
 struct Session {
     map: RecordedMap<u64, u64, PlaceState, Change>,
     log: CallerLog<u64, u64, Change>,
     ghost caller: { log.caller < map.callers },
+    ghost shards: { map.amount ≡ 4 },
 }
 
 /// Takes each step of the input and prints its reply, up to the first refusal, which it prints on `errors`. Where the output fails
@@ -146,11 +147,13 @@ impl Session {
     }
 
     fn take<T: Wait + Clock>(&mut self, rt: &T, step: Step) -> Result<Reply<u64, u64>, RecordFault>
-        ensures { IfOk result (λ reply. IsReplyTo step reply) }
+        ensures reply { IfOk result (λ reply. IsReplyTo step reply) }
+        ensures fault { IfErr result (λ fault. IsFaultOf step fault) }
     {
-        self.map
-            .apply(rt, &mut self.log, step)
-            .map_err(|(_, fault)| fault)
+        match self.map.apply(rt, &mut self.log, step) {
+            Ok(reply) => Ok(reply),
+            Err((_, fault)) => Err(fault),
+        }
     }
 }
 

@@ -1,5 +1,5 @@
 //! What `dashcheck` prints, where reads and writes succeed and where they fail.
-use crate::command::{Status, failed, run_words};
+use crate::command::{exit_code, refuse_memory, run_words};
 use std::alloc::{AllocError, Global};
 use std::io::{self, Read, Write};
 use std::process::Abort;
@@ -54,7 +54,34 @@ fn words(alloc: Global, line: &str) -> Result<Vec<String>, AllocError> {
     Ok(words)
 }
 
-// Runs a script, whose output and errors are to be these.
+// What a run left on its outputs, and the exit status.
+#[derive(Debug, Drop, PartialEq)]
+struct Ran {
+    output: Vec<u8>,
+    errors: Vec<u8>,
+    code: u8,
+}
+
+// Runs the words of a line.
+fn run<T: Threads + Wait + Clock + Sync, R: Read>(
+    rt: &T,
+    alloc: Global,
+    line: &str,
+    input: &mut R,
+) -> Result<Ran, AllocError> {
+    let words = words(alloc, line)?;
+    let mut output = Vec::new(alloc);
+    let mut errors = Vec::new(alloc);
+    let ran = run_words(rt, alloc, words.as_slice(), input, &mut output, &mut errors);
+    let code = exit_code(words.as_slice(), ran);
+    Ok(Ran {
+        output,
+        errors,
+        code,
+    })
+}
+
+// Runs a script, which is to print these. It is refused where it prints an error.
 fn check<T: Abort + Threads + Wait + Clock + Sync>(
     rt: &T,
     alloc: Global,
@@ -62,34 +89,20 @@ fn check<T: Abort + Threads + Wait + Clock + Sync>(
     output: &str,
     errors: &str,
 ) -> Result<(), Fail> {
-    let words = words(alloc, "script")?;
     let mut input = script;
-    let mut printed = Vec::new(alloc);
-    let mut refused = Vec::new(alloc);
-    let status = run_words(
-        rt,
-        alloc,
-        words.as_slice(),
-        &mut input,
-        &mut printed,
-        &mut refused,
-    )?;
-    let want = if errors.is_empty() {
-        Status::Good
-    } else {
-        Status::Refused
-    };
+    let ran = run(rt, alloc, "script", &mut input)?;
+    let code = if errors.is_empty() { 0 } else { 1 };
     assert_eq!(rt;
-        printed.as_slice(),
+        ran.output.as_slice(),
         output.as_bytes(),
         "output of {script:?}"
     );
     assert_eq!(rt;
-        refused.as_slice(),
+        ran.errors.as_slice(),
         errors.as_bytes(),
         "errors of {script:?}"
     );
-    assert_eq!(rt; status, want, "status of {script:?}");
+    assert_eq!(rt; ran.code, code, "status of {script:?}");
     Ok(())
 }
 
@@ -296,7 +309,6 @@ fn refuses_bad_steps(rt: HostRuntime) -> Result<(), Fail> {
 
 #[test]
 fn refuses_failed_reads(rt: HostRuntime) -> Result<(), Fail> {
-    let words = words(rt.alloc(), "script")?;
     for (bytes, output) in [
         ("", ""),
         ("insert 1 10\nget", "old none\n"),
@@ -305,19 +317,10 @@ fn refuses_failed_reads(rt: HostRuntime) -> Result<(), Fail> {
         let mut input = Failing {
             bytes: bytes.as_bytes(),
         };
-        let mut printed = Vec::new(rt.alloc());
-        let mut refused = Vec::new(rt.alloc());
-        let status = run_words(
-            &rt,
-            rt.alloc(),
-            words.as_slice(),
-            &mut input,
-            &mut printed,
-            &mut refused,
-        )?;
-        assert_eq!(rt; printed.as_slice(), output.as_bytes());
-        assert_eq!(rt; refused.as_slice(), b"refused: read failed\n".as_slice());
-        assert_eq!(rt; status, Status::Refused);
+        let ran = run(&rt, rt.alloc(), "script", &mut input)?;
+        assert_eq!(rt; ran.output.as_slice(), output.as_bytes());
+        assert_eq!(rt; ran.errors.as_slice(), b"refused: read failed\n".as_slice());
+        assert_eq!(rt; ran.code, 1);
     }
     Ok(())
 }
@@ -327,19 +330,18 @@ fn stops_where_a_write_fails(rt: HostRuntime) -> Result<(), Fail> {
     let words = words(rt.alloc(), "script")?;
     for room in [0, 4, 9, 12] {
         let mut input = b"insert 1 10\nget 1\nbad\n".as_slice();
-        let mut output = Full { room };
-        let mut refused = Vec::new(rt.alloc());
-        let ended = run_words(
+        let mut errors = Vec::new(rt.alloc());
+        let ran = run_words(
             &rt,
             rt.alloc(),
             words.as_slice(),
             &mut input,
-            &mut output,
-            &mut refused,
+            &mut Full { room },
+            &mut errors,
         );
-        assert!(rt; ended.is_err());
-        assert_eq!(rt; refused.len(), 0);
-        assert_eq!(rt; failed(words.as_slice()).code(), 1);
+        assert!(rt; ran.is_err());
+        assert_eq!(rt; errors.len(), 0);
+        assert_eq!(rt; exit_code(words.as_slice(), ran), 1);
     }
     Ok(())
 }
@@ -367,22 +369,12 @@ fn checks_the_command_line_first(rt: HostRuntime) -> Result<(), Fail> {
         "Threads 4 100",
         "--help",
     ] {
-        let words = words(rt.alloc(), line)?;
         let mut input = Failing { bytes: b"get 1\n" };
-        let mut printed = Vec::new(rt.alloc());
-        let mut usage = Vec::new(rt.alloc());
-        let status = run_words(
-            &rt,
-            rt.alloc(),
-            words.as_slice(),
-            &mut input,
-            &mut printed,
-            &mut usage,
-        )?;
-        assert_eq!(rt; status.code(), 2, "status of {line:?}");
+        let ran = run(&rt, rt.alloc(), line, &mut input)?;
         assert_eq!(rt; input.bytes.len(), 6);
-        assert_eq!(rt; printed.len(), 0);
-        assert_eq!(rt; usage.as_slice(), USAGE.as_bytes());
+        assert_eq!(rt; ran.output.len(), 0);
+        assert_eq!(rt; ran.errors.as_slice(), USAGE.as_bytes());
+        assert_eq!(rt; ran.code, 2, "status of {line:?}");
     }
     Ok(())
 }
@@ -392,19 +384,20 @@ fn fails_where_the_errors_cannot_be_written(rt: HostRuntime) -> Result<(), Fail>
     for (line, code) in [("threads 4", 2), ("script", 1)] {
         let words = words(rt.alloc(), line)?;
         let mut input = b"bad\n".as_slice();
-        let mut printed = Vec::new(rt.alloc());
-        let ended = run_words(
+        let mut output = Vec::new(rt.alloc());
+        let ran = run_words(
             &rt,
             rt.alloc(),
             words.as_slice(),
             &mut input,
-            &mut printed,
+            &mut output,
             &mut Full { room: 0 },
         );
-        assert!(rt; ended.is_err(), "end of {line:?}");
-        assert_eq!(rt; printed.len(), 0);
-        assert_eq!(rt; failed(words.as_slice()).code(), code);
+        assert!(rt; ran.is_err(), "end of {line:?}");
+        assert_eq!(rt; output.len(), 0);
+        assert_eq!(rt; exit_code(words.as_slice(), ran), code);
     }
+    assert_eq!(rt; refuse_memory(&mut Full { room: 0 }), 1);
     Ok(())
 }
 
@@ -416,22 +409,16 @@ fn threads_print_how_many_entries_they_logged(rt: HostRuntime) -> Result<(), Fai
         ("threads 1 7", "entries 7\n"),
         ("threads 64 1", "entries 64\n"),
     ] {
-        let words = words(rt.alloc(), line)?;
         let mut input = Failing { bytes: b"get 1\n" };
-        let mut printed = Vec::new(rt.alloc());
-        let mut refused = Vec::new(rt.alloc());
-        let status = run_words(
-            &rt,
-            rt.alloc(),
-            words.as_slice(),
-            &mut input,
-            &mut printed,
-            &mut refused,
-        )?;
-        assert_eq!(rt; printed.as_slice(), output.as_bytes(), "output of {line:?}");
-        assert_eq!(rt; refused.len(), 0);
+        let ran = run(&rt, rt.alloc(), line, &mut input)?;
+        assert_eq!(rt;
+            ran.output.as_slice(),
+            output.as_bytes(),
+            "output of {line:?}"
+        );
+        assert_eq!(rt; ran.errors.len(), 0);
         assert_eq!(rt; input.bytes.len(), 6);
-        assert_eq!(rt; status, Status::Good);
+        assert_eq!(rt; ran.code, 0);
     }
     Ok(())
 }

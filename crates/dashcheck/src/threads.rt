@@ -1,8 +1,8 @@
 //! `dashcheck threads`: threads that take steps on one recorded map, and the count of what they logged.
-ghost use Rattle.std.specs.Prelude.{◌≡◌, ◌≢◌, ℕ, ◌+◌, ◌*◌, ◌%◌, ◌^◌, ◌<◌, ◌≤◌, ◌∷◌, [], All, Some, IsSomeAnd, IfOk, IfErr, IfSome, IfNone, OnOk, OnErr, length, map, sum_by, slice_get, slice_index_or, vec_len};
+ghost use Rattle.std.specs.Prelude.{◌≡◌, ◌≢◌, ℕ, ◌+◌, ◌*◌, ◌%◌, ◌^◌, ◌<◌, ◌≤◌, ◌∷◌, ◌++◌, [], All, Some, IsSomeAnd, IfOk, IfErr, IfSome, IfNone, OnOk, OnErr, length, map, sum_by, slice_get, slice_index_or, vec_len};
 ghost use Rattle.std.specs.Io.KnownBytes.{Appends};
 ghost use Rattle.dash_history.specs.Alone.{fresh_logs};
-ghost use Rattle.dashcheck.specs.Threads.{IsSize, LogsStep, HasDone, IsIdle, Works, AllDone, idle, SaysRefusal, IsThreadStep, thread_step, entries_line};
+ghost use Rattle.dashcheck.specs.Threads.{IsSize, LogsStep, HasDone, IsIdle, Works, AllDone, idle, refusal_text, SaysRefusal, IsThreadStep, thread_step, entries_line};
 
 use crate::command::Status;
 use dash_history::record::map::RecordedMap;
@@ -76,11 +76,17 @@ pub fn run<T: Threads + Wait + Clock + Sync, O: Write, E: Write>(
             output.flush()?;
             Ok(Status::Good)
         }
-        Err(refusal) => {
-            writeln!(errors, "{refusal}")?;
-            Ok(Status::Refused)
-        }
+        Err(refusal) => refuse(refusal, errors),
     }
+}
+
+// Says why a step of the threads was refused.
+fn refuse<E: Write>(refusal: Refusal, errors: &mut E) -> io::Result<Status>
+    ensures status { IfOk result (λ status. status ≡ Status.Refused) }
+    ensures said { OnOk result (Appends (E.contents errors.old) (E.contents errors.new) (refusal_text refusal ++ 10 ∷ [])) }
+{
+    writeln!(errors, "{refusal}")?;
+    Ok(Status::Refused)
 }
 
 // Makes the map and its workers, and lets them take their steps.
@@ -235,6 +241,14 @@ mod tests {
             let step = step(thread, number);
             assert_eq!(rt; format!(in rt.alloc(); "{step:?}")?.as_str(), text);
         }
+        Ok(())
+    }
+
+    #[test]
+    fn a_failed_allocation_in_a_step_is_told(rt: HostRuntime) -> Result<(), Fail> {
+        let mut refused = Vec::new(rt.alloc());
+        assert_eq!(rt; refuse(Refusal::Memory, &mut refused)?, Status::Refused);
+        assert_eq!(rt; refused.as_slice(), b"refused: no memory (19)\n".as_slice());
         Ok(())
     }
 

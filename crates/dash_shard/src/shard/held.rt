@@ -55,8 +55,8 @@ impl<K: Eq + Hash, V, S: BuildHasher> Tagged for Shard<K, V, S> {
 
 /// A shard that is held for writing, as the original's write guard of one shard: the hold ends when it is dropped.
 ///
-/// Calls are those of `Shard`, in place, but for `get_mut` and `at_mut`. To take or to end a hold takes no memory, and to end one waits for
-/// nobody and can't fail. A contract sees it as the shard.
+/// Calls are those of `Shard`, and change the shard in place; `get_mut` and `at_mut` first move its table to the hold, and lend from there.
+/// To take or to end a hold takes no memory, and to end one waits for nobody and can't fail. A contract sees it as the shard.
 #[must_use]
 pub struct ShardMut<'a, K: Eq + Hash, V, S: BuildHasher> {
     guard: RwLockWriteGuard<'a, Shard<K, V, S>>,

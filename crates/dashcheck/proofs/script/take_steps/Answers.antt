@@ -20,8 +20,8 @@ returns-in_default-parse-clause-part g c =
 
 pub returns-in-Err-clause-part : goal.returns-in-Err-clause-part
 returns-in-Err-clause-part g c =
-    stops-fault _ _ _ _ _ _ _ c.loop-line.invariant c.in-Ok-read.is_line c.if-not-is_line.false c.in-Ok-read.ensures c.in-Some.step (sym c.line.ensures ∙ c.in-Some.ensures.some) c.in-Some.ensures.words c.in-Err.fault
+    stops-fault _ _ _ _ _ _ _ c.loop-line.invariant c.in-Ok-read.is_line c.if-not-is_line.false c.in-Ok-read.ensures c.in-Some.step (sym c.line.ensures ∙ c.in-Some.ensures.some) c.in-Some.ensures.words c.in-Err.fault c.in-Err.ensures.fault
 
 pub loop-line-preserved : goal.loop-line-preserved
 loop-line-preserved g c =
-    going-more _ _ _ _ _ _ _ c.loop-line.invariant c.in-Ok-read.is_line c.if-not-is_line.false c.in-Ok-read.ensures c.in-Some.step (sym c.line.ensures ∙ c.in-Some.ensures.some) c.in-Some.ensures.words _ c.in_order.result (c.in-Ok-take.reply, c.in-Ok-take.ensures, c.in_order.ensures) c.in_ok-print-in-Ok-take.ensures
+    going-more _ _ _ _ _ _ _ c.loop-line.invariant c.in-Ok-read.is_line c.if-not-is_line.false c.in-Ok-read.ensures c.in-Some.step (sym c.line.ensures ∙ c.in-Some.ensures.some) c.in-Some.ensures.words _ c.in_order.result (c.in-Ok-take.reply, c.in-Ok-take.ensures.reply, c.in_order.ensures) c.in_ok-print-in-Ok-take.ensures

@@ -1,5 +1,10 @@
-use Rattle.dashcheck.proofs.Replies.{replied}
+use Rattle.std.proofs.Common.{arith}
+use Rattle.dash_shard.proofs.Routing.{route_below}
+use Rattle.dashcheck.proofs.Replies.{faulted}
 use Rattle.dashcheck.proofs.script.Session.take.Goals as goal
 
-pub returns : goal.returns
-returns g c = replied _ _ _ _ c.args.step c.apply.result c.map_err.result _ c.map_err.ensures.cases c.apply.ensures.ok
+pub returns-in-Err-clause-fault : goal.returns-in-Err-clause-fault
+returns-in-Err-clause-fault g c =
+    let shards = c.args.self.now.shards in
+    let e = c.in-Err in
+    faulted _ (λ k. route_below _ 4 (omega arith)) c.args.step c.apply.result (e.field-0-0, e.fault) e.is e.ensures.refused.0 (rw shards at c.apply.ensures.no_such_shard)
