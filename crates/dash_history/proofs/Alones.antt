@@ -1,5 +1,5 @@
 -- The shards of a recorded map of one owner.
-use Rattle.std.proofs.Common.{◌≡◌, ℕ, ◌<◌, Bool, List, length, Some, sym, ap, subst, ◌∙◌, inl, inr, get_or, slice_get, slice_set}
+use Rattle.std.proofs.Common.{◌≡◌, ℕ, ◌<◌, ◌≤◌, Bool, List, length, Some, arith, sym, ap, subst, ◌∙◌, inl, inr, get_or, slice_get, slice_set}
 use mathlib.Core.Path.{fun_ext}
 use Rattle.std.specs.Hash.{HashWrites}
 use Rattle.std.specs.Option.{option_map_or}
@@ -52,6 +52,15 @@ module _ {K V A S H : Type 0} (b : builder.Ghosts S H) (h : hasher.Ghosts H) whe
   kinds-same eq input k v f acts base n c i s p =
       let route = fun_ext (λ (x : K). ap (λ a. route_of_hash a (hash_of b h s.shard.hasher (input x))) p.amount ∙ ap (route_of_hash n) (p.hashes (input x))) in
       ap (λ r. kinds f acts (rules k v (keys eq r s.shard.amount))) route ∙ ap (λ a. kinds f acts (rules k v (keys eq (route_by b h input base n) a))) p.amount
+
+-- the place that was computed is past the row
+pub past_row : {K V A S H : Type 0} (eq : K → K → Bool) (b : builder.Ghosts S H) (h : hasher.Ghosts H) (input : K → HashWrites) (k : K → K → Bool) (v : V → V → Bool) (f : A → A → Bool) (acts : A → Act K V)
+    (base : S) (c : ℕ) (row : List (RecState K V A S)) (z : AloneState K V A S) → record { hasher = base; callers = c; row = row } ≡ z → (step : ShardStep K V A) (p n : ℕ)
+    → n ≡ length row → p ≡ place (keys eq (route_by b h input base n) n) (step_of acts step) → n ≤ p → length z.row ≤ place_of (kinds_in b h eq input k v f acts z) step
+past_row {K} {V} {A} {S} eq b h input k v f acts base c row z view step p n long computed past =
+    let At : Type 0 = AloneState K V A S in
+    let there = subst (λ l. p ≡ place (keys eq (route_by b h input base l) l) (step_of acts step)) long computed in
+    subst (λ (x : At). length x.row ≤ place_of (kinds_in b h eq input k v f acts x) step) view (subst (λ q. length row ≤ q) there (omega arith))
 
 -- The map, the place that was computed, and the shard that an index lends there.
 module _ {K V A S H : Type 0} (eq : K → K → Bool) (b : builder.Ghosts S H) (h : hasher.Ghosts H) (input : K → HashWrites) (k : K → K → Bool) (v : V → V → Bool) (f : A → A → Bool) (acts : A → Act K V)

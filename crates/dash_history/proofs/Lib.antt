@@ -8,6 +8,7 @@ mod Logging
 mod Maps
 pub mod Plains
 pub mod Recording
+mod Refusals
 pub mod Planning
 mod Sweeping
 mod PlainSweeps

@@ -1,9 +1,26 @@
-use Rattle.std.proofs.Common.{◌≡◌, ◌<◌, max, length, sym, ap, ◌∙◌, arith}
+use Rattle.std.proofs.Common.{◌≡◌, ◌<◌, ◌≤◌, max, length, refl, sym, ap, ◌∙◌, arith}
 use Rattle.std.proofs.lemmas.Result.{IfOk-weaker, MatchResult-weaker}
 use Rattle.dash_history.specs.History.{Recorded, kinds_of}
-use Rattle.dash_history.proofs.Alones.{here, alone-set, goes_there, callers_are, place_is, count_is, last_is, applied, unchanged}
+use Rattle.dash_history.proofs.Alones.{here, alone-set, goes_there, callers_are, past_row, place_is, count_is, last_is, applied, unchanged}
 use Rattle.dash_history.proofs.Faults.{never-missing}
+use Rattle.dash_history.proofs.Refusals.{missing-last}
 use Rattle.dash_history.proofs.alone.RecAlone.apply.Goals as goal
+
+pub returns-then-place-len-clause-no_such_shard : goal.returns-then-place-len-clause-no_such_shard
+returns-then-place-len-clause-no_such_shard g c =
+    let row = c.self.inside.row in
+    let long : c.len.result ≡ length row.items = c.len.ensures ∙ row.ok.0 in
+    let past : c.len.result ≤ c.place-place.result = omega (arith, c.if-place-len.true, c.len-2.ensures, c.len.ensures) in
+    let missing = past_row g.K.PartialEq.eq g.S.BuildHasher g.S.Hasher.Hasher g.K.Hash.hash_input g.K.Kept.alike g.V.Kept.alike g.A.Kept.alike g.A.Action.acts _ _ _ _ c.self.view_is c.args.step c.place-place.result c.len.result long c.place-place.ensures past in
+    (λ _. missing, λ _. refl)
+
+pub returns-then-place-len-clause-last_stamp : goal.returns-then-place-len-clause-last_stamp
+returns-then-place-len-clause-last_stamp g c =
+    let row = c.self.inside.row in
+    let long : c.len.result ≡ length row.items = c.len.ensures ∙ row.ok.0 in
+    let past : c.len.result ≤ c.place-place.result = omega (arith, c.if-place-len.true, c.len-2.ensures, c.len.ensures) in
+    let missing = past_row g.K.PartialEq.eq g.S.BuildHasher g.S.Hasher.Hasher g.K.Hash.hash_input g.K.Kept.alike g.V.Kept.alike g.A.Kept.alike g.A.Action.acts _ _ _ _ c.self.view_is c.args.step c.place-place.result c.len.result long c.place-place.ensures past in
+    (λ e. absurd (missing-last c.args.step e), λ m. absurd (omega (arith, missing, m.0)))
 
 pub record-requires-clause-place : goal.record-requires-clause-place
 record-requires-clause-place g c =

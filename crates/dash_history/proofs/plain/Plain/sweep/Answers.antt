@@ -1,4 +1,4 @@
-use Rattle.std.proofs.Common.{◌≡◌, ◌+◌, ◌++◌, ◌∷◌, [], Some, true, is_some, take, arith, refl, sym, ap, subst, ◌∙◌, append-nil}
+use Rattle.std.proofs.Common.{◌≡◌, ◌+◌, ◌++◌, ◌∷◌, [], Some, true, is_some, take, inl, inr, length, arith, refl, sym, ap, subst, ◌∙◌, append-nil}
 use Rattle.std.proofs.lemmas.List.{take_more, take_all}
 use Rattle.std.specs.Result.{is_ok}
 use Rattle.dash_shard.specs.Hashing.{route_by}
@@ -47,6 +47,48 @@ invariant_of-self g c =
       distinct = subst (λ (x : At). Distinct (plain_rules g.K.PartialEq.eq g.S.BuildHasher g.S.Hasher.Hasher g.K.Hash.hash_input g.K.Kept.alike g.V.Kept.alike x).keys c.loop-pair.next.items) (sym c.self.view_is) distinct;
       amount = c.self.invariant.amount;
     }
+
+pub returns-then-shard-self-clause-distinct : goal.returns-then-shard-self-clause-distinct
+returns-then-shard-self-clause-distinct g c =
+    let At : Type 0 = PlainState g.row.K.Denot g.row.V.Denot g.row.S.Denot in
+    let plain = subst (λ (x : At). IsPlain g.K.PartialEq.eq (route_by g.S.BuildHasher g.S.Hasher.Hasher g.K.Hash.hash_input) x) c.self.view_is c.self.invariant in
+    plain.distinct
+
+pub returns-then-shard-self-clause-stays : goal.returns-then-shard-self-clause-stays
+returns-then-shard-self-clause-stays g c = (refl, refl)
+
+pub returns-in_err-left-clause-distinct : goal.returns-in_err-left-clause-distinct
+returns-in_err-left-clause-distinct g c =
+    let At : Type 0 = PlainState g.row.K.Denot g.row.V.Denot g.row.S.Denot in
+    let plain = subst (λ (x : At). IsPlain g.K.PartialEq.eq (route_by g.S.BuildHasher g.S.Hasher.Hasher g.K.Hash.hash_input) x) c.self.view_is c.self.invariant in
+    plain.distinct
+
+pub returns-in_err-left-clause-stays : goal.returns-in_err-left-clause-stays
+returns-in_err-left-clause-stays g c = (refl, refl)
+
+pub returns-in_err-ok-clause-distinct : goal.returns-in_err-ok-clause-distinct
+returns-in_err-ok-clause-distinct g c =
+    let At : Type 0 = PlainState g.row.K.Denot g.row.V.Denot g.row.S.Denot in
+    let plain = subst (λ (x : At). IsPlain g.K.PartialEq.eq (route_by g.S.BuildHasher g.S.Hasher.Hasher g.K.Hash.hash_input) x) c.self.view_is c.self.invariant in
+    plain.distinct
+
+pub returns-in_err-ok-clause-stays : goal.returns-in_err-ok-clause-stays
+returns-in_err-ok-clause-stays g c = (refl, refl)
+
+pub returns-then-shard-self-clause-refused : goal.returns-then-shard-self-clause-refused
+returns-then-shard-self-clause-refused g c =
+    let At : Type 0 = PlainState g.row.K.Denot g.row.V.Denot g.row.S.Denot in
+    λ _. (refl, inl (omega (arith, c.if-shard-self.true, ap (λ (x : At). x.amount) c.self.view_is)))
+
+pub returns-in_err-left-clause-refused : goal.returns-in_err-left-clause-refused
+returns-in_err-left-clause-refused g c =
+    let At : Type 0 = PlainState g.row.K.Denot g.row.V.Denot g.row.S.Denot in
+    λ _. (refl, inr (omega (arith, c.loop-pair-test.true, ap length c.deref-pair-items.ensures.value, ap (λ (x : At). length x.pairs) c.self.view_is)))
+
+pub returns-in_err-ok-clause-refused : goal.returns-in_err-ok-clause-refused
+returns-in_err-ok-clause-refused g c =
+    let At : Type 0 = PlainState g.row.K.Denot g.row.V.Denot g.row.S.Denot in
+    λ _. (refl, inr (omega (arith, c.loop-pair-test.true, ap length c.deref-pair-items.ensures.value, ap (λ (x : At). length x.pairs) c.self.view_is)))
 
 pub returns-clause-leaves : goal.returns-clause-leaves
 returns-clause-leaves g c e j =

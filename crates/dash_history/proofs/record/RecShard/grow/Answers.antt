@@ -3,6 +3,42 @@ use Rattle.dash_history.specs.History.{RecState, Tells, place_of, kinds_of}
 use Rattle.dash_history.proofs.Recording.{taken, recorded}
 use Rattle.dash_history.proofs.record.RecShard.grow.Goals as goal
 
+pub invariant_of-self : goal.invariant_of-self
+invariant_of-self g c = rw c.make_room.ensures.items c.self.invariant
+
+pub returns-then-not-make_room-clause-refused : goal.returns-then-not-make_room-clause-refused
+returns-then-not-make_room-clause-refused g c = rw c.make_room.ensures.items (refl, c.self.view_is)
+
+pub invariant_of-self-in_default : goal.invariant_of-self-in_default
+invariant_of-self-in_default g c = rw c.make_room.ensures.items c.self.invariant
+
+pub returns-in_default-clause-refused : goal.returns-in_default-clause-refused
+returns-in_default-clause-refused g c = rw c.make_room.ensures.items (refl, c.self.view_is)
+
+pub invariant_of-self-in_default-copies : goal.invariant_of-self-in_default-copies
+invariant_of-self-in_default-copies g c = rw c.make_room.ensures.items c.self.invariant
+
+pub returns-in_default-copies-clause-refused : goal.returns-in_default-copies-clause-refused
+returns-in_default-copies-clause-refused g c = rw c.make_room.ensures.items (refl, c.self.view_is)
+
+pub invariant_of-self-in-Err : goal.invariant_of-self-in-Err
+invariant_of-self-in-Err g c = rw (c.make_room.ensures.items, c.in-Err.ensures.err.1) c.self.invariant
+
+pub returns-in-Err-clause-refused : goal.returns-in-Err-clause-refused
+returns-in-Err-clause-refused g c = rw (c.make_room.ensures.items, c.in-Err.ensures.err.1) (c.in-Err.ensures.err.0, c.self.view_is)
+
+pub carry_out-requires-clause-place : goal.carry_out-requires-clause-place
+carry_out-requires-clause-place g c =
+    let At : Type 0 = RecState g.row.K.Denot g.row.V.Denot g.row.A.Denot g.row.S.Denot in
+    let P = λ (x : At). place_of (kinds_of g.K.PartialEq.eq g.S.BuildHasher g.S.Hasher.Hasher g.K.Hash.hash_input g.K.Kept.alike g.V.Kept.alike g.A.Kept.alike g.A.Action.acts x.shard) c.args.step ≡ x.shard.number in
+    subst P (sym c.self.view_is) c.requires.place
+
+pub carry_out-requires-clause-decides : goal.carry_out-requires-clause-decides
+carry_out-requires-clause-decides g c = c.in-Ok.ensures.decides
+
+pub push_reserved-requires : goal.push_reserved-requires
+push_reserved-requires g c = c.make_room.ensures.room c.if-not-make_room.false
+
 pub invariant_of-self-in-Ok-carry_out : goal.invariant_of-self-in-Ok-carry_out
 invariant_of-self-in-Ok-carry_out g c =
     let At : Type 0 = RecState g.row.K.Denot g.row.V.Denot g.row.A.Denot g.row.S.Denot in
