@@ -175,6 +175,3 @@ impl<K: KeptKey + Drop, V: Kept + Drop, S: BuildHasher, A: KeptAction<K, V> + Dr
         self.row[shard].last_stamp()
     }
 }
-
-#[cfg(test)]
-mod tests;

@@ -279,21 +279,3 @@ impl<K: KeptKey + Drop, V: Kept + Drop, S: BuildHasher, A: KeptAction<K, V> + Dr
         }
     }
 }
-
-#[cfg(test)]
-mod tests {
-    use super::*;
-    use std::test::Fail;
-
-    #[test]
-    fn texts(rt: HostRuntime) -> Result<(), Fail> {
-        for (fault, text) in [
-            (RecordFault::LastStamp, "last stamp (18)"),
-            (RecordFault::Memory, "no memory (19)"),
-            (RecordFault::NoSuchShard, "no such shard (20)"),
-        ] {
-            assert_eq!(rt; format!(in rt.alloc(); "{fault}")?.as_str(), text);
-        }
-        Ok(())
-    }
-}

@@ -326,6 +326,3 @@ impl<K: Eq + Hash, V, S: BuildHasher> DashMap<K, V, S> {
         }
     }
 }
-
-#[cfg(test)]
-mod tests;

@@ -239,6 +239,3 @@ impl<K: Eq + Hash, V, S: BuildHasher> DashMap<K, V, S> {
         (alone.end(), made)
     }
 }
-
-#[cfg(test)]
-mod tests;

@@ -221,6 +221,3 @@ impl<K: Eq + Hash, V, S: BuildHasher> DashMap<K, V, S> {
         &self.hasher
     }
 }
-
-#[cfg(test)]
-mod tests;

@@ -298,6 +298,3 @@ impl<K: KeptKey + Drop, V: Kept + Drop, S: BuildHasher> DashMap<K, V, S> {
         (alone.end(), outcome)
     }
 }
-
-#[cfg(test)]
-mod tests;

@@ -270,6 +270,3 @@ impl<K: Eq + Hash, V, S: BuildHasher> Map<K, V, S> for DashMap<K, V, S> {
         self.is_empty(rt)
     }
 }
-
-#[cfg(test)]
-mod tests;

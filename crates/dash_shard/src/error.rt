@@ -25,28 +25,3 @@ pub enum ConstructError {
 #[derive(Clone, Copy, Debug, PartialEq, Eq, Error)]
 #[error("no memory (11)")]
 pub struct TryReserveError {}
-
-#[cfg(test)]
-mod tests {
-    use super::*;
-    use std::test::Fail;
-
-    #[test]
-    fn texts(rt: HostRuntime) -> Result<(), Fail> {
-        for (error, text) in [
-            (ConstructError::ShardAmount, "shard amount (5)"),
-            (ConstructError::Parallelism, "parallelism (6)"),
-            (ConstructError::CapacityOverflow, "capacity overflow (7)"),
-            (ConstructError::Memory, "no memory (8)"),
-            (ConstructError::Callers, "callers (17)"),
-        ] {
-            assert_eq!(rt; format!(in rt.alloc(); "{error}")?.as_str(), text);
-        }
-        let error = TryReserveError {};
-        assert_eq!(rt;
-            format!(in rt.alloc(); "{error}")?.as_str(),
-            "no memory (11)"
-        );
-        Ok(())
-    }
-}

@@ -155,6 +155,3 @@ impl BuildHasher for PlaceState {
         PlaceHasher { state: 0 }
     }
 }
-
-#[cfg(test)]
-mod tests;

@@ -335,6 +335,3 @@ impl<T: Tagged> Drop for RwLockWriteGuard<'_, T> {
         hold.open();
     }
 }
-
-#[cfg(test)]
-mod tests;

@@ -377,6 +377,3 @@ impl<K: Eq + Hash, V, S: BuildHasher> Shard<K, V, S> {
         }
     }
 }
-
-#[cfg(test)]
-mod tests;

@@ -171,6 +171,3 @@ impl<K: KeptKey + Drop, V: Kept + Drop, S: BuildHasher, A: KeptAction<K, V> + Dr
         }
     }
 }
-
-#[cfg(test)]
-mod tests;

@@ -57,6 +57,3 @@ impl<K: Eq + Hash + Drop, V: Drop, S: BuildHasher> Alone<K, V, S> {
         }
     }
 }
-
-#[cfg(test)]
-mod tests;

@@ -148,6 +148,3 @@ impl<K: Eq + Hash + fmt::Debug, V: fmt::Debug, S: BuildHasher> fmt::Debug for Re
             .finish()
     }
 }
-
-#[cfg(test)]
-mod tests;

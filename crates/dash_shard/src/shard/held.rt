@@ -389,6 +389,3 @@ impl<K: Eq + Hash, V, S: BuildHasher> ShardMut<'_, K, V, S> {
         )
     }
 }
-
-#[cfg(test)]
-mod tests;

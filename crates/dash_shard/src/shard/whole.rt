@@ -84,6 +84,3 @@ impl<K: Eq + Hash, V, S: BuildHasher> Shard<K, V, S> {
         self.table.iter()
     }
 }
-
-#[cfg(test)]
-mod tests;

@@ -133,6 +133,3 @@ impl<K: Eq + Hash, V, S: BuildHasher> ShardMut<'_, K, V, S> {
         self.table().iter()
     }
 }
-
-#[cfg(test)]
-mod tests;

@@ -2,10 +2,10 @@
 ghost use Rattle.std.specs.Prelude.{◌≡◌, IfOk};
 ghost use Rattle.dash_shard.specs.Hashing.{HashAlike, hash_of};
 
-use super::*;
-use crate::shard::Shard;
+use crate::places::{new_shard, put};
+use dash_shard::hash::{FixedState, PlaceState, ZeroState, determine_shard, is_shard_amount};
 use std::alloc::{AllocError, Global};
-use std::hash::{Hash, RandomState};
+use std::hash::{BuildHasher, Hash, Hasher, RandomState};
 use std::process::Abort;
 use std::test::Fail;
 
@@ -45,7 +45,7 @@ fn zero(rt: HostRuntime) {
 }
 
 // By a clone, as the shards of a map hash.
-#[tactic(auto, unfolding(crate::specs::Hashing::hash_of))]
+#[tactic(auto, unfolding(dash_shard::specs::Hashing::hash_of))]
 fn hash_by_clone<K: Hash, S: BuildHasher + Clone + Drop>(
     state: &S,
     key: &K,
@@ -68,14 +68,13 @@ fn clones(rt: HostRuntime) -> Result<(), Fail> {
 
 // Puts into the first of two shards what goes there of some keys, and answers how many that are.
 fn fill<S: BuildHasher + Drop>(rt: &impl Abort, alloc: Global, state: S) -> Result<usize, Fail> {
-    assert!(rt; is_shard_amount(2));
-    let mut shard = Shard::<u64, u64, S>::new(alloc, state, 0, 2, 0)?;
-    for key in 0..64 {
+    let mut shard = new_shard(rt, alloc, state, 0, 2, 0)?;
+    for key in 0..64u64 {
         if shard.routes(&key) {
-            assert_eq!(rt; shard.insert(key, !key)?, None, "{key}");
+            assert_eq!(rt; put(rt, &mut shard, key, !key)?, None, "{key}");
         }
     }
-    for key in 0..64 {
+    for key in 0..64u64 {
         if shard.routes(&key) {
             assert_eq!(rt; shard.get(&key), Some((&key, &!key)), "{key}");
         } else {
@@ -94,8 +93,14 @@ fn shards(rt: HostRuntime) -> Result<(), Fail> {
     Ok(())
 }
 
+// The shard of a hash among a lawful amount.
+fn shard_of(rt: &impl Abort, hash: u64, amount: usize) -> usize {
+    assert!(rt; is_shard_amount(amount), "{amount}");
+    determine_shard(hash, amount)
+}
+
 #[test]
-fn routes_of_hashes(rt: HostRuntime) {
+fn routes(rt: HostRuntime) {
     for (amount, hash, shard) in [
         (4, 1 << 55, 1),
         (4, 1 << 56, 2),
@@ -104,11 +109,17 @@ fn routes_of_hashes(rt: HostRuntime) {
         (2, (1 << 56) - 1, 0),
         (2, 1 << 56, 1),
     ] {
-        assert!(rt; is_shard_amount(amount), "{amount}");
         assert_eq!(rt;
-            determine_shard(hash, amount),
+            shard_of(&rt, hash, amount),
             shard,
             "the hash {hash} among {amount}"
+        );
+    }
+    for (key, shard) in [(0u64, 0), (1, 1), (5, 1), (7, 3), (u64::MAX, 3)] {
+        assert_eq!(rt;
+            shard_of(&rt, PlaceState.hash_one(&key), 4),
+            shard,
+            "the key {key}"
         );
     }
 }
@@ -124,17 +135,5 @@ fn amounts(rt: HostRuntime) {
         (1 << 63, true),
     ] {
         assert_eq!(rt; is_shard_amount(amount), lawful, "{amount}");
-    }
-}
-
-#[test]
-fn place_keys(rt: HostRuntime) {
-    for (key, shard) in [(0u64, 0), (1, 1), (5, 1), (7, 3), (u64::MAX, 3)] {
-        assert!(rt; is_shard_amount(4));
-        assert_eq!(rt;
-            determine_shard(PlaceState.hash_one(&key), 4),
-            shard,
-            "the key {key}"
-        );
     }
 }

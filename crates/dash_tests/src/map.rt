@@ -1,19 +1,26 @@
 //! Amounts, capacities and routes of a map, as worked by hand.
-use super::*;
+use dash_map::map::DashMap;
+use dash_map::t::Map as _;
+use dash_shard::error::ConstructError;
 use dash_shard::hash::PlaceState;
+use std::alloc::Global;
+use std::rt::Clock;
+use std::sync::Wait;
 use std::test::Fail;
 
 type Map = DashMap<u64, u64>;
 
-// The refusal, if there is one.
-fn refusal(made: Result<Map, ConstructError>) -> Option<ConstructError> {
-    made.err()
+type Places<V> = DashMap<u64, V, PlaceState>;
+
+/// A map of four shards, where the key k goes to shard k modulo 4.
+pub(crate) fn map_of_four<V: Drop>(alloc: Global) -> Result<Places<V>, ConstructError> {
+    Places::with_hasher_and_shard_amount(alloc, PlaceState, 4)
 }
 
 #[test]
 fn amounts_that_are_refused(rt: HostRuntime) {
     for amount in [0, 1, 3] {
-        let refused = refusal(Map::with_shard_amount(rt.alloc(), amount));
+        let refused = Map::with_shard_amount(rt.alloc(), amount).err();
         assert_eq!(rt;
             refused,
             Some(ConstructError::ShardAmount),
@@ -21,7 +28,7 @@ fn amounts_that_are_refused(rt: HostRuntime) {
         );
     }
     for parallelism in [0, (1 << 61) + 1] {
-        let refused = refusal(Map::new(rt.alloc(), parallelism));
+        let refused = Map::new(rt.alloc(), parallelism).err();
         assert_eq!(rt;
             refused,
             Some(ConstructError::Parallelism),
@@ -51,20 +58,25 @@ fn amounts_that_are_taken(rt: HostRuntime) -> Result<(), Fail> {
     Ok(())
 }
 
+// The least room of a shard.
+fn least_room<R: Wait + Clock>(rt: &R, map: &Map) -> usize {
+    let mut least = usize::MAX;
+    for shard in 0..map._shard_count() {
+        least = map._yield_write_shard(rt, shard).capacity().min(least);
+    }
+    least
+}
+
 #[test]
 fn capacities(rt: HostRuntime) -> Result<(), Fail> {
-    let alone = Map::with_capacity_and_shard_amount(rt.alloc(), 5, 4)?.alone();
-    for shard in &alone.row {
-        assert!(rt; shard.capacity() >= 2);
-    }
-    let alone = Map::with_capacity(rt.alloc(), 5, 1)?.alone();
-    for shard in &alone.row {
-        assert!(rt; shard.capacity() >= 2);
-    }
+    let map = Map::with_capacity_and_shard_amount(rt.alloc(), 5, 4)?;
+    assert!(rt; least_room(&rt, &map) >= 2);
+    let map = Map::with_capacity(rt.alloc(), 5, 1)?;
+    assert!(rt; least_room(&rt, &map) >= 2);
     let most = usize::MAX;
-    let refused = refusal(Map::with_capacity_and_shard_amount(rt.alloc(), most, 4));
+    let refused = Map::with_capacity_and_shard_amount(rt.alloc(), most, 4).err();
     assert_eq!(rt; refused, Some(ConstructError::CapacityOverflow));
-    let refused = refusal(Map::with_capacity_and_shard_amount(rt.alloc(), most - 3, 4));
+    let refused = Map::with_capacity_and_shard_amount(rt.alloc(), most - 3, 4).err();
     assert_eq!(rt; refused, Some(ConstructError::Memory));
     Ok(())
 }
@@ -79,11 +91,7 @@ fn routes(rt: HostRuntime) -> Result<(), Fail> {
     assert_eq!(rt; two.determine_shard((1 << 56) - 1), 0);
     assert_eq!(rt; two.determine_shard(1 << 56), 1);
 
-    let places = DashMap::<u64, u64, PlaceState>::with_hasher_and_shard_amount(
-        rt.alloc(),
-        PlaceState,
-        4,
-    )?;
+    let places = map_of_four::<u64>(rt.alloc())?;
     for key in 0..16u64 {
         assert_eq!(rt; places.determine_map(&key) as u64, key % 4, "of {key}");
     }

@@ -1,15 +1,14 @@
 //! Runs of a few steps, as worked by hand.
-use super::*;
+use crate::map::map_of_four;
+use dash_history::action::Action;
+use dash_history::kept::Kept;
+use dash_history::step::{Reply, ShardStep};
+use dash_map::alone::Alone;
+use dash_map::run::{Fault, RunOutcome};
 use dash_shard::hash::PlaceState;
 use std::alloc::{AllocError, Global};
 use std::process::Abort;
 use std::test::Fail;
-
-type Map = DashMap<u64, u64, PlaceState>;
-
-fn map_of_four(alloc: Global) -> Result<Map, Fail> {
-    Ok(Map::with_hasher_and_shard_amount(alloc, PlaceState, 4)?)
-}
 
 fn six_steps(alloc: Global) -> Result<Vec<ShardStep<u64, u64>>, Fail> {
     Ok(vec![in alloc;
@@ -84,8 +83,7 @@ impl Kept for Uncopied {
 
 #[test]
 fn a_refused_step_comes_back(rt: HostRuntime) -> Result<(), Fail> {
-    let map = DashMap::with_hasher_and_shard_amount(rt.alloc(), PlaceState, 4)?;
-    let mut alone: Alone<u64, Uncopied, PlaceState> = map.alone();
+    let mut alone: Alone<u64, Uncopied, PlaceState> = map_of_four(rt.alloc())?.alone();
     let outcome = alone.run::<()>(vec![in rt.alloc();
         ShardStep::Insert(1, Uncopied(10)),
         ShardStep::Get(2),
@@ -228,12 +226,5 @@ fn no_steps(rt: HostRuntime) -> Result<(), Fail> {
     assert!(rt; outcome.stopped.is_none());
     assert!(rt; outcome.replies.is_empty());
     assert_eq!(rt; map.alone().get(&7), Some((&7, &70)));
-    Ok(())
-}
-
-#[test]
-fn texts_of_faults(rt: HostRuntime) -> Result<(), Fail> {
-    let text = format!(in rt.alloc(); "{}, {}", Fault::NoSuchShard, Fault::Memory)?;
-    assert_eq!(rt; text.as_str(), "no such shard (13), no memory (14)");
     Ok(())
 }

@@ -1,7 +1,11 @@
 //! Code for any map that threads share, called with a `DashMap`.
-use super::*;
+use crate::map::map_of_four;
+use dash_map::t::Map;
 use dash_shard::hash::PlaceState;
+use std::hash::BuildHasher;
 use std::process::Abort;
+use std::rt::Clock;
+use std::sync::Wait;
 use std::test::Fail;
 
 // The calls on a shard and on a pair, on a map of four shards without pairs. They leave the pair (5, 55).
@@ -59,11 +63,7 @@ fn calls_on_all<R: Abort + Wait + Clock, M: Map<u64, u64, PlaceState>>(
 
 #[test]
 fn every_call(rt: HostRuntime) -> Result<(), Fail> {
-    let map = DashMap::<u64, u64, PlaceState>::with_hasher_and_shard_amount(
-        rt.alloc(),
-        PlaceState,
-        4,
-    )?;
+    let map = map_of_four(rt.alloc())?;
     calls_on_pairs(&rt, &map)?;
     calls_on_all(&rt, &map)
 }

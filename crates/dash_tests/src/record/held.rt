@@ -1,7 +1,9 @@
 //! A recorded shard behind its lock, as worked by hand.
-use super::*;
-use dash_shard::hash::{PlaceState, is_shard_amount};
-use dash_shard::lock::RwLock;
+use dash_history::record::CallerLog;
+use dash_history::record::held::RecShardMut;
+use dash_history::record::map::RecordedMap;
+use dash_history::step::{Reply, ShardStep};
+use dash_shard::hash::PlaceState;
 use std::process::Abort;
 use std::test::Fail;
 
@@ -20,17 +22,10 @@ fn insert(
 
 #[test]
 fn records_in_place(rt: HostRuntime) -> Result<(), Fail> {
-    assert!(rt; is_shard_amount(4));
-    let shard = RecShard::<u64, u64, PlaceState>::new(rt.alloc(), PlaceState, 1, 4, 2)?;
-    let place = Place {
-        number: 1,
-        amount: 4,
-        callers: 2,
-        hasher: Snapshot::of(&PlaceState),
-    };
-    let lock = RwLock::new(shard, &place);
-    let mut log = CallerLog::new(rt.alloc(), 1);
-    let mut held = RecShardMut::of(lock.write(&rt));
+    let (map, mut logs) = RecordedMap::new(rt.alloc(), PlaceState, 4, 2)?;
+    let mut log = logs.pop().ok_or("no log")?;
+    assert_eq!(rt; log.caller(), 1);
+    let mut held = map.held(&rt, 1);
     assert_eq!(rt; held.number(), 1);
     assert_eq!(rt; held.amount(), 4);
     assert_eq!(rt; held.callers(), 2);
@@ -44,8 +39,6 @@ fn records_in_place(rt: HostRuntime) -> Result<(), Fail> {
     assert_eq!(rt; log.last_stamp(), 4);
     assert_eq!(rt; log.entries().len(), 4);
     drop(held);
-
-    let held = RecShardMut::of(lock.write(&rt));
-    assert_eq!(rt; held.last_stamp(), 4);
+    assert_eq!(rt; map.held(&rt, 1).last_stamp(), 4);
     Ok(())
 }

@@ -1,7 +1,11 @@
 //! A recorded map's refusals, its stamps and its replies, as worked by hand.
-use super::*;
-use crate::plain::Plain;
-use dash_shard::hash::PlaceState;
+use dash_history::alone::RecAlone;
+use dash_history::plain::Plain;
+use dash_history::record::{CallerLog, RecordFault};
+use dash_history::step::{Reply, ShardStep};
+use dash_shard::error::ConstructError;
+use dash_shard::hash::{PlaceState, is_shard_amount};
+use std::alloc::Global;
 use std::process::Abort;
 use std::test::Fail;
 
@@ -9,12 +13,21 @@ type Alone = RecAlone<u64, u64, PlaceState>;
 
 type Log = CallerLog<u64, u64>;
 
+type Step = ShardStep<u64, u64>;
+
+// A map of four shards and one caller, with the caller's log.
+fn alone_of_one(alloc: Global) -> Result<(Alone, Log), Fail> {
+    let (alone, mut logs) = Alone::new(alloc, PlaceState, 4, 1)?;
+    let log = logs.pop().ok_or("no log")?;
+    Ok((alone, log))
+}
+
 // Takes a step, by the caller of this log.
 fn apply(
     rt: &impl Abort,
     alone: &mut Alone,
     log: &mut Log,
-    step: ShardStep<u64, u64>,
+    step: Step,
 ) -> Result<Reply<u64, u64>, Fail> {
     assert!(rt; log.caller() < alone.callers());
     Ok(alone.apply(log, step)?)
@@ -38,29 +51,25 @@ fn refuses_amounts_and_then_callers(rt: HostRuntime) {
         (4, 0, ConstructError::Callers),
         (4, 65_537, ConstructError::Callers),
     ] {
-        match Alone::new(rt.alloc(), PlaceState, amount, callers) {
-            Ok(_) => assert!(rt; false, "{callers} callers of {amount}"),
-            Err(e) => assert_eq!(rt; e, error, "{callers} callers of {amount}"),
-        }
+        let refused = Alone::new(rt.alloc(), PlaceState, amount, callers).err();
+        assert_eq!(rt; refused, Some(error), "{callers} callers of {amount}");
     }
 }
 
 #[test]
 fn first_steps(rt: HostRuntime) -> Result<(), Fail> {
-    let (mut alone, mut logs) = Alone::new(rt.alloc(), PlaceState, 4, 1)?;
+    let (mut alone, mut log) = alone_of_one(rt.alloc())?;
     assert_eq!(rt; alone.shard_count(), 4);
     assert_eq!(rt; alone.callers(), 1);
-    assert_eq!(rt; logs.len(), 1);
-    let log = &mut logs[0];
     assert_eq!(rt; log.caller(), 0);
-
-    let reply = apply(&rt, &mut alone, log, ShardStep::Insert(1, 10))?;
-    assert!(rt; matches!(reply, Reply::Old(None)));
-    let reply = apply(&rt, &mut alone, log, ShardStep::Insert(1, 11))?;
-    assert!(rt; matches!(reply, Reply::Old(Some(10))));
-    let reply = apply(&rt, &mut alone, log, ShardStep::Get(1))?;
-    assert!(rt; matches!(reply, Reply::Pair(Some((1, 11)))));
-
+    for (step, text) in [
+        (Step::Insert(1, 10), "Old(None)"),
+        (Step::Insert(1, 11), "Old(Some(10))"),
+        (Step::Get(1), "Pair(Some((1, 11)))"),
+    ] {
+        let reply = apply(&rt, &mut alone, &mut log, step)?;
+        assert_eq!(rt; format!(in rt.alloc(); "{reply:?}")?.as_str(), text);
+    }
     assert_eq!(rt; log.last_stamp(), 3);
     assert_eq!(rt; last_of(&rt, &alone, 1), 3);
     assert_eq!(rt; last_of(&rt, &alone, 0), 0);
@@ -81,21 +90,16 @@ fn stamps_follow_shard_and_caller(rt: HostRuntime) -> Result<(), Fail> {
     assert_eq!(rt; first.caller(), 0);
     assert_eq!(rt; second.caller(), 1);
     for i in 0..7 {
-        apply(&rt, &mut alone, &mut first, ShardStep::Insert(4 * i, i))?;
+        apply(&rt, &mut alone, &mut first, Step::Insert(4 * i, i))?;
     }
     assert_eq!(rt; first.last_stamp(), 7);
     for i in 0..4 {
-        apply(
-            &rt,
-            &mut alone,
-            &mut second,
-            ShardStep::Insert(4 * i + 1, i),
-        )?;
+        apply(&rt, &mut alone, &mut second, Step::Insert(4 * i + 1, i))?;
     }
     assert_eq!(rt; second.last_stamp(), 4);
     assert_eq!(rt; last_of(&rt, &alone, 1), 4);
 
-    apply(&rt, &mut alone, &mut first, ShardStep::Get(1))?;
+    apply(&rt, &mut alone, &mut first, Step::Get(1))?;
     assert_eq!(rt; first.last_stamp(), 8);
     assert_eq!(rt; last_of(&rt, &alone, 1), 8);
     Ok(())
@@ -103,23 +107,22 @@ fn stamps_follow_shard_and_caller(rt: HostRuntime) -> Result<(), Fail> {
 
 #[test]
 fn a_removed_pair_is_gone(rt: HostRuntime) -> Result<(), Fail> {
-    let (mut alone, mut logs) = Alone::new(rt.alloc(), PlaceState, 4, 1)?;
-    assert_eq!(rt; logs.len(), 1);
-    let log = &mut logs[0];
-    for (step, reply) in [
-        (ShardStep::Insert(1, 10), Reply::Old(None)),
-        (ShardStep::Insert(5, 50), Reply::Old(None)),
-        (ShardStep::Get(1), Reply::Pair(Some((1, 10)))),
-        (ShardStep::Remove(1), Reply::Pair(Some((1, 10)))),
-        (ShardStep::Get(1), Reply::Pair(None)),
-        (ShardStep::Remove(1), Reply::Pair(None)),
-        (ShardStep::Get(5), Reply::Pair(Some((5, 50)))),
+    let (mut alone, mut log) = alone_of_one(rt.alloc())?;
+    for (step, text) in [
+        (Step::Insert(1, 10), "Old(None)"),
+        (Step::Insert(5, 50), "Old(None)"),
+        (Step::Get(1), "Pair(Some((1, 10)))"),
+        (Step::Remove(1), "Pair(Some((1, 10)))"),
+        (Step::Get(1), "Pair(None)"),
+        (Step::Remove(1), "Pair(None)"),
+        (Step::Get(5), "Pair(Some((5, 50)))"),
     ] {
-        let got = apply(&rt, &mut alone, log, step)?;
+        let reply = apply(&rt, &mut alone, &mut log, step)?;
         let stamp = log.last_stamp();
-        assert!(rt;
-            same(&got, &reply),
-            "at {stamp}: {got:?}, and not {reply:?}"
+        assert_eq!(rt;
+            format!(in rt.alloc(); "{reply:?}")?.as_str(),
+            text,
+            "at {stamp}"
         );
     }
     assert_eq!(rt; last_of(&rt, &alone, 1), 7);
@@ -129,24 +132,22 @@ fn a_removed_pair_is_gone(rt: HostRuntime) -> Result<(), Fail> {
 
 #[test]
 fn reads_and_sweeps_a_shard(rt: HostRuntime) -> Result<(), Fail> {
-    let (mut alone, mut logs) = Alone::new(rt.alloc(), PlaceState, 4, 1)?;
-    assert_eq!(rt; logs.len(), 1);
-    let log = &mut logs[0];
-    apply(&rt, &mut alone, log, ShardStep::Insert(1, 10))?;
-    apply(&rt, &mut alone, log, ShardStep::Insert(6, 60))?;
+    let (mut alone, mut log) = alone_of_one(rt.alloc())?;
     for (step, text) in [
-        (ShardStep::Read(1), "Pairs([(1, 10)])"),
-        (ShardStep::Read(0), "Pairs([])"),
-        (ShardStep::AlterAll(1, ()), "Done"),
-        (ShardStep::Retain(2, ()), "Done"),
-        (ShardStep::Read(2), "Pairs([(6, 60)])"),
+        (Step::Insert(1, 10), "Old(None)"),
+        (Step::Insert(6, 60), "Old(None)"),
+        (Step::Read(1), "Pairs([(1, 10)])"),
+        (Step::Read(0), "Pairs([])"),
+        (Step::AlterAll(1, ()), "Done"),
+        (Step::Retain(2, ()), "Done"),
+        (Step::Read(2), "Pairs([(6, 60)])"),
     ] {
-        let reply = apply(&rt, &mut alone, log, step)?;
+        let reply = apply(&rt, &mut alone, &mut log, step)?;
         assert_eq!(rt; format!(in rt.alloc(); "{reply:?}")?.as_str(), text);
     }
     assert_eq!(rt; log.entries().len(), 7);
     assert!(rt; log.caller() < alone.callers());
-    match alone.apply(log, ShardStep::Read(4)) {
+    match alone.apply(&mut log, Step::Read(4)) {
         Ok(reply) => assert!(rt; false, "{reply:?}"),
         Err(refused) => assert_eq!(rt; refused.1, RecordFault::NoSuchShard),
     }
@@ -161,35 +162,25 @@ fn next(state: &mut u64) -> u64 {
     *state >> 33
 }
 
-// Two replies of numbers are the same.
-fn same(left: &Reply<u64, u64>, right: &Reply<u64, u64>) -> bool {
-    match (left, right) {
-        (Reply::Pair(left), Reply::Pair(right)) => left == right,
-        (Reply::Old(left), Reply::Old(right)) => left == right,
-        _ => false,
-    }
-}
-
 #[test]
 fn replies_as_the_plain_map(rt: HostRuntime) -> Result<(), Fail> {
-    let (mut alone, mut logs) = Alone::new(rt.alloc(), PlaceState, 4, 1)?;
+    let (mut alone, mut log) = alone_of_one(rt.alloc())?;
     assert!(rt; is_shard_amount(4));
     let mut plain = Plain::new(rt.alloc(), PlaceState, 4);
-    assert_eq!(rt; logs.len(), 1);
-    let log = &mut logs[0];
     let mut state = 1;
     for i in 0..300u64 {
         let number = next(&mut state);
         let key = number % 8;
         let step = match number / 8 % 4 {
-            0 => ShardStep::Get(key),
-            1 => ShardStep::Remove(key),
-            _ => ShardStep::Insert(key, i),
+            0 => Step::Get(key),
+            1 => Step::Remove(key),
+            _ => Step::Insert(key, i),
         };
-        let copy = step.copy()?;
-        let reply = apply(&rt, &mut alone, log, step)?;
-        let want = plain.take(copy)?;
-        assert!(rt; same(&reply, &want), "at {i}: {reply:?}, and not {want:?}");
+        let want = plain.take(step.copy()?)?;
+        let want = format!(in rt.alloc(); "{want:?}")?;
+        let reply = apply(&rt, &mut alone, &mut log, step)?;
+        let reply = format!(in rt.alloc(); "{reply:?}")?;
+        assert_eq!(rt; reply.as_str(), want.as_str(), "at {i}");
     }
     Ok(())
 }

@@ -1,7 +1,8 @@
+//! The lock round any value, as worked by hand.
 ghost use Rattle.std.specs.Prelude.{◌≡◌, ◌<◌, IfOk};
 ghost use Rattle.std.specs.Arc.{arc_value};
 
-use crate::lock::{RwLock, Tagged};
+use dash_shard::lock::{RwLock, Tagged};
 use std::alloc::{AllocError, Global};
 use std::mem;
 use std::sync::Arc;
@@ -49,6 +50,19 @@ fn a_writer_keeps_others_out(rt: HostRuntime) -> Result<(), Fail> {
     assert!(rt; lock.try_write().is_none(), "a writer has the lock");
     drop(guard);
     assert!(rt; lock.try_read().is_some(), "nobody has the lock");
+    Ok(())
+}
+
+#[test]
+fn the_lock_is_free_once_a_writer_has_gone(rt: HostRuntime) -> Result<(), Fail> {
+    let lock = locked(7);
+    drop(lock.write(&rt));
+    let mut guard = lock.try_write().ok_or("a writer after a writer")?;
+    assert_eq!(rt; guard.replace(Bounded { number: 8 }).number, 7);
+    assert!(rt; lock.try_read().is_none(), "a writer has the lock");
+    drop(guard);
+    let guard = lock.try_read().ok_or("a reader after a writer")?;
+    assert_eq!(rt; guard.number, 8);
     Ok(())
 }
 

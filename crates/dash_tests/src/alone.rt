@@ -1,0 +1,144 @@
+//! Calls of a map of one owner, as worked by hand.
+use crate::map::map_of_four;
+use dash_map::alone::Alone;
+use dash_map::map::DashMap;
+use dash_shard::error::TryReserveError;
+use dash_shard::hash::{FixedState, PlaceState};
+use std::alloc::Global;
+use std::test::Fail;
+
+type Numbers = Alone<u64, u64, PlaceState>;
+
+fn alone_of_four(alloc: Global) -> Result<Numbers, Fail> {
+    Ok(map_of_four(alloc)?.alone())
+}
+
+#[test]
+fn a_pair_comes_and_goes(rt: HostRuntime) -> Result<(), Fail> {
+    let mut alone = alone_of_four(rt.alloc())?;
+    assert_eq!(rt; alone.insert(1, 10)?, None);
+    assert_eq!(rt; alone.insert(5, 50)?, None);
+    assert_eq!(rt; alone.get(&1), Some((&1, &10)));
+    assert_eq!(rt; alone.remove(&1), Some((1, 10)));
+    assert_eq!(rt; alone.get(&1), None);
+    assert_eq!(rt; alone.remove(&1), None);
+    assert!(rt; !alone.contains_key(&1));
+    assert!(rt; alone.contains_key(&5));
+    assert_eq!(rt; alone.len(), 1);
+
+    let alone = alone.end().alone();
+    assert_eq!(rt; alone.get(&5), Some((&5, &50)));
+    Ok(())
+}
+
+#[test]
+fn a_hundred_keys(rt: HostRuntime) -> Result<(), Fail> {
+    let mut alone = DashMap::<u64, u64, FixedState>::new(rt.alloc(), 1)?.alone();
+    for i in 0..100 {
+        alone.insert(0, i)?;
+        alone.insert(i, i)?;
+    }
+    let alone = alone.end().alone();
+    assert_eq!(rt; alone.len(), 100);
+    assert_eq!(rt; alone.get(&0), Some((&0, &99)));
+    for i in 1..100 {
+        assert_eq!(rt; alone.get(&i), Some((&i, &i)));
+    }
+    Ok(())
+}
+
+#[test]
+fn a_pair_is_viewed(rt: HostRuntime) -> Result<(), Fail> {
+    let mut alone = map_of_four(rt.alloc())?.alone();
+    for (number, name) in [(0, "Banana"), (4, "Pear"), (9, "Potato"), (12, "Chicken")] {
+        alone.insert(number, name)?;
+    }
+    let is_eaten_warm = |_: &u64, name: &&str| matches!(
+        *name,
+        "Salad" | "Beans" | "Potato" | "Tomato"
+    );
+    assert_eq!(rt; alone.view(&9, is_eaten_warm), Some(true));
+    assert_eq!(rt; alone.view(&12, is_eaten_warm), Some(false));
+    assert_eq!(rt; alone.view(&30, |_, _| false), None);
+    Ok(())
+}
+
+#[test]
+fn a_removal_asks_first(rt: HostRuntime) -> Result<(), Fail> {
+    let mut alone = DashMap::<&str, &str, FixedState>::with_shard_amount(rt.alloc(), 4)?.alone();
+    alone.insert("Sam", "Forward")?;
+    assert_eq!(rt; alone.remove_if(&"Sam", |_, role| *role == "Goalie"), None);
+    assert!(rt; alone.contains_key(&"Sam"));
+    let gone = alone.remove_if(&"Sam", |_, role| *role == "Forward");
+    assert_eq!(rt; gone, Some(("Sam", "Forward")));
+    assert!(rt; alone.is_empty());
+    Ok(())
+}
+
+#[test]
+fn room_is_made(rt: HostRuntime) -> Result<(), Fail> {
+    let mut alone: Numbers = DashMap::with_capacity_and_hasher_and_shard_amount(
+        rt.alloc(),
+        0,
+        PlaceState,
+        4,
+    )?.alone();
+    assert_eq!(rt; alone.capacity(), 0);
+    assert!(rt; alone.is_empty());
+    assert!(rt; alone.try_reserve(10).is_ok());
+    assert!(rt; alone.capacity() >= 10);
+    alone.insert(1, 1)?;
+    assert!(rt; !alone.is_empty());
+
+    let refused = alone.try_reserve(usize::MAX).err();
+    assert_eq!(rt; refused, Some(TryReserveError {}));
+    assert_eq!(rt; alone.len(), 1);
+    assert_eq!(rt; alone.get(&1), Some((&1, &1)));
+    Ok(())
+}
+
+// The list that the shared calls answer alike.
+#[test]
+fn the_list_for_shared_calls(rt: HostRuntime) -> Result<(), Fail> {
+    let mut alone = alone_of_four(rt.alloc())?;
+    for (key, value) in [(0, 5), (4, 9), (1, 2)] {
+        alone.insert(key, value)?;
+    }
+    alone.alter(&4, |_, v| v.saturating_add(1));
+    assert_eq!(rt; alone.remove_if(&0, |_, v| *v < 5), None);
+    let counts_up = |_: &u64, v: &mut u64| -> bool {
+        *v = v.saturating_add(1);
+        false
+    };
+    assert_eq!(rt; alone.remove_if_mut(&1, counts_up), None);
+    assert_eq!(rt; alone.get(&1), Some((&1, &3)));
+    alone.alter_all(|_, v| v.saturating_add(1));
+    alone.retain(|_, v| *v > 5);
+    assert_eq!(rt; alone.len(), 2);
+    assert!(rt; !alone.contains_key(&1));
+    assert_eq!(rt; alone.remove(&4), Some((4, 11)));
+    assert_eq!(rt; alone.get(&0), Some((&0, &6)));
+    alone.clear();
+    assert!(rt; alone.is_empty());
+    Ok(())
+}
+
+#[test]
+fn a_value_is_lent_and_room_goes_back(rt: HostRuntime) -> Result<(), Fail> {
+    let mut alone = alone_of_four(rt.alloc())?;
+    assert!(rt; alone.try_reserve(100).is_ok());
+    alone.insert(0, 5)?;
+    alone.insert(4, 9)?;
+    *alone.get_mut(&4).ok_or("no pair")? = 1;
+    assert!(rt; alone.get_mut(&8).is_none());
+    alone.shrink_to_fit();
+    assert_eq!(rt; alone.capacity(), 2);
+    assert_eq!(rt; alone.get(&4), Some((&4, &1)));
+    assert_eq!(rt; alone.get(&0), Some((&0, &5)));
+    assert_eq!(rt; alone.remove(&0), Some((0, 5)));
+    assert_eq!(rt; alone.remove(&4), Some((4, 1)));
+    alone.shrink_to_fit();
+    assert_eq!(rt; alone.len(), 0);
+    assert_eq!(rt; alone.capacity(), 0);
+    Ok(())
+}

@@ -1,0 +1,46 @@
+//! The texts of all refusals.
+use dash_history::record::RecordFault;
+use dash_map::run::Fault;
+use dash_shard::error::{ConstructError, TryReserveError};
+use std::alloc::Global;
+use std::fmt;
+use std::process::Abort;
+use std::test::Fail;
+
+fn assert_text(
+    rt: &impl Abort,
+    alloc: Global,
+    error: &impl fmt::Display,
+    text: &str,
+) -> Result<(), Fail> {
+    assert_eq!(rt; format!(in alloc; "{error}")?.as_str(), text);
+    Ok(())
+}
+
+#[test]
+fn texts(rt: HostRuntime) -> Result<(), Fail> {
+    for (error, text) in [
+        (ConstructError::ShardAmount, "shard amount (5)"),
+        (ConstructError::Parallelism, "parallelism (6)"),
+        (ConstructError::CapacityOverflow, "capacity overflow (7)"),
+        (ConstructError::Memory, "no memory (8)"),
+        (ConstructError::Callers, "callers (17)"),
+    ] {
+        assert_text(&rt, rt.alloc(), &error, text)?;
+    }
+    assert_text(&rt, rt.alloc(), &TryReserveError {}, "no memory (11)")?;
+    for (fault, text) in [
+        (Fault::NoSuchShard, "no such shard (13)"),
+        (Fault::Memory, "no memory (14)"),
+    ] {
+        assert_text(&rt, rt.alloc(), &fault, text)?;
+    }
+    for (fault, text) in [
+        (RecordFault::LastStamp, "last stamp (18)"),
+        (RecordFault::Memory, "no memory (19)"),
+        (RecordFault::NoSuchShard, "no such shard (20)"),
+    ] {
+        assert_text(&rt, rt.alloc(), &fault, text)?;
+    }
+    Ok(())
+}

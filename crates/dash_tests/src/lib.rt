@@ -1,0 +1,33 @@
+//! The tests of the libraries below, over their public items alone.
+//!
+//! They stand in a crate of their own, so that each library is proved once, without them. Modules are named as those that they test.
+#![tactic(auto)]
+
+#[cfg(test)]
+mod alone;
+#[cfg(test)]
+mod calls;
+#[cfg(test)]
+mod error;
+#[cfg(test)]
+mod hash;
+#[cfg(test)]
+mod kept;
+#[cfg(test)]
+mod lock;
+#[cfg(test)]
+mod map;
+#[cfg(test)]
+mod mapref;
+#[cfg(test)]
+mod places;
+#[cfg(test)]
+mod record;
+#[cfg(test)]
+mod run;
+#[cfg(test)]
+mod shard;
+#[cfg(test)]
+mod step;
+#[cfg(test)]
+mod t;

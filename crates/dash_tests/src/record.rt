@@ -1,0 +1,4 @@
+//! Recorded maps, shared and alone.
+mod alone;
+mod held;
+mod map;

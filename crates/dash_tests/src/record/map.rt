@@ -1,0 +1,242 @@
+//! A recorded map behind its locks: as worked by hand, shared by threads, and moved out of its locks and back.
+ghost use Rattle.std.specs.Prelude.{◌≡◌, ◌<◌};
+
+use dash_history::alone::RecAlone;
+use dash_history::record::CallerLog;
+use dash_history::record::map::RecordedMap;
+use dash_history::step::{Reply, ShardStep};
+use dash_shard::hash::PlaceState;
+use std::alloc::Global;
+use std::process::Abort;
+use std::rt::Clock;
+use std::sync::Wait;
+use std::test::Fail;
+use std::{mem, thread};
+
+type Map = RecordedMap<u64, u64, PlaceState>;
+
+type Alone = RecAlone<u64, u64, PlaceState>;
+
+type Log = CallerLog<u64, u64>;
+
+// Takes a step, by the caller of this log.
+fn apply<R: Abort + Wait + Clock>(
+    rt: &R,
+    map: &Map,
+    log: &mut Log,
+    step: ShardStep<u64, u64>,
+) -> Result<Reply<u64, u64>, Fail> {
+    assert!(rt; log.caller() < map.callers());
+    Ok(map.apply(rt, log, step)?)
+}
+
+// The same without locks.
+fn apply_alone(
+    rt: &impl Abort,
+    alone: &mut Alone,
+    log: &mut Log,
+    step: ShardStep<u64, u64>,
+) -> Result<Reply<u64, u64>, Fail> {
+    assert!(rt; log.caller() < alone.callers());
+    Ok(alone.apply(log, step)?)
+}
+
+// The stamp of the last step of a shard.
+fn last_of(rt: &impl Abort, alone: &Alone, shard: usize) -> u64 {
+    assert!(rt; shard < alone.shard_count());
+    alone.last_of(shard)
+}
+
+#[test]
+fn first_steps(rt: HostRuntime) -> Result<(), Fail> {
+    let (map, mut logs) = Map::new(rt.alloc(), PlaceState, 4, 1)?;
+    assert_eq!(rt; map.shard_count(), 4);
+    assert_eq!(rt; map.callers(), 1);
+    let mut log = logs.pop().ok_or("no log")?;
+    let reply = apply(&rt, &map, &mut log, ShardStep::Insert(1, 10))?;
+    assert!(rt; matches!(reply, Reply::Old(None)));
+    let reply = apply(&rt, &map, &mut log, ShardStep::Insert(1, 11))?;
+    assert!(rt; matches!(reply, Reply::Old(Some(10))));
+    let reply = apply(&rt, &map, &mut log, ShardStep::Get(1))?;
+    assert!(rt; matches!(reply, Reply::Pair(Some((1, 11)))));
+    assert_eq!(rt; log.last_stamp(), 3);
+    assert_eq!(rt; map.alone().last_of(1), 3);
+    Ok(())
+}
+
+#[test]
+fn a_held_shard_leaves_the_others_free(rt: HostRuntime) -> Result<(), Fail> {
+    let (map, mut logs) = Map::new(rt.alloc(), PlaceState, 4, 1)?;
+    let mut log = logs.pop().ok_or("no log")?;
+    let held = map.held(&rt, 0);
+    let reply = apply(&rt, &map, &mut log, ShardStep::Insert(1, 10))?;
+    assert!(rt; matches!(reply, Reply::Old(None)));
+    assert_eq!(rt; held.last_stamp(), 0);
+    Ok(())
+}
+
+// Ten thousand steps of one caller over sixteen keys, or as many as it could take.
+fn record_steps<R: Wait + Clock>(rt: &R, map: &Map, log: &mut Log) {
+    let caller = u64::from(log.caller());
+    for i in 0..10_000u64 {
+        let key = (caller + i) % 16;
+        let step = if i % 2 == 0 {
+            ShardStep::Insert(key, i)
+        } else {
+            ShardStep::Get(key)
+        };
+        if log.caller() >= map.callers() || map.apply(rt, log, step).is_err() {
+            return;
+        }
+    }
+}
+
+// The stamps of a shard's steps in all logs.
+fn stamps_of(alloc: Global, logs: &[Log], shard: usize) -> Result<Vec<u64>, Fail> {
+    let mut stamps = Vec::new(alloc);
+    for log in logs {
+        for record in log.entries() {
+            if record.shard == shard {
+                stamps.push(record.stamp)?;
+            }
+        }
+    }
+    stamps.sort_unstable();
+    Ok(stamps)
+}
+
+#[test]
+fn four_threads_record_on_one_map(rt: HostRuntime) -> Result<(), Fail> {
+    let (map, mut logs) = Map::new(rt.alloc(), PlaceState, 4, 4)?;
+    thread::for_each_mut(
+        &rt,
+        logs.as_mut_slice(),
+        4,
+        &|_, log: &mut Log| { record_steps(&rt, &map, log) },
+    );
+    for log in &logs {
+        assert_eq!(rt; log.entries().len(), 10_000, "of {}", log.caller());
+    }
+    let mut alone = map.alone();
+    for shard in 0..4 {
+        let mut stamps = stamps_of(rt.alloc(), &logs, shard)?;
+        assert_eq!(rt; stamps.len(), 10_000, "of shard {shard}");
+        assert_eq!(rt;
+            stamps.last(),
+            Some(&last_of(&rt, &alone, shard)),
+            "of shard {shard}"
+        );
+        stamps.dedup();
+        assert_eq!(rt;
+            stamps.len(),
+            10_000,
+            "no stamp of shard {shard} comes twice"
+        );
+    }
+    let mut log = logs.pop().ok_or("no log")?;
+    for shard in 0..4 {
+        let count = apply_alone(&rt, &mut alone, &mut log, ShardStep::Count(shard))?;
+        assert!(rt;
+            matches!(count, Reply::Number(4)),
+            "{count:?} of shard {shard}"
+        );
+    }
+    Ok(())
+}
+
+#[test]
+fn alone_and_end_carry_all_over(rt: HostRuntime) -> Result<(), Fail> {
+    let (map, mut logs) = Map::new(rt.alloc(), PlaceState, 4, 2)?;
+    for i in 0..30 {
+        for log in &mut logs {
+            apply(&rt, &map, log, ShardStep::Insert(i % 7, i))?;
+        }
+    }
+    let mut log = logs.pop().ok_or("no log")?;
+    let mut alone = map.alone();
+    let mut lasts = [0, 0, 0, 0];
+    for turn in 0..2 {
+        for (key, value) in [
+            (0, 28),
+            (4, 25),
+            (1, 29),
+            (5, 26),
+            (2, 23),
+            (6, 27),
+            (3, 24),
+        ] {
+            let reply = apply_alone(&rt, &mut alone, &mut log, ShardStep::Get(key))?;
+            let Reply::Pair(pair) = reply else {
+                return Err(Fail::from("no pair"));
+            };
+            assert_eq!(rt; pair, Some((key, value)), "in turn {turn}");
+        }
+        for shard in 0..4 {
+            lasts[shard] = last_of(&rt, &alone, shard);
+        }
+        let map = alone.end();
+        assert_eq!(rt; map.shard_count(), 4);
+        alone = map.alone();
+        for shard in 0..4 {
+            assert_eq!(rt;
+                last_of(&rt, &alone, shard),
+                lasts[shard],
+                "of shard {shard}"
+            );
+        }
+    }
+    Ok(())
+}
+
+#[test]
+fn a_leaked_hold_leaves_a_map_that_can_be_dropped(rt: HostRuntime) -> Result<(), Fail> {
+    let (map, mut logs) = Map::new(rt.alloc(), PlaceState, 4, 1)?;
+    let mut log = logs.pop().ok_or("no log")?;
+    apply(&rt, &map, &mut log, ShardStep::Insert(1, 10))?;
+    mem::forget(map.held(&rt, 1));
+    let alone = map.alone();
+    assert_eq!(rt; alone.last_of(1), 1);
+    let map = alone.end();
+    mem::forget(map.held(&rt, 1));
+    drop(map);
+    Ok(())
+}
+
+// The map of two callers after inserts that get these stamps: rows of a caller, a key and a stamp.
+fn stamped<R: Abort + Wait + Clock>(
+    rt: &R,
+    alloc: Global,
+    rows: &[(usize, u64, u64)],
+) -> Result<Alone, Fail> {
+    let (map, mut logs) = Map::new(alloc, PlaceState, 4, 2)?;
+    for &(caller, key, stamp) in rows {
+        let log = logs.get_mut(caller).ok_or("no log")?;
+        apply(rt, &map, log, ShardStep::Insert(key, 10))?;
+        assert_eq!(rt; log.last_stamp(), stamp, "of key {key}");
+    }
+    Ok(map.alone())
+}
+
+#[test]
+fn stamps_rise_above_the_shards_and_the_callers_last(rt: HostRuntime) -> Result<(), Fail> {
+    let alone = stamped(&rt, rt.alloc(), &[(0, 1, 1), (1, 4, 1), (0, 0, 2)])?;
+    assert_eq!(rt; last_of(&rt, &alone, 0), 2);
+    assert_eq!(rt; last_of(&rt, &alone, 1), 1);
+    let rows = [
+        (0, 0, 1),
+        (0, 4, 2),
+        (0, 8, 3),
+        (0, 12, 4),
+        (0, 16, 5),
+        (0, 20, 6),
+        (0, 24, 7),
+        (1, 1, 1),
+        (1, 5, 2),
+        (1, 9, 3),
+        (1, 13, 4),
+        (0, 1, 8),
+    ];
+    let alone = stamped(&rt, rt.alloc(), &rows)?;
+    assert_eq!(rt; last_of(&rt, &alone, 1), 8);
+    Ok(())
+}

@@ -1,0 +1,41 @@
+//! Copies of steps and replies, and the places of steps.
+use dash_history::step::{Reply, ShardStep};
+use dash_shard::hash::{PlaceState, is_shard_amount};
+use std::test::Fail;
+
+type Step = ShardStep<u64, u64>;
+
+#[test]
+fn copies(rt: HostRuntime) -> Result<(), Fail> {
+    for (step, text) in [
+        (Step::Get(1), "Get(1)"),
+        (Step::Insert(1, 10), "Insert(1, 10)"),
+        (Step::Remove(1), "Remove(1)"),
+    ] {
+        let copy = step.copy()?;
+        assert_eq!(rt; format!(in rt.alloc(); "{copy:?}")?.as_str(), text);
+    }
+    for (reply, text) in [
+        (Reply::Pair(None), "Pair(None)"),
+        (Reply::Pair(Some((1u64, 10u64))), "Pair(Some((1, 10)))"),
+        (Reply::Old(None), "Old(None)"),
+        (Reply::Old(Some(10)), "Old(Some(10))"),
+    ] {
+        let copy = reply.copy()?;
+        assert_eq!(rt; format!(in rt.alloc(); "{copy:?}")?.as_str(), text);
+    }
+    Ok(())
+}
+
+#[test]
+fn places(rt: HostRuntime) {
+    for (step, place) in [
+        (Step::Get(6), 2),
+        (Step::Insert(7, 1), 3),
+        (Step::Remove(9), 1),
+        (Step::Count(9), 9),
+    ] {
+        assert!(rt; is_shard_amount(4));
+        assert_eq!(rt; step.place(&PlaceState, 4), place, "{step:?}");
+    }
+}
