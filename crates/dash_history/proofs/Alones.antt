@@ -11,7 +11,7 @@ use Rattle.std.proofs.lemmas.Option.{slice_get-get_or, slice_get_within, same_So
 use Rattle.std.proofs.Math.ListN.{length-set}
 use Rattle.dash_shard.proofs.Rows.{slice_get-set_same, slice_get-set_other}
 use Rattle.dash_shard.specs.Contents.{keys}
-use Rattle.dash_shard.specs.Hashing.{IsAmount, HashAlike, hash_of, route_by, route_of_hash}
+use Rattle.dash_shard.specs.Hashing.{KeyHash, IsAmount, HashAlike, hash_of, route_by, route_of_hash}
 use Rattle.dash_shard.specs.Shard.{SameShard}
 use Rattle.dash_shard.specs.Steps.{Act, place}
 use Rattle.dash_history.specs.declared.step.ShardStep.{ShardStep}
@@ -27,7 +27,7 @@ module _ {K V A S H : Type 0} (b : builder.Ghosts S H) (h : hasher.Ghosts H) whe
     number = stays.number ∙ p.number;
     amount = stays.amount ∙ p.amount;
     callers = callers ∙ p.callers;
-    hashes = subst (λ x. HashAlike b h base x) (sym stays.hasher) p.hashes;
+    hashes = subst (λ x. HashAlike h base x) (sym stays.hasher) p.hashes;
   }
 
   -- one shard changed in its place
@@ -48,16 +48,16 @@ module _ {K V A S H : Type 0} (b : builder.Ghosts S H) (h : hasher.Ghosts H) whe
 
   -- a shard knows what the map knows
   pub kinds-same : (eq : K → K → Bool) (input : K → HashWrites) (k : K → K → Bool) (v : V → V → Bool) (f : A → A → Bool) (acts : A → Act K V) (base : S) (n c i : ℕ) (s : RecState K V A S)
-      → IsPlaced b h base n c i s → kinds_of eq b h input k v f acts s.shard ≡ kinds f acts (rules k v (keys eq (route_by b h input base n) n))
+      → IsPlaced b h base n c i s → kinds_of h k v f acts s.shard ≡ kinds f acts (rules k v (keys eq (route_by h base n) n))
   kinds-same eq input k v f acts base n c i s p =
-      let route = fun_ext (λ (x : K). ap (λ a. route_of_hash a (hash_of b h s.shard.hasher (input x))) p.amount ∙ ap (route_of_hash n) (p.hashes (input x))) in
-      ap (λ r. kinds f acts (rules k v (keys eq r s.shard.amount))) route ∙ ap (λ a. kinds f acts (rules k v (keys eq (route_by b h input base n) a))) p.amount
+      let route = fun_ext (λ (x : K). ap (λ a. route_of_hash a (h.hash s.shard.hasher x)) p.amount ∙ ap (route_of_hash n) (p.hashes (input x))) in
+      ap (λ r. kinds f acts (rules k v (keys eq r s.shard.amount))) route ∙ ap (λ a. kinds f acts (rules k v (keys eq (route_by h base n) a))) p.amount
 
 -- The map, the place that was computed, and the shard that an index lends there.
-module _ {K V A S H : Type 0} (eq : K → K → Bool) (b : builder.Ghosts S H) (h : hasher.Ghosts H) (input : K → HashWrites) (k : K → K → Bool) (v : V → V → Bool) (f : A → A → Bool) (acts : A → Act K V)
+module _ {K V A S : Type 0} (h : KeyHash K S) (k : K → K → Bool) (v : V → V → Bool) (f : A → A → Bool) (acts : A → Act K V)
     (base : S) (c : ℕ) (row : List (RecState K V A S)) (z : AloneState K V A S) (view : record { hasher = base; callers = c; row = row } ≡ z)
     (a : IsAlone b h (record { hasher = base; callers = c; row = row })) (step : ShardStep K V A) (p n : ℕ) (s : RecState K V A S)
-    (long : n ≡ length row) (computed : p ≡ place (keys eq (route_by b h input base n) n) (step_of acts step)) (within : p < length row) (read : s ≡ get_or row p s) where
+    (long : n ≡ length row) (computed : p ≡ place (keys h.eq (route_by h base n) n) (step_of acts step)) (within : p < length row) (read : s ≡ get_or row p s) where
   abbrev old : AloneState K V A S
   old = record { hasher = base; callers = c; row = row }
 
@@ -70,13 +70,13 @@ module _ {K V A S H : Type 0} (eq : K → K → Bool) (b : builder.Ghosts S H) (
   placed : IsPlaced b h base (length row) c p s
   placed = a.placed p s here
 
-  same : kinds_of eq b h input k v f acts s.shard ≡ kinds_in b h eq input k v f acts z
-  same = kinds-same b h eq input k v f acts base (length row) c p s placed ∙ ap (kinds_in b h eq input k v f acts) view
+  same : kinds_of h k v f acts s.shard ≡ kinds_in b h h.eq input k v f acts z
+  same = kinds-same b h h.eq input k v f acts base (length row) c p s placed ∙ ap (kinds_in b h h.eq input k v f acts) view
 
-  pub place_is : p ≡ place_of (kinds_in b h eq input k v f acts z) step
-  place_is = computed ∙ ap (λ l. place (keys eq (route_by b h input base l) l) (step_of acts step)) long ∙ ap (λ x. place_of (kinds_in b h eq input k v f acts x) step) view
+  pub place_is : p ≡ place_of (kinds_in b h h.eq input k v f acts z) step
+  place_is = computed ∙ ap (λ l. place (keys h.eq (route_by h base l) l) (step_of acts step)) long ∙ ap (λ x. place_of (kinds_in b h h.eq input k v f acts x) step) view
 
-  pub goes_there : place_of (kinds_of eq b h input k v f acts s.shard) step ≡ s.shard.number
+  pub goes_there : place_of (kinds_of h k v f acts s.shard) step ≡ s.shard.number
   goes_there = ap (λ r. place_of r step) same ∙ sym place_is ∙ sym placed.number
 
   pub callers_are : s.callers ≡ z.callers
@@ -85,20 +85,20 @@ module _ {K V A S H : Type 0} (eq : K → K → Bool) (b : builder.Ghosts S H) (
   pub count_is : length row ≡ length z.row
   count_is = ap (λ x. length x.row) view
 
-  pub there : slice_get z.row (place_of (kinds_in b h eq input k v f acts z) step) ≡ Some s
-  there = subst (λ x. slice_get x.row (place_of (kinds_in b h eq input k v f acts z) step) ≡ Some s) view (subst (λ i. slice_get row i ≡ Some s) place_is here)
+  pub there : slice_get z.row (place_of (kinds_in b h h.eq input k v f acts z) step) ≡ Some s
+  there = subst (λ x. slice_get x.row (place_of (kinds_in b h h.eq input k v f acts z) step) ≡ Some s) view (subst (λ i. slice_get row i ≡ Some s) place_is here)
 
-  pub last_is : last_at z (place_of (kinds_in b h eq input k v f acts z) step) ≡ s.last
+  pub last_is : last_at z (place_of (kinds_in b h h.eq input k v f acts z) step) ≡ s.last
   last_is = ap (λ o. option_map_or (λ x. x.last) o 0) there
 
-  pub applied : (t : RecState K V A S) (l l' : LogState K V A) (reply : program.Reply K V) → Recorded (kinds_of eq b h input k v f acts s.shard) s t l l' step reply
-      → Applied (kinds_in b h eq input k v f acts z) z (record { hasher = base; callers = c; row = slice_set row p t }) l l' step reply
+  pub applied : (t : RecState K V A S) (l l' : LogState K V A) (reply : program.Reply K V) → Recorded (kinds_of h k v f acts s.shard) s t l l' step reply
+      → Applied (kinds_in b h h.eq input k v f acts z) z (record { hasher = base; callers = c; row = slice_set row p t }) l l' step reply
   applied t l l' reply r = record {
     before = s;
     after = t;
     here = there;
     recorded = subst (λ x. Recorded x s t l l' step reply) same r;
-    others = ap (λ i. set_row old (slice_set row i t)) place_is ∙ ap (λ x. set_row x (slice_set x.row (place_of (kinds_in b h eq input k v f acts z) step) t)) view;
+    others = ap (λ i. set_row old (slice_set row i t)) place_is ∙ ap (λ x. set_row x (slice_set x.row (place_of (kinds_in b h h.eq input k v f acts z) step) t)) view;
   }
 
   -- the shard was put back as it was

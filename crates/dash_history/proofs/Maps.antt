@@ -20,7 +20,7 @@ module _ {K V A S H : Type 0} (b : builder.Ghosts S H) (h : hasher.Ghosts H) whe
     number = p.number ∙ at.number;
     amount = p.amount ∙ at.amount;
     callers = p.callers ∙ at.callers;
-    hashes = subst (λ x. HashAlike b h x s.shard.hasher) at.hasher p.hashes;
+    hashes = subst (λ x. HashAlike h x s.shard.hasher) at.hasher p.hashes;
   }
 
   -- and the other way round
@@ -29,7 +29,7 @@ module _ {K V A S H : Type 0} (b : builder.Ghosts S H) (h : hasher.Ghosts H) whe
     number = p.number ∙ sym at.number;
     amount = p.amount ∙ sym at.amount;
     callers = p.callers ∙ sym at.callers;
-    hashes = subst (λ x. HashAlike b h x s.shard.hasher) (sym at.hasher) p.hashes;
+    hashes = subst (λ x. HashAlike h x s.shard.hasher) (sym at.hasher) p.hashes;
   }
 
   pub alone-of_map : (base : S) (c : ℕ) (locks : List (CachePadded (Place S))) (row : List (RecState K V A S)) → IsMap (record { hasher = base; callers = c; amount = length locks }) locks

@@ -46,7 +46,7 @@ module _ {K V A S : Type 0} where
       pub number : s.shard.number ≡ i
       pub amount : s.shard.amount ≡ n
       pub callers : s.callers ≡ c
-      pub hashes : HashAlike b h meaning s.shard.hasher
+      pub hashes : HashAlike h meaning s.shard.hasher
 
     -- each shard stands in its place
     pub record IsAlone (a : AloneState K V A S) : Type 0 where
@@ -56,7 +56,7 @@ module _ {K V A S : Type 0} where
 
     -- what the map knows of its keys, values and actions
     abbrev pub kinds_in : (K → K → Bool) → (K → HashWrites) → (K → K → Bool) → (V → V → Bool) → (A → A → Bool) → (A → Act K V) → AloneState K V A S → Kinds K V A
-    kinds_in eq input k v f acts a = kinds f acts (rules k v (keys eq (route_by b h input a.hasher (length a.row)) (length a.row)))
+    kinds_in eq input k v f acts a = kinds f acts (rules k v (keys eq (route_by h a.hasher (length a.row)) (length a.row)))
 
   -- The step was taken and recorded on the shard of its place. The other shards are as they were.
   pub record Applied (m : Kinds K V A) (a a' : AloneState K V A S) (l l' : LogState K V A) (step : ShardStep K V A) (reply : Reply K V) : Type 0 where

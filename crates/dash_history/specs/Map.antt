@@ -39,7 +39,7 @@ module _ {S : Type 0} where
 
   -- what the map knows of its keys, values and actions
   abbrev pub kinds_on : {K V A H : Type 0} → builder.Ghosts S H → hasher.Ghosts H → (K → K → Bool) → (K → HashWrites) → (K → K → Bool) → (V → V → Bool) → (A → A → Bool) → (A → Act K V) → MapState S → Kinds K V A
-  kinds_on b h eq input k v f acts m = kinds f acts (rules k v (keys eq (route_by b h input m.hasher m.amount) m.amount))
+  kinds_on b h eq input k v f acts m = kinds f acts (rules k v (keys eq (route_by h m.hasher m.amount) m.amount))
 
 -- The log is longer by one record of the step, with the reply, the step's place and a stamp above the log's last. The reply is one
 -- that the step gets from some contents of its shard.

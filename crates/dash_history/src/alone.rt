@@ -1,6 +1,6 @@
 //! A recorded map of one owner, without locks.
 ghost use Rattle.std.specs.Prelude.{◌≡◌, ◌+◌, ◌-◌, ◌<◌, ◌≤◌, ◌^◌, ◌↔◌, ◌⊎◌, ℕ, max, IsTrue, IsErrOf, IsSomeAnd, IfOk, IfErr, OnOk, length, slice_get};
-ghost use Rattle.dash_shard.specs.Hashing.{IsAmount, HashAlike};
+ghost use Rattle.dash_shard.specs.Hashing.{by, IsAmount, HashAlike};
 ghost use Rattle.dash_history.specs.History.{last_or, place_of};
 ghost use Rattle.dash_history.specs.Alone.{IsCallers, IsFresh, IsAlone, IsPlaced, Applied, fresh_logs, last_at, kinds_in};
 
@@ -44,7 +44,7 @@ fn fresh_row<K: KeptKey + Drop, V: Kept + Drop, S: BuildHasher + Clone, A: KeptA
     callers: u32,
 ) -> Result<Vec<RecShard<K, V, S, A>>, AllocError>
     requires amount { IsAmount amount }
-    requires alike { (s t : S) → S.is_clone s t → HashAlike S.BuildHasher S.Hasher.Hasher s t }
+    requires alike { (s t : S) → S.is_clone s t → HashAlike (by K.Hash S.BuildHasher S.Hasher.Hasher) s t }
     ensures len { IfOk result (λ row. length row.items ≡ amount) }
     ensures made { IfOk result (λ row. (i : ℕ) (s : _) → slice_get row.items i ≡ Some s → IsPlaced S.BuildHasher S.Hasher.Hasher hasher.now amount callers i s × IsFresh s) }
 {
@@ -87,7 +87,7 @@ impl<K: KeptKey + Drop, V: Kept + Drop, S: BuildHasher, A: KeptAction<K, V> + Dr
     ) -> Result<(RecAlone<K, V, S, A>, Vec<CallerLog<K, V, A>>), ConstructError>
     where
         S: Clone,
-        requires { (s t : S) → S.is_clone s t → HashAlike S.BuildHasher S.Hasher.Hasher s t }
+        requires { (s t : S) → S.is_clone s t → HashAlike (by K.Hash S.BuildHasher S.Hasher.Hasher) s t }
         ensures hasher { IfOk result (λ m. m.0.hasher ≡ hasher) }
         ensures callers { IfOk result (λ m. m.0.callers ≡ callers) }
         ensures amount { IfOk result (λ m. length m.0.row ≡ amount) }

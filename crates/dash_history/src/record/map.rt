@@ -1,7 +1,7 @@
 //! A recorded map that threads share, and its two moves: shards out of their locks, and behind them again.
 ghost use Rattle.std.specs.Prelude.{◌≡◌, ◌<◌, ◌↔◌, ◌⊎◌, IsErrOf, IfOk, IfErr, length};
 ghost use Rattle.crossbeam_utils.specs.Padded.{padded_value};
-ghost use Rattle.dash_shard.specs.Hashing.{IsAmount, HashAlike};
+ghost use Rattle.dash_shard.specs.Hashing.{by, IsAmount, HashAlike};
 ghost use Rattle.dash_history.specs.Alone.{IsAlone, IsCallers, IsPlaced, fresh_logs};
 ghost use Rattle.dash_history.specs.Held.{FitsPlace};
 ghost use Rattle.dash_history.specs.History.{IsRecorded, place_of};
@@ -68,7 +68,7 @@ impl<K: KeptKey + Drop, V: Kept + Drop, S: BuildHasher, A: KeptAction<K, V> + Dr
     ) -> Result<(RecordedMap<K, V, S, A>, Vec<CallerLog<K, V, A>>), ConstructError>
     where
         S: Clone,
-        requires { (s t : S) → S.is_clone s t → HashAlike S.BuildHasher S.Hasher.Hasher s t }
+        requires { (s t : S) → S.is_clone s t → HashAlike (by K.Hash S.BuildHasher S.Hasher.Hasher) s t }
         ensures made { IfOk result (λ m. m.0 ≡ record { hasher = hasher; callers = callers; amount = amount }) }
         ensures logs { IfOk result (λ m. m.1.items ≡ fresh_logs callers) }
 
@@ -112,7 +112,7 @@ impl<K: KeptKey + Drop, V: Kept + Drop, S: BuildHasher, A: KeptAction<K, V> + Dr
     pub fn held<R: Wait + Clock>(&self, rt: &R, shard: usize) -> RecShardMut<'_, K, V, S, A>
         requires { shard < self.now.amount }
         ensures placed { IsPlaced S.BuildHasher S.Hasher.Hasher self.now.hasher self.now.amount self.now.callers shard result }
-        ensures legal { IsRecorded K.eq S.BuildHasher S.Hasher.Hasher K.hash_input K.alike V.alike A.alike A.acts result }
+        ensures legal { IsRecorded (by K.Hash S.BuildHasher S.Hasher.Hasher) K.alike V.alike A.alike A.acts result }
     {
         RecShardMut::of(self.row[shard].write(rt))
     }

@@ -6,7 +6,7 @@ use Rattle.std.specs.Cmp.{IsEquivalence}
 use Rattle.std.specs.Option.{option_map, option_and_then, ok_or}
 use Rattle.std.specs.Map.Iter.{deref_pair}
 use Rattle.dash_history.specs.Alike.{alike_option, alike_pair}
-use Rattle.dash_shard.specs.Hashing.{route_by}
+use Rattle.dash_shard.specs.Hashing.{key_hash, route_by}
 use Rattle.dash_shard.specs.Steps.{Pair, Found, Old, Pairs, Number, Done}
 use Rattle.dash_history.specs.Plan.{HasPair}
 use Rattle.dash_history.proofs.Planning.{takes-planned, on-distinct}
@@ -32,7 +32,7 @@ shown false o = refl
 
 pub returns-in-Ok-clause-ok : goal.returns-in-Ok-clause-ok
 returns-in-Ok-clause-ok g c =
-    let m = plain_rules g.K.PartialEq.eq g.S.BuildHasher g.S.Hasher.Hasher g.K.Hash.hash_input g.K.Kept.alike g.V.Kept.alike c.args.self.now in
+    let m = plain_rules (key_hash g.K.PartialEq.eq g.K.Hash.hash_input g.S.BuildHasher g.S.Hasher.Hasher) g.K.Kept.alike g.V.Kept.alike c.args.self.now in
     let laws = lawful-by _ g.S.BuildHasher g.S.Hasher.Hasher _ _ _ g.met.K.Eq.laws g.met.K.Hash.respects_eq g.met.K.Kept.alike_laws g.met.V.Kept.alike_laws g.met.K.KeptKey.alike_equal c.args.self.now.hasher c.args.self.now.amount in
     let plain = subst (λ (x : PlainState g.row.K.Denot g.row.V.Denot g.row.S.Denot). IsPlain g.K.PartialEq.eq (route_by g.S.BuildHasher g.S.Hasher.Hasher g.K.Hash.hash_input) x) c.self.view_is c.self.invariant in
     rw c.in-Get.is (takes-exactly m laws c.args.self.now.pairs c.args.self.now.pairs (table.Get c.in-Get.key) (Pair c.in-Ok.pair) (route_below _ _ (omega (arith, plain.amount.several)))
@@ -40,7 +40,7 @@ returns-in-Ok-clause-ok g c =
 
 pub returns-in-Ok-put-clause-ok : goal.returns-in-Ok-put-clause-ok
 returns-in-Ok-put-clause-ok g c =
-    let m = plain_rules g.K.PartialEq.eq g.S.BuildHasher g.S.Hasher.Hasher g.K.Hash.hash_input g.K.Kept.alike g.V.Kept.alike c.args.self.now in
+    let m = plain_rules (key_hash g.K.PartialEq.eq g.K.Hash.hash_input g.S.BuildHasher g.S.Hasher.Hasher) g.K.Kept.alike g.V.Kept.alike c.args.self.now in
     let laws = lawful-by _ g.S.BuildHasher g.S.Hasher.Hasher _ _ _ g.met.K.Eq.laws g.met.K.Hash.respects_eq g.met.K.Kept.alike_laws g.met.V.Kept.alike_laws g.met.K.KeptKey.alike_equal c.args.self.now.hasher c.args.self.now.amount in
     let plain = subst (λ (x : PlainState g.row.K.Denot g.row.V.Denot g.row.S.Denot). IsPlain g.K.PartialEq.eq (route_by g.S.BuildHasher g.S.Hasher.Hasher g.K.Hash.hash_input) x) c.self.view_is c.self.invariant in
     rw c.in-Insert.is (takes-exactly m laws c.args.self.now.pairs c.put.new.self.pairs (table.Insert c.in-Insert.key c.in-Insert.value) (Old c.in-Ok-put.old) (route_below _ _ (omega (arith, plain.amount.several)))
@@ -48,7 +48,7 @@ returns-in-Ok-put-clause-ok g c =
 
 pub returns-in-Remove-clause-ok : goal.returns-in-Remove-clause-ok
 returns-in-Remove-clause-ok g c =
-    let m = plain_rules g.K.PartialEq.eq g.S.BuildHasher g.S.Hasher.Hasher g.K.Hash.hash_input g.K.Kept.alike g.V.Kept.alike c.args.self.now in
+    let m = plain_rules (key_hash g.K.PartialEq.eq g.K.Hash.hash_input g.S.BuildHasher g.S.Hasher.Hasher) g.K.Kept.alike g.V.Kept.alike c.args.self.now in
     let laws = lawful-by _ g.S.BuildHasher g.S.Hasher.Hasher _ _ _ g.met.K.Eq.laws g.met.K.Hash.respects_eq g.met.K.Kept.alike_laws g.met.V.Kept.alike_laws g.met.K.KeptKey.alike_equal c.args.self.now.hasher c.args.self.now.amount in
     let plain = subst (λ (x : PlainState g.row.K.Denot g.row.V.Denot g.row.S.Denot). IsPlain g.K.PartialEq.eq (route_by g.S.BuildHasher g.S.Hasher.Hasher g.K.Hash.hash_input) x) c.self.view_is c.self.invariant in
     rw c.in-Remove.is (takes-exactly m laws c.args.self.now.pairs c.remove.new.self.pairs (table.Remove c.in-Remove.key) (Pair c.remove.result) (route_below _ _ (omega (arith, plain.amount.several)))
@@ -59,7 +59,7 @@ make_change-requires g c = subst (λ o. HasPair c.in-Ok-plan_remove_if.change o)
 
 pub returns-in-Ok-plan_remove_if-clause-ok : goal.returns-in-Ok-plan_remove_if-clause-ok
 returns-in-Ok-plan_remove_if-clause-ok g c =
-    let m = plain_rules g.K.PartialEq.eq g.S.BuildHasher g.S.Hasher.Hasher g.K.Hash.hash_input g.K.Kept.alike g.V.Kept.alike c.args.self.now in
+    let m = plain_rules (key_hash g.K.PartialEq.eq g.K.Hash.hash_input g.S.BuildHasher g.S.Hasher.Hasher) g.K.Kept.alike g.V.Kept.alike c.args.self.now in
     let laws = lawful-by _ g.S.BuildHasher g.S.Hasher.Hasher _ _ _ g.met.K.Eq.laws g.met.K.Hash.respects_eq g.met.K.Kept.alike_laws g.met.V.Kept.alike_laws g.met.K.KeptKey.alike_equal c.args.self.now.hasher c.args.self.now.amount in
     let plain = subst (λ (x : PlainState g.row.K.Denot g.row.V.Denot g.row.S.Denot). IsPlain g.K.PartialEq.eq (route_by g.S.BuildHasher g.S.Hasher.Hasher g.K.Hash.hash_input) x) c.self.view_is c.self.invariant in
     let p = c.in-Ok-plan_remove_if.ensures.plan c.in-RemoveIf.key in
@@ -70,7 +70,7 @@ make_change-requires-in-Ok-plan_remove_if_mut g c = subst (λ o. HasPair c.in-Ok
 
 pub returns-in-Ok-plan_remove_if_mut-clause-ok : goal.returns-in-Ok-plan_remove_if_mut-clause-ok
 returns-in-Ok-plan_remove_if_mut-clause-ok g c =
-    let m = plain_rules g.K.PartialEq.eq g.S.BuildHasher g.S.Hasher.Hasher g.K.Hash.hash_input g.K.Kept.alike g.V.Kept.alike c.args.self.now in
+    let m = plain_rules (key_hash g.K.PartialEq.eq g.K.Hash.hash_input g.S.BuildHasher g.S.Hasher.Hasher) g.K.Kept.alike g.V.Kept.alike c.args.self.now in
     let laws = lawful-by _ g.S.BuildHasher g.S.Hasher.Hasher _ _ _ g.met.K.Eq.laws g.met.K.Hash.respects_eq g.met.K.Kept.alike_laws g.met.V.Kept.alike_laws g.met.K.KeptKey.alike_equal c.args.self.now.hasher c.args.self.now.amount in
     let plain = subst (λ (x : PlainState g.row.K.Denot g.row.V.Denot g.row.S.Denot). IsPlain g.K.PartialEq.eq (route_by g.S.BuildHasher g.S.Hasher.Hasher g.K.Hash.hash_input) x) c.self.view_is c.self.invariant in
     let p = c.in-Ok-plan_remove_if_mut.ensures.plan c.in-RemoveIfMut.key in
@@ -81,7 +81,7 @@ make_change-requires-in-Ok-plan_alter g c = subst (λ o. HasPair c.in-Ok-plan_al
 
 pub returns-in-Ok-plan_alter-clause-ok : goal.returns-in-Ok-plan_alter-clause-ok
 returns-in-Ok-plan_alter-clause-ok g c =
-    let m = plain_rules g.K.PartialEq.eq g.S.BuildHasher g.S.Hasher.Hasher g.K.Hash.hash_input g.K.Kept.alike g.V.Kept.alike c.args.self.now in
+    let m = plain_rules (key_hash g.K.PartialEq.eq g.K.Hash.hash_input g.S.BuildHasher g.S.Hasher.Hasher) g.K.Kept.alike g.V.Kept.alike c.args.self.now in
     let laws = lawful-by _ g.S.BuildHasher g.S.Hasher.Hasher _ _ _ g.met.K.Eq.laws g.met.K.Hash.respects_eq g.met.K.Kept.alike_laws g.met.V.Kept.alike_laws g.met.K.KeptKey.alike_equal c.args.self.now.hasher c.args.self.now.amount in
     let plain = subst (λ (x : PlainState g.row.K.Denot g.row.V.Denot g.row.S.Denot). IsPlain g.K.PartialEq.eq (route_by g.S.BuildHasher g.S.Hasher.Hasher g.K.Hash.hash_input) x) c.self.view_is c.self.invariant in
     let p = c.in-Ok-plan_alter.ensures.plan c.in-Alter.key in
@@ -89,7 +89,7 @@ returns-in-Ok-plan_alter-clause-ok g c =
 
 pub returns-in-Contains-clause-ok : goal.returns-in-Contains-clause-ok
 returns-in-Contains-clause-ok g c =
-    let m = plain_rules g.K.PartialEq.eq g.S.BuildHasher g.S.Hasher.Hasher g.K.Hash.hash_input g.K.Kept.alike g.V.Kept.alike c.args.self.now in
+    let m = plain_rules (key_hash g.K.PartialEq.eq g.K.Hash.hash_input g.S.BuildHasher g.S.Hasher.Hasher) g.K.Kept.alike g.V.Kept.alike c.args.self.now in
     let laws = lawful-by _ g.S.BuildHasher g.S.Hasher.Hasher _ _ _ g.met.K.Eq.laws g.met.K.Hash.respects_eq g.met.K.Kept.alike_laws g.met.V.Kept.alike_laws g.met.K.KeptKey.alike_equal c.args.self.now.hasher c.args.self.now.amount in
     let plain = subst (λ (x : PlainState g.row.K.Denot g.row.V.Denot g.row.S.Denot). IsPlain g.K.PartialEq.eq (route_by g.S.BuildHasher g.S.Hasher.Hasher g.K.Hash.hash_input) x) c.self.view_is c.self.invariant in
     let found : Found c.is_some.result ≡ Found (is_some (at m.keys c.args.self.now.pairs c.in-Contains.key)) = ap Found (c.is_some.ensures ∙ mapped deref_pair c.get-in-Contains.result ∙ ap is_some c.get-in-Contains.ensures) in
@@ -98,7 +98,7 @@ returns-in-Contains-clause-ok g c =
 
 pub returns-in-Count-clause-ok : goal.returns-in-Count-clause-ok
 returns-in-Count-clause-ok g c =
-    let m = plain_rules g.K.PartialEq.eq g.S.BuildHasher g.S.Hasher.Hasher g.K.Hash.hash_input g.K.Kept.alike g.V.Kept.alike c.args.self.now in
+    let m = plain_rules (key_hash g.K.PartialEq.eq g.K.Hash.hash_input g.S.BuildHasher g.S.Hasher.Hasher) g.K.Kept.alike g.V.Kept.alike c.args.self.now in
     let laws = lawful-by _ g.S.BuildHasher g.S.Hasher.Hasher _ _ _ g.met.K.Eq.laws g.met.K.Hash.respects_eq g.met.K.Kept.alike_laws g.met.V.Kept.alike_laws g.met.K.KeptKey.alike_equal c.args.self.now.hasher c.args.self.now.amount in
     let plain = subst (λ (x : PlainState g.row.K.Denot g.row.V.Denot g.row.S.Denot). IsPlain g.K.PartialEq.eq (route_by g.S.BuildHasher g.S.Hasher.Hasher g.K.Hash.hash_input) x) c.self.view_is c.self.invariant in
     let P = c.args.self.now.pairs in
@@ -116,7 +116,7 @@ own m laws i P distinct = record { distinct = on-distinct m.keys laws i P distin
 
 pub returns-in-Read-clause-ok : goal.returns-in-Read-clause-ok
 returns-in-Read-clause-ok g c =
-    let m = plain_rules g.K.PartialEq.eq g.S.BuildHasher g.S.Hasher.Hasher g.K.Hash.hash_input g.K.Kept.alike g.V.Kept.alike c.args.self.now in
+    let m = plain_rules (key_hash g.K.PartialEq.eq g.K.Hash.hash_input g.S.BuildHasher g.S.Hasher.Hasher) g.K.Kept.alike g.V.Kept.alike c.args.self.now in
     let plain = subst (λ (x : PlainState g.row.K.Denot g.row.V.Denot g.row.S.Denot). IsPlain g.K.PartialEq.eq (route_by g.S.BuildHasher g.S.Hasher.Hasher g.K.Hash.hash_input) x) c.self.view_is c.self.invariant in
     let laws = lawful-by _ g.S.BuildHasher g.S.Hasher.Hasher _ _ _ g.met.K.Eq.laws g.met.K.Hash.respects_eq g.met.K.Kept.alike_laws g.met.V.Kept.alike_laws g.met.K.KeptKey.alike_equal c.args.self.now.hasher c.args.self.now.amount in
     let P = c.args.self.now.pairs in
@@ -126,7 +126,7 @@ returns-in-Read-clause-ok g c =
 
 pub returns-in-AlterAll-clause-ok : goal.returns-in-AlterAll-clause-ok
 returns-in-AlterAll-clause-ok g c =
-    let m = plain_rules g.K.PartialEq.eq g.S.BuildHasher g.S.Hasher.Hasher g.K.Hash.hash_input g.K.Kept.alike g.V.Kept.alike c.args.self.now in
+    let m = plain_rules (key_hash g.K.PartialEq.eq g.K.Hash.hash_input g.S.BuildHasher g.S.Hasher.Hasher) g.K.Kept.alike g.V.Kept.alike c.args.self.now in
     let plain = subst (λ (x : PlainState g.row.K.Denot g.row.V.Denot g.row.S.Denot). IsPlain g.K.PartialEq.eq (route_by g.S.BuildHasher g.S.Hasher.Hasher g.K.Hash.hash_input) x) c.self.view_is c.self.invariant in
     rw c.in-AlterAll.is (taken c.sweep.result _ _ _ _ c.ok_or-in-AlterAll.ensures.value c.sweep.ensures.done (λ reply is h. record {
       in_range = h.1;
@@ -137,7 +137,7 @@ returns-in-AlterAll-clause-ok g c =
 
 pub returns-in-Retain-clause-ok : goal.returns-in-Retain-clause-ok
 returns-in-Retain-clause-ok g c =
-    let m = plain_rules g.K.PartialEq.eq g.S.BuildHasher g.S.Hasher.Hasher g.K.Hash.hash_input g.K.Kept.alike g.V.Kept.alike c.args.self.now in
+    let m = plain_rules (key_hash g.K.PartialEq.eq g.K.Hash.hash_input g.S.BuildHasher g.S.Hasher.Hasher) g.K.Kept.alike g.V.Kept.alike c.args.self.now in
     let plain = subst (λ (x : PlainState g.row.K.Denot g.row.V.Denot g.row.S.Denot). IsPlain g.K.PartialEq.eq (route_by g.S.BuildHasher g.S.Hasher.Hasher g.K.Hash.hash_input) x) c.self.view_is c.self.invariant in
     rw c.in-Retain.is (taken c.sweep-in-Retain.result _ _ _ _ c.ok_or-in-Retain.ensures.value c.sweep-in-Retain.ensures.done (λ reply is h. record {
       in_range = h.1;
