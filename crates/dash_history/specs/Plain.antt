@@ -20,8 +20,8 @@ module _ {K V S : Type 0} (h : KeyHash K S) (k : K → K → Bool) (v : V → V 
   plain_rules m = rules k v (keys h.eq (route_by h m.hasher m.amount) m.amount)
 
 -- no two keys are equal, and the amount is lawful
-pub record IsPlain {K V S : Type 0} (eq : K → K → Bool) (route : S → ℕ → K → ℕ) (m : PlainState K V S) : Type 0 where
-  pub distinct : Distinct (keys eq (route m.hasher m.amount) m.amount) m.pairs
+pub record IsPlain {K V S : Type 0} (h : KeyHash K S) (m : PlainState K V S) : Type 0 where
+  pub distinct : Distinct (keys h.eq (route_by h m.hasher m.amount) m.amount) m.pairs
   pub amount : IsAmount m.amount
 
 -- the step may be refused at the contents P: it takes memory for copies of pairs that are there, or for a new pair, or the map has no

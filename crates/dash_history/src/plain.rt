@@ -31,14 +31,14 @@ pub struct Plain<K: KeptKey, V: Kept, S: BuildHasher> {
 }
 
 impl<K: KeptKey, V: Kept, S: BuildHasher> Model for Plain<K, V, S> {
-    ghost use Rattle.dash_shard.specs.Hashing.{route_by};
+    ghost use Rattle.dash_shard.specs.Hashing.{key_hash};
     ghost use Rattle.dash_history.specs.Plain.{PlainState, IsPlain};
 
     ghost Value = { PlainState K V S };
 
     ghost view = { λ m. record { hasher = m.hasher; amount = m.amount; pairs = m.pairs.items } };
 
-    ghost invariant = { λ m. IsPlain K.eq (route_by (by K.Hash S.BuildHasher S.Hasher.Hasher)) (record { hasher = m.hasher; amount = m.amount; pairs = m.pairs.items }) };
+    ghost invariant = { λ m. IsPlain (key_hash K.eq K.hash_input S.BuildHasher S.Hasher.Hasher) (record { hasher = m.hasher; amount = m.amount; pairs = m.pairs.items }) };
 }
 
 // The place of the pair whose key equals `key`.

@@ -6,7 +6,7 @@ ghost use Rattle.dash_shard.specs.Contents.{at};
 ghost use Rattle.dash_shard.specs.Steps.{Act, Retain, Becomes, after};
 ghost use Rattle.dash_shard.specs.Shard.{pairs, keys_of, Routes, IsShard, SameShard};
 ghost use Rattle.dash_history.specs.Steps.{step_of, reply_of};
-ghost use Rattle.dash_history.specs.Takes.{Answers};
+ghost use Rattle.dash_history.specs.Takes.{known, Answers};
 ghost use Rattle.dash_history.specs.History.{kinds_of, place_of};
 ghost use Rattle.dash_history.specs.Plan.{change_step, Decides, HasPair, Leaves, MakesEach};
 
@@ -30,9 +30,9 @@ pub(super) fn prepare<
     shard: &Shard<K, V, S>,
     step: &ShardStep<K, V, A>,
 ) -> Result<(Reply<K, V>, Change<V>), AllocError>
-    requires { place_of (kinds_of (by K.Hash S.BuildHasher S.Hasher.Hasher) K.alike V.alike A.alike A.acts shard.now) step.now ≡ shard.now.number }
-    ensures answers { IfOk result (λ plan. Answers (kinds_of (by K.Hash S.BuildHasher S.Hasher.Hasher) K.alike V.alike A.alike A.acts shard.now).rules (pairs shard.now) (step_of A.acts step.now) (reply_of plan.0)) }
-    ensures decides { IfOk result (λ plan. Decides (kinds_of (by K.Hash S.BuildHasher S.Hasher.Hasher) K.alike V.alike A.alike A.acts shard.now) (pairs shard.now) step.now plan.1) }
+    requires { place_of (kinds_of (known K.KeptKey V.alike A.KeptAction S.BuildHasher S.Hasher.Hasher) shard.now) step.now ≡ shard.now.number }
+    ensures answers { IfOk result (λ plan. Answers (kinds_of (known K.KeptKey V.alike A.KeptAction S.BuildHasher S.Hasher.Hasher) shard.now).rules (pairs shard.now) (step_of A.acts step.now) (reply_of plan.0)) }
+    ensures decides { IfOk result (λ plan. Decides (kinds_of (known K.KeptKey V.alike A.KeptAction S.BuildHasher S.Hasher.Hasher) shard.now) (pairs shard.now) step.now plan.1) }
 {
     match step {
         ShardStep::Get(key) | ShardStep::Remove(key) => {
@@ -107,9 +107,9 @@ pub(super) fn carry_out<
     step: ShardStep<K, V, A>,
     decided: Change<V>,
 ) -> Result<(), ShardStep<K, V, A>>
-    requires place { place_of (kinds_of (by K.Hash S.BuildHasher S.Hasher.Hasher) K.alike V.alike A.alike A.acts shard.old) step ≡ shard.old.number }
-    requires decides { Decides (kinds_of (by K.Hash S.BuildHasher S.Hasher.Hasher) K.alike V.alike A.alike A.acts shard.old) (pairs shard.old) step decided }
-    ensures ok { OnOk result (Leaves (kinds_of (by K.Hash S.BuildHasher S.Hasher.Hasher) K.alike V.alike A.alike A.acts shard.old) (pairs shard.old) step (pairs shard.new)) }
+    requires place { place_of (kinds_of (known K.KeptKey V.alike A.KeptAction S.BuildHasher S.Hasher.Hasher) shard.old) step ≡ shard.old.number }
+    requires decides { Decides (kinds_of (known K.KeptKey V.alike A.KeptAction S.BuildHasher S.Hasher.Hasher) shard.old) (pairs shard.old) step decided }
+    ensures ok { OnOk result (Leaves (kinds_of (known K.KeptKey V.alike A.KeptAction S.BuildHasher S.Hasher.Hasher) shard.old) (pairs shard.old) step (pairs shard.new)) }
     ensures stays { SameShard shard.old shard.new }
     ensures lawful { IsShard (by K.Hash S.BuildHasher S.Hasher.Hasher) shard.old → IsShard (by K.Hash S.BuildHasher S.Hasher.Hasher) shard.new }
     ensures err { IfErr result (λ back. (back ≡ step) × (shard.new ≡ shard.old)) }

@@ -11,6 +11,7 @@ use Rattle.dash_history.proofs.PlainSweeps.{ok-is, with_first, Swept, swept-more
 use Rattle.dash_history.proofs.Recording.{lawful-by}
 use Rattle.dash_history.proofs.plain.Plain.sweep.Goals as goal
 use Rattle.dash_history.proofs.plain.Plain.sweep.Goals.{in-Some+in_ok-ok, in_default}
+use Rattle.dash_shard.proofs.Lawful.{lawful-of}
 
 pub loop-pair-preserved : goal.loop-pair-preserved
 loop-pair-preserved g c =
@@ -38,8 +39,8 @@ invariant_of-self g c =
     let now = c.args.self.now in
     let m = plain_rules (key_hash g.K.PartialEq.eq g.K.Hash.hash_input g.S.BuildHasher g.S.Hasher.Hasher) g.K.Kept.alike g.V.Kept.alike now in
     let f = keeping c.args.all (g.A.Action.acts c.args.action.now) in
-    let laws = lawful-by _ g.S.BuildHasher g.S.Hasher.Hasher _ _ _ g.met.K.Eq.laws g.met.K.Hash.respects_eq g.met.K.Kept.alike_laws g.met.V.Kept.alike_laws g.met.K.KeptKey.alike_equal now.hasher now.amount in
-    let plain = subst (λ (x : At). IsPlain g.K.PartialEq.eq (route_by g.S.BuildHasher g.S.Hasher.Hasher g.K.Hash.hash_input) x) c.self.view_is c.self.invariant in
+    let laws = lawful-by _ (lawful-of g.S.BuildHasher g.S.Hasher.Hasher g.met.K.Eq.laws g.met.K.Hash.respects_eq) _ _ g.met.K.Kept.alike_laws g.met.V.Kept.alike_laws g.met.K.KeptKey.alike_equal now.hasher now.amount in
+    let plain = subst (λ (x : At). IsPlain (key_hash g.K.PartialEq.eq g.K.Hash.hash_input g.S.BuildHasher g.S.Hasher.Hasher) x) c.self.view_is c.self.invariant in
     let all = take_all c.loop-pair.pair-index c.deref-pair-items.result.now (omega (arith, c.loop-pair-test.false)) ∙ c.deref-pair-items.ensures.value ∙ ap (λ (x : At). x.pairs) c.self.view_is in
     let swept = subst (λ P. Swept m c.args.shard f P c.loop-pair.next.items) all c.loop-pair.invariant in
     let distinct = swept-distinct m c.args.shard f laws now.pairs c.loop-pair.next.items plain.distinct swept in
@@ -54,8 +55,8 @@ returns-clause-leaves g c e j =
     let now = c.args.self.now in
     let m = plain_rules (key_hash g.K.PartialEq.eq g.K.Hash.hash_input g.S.BuildHasher g.S.Hasher.Hasher) g.K.Kept.alike g.V.Kept.alike now in
     let f = keeping c.args.all (g.A.Action.acts c.args.action.now) in
-    let laws = lawful-by _ g.S.BuildHasher g.S.Hasher.Hasher _ _ _ g.met.K.Eq.laws g.met.K.Hash.respects_eq g.met.K.Kept.alike_laws g.met.V.Kept.alike_laws g.met.K.KeptKey.alike_equal now.hasher now.amount in
-    let plain = subst (λ (x : At). IsPlain g.K.PartialEq.eq (route_by g.S.BuildHasher g.S.Hasher.Hasher g.K.Hash.hash_input) x) c.self.view_is c.self.invariant in
+    let laws = lawful-by _ (lawful-of g.S.BuildHasher g.S.Hasher.Hasher g.met.K.Eq.laws g.met.K.Hash.respects_eq) _ _ g.met.K.Kept.alike_laws g.met.V.Kept.alike_laws g.met.K.KeptKey.alike_equal now.hasher now.amount in
+    let plain = subst (λ (x : At). IsPlain (key_hash g.K.PartialEq.eq g.K.Hash.hash_input g.S.BuildHasher g.S.Hasher.Hasher) x) c.self.view_is c.self.invariant in
     let all = take_all c.loop-pair.pair-index c.deref-pair-items.result.now (omega (arith, c.loop-pair-test.false)) ∙ c.deref-pair-items.ensures.value ∙ ap (λ (x : At). x.pairs) c.self.view_is in
     let swept = subst (λ P. Swept m c.args.shard f P c.loop-pair.next.items) all c.loop-pair.invariant in
     swept-at m c.args.shard f laws now.pairs c.loop-pair.next.items plain.distinct swept j
@@ -66,8 +67,8 @@ returns-clause-distinct g c =
     let now = c.args.self.now in
     let m = plain_rules (key_hash g.K.PartialEq.eq g.K.Hash.hash_input g.S.BuildHasher g.S.Hasher.Hasher) g.K.Kept.alike g.V.Kept.alike now in
     let f = keeping c.args.all (g.A.Action.acts c.args.action.now) in
-    let laws = lawful-by _ g.S.BuildHasher g.S.Hasher.Hasher _ _ _ g.met.K.Eq.laws g.met.K.Hash.respects_eq g.met.K.Kept.alike_laws g.met.V.Kept.alike_laws g.met.K.KeptKey.alike_equal now.hasher now.amount in
-    let plain = subst (λ (x : At). IsPlain g.K.PartialEq.eq (route_by g.S.BuildHasher g.S.Hasher.Hasher g.K.Hash.hash_input) x) c.self.view_is c.self.invariant in
+    let laws = lawful-by _ (lawful-of g.S.BuildHasher g.S.Hasher.Hasher g.met.K.Eq.laws g.met.K.Hash.respects_eq) _ _ g.met.K.Kept.alike_laws g.met.V.Kept.alike_laws g.met.K.KeptKey.alike_equal now.hasher now.amount in
+    let plain = subst (λ (x : At). IsPlain (key_hash g.K.PartialEq.eq g.K.Hash.hash_input g.S.BuildHasher g.S.Hasher.Hasher) x) c.self.view_is c.self.invariant in
     let all = take_all c.loop-pair.pair-index c.deref-pair-items.result.now (omega (arith, c.loop-pair-test.false)) ∙ c.deref-pair-items.ensures.value ∙ ap (λ (x : At). x.pairs) c.self.view_is in
     let swept = subst (λ P. Swept m c.args.shard f P c.loop-pair.next.items) all c.loop-pair.invariant in
     swept-distinct m c.args.shard f laws now.pairs c.loop-pair.next.items plain.distinct swept
