@@ -42,4 +42,4 @@ module _ {K V : Type 0} (w : Keys K) where
 
 module _ {K V S : Type 0} (h : KeyHash K S) where
   pub distinct-contents : IsEquivalence h.eq → (a : AloneState K V S) → IsAlone h a → Distinct (keys_in h a) (contents a)
-  distinct-contents law.laws a lawful = distinct-from (keys_in h a) law.laws 0 a.row (on-shards h a.hasher a.row lawful)
+  distinct-contents laws a lawful = distinct-from (keys_in h a) laws 0 a.row (on-shards h a.hasher a.row lawful)

@@ -86,9 +86,9 @@ module _ {K V S : Type 0} (h : KeyHash K S) (m : MapState S) where
       (clears-alone h n (row-of so.olds) (row-of so.news) (all-turned (Clears h) n so all amount) (sym so.stands.count))
 
   pub all-shrunk : IsEquivalence h.eq → (n : ℕ) → Leaving (Shrinks h) n → n ≡ m.amount → IsAmount m.amount → LeavesShards {V = V} h m (ShrinksAlone h)
-  all-shrunk law.laws n so all amount =
+  all-shrunk laws n so all amount =
       all-left (Shrinks h) n so all amount (ShrinksAlone h)
-      (shrinks-alone h law.laws n (row-of so.olds) (row-of so.news) (all-stood (Shrinks h) n so all amount).lawful (all-turned (Shrinks h) n so all amount) (sym so.stands.count))
+      (shrinks-alone h laws n (row-of so.olds) (row-of so.news) (all-stood (Shrinks h) n so all amount).lawful (all-turned (Shrinks h) n so all amount) (sym so.stands.count))
 
   module _ {F : Type 0} (T : F → K → V → Bool → V → F → Type 0) (Q : F → K → V → Type 0) (leaves : K → V × Bool → Option (K × V)) (first : F) where
     -- the closure went over the shards in front of n, and may go on
@@ -126,9 +126,9 @@ module _ {K V S : Type 0} (h : KeyHash K S) (m : MapState S) where
     pub all-retained : Going T Q if_kept first n f → LeavesShards h m (RetainsAlone h T first)
     all-retained so =
         all-left SameRoom n so.left all amount (RetainsAlone h T first)
-        (retains-alone h T Q first law.laws n (row-of so.left.olds) (row-of so.left.news) f (all-stood SameRoom n so.left all amount).lawful (sym so.left.stands.count) (gone T Q if_kept first n f so all amount))
+        (retains-alone h T Q first laws n (row-of so.left.olds) (row-of so.left.news) f (all-stood SameRoom n so.left all amount).lawful (sym so.left.stands.count) (gone T Q if_kept first n f so all amount))
 
     pub all-altered : Going T Q altered first n f → LeavesShards h m (AltersAllAlone h T first)
     all-altered so =
         all-left SameRoom n so.left all amount (AltersAllAlone h T first)
-        (alters-all-alone h T Q first law.laws n (row-of so.left.olds) (row-of so.left.news) f (all-stood SameRoom n so.left all amount).lawful (sym so.left.stands.count) (gone T Q altered first n f so all amount))
+        (alters-all-alone h T Q first laws n (row-of so.left.olds) (row-of so.left.news) f (all-stood SameRoom n so.left all amount).lawful (sym so.left.stands.count) (gone T Q altered first n f so all amount))

@@ -61,7 +61,7 @@ module _ {K V : Type 0} (eq : K → K → Bool) (k : K) (v : V) where
 module _ {K V S : Type 0} (h : KeyHash K S) (laws : IsEquivalence h.eq) where
   valued-shard : (s : ShardState K V S) (k : K) (v : V) → IsShard h s → IsShard h (with_value_of h.eq s k v)
   valued-shard s k v is = record {
-    contents = subst (λ xs. IsOnShard (keys_of h s) s.number (taken xs)) (as-remade h.eq k v s.places) (on_shard-remade (λ p. Some (revalued h.eq k v p)) (keeps-key h.eq k v) (keys_of h s) law.laws s.number s.places is.contents);
+    contents = subst (λ xs. IsOnShard (keys_of h s) s.number (taken xs)) (as-remade h.eq k v s.places) (on_shard-remade (λ p. Some (revalued h.eq k v p)) (keeps-key h.eq k v) (keys_of h s) laws s.number s.places is.contents);
     number = is.number;
     amount = is.amount;
   }

@@ -58,7 +58,7 @@ module _ {F K V : Type 0} (T : F → K → V → Bool → V → F → Type 0) (l
     callable-front : (f : F) (ps qs : List (K × V)) → CallableOnEachPair T Q f (ps ++ qs) → CallableOnEachPair T Q f ps
     callable-front f ps qs c = record { at = λ before after g k x e r. c.at before (after ++ qs) g k x (ap (λ l. l ++ qs) e ∙ append_assoc before ((k, x) ∷ after) qs) r }
 
-module _ {K V S H F : Type 0} (h : KeyHash K S)
+module _ {K V S F : Type 0} (h : KeyHash K S)
     (T : F → K → V → Bool → V → F → Type 0) (Q : F → K → V → Type 0) (leaves : K → V × Bool → Option (K × V)) (first : F) where
   -- the closure was called along the shards below i, and may be called along those from i on
   pub record Sweeping (i : ℕ) (old now : AloneState K V S) (f : F) : Type 0 where
@@ -114,38 +114,38 @@ module _ {K V S H F : Type 0} (h : KeyHash K S)
         subst (λ l. Sweeps T leaves first (places_of l) (places_of now.row) last) none-more (subst (λ l. Sweeps T leaves first (places_of (take i old.row)) (places_of l) last) none-left r.swept)
 
     distinct : Distinct w (taken (places_of old.row))
-    distinct = subst (Distinct w) (sym (taken-places old.row)) (distinct-contents h law.laws old a)
+    distinct = subst (Distinct w) (sym (taken-places old.row)) (distinct-contents h laws old a)
 
-    pub did : Acts T leaves w law.laws first (places_of old.row) (places_of now.row) last
-    did = acts T leaves w law.laws first (places_of old.row) (places_of now.row) last distinct whole
+    pub did : Acts T leaves w laws first (places_of old.row) (places_of now.row) last
+    did = acts T leaves w laws first (places_of old.row) (places_of now.row) last distinct whole
 
     pub called-all : CalledAlong T did.act first (contents old) last
     called-all = subst (λ ps. CalledAlong T did.act first ps last) (taken-places old.row) did.called
 
     -- what the map has: what the places have
-    pub made-all : contents now ≡ taken (remade (makes T leaves w law.laws did.act) (places_of old.row))
+    pub made-all : contents now ≡ taken (remade (makes T leaves w laws did.act) (places_of old.row))
     made-all = sym (taken-places now.row) ∙ ap taken did.made
 
-    pub each-made : KeepsKey (makes T leaves w law.laws did.act) → (j : K) → at w (contents now) j ≡ option_and_then (makes T leaves w law.laws did.act) (at w (contents old) j)
-    each-made keeps j = ap (λ ps. at w ps j) made-all ∙ at-remade (makes T leaves w law.laws did.act) keeps w law.laws (places_of old.row) distinct j
-        ∙ ap (λ ps. option_and_then (makes T leaves w law.laws did.act) (at w ps j)) (taken-places old.row)
+    pub each-made : KeepsKey (makes T leaves w laws did.act) → (j : K) → at w (contents now) j ≡ option_and_then (makes T leaves w laws did.act) (at w (contents old) j)
+    each-made keeps j = ap (λ ps. at w ps j) made-all ∙ at-remade (makes T leaves w laws did.act) keeps w laws (places_of old.row) distinct j
+        ∙ ap (λ ps. option_and_then (makes T leaves w laws did.act) (at w ps j)) (taken-places old.row)
 
 map-then : {A B : Type 0} (g : A → B) (o : Option A) → option_and_then (λ x. Some (g x)) o ≡ option_map g o
 map-then g None = refl
 map-then g (Some x) = refl
 
-module _ {K V S H F : Type 0} (h : KeyHash K S)
+module _ {K V S F : Type 0} (h : KeyHash K S)
     (T : F → K → V → Bool → V → F → Type 0) (Q : F → K → V → Type 0) (first : F) (laws : IsEquivalence h.eq) (i : ℕ) (old now : AloneState K V S) (last : F) (a : IsAlone h old) (all : i ≡ length now.row) where
   pub retains-alone : Sweeping h T Q if_kept first i old now last → RetainsAlone h T first old now
   retains-alone r =
-      let d = did h T Q if_kept first law.laws i old now last a r all in
+      let d = did h T Q if_kept first laws i old now last a r all in
       record {
         act = d.act;
         last = last;
-        called = called-all h T Q if_kept first law.laws i old now last a r all;
-        each = each-made h T Q if_kept first law.laws i old now last a r all (kept-key d.act);
+        called = called-all h T Q if_kept first laws i old now last a r all;
+        each = each-made h T Q if_kept first laws i old now last a r all (kept-key d.act);
         len = subst (λ n. length (contents now) ≤ n) (ap length (taken-places old.row))
-            (subst (λ ps. length ps ≤ length (taken (places_of old.row))) (sym (made-all h T Q if_kept first law.laws i old now last a r all)) (fewer-remade (makes T if_kept (keys_in h old) law.laws d.act) (places_of old.row)));
+            (subst (λ ps. length ps ≤ length (taken (places_of old.row))) (sym (made-all h T Q if_kept first laws i old now last a r all)) (fewer-remade (makes T if_kept (keys_in h old) laws d.act) (places_of old.row)));
         room = each-turned h SameRoom i old now r.turning all;
         hasher = r.turning.hasher;
         amount = r.turning.amount;
@@ -154,13 +154,13 @@ module _ {K V S H F : Type 0} (h : KeyHash K S)
 
   pub alters-all-alone : Sweeping h T Q altered first i old now last → AltersAllAlone h T first old now
   alters-all-alone r =
-      let d = did h T Q altered first law.laws i old now last a r all in
+      let d = did h T Q altered first laws i old now last a r all in
       record {
         act = d.act;
         last = last;
-        called = called-all h T Q altered first law.laws i old now last a r all;
-        each = λ j. each-made h T Q altered first law.laws i old now last a r all (altered-key d.act) j ∙ map-then (changed d.act) (at (keys_in h old) (contents old) j);
-        len = ap length (made-all h T Q altered first law.laws i old now last a r all) ∙ length-altered d.act (places_of old.row) ∙ ap length (taken-places old.row);
+        called = called-all h T Q altered first laws i old now last a r all;
+        each = λ j. each-made h T Q altered first laws i old now last a r all (altered-key d.act) j ∙ map-then (changed d.act) (at (keys_in h old) (contents old) j);
+        len = ap length (made-all h T Q altered first laws i old now last a r all) ∙ length-altered d.act (places_of old.row) ∙ ap length (taken-places old.row);
         room = each-turned h SameRoom i old now r.turning all;
         hasher = r.turning.hasher;
         amount = r.turning.amount;

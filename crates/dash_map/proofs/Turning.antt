@@ -95,7 +95,7 @@ module _ {K V S : Type 0} (h : KeyHash K S) where
       }
 
   pub shrinks-alone : IsEquivalence h.eq → (i : ℕ) (old now : AloneState K V S) → IsAlone h old → Turning (Shrinks h) i old now → i ≡ length now.row → ShrinksAlone h old now
-  shrinks-alone law.laws i old now a r all =
+  shrinks-alone laws i old now a r all =
       let each = each-turned (Shrinks h) i old now r all in
       let w : Keys K = keys_in h old in
       let known : keys_in h now ≡ w = known-same old now r.hasher r.amount in
@@ -103,7 +103,7 @@ module _ {K V S : Type 0} (h : KeyHash K S) where
       let on' : OnShards w 0 now.row = subst (λ x. OnShards x 0 now.row) known (on-shards h now.hasher now.row r.lawful) in
       record {
         pairs = record {
-          distinct = subst (λ x. Distinct x (contents now)) known (distinct-contents h law.laws now r.lawful);
+          distinct = subst (λ x. Distinct x (contents now)) known (distinct-contents h laws now r.lawful);
           same = λ k. same-there k on on' each;
         };
         len = as-many old.row now.row r.amount (λ j s t e f. (each j s t e f).len);

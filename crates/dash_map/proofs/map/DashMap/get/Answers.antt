@@ -11,7 +11,7 @@ find-requires g c =
     let i = c.place_of-hash.result.1 in
     let within : i < length row = omega (arith, c.place_of-hash.ensures.below, ap (λ m. m.amount) c.self.view_is) in
     let placed = placed-held (key_hash g.K.PartialEq.eq g.K.Hash.hash_input g.S.BuildHasher g.S.Hasher.Hasher) _ _ c.self.view_is row c.self.invariant.0 i within c.index.result.now c.index.ensures _ c.deref.ensures c.read.result.value c.read.ensures.fits in
-    c.place_of-hash.ensures.hash ∙ sym (placed.hashes (g.K.Hash.hash_input c.args.key.now))
+    c.place_of-hash.ensures.hash ∙ sym (placed.hashes c.args.key.now)
 
 pub returns-clause-placed : goal.returns-clause-placed
 returns-clause-placed g c =
