@@ -11,62 +11,61 @@ use Rattle.std.proofs.lemmas.Option.{slice_get-get_or, slice_get_within, same_So
 use Rattle.std.proofs.Math.ListN.{length-set}
 use Rattle.dash_shard.proofs.Rows.{slice_get-set_same, slice_get-set_other}
 use Rattle.dash_shard.specs.Contents.{keys}
-use Rattle.dash_shard.specs.Hashing.{IsAmount, HashAlike, hash_of, route_by, route_of_hash}
+use Rattle.dash_shard.specs.Hashing.{KeyHash, IsAmount, HashAlike, hash_of, route_by, route_of_hash}
 use Rattle.dash_shard.specs.Shard.{SameShard}
 use Rattle.dash_shard.specs.Steps.{Act, place}
 use Rattle.dash_history.specs.declared.step.ShardStep.{ShardStep}
 use Rattle.dash_history.specs.declared.step.Reply as program
 use Rattle.dash_history.specs.Steps.{step_of}
-use Rattle.dash_history.specs.Takes.{kinds, rules}
+use Rattle.dash_history.specs.Takes.{Kinds, Known, kinds_at, kinds, rules}
 use Rattle.dash_history.specs.History.{RecState, LogState, Recorded, kinds_of, place_of}
 use Rattle.dash_history.specs.Alone.{AloneState, IsPlaced, IsAlone, Applied, last_at, kinds_in}
 
-module _ {K V A S H : Type 0} (b : builder.Ghosts S H) (h : hasher.Ghosts H) where
-  pub placed-moved : (base : S) (n c i : ℕ) (s t : RecState K V A S) → IsPlaced b h base n c i s → SameShard s.shard t.shard → t.callers ≡ s.callers → IsPlaced b h base n c i t
+module _ {K V A S : Type 0} (h : KeyHash K S) where
+  pub placed-moved : (base : S) (n c i : ℕ) (s t : RecState K V A S) → IsPlaced h base n c i s → SameShard s.shard t.shard → t.callers ≡ s.callers → IsPlaced h base n c i t
   placed-moved base n c i s t p stays callers = record {
     number = stays.number ∙ p.number;
     amount = stays.amount ∙ p.amount;
     callers = callers ∙ p.callers;
-    hashes = subst (λ x. HashAlike b h base x) (sym stays.hasher) p.hashes;
+    hashes = subst (λ x. HashAlike h base x) (sym stays.hasher) p.hashes;
   }
 
   -- one shard changed in its place
-  pub alone-set : (base : S) (c i : ℕ) (row : List (RecState K V A S)) (s t : RecState K V A S) → IsAlone b h (record { hasher = base; callers = c; row = row }) → slice_get row i ≡ Some s
-      → SameShard s.shard t.shard → t.callers ≡ s.callers → IsAlone b h (record { hasher = base; callers = c; row = slice_set row i t })
+  pub alone-set : (base : S) (c i : ℕ) (row : List (RecState K V A S)) (s t : RecState K V A S) → IsAlone h (record { hasher = base; callers = c; row = row }) → slice_get row i ≡ Some s
+      → SameShard s.shard t.shard → t.callers ≡ s.callers → IsAlone h (record { hasher = base; callers = c; row = slice_set row i t })
   alone-set base c i row s t a here stays callers =
       let long : length (slice_set row i t) ≡ length row = length-set row i t in
       record {
         amount = subst IsAmount (sym long) a.amount;
         callers = a.callers;
-        placed = λ j x e. subst (λ n. IsPlaced b h base n c j x) (sym long) (elim (cases_eq j i) as (λ _. IsPlaced b h base (length row) c j x) [
+        placed = λ j x e. subst (λ n. IsPlaced h base n c j x) (sym long) (elim (cases_eq j i) as (λ _. IsPlaced h base (length row) c j x) [
           | inl same ↦
               let new : t ≡ x = same_Some t x (sym (slice_get-set_same row i t (slice_get_within row i s here)) ∙ ap (λ n. slice_get (slice_set row i t) n) (sym same) ∙ e) in
-              subst (λ n. IsPlaced b h base (length row) c n x) (sym same) (subst (λ y. IsPlaced b h base (length row) c i y) new (placed-moved base (length row) c i s t (a.placed i s here) stays callers))
+              subst (λ n. IsPlaced h base (length row) c n x) (sym same) (subst (λ y. IsPlaced h base (length row) c i y) new (placed-moved base (length row) c i s t (a.placed i s here) stays callers))
           | inr other ↦ a.placed j x (slice_get-set_other row i j t x other e)
         ]);
       }
 
-  -- a shard knows what the map knows
-  pub kinds-same : (eq : K → K → Bool) (input : K → HashWrites) (k : K → K → Bool) (v : V → V → Bool) (f : A → A → Bool) (acts : A → Act K V) (base : S) (n c i : ℕ) (s : RecState K V A S)
-      → IsPlaced b h base n c i s → kinds_of eq b h input k v f acts s.shard ≡ kinds f acts (rules k v (keys eq (route_by b h input base n) n))
-  kinds-same eq input k v f acts base n c i s p =
-      let route = fun_ext (λ (x : K). ap (λ a. route_of_hash a (hash_of b h s.shard.hasher (input x))) p.amount ∙ ap (route_of_hash n) (p.hashes (input x))) in
-      ap (λ r. kinds f acts (rules k v (keys eq r s.shard.amount))) route ∙ ap (λ a. kinds f acts (rules k v (keys eq (route_by b h input base n) a))) p.amount
+-- a shard knows what the map knows
+pub kinds-same : {K V A S : Type 0} (w : Known K V A S) (base : S) (n c i : ℕ) (s : RecState K V A S) → IsPlaced w.keys base n c i s → kinds_of w s.shard ≡ kinds_at w base n
+kinds-same {K = K} {V = V} {A = A} w base n c i s p =
+    let kinds_by : (K → ℕ) → ℕ → Kinds K V A = λ r a. kinds w.alike_action w.acts (rules w.alike_key w.alike_value (keys w.keys.eq r a)) in
+    let route : (λ x. route_of_hash s.shard.amount (w.keys.hash s.shard.hasher x)) ≡ route_by w.keys base n = fun_ext (λ (x : K). ap (λ a. route_of_hash a (w.keys.hash s.shard.hasher x)) p.amount ∙ ap (route_of_hash n) (p.hashes x)) in
+    ap (λ r. kinds_by r s.shard.amount) route ∙ ap (λ a. kinds_by (route_by w.keys base n) a) p.amount
 
 -- the place that was computed is past the row
-pub past_row : {K V A S H : Type 0} (eq : K → K → Bool) (b : builder.Ghosts S H) (h : hasher.Ghosts H) (input : K → HashWrites) (k : K → K → Bool) (v : V → V → Bool) (f : A → A → Bool) (acts : A → Act K V)
-    (base : S) (c : ℕ) (row : List (RecState K V A S)) (z : AloneState K V A S) → record { hasher = base; callers = c; row = row } ≡ z → (step : ShardStep K V A) (p n : ℕ)
-    → n ≡ length row → p ≡ place (keys eq (route_by b h input base n) n) (step_of acts step) → n ≤ p → length z.row ≤ place_of (kinds_in b h eq input k v f acts z) step
-past_row {K} {V} {A} {S} eq b h input k v f acts base c row z view step p n long computed past =
+pub past_row : {K V A S : Type 0} (w : Known K V A S) (base : S) (c : ℕ) (row : List (RecState K V A S)) (z : AloneState K V A S) → record { hasher = base; callers = c; row = row } ≡ z → (step : ShardStep K V A) (p n : ℕ)
+    → n ≡ length row → p ≡ place (keys w.keys.eq (route_by w.keys base n) n) (step_of w.acts step) → n ≤ p → length z.row ≤ place_of (kinds_in w z) step
+past_row {K} {V} {A} {S} w base c row z view step p n long computed past =
     let At : Type 0 = AloneState K V A S in
-    let there = subst (λ l. p ≡ place (keys eq (route_by b h input base l) l) (step_of acts step)) long computed in
-    subst (λ (x : At). length x.row ≤ place_of (kinds_in b h eq input k v f acts x) step) view (subst (λ q. length row ≤ q) there (omega arith))
+    let there = subst (λ l. p ≡ place (keys w.keys.eq (route_by w.keys base l) l) (step_of w.acts step)) long computed in
+    subst (λ (x : At). length x.row ≤ place_of (kinds_in w x) step) view (subst (λ q. length row ≤ q) there (omega arith))
 
 -- The map, the place that was computed, and the shard that an index lends there.
-module _ {K V A S H : Type 0} (eq : K → K → Bool) (b : builder.Ghosts S H) (h : hasher.Ghosts H) (input : K → HashWrites) (k : K → K → Bool) (v : V → V → Bool) (f : A → A → Bool) (acts : A → Act K V)
+module _ {K V A S : Type 0} (w : Known K V A S)
     (base : S) (c : ℕ) (row : List (RecState K V A S)) (z : AloneState K V A S) (view : record { hasher = base; callers = c; row = row } ≡ z)
-    (a : IsAlone b h (record { hasher = base; callers = c; row = row })) (step : ShardStep K V A) (p n : ℕ) (s : RecState K V A S)
-    (long : n ≡ length row) (computed : p ≡ place (keys eq (route_by b h input base n) n) (step_of acts step)) (within : p < length row) (read : s ≡ get_or row p s) where
+    (a : IsAlone w.keys (record { hasher = base; callers = c; row = row })) (step : ShardStep K V A) (p n : ℕ) (s : RecState K V A S)
+    (long : n ≡ length row) (computed : p ≡ place (keys w.keys.eq (route_by w.keys base n) n) (step_of w.acts step)) (within : p < length row) (read : s ≡ get_or row p s) where
   abbrev old : AloneState K V A S
   old = record { hasher = base; callers = c; row = row }
 
@@ -76,16 +75,16 @@ module _ {K V A S H : Type 0} (eq : K → K → Bool) (b : builder.Ghosts S H) (
   pub here : slice_get row p ≡ Some s
   here = slice_get-get_or row p s within ∙ ap Some (sym read)
 
-  placed : IsPlaced b h base (length row) c p s
+  placed : IsPlaced w.keys base (length row) c p s
   placed = a.placed p s here
 
-  same : kinds_of eq b h input k v f acts s.shard ≡ kinds_in b h eq input k v f acts z
-  same = kinds-same b h eq input k v f acts base (length row) c p s placed ∙ ap (kinds_in b h eq input k v f acts) view
+  same : kinds_of w s.shard ≡ kinds_in w z
+  same = kinds-same w base (length row) c p s placed ∙ ap (kinds_in w) view
 
-  pub place_is : p ≡ place_of (kinds_in b h eq input k v f acts z) step
-  place_is = computed ∙ ap (λ l. place (keys eq (route_by b h input base l) l) (step_of acts step)) long ∙ ap (λ x. place_of (kinds_in b h eq input k v f acts x) step) view
+  pub place_is : p ≡ place_of (kinds_in w z) step
+  place_is = computed ∙ ap (λ l. place (keys w.keys.eq (route_by w.keys base l) l) (step_of w.acts step)) long ∙ ap (λ x. place_of (kinds_in w x) step) view
 
-  pub goes_there : place_of (kinds_of eq b h input k v f acts s.shard) step ≡ s.shard.number
+  pub goes_there : place_of (kinds_of w s.shard) step ≡ s.shard.number
   goes_there = ap (λ r. place_of r step) same ∙ sym place_is ∙ sym placed.number
 
   pub callers_are : s.callers ≡ z.callers
@@ -94,20 +93,20 @@ module _ {K V A S H : Type 0} (eq : K → K → Bool) (b : builder.Ghosts S H) (
   pub count_is : length row ≡ length z.row
   count_is = ap (λ x. length x.row) view
 
-  pub there : slice_get z.row (place_of (kinds_in b h eq input k v f acts z) step) ≡ Some s
-  there = subst (λ x. slice_get x.row (place_of (kinds_in b h eq input k v f acts z) step) ≡ Some s) view (subst (λ i. slice_get row i ≡ Some s) place_is here)
+  pub there : slice_get z.row (place_of (kinds_in w z) step) ≡ Some s
+  there = subst (λ x. slice_get x.row (place_of (kinds_in w z) step) ≡ Some s) view (subst (λ i. slice_get row i ≡ Some s) place_is here)
 
-  pub last_is : last_at z (place_of (kinds_in b h eq input k v f acts z) step) ≡ s.last
+  pub last_is : last_at z (place_of (kinds_in w z) step) ≡ s.last
   last_is = ap (λ o. option_map_or (λ x. x.last) o 0) there
 
-  pub applied : (t : RecState K V A S) (l l' : LogState K V A) (reply : program.Reply K V) → Recorded (kinds_of eq b h input k v f acts s.shard) s t l l' step reply
-      → Applied (kinds_in b h eq input k v f acts z) z (record { hasher = base; callers = c; row = slice_set row p t }) l l' step reply
+  pub applied : (t : RecState K V A S) (l l' : LogState K V A) (reply : program.Reply K V) → Recorded (kinds_of w s.shard) s t l l' step reply
+      → Applied (kinds_in w z) z (record { hasher = base; callers = c; row = slice_set row p t }) l l' step reply
   applied t l l' reply r = record {
     before = s;
     after = t;
     here = there;
     recorded = subst (λ x. Recorded x s t l l' step reply) same r;
-    others = ap (λ i. set_row old (slice_set row i t)) place_is ∙ ap (λ x. set_row x (slice_set x.row (place_of (kinds_in b h eq input k v f acts z) step) t)) view;
+    others = ap (λ i. set_row old (slice_set row i t)) place_is ∙ ap (λ x. set_row x (slice_set x.row (place_of (kinds_in w z) step) t)) view;
   }
 
   -- the shard was put back as it was

@@ -4,7 +4,7 @@ use Rattle.std.specs.declared.hash.Hasher as hasher
 use Rattle.std.specs.declared.hash.BuildHasher as builder
 use Rattle.crossbeam_utils.specs.declared.cache_padded.CachePadded.{CachePadded}
 use Rattle.crossbeam_utils.specs.Padded.{padded_value}
-use Rattle.dash_shard.specs.Hashing.{IsAmount, HashAlike}
+use Rattle.dash_shard.specs.Hashing.{KeyHash, IsAmount, HashAlike}
 use Rattle.dash_shard.specs.Rows.{Moved}
 use Rattle.dash_shard.proofs.Rows.{moved-length, moved-from}
 use Rattle.dash_history.specs.declared.record.held.Place.{Place}
@@ -13,38 +13,38 @@ use Rattle.dash_history.specs.Alone.{IsPlaced, IsAlone}
 use Rattle.dash_history.specs.Held.{FitsPlace}
 use Rattle.dash_history.specs.Map.{MapState, IsAt, IsMap}
 
-module _ {K V A S H : Type 0} (b : builder.Ghosts S H) (h : hasher.Ghosts H) where
+module _ {K V A S : Type 0} (h : KeyHash K S) where
   -- what fits a lock that stands in a place, stands in that place
-  pub placed-behind : (m : MapState S) (i : ℕ) (lock : CachePadded (Place S)) (s : RecState K V A S) → IsAt m i lock → FitsPlace b h (padded_value lock) s → IsPlaced b h m.hasher m.amount m.callers i s
+  pub placed-behind : (m : MapState S) (i : ℕ) (lock : CachePadded (Place S)) (s : RecState K V A S) → IsAt m i lock → FitsPlace h (padded_value lock) s → IsPlaced h m.hasher m.amount m.callers i s
   placed-behind m i lock s at p = record {
     number = p.number ∙ at.number;
     amount = p.amount ∙ at.amount;
     callers = p.callers ∙ at.callers;
-    hashes = subst (λ x. HashAlike b h x s.shard.hasher) at.hasher p.hashes;
+    hashes = subst (λ x. HashAlike h x s.shard.hasher) at.hasher p.hashes;
   }
 
   -- and the other way round
-  pub fits-at : (m : MapState S) (i : ℕ) (lock : CachePadded (Place S)) (s : RecState K V A S) → IsAt m i lock → IsPlaced b h m.hasher m.amount m.callers i s → FitsPlace b h (padded_value lock) s
+  pub fits-at : (m : MapState S) (i : ℕ) (lock : CachePadded (Place S)) (s : RecState K V A S) → IsAt m i lock → IsPlaced h m.hasher m.amount m.callers i s → FitsPlace h (padded_value lock) s
   fits-at m i lock s at p = record {
     number = p.number ∙ sym at.number;
     amount = p.amount ∙ sym at.amount;
     callers = p.callers ∙ sym at.callers;
-    hashes = subst (λ x. HashAlike b h x s.shard.hasher) (sym at.hasher) p.hashes;
+    hashes = subst (λ x. HashAlike h x s.shard.hasher) (sym at.hasher) p.hashes;
   }
 
   pub alone-of_map : (base : S) (c : ℕ) (locks : List (CachePadded (Place S))) (row : List (RecState K V A S)) → IsMap (record { hasher = base; callers = c; amount = length locks }) locks
-      → Moved (λ _ lock s. FitsPlace b h (padded_value lock) s) 0 locks row → IsAlone b h (record { hasher = base; callers = c; row = row })
+      → Moved (λ _ lock s. FitsPlace h (padded_value lock) s) 0 locks row → IsAlone h (record { hasher = base; callers = c; row = row })
   alone-of_map base c locks row m moved =
-      let long : length row ≡ length locks = moved-length (λ _ lock s. FitsPlace b h (padded_value lock) s) 0 locks row moved in
+      let long : length row ≡ length locks = moved-length (λ _ lock s. FitsPlace h (padded_value lock) s) 0 locks row moved in
       record {
         amount = subst IsAmount (sym long) m.amount;
         callers = m.callers;
         placed = λ i s e.
-            let from = moved-from (λ _ lock s. FitsPlace b h (padded_value lock) s) locks row moved i s e in
-            subst (λ n. IsPlaced b h base n c i s) (sym long) (placed-behind (record { hasher = base; callers = c; amount = length locks }) i from.0 s (m.placed i from.0 from.1) from.2);
+            let from = moved-from (λ _ lock s. FitsPlace h (padded_value lock) s) locks row moved i s e in
+            subst (λ n. IsPlaced h base n c i s) (sym long) (placed-behind (record { hasher = base; callers = c; amount = length locks }) i from.0 s (m.placed i from.0 from.1) from.2);
       }
 
-  pub map-of_alone : (base : S) (c n : ℕ) (row : List (RecState K V A S)) (locks : List (CachePadded (Place S))) → n ≡ length row → IsAlone b h (record { hasher = base; callers = c; row = row })
+  pub map-of_alone : (base : S) (c n : ℕ) (row : List (RecState K V A S)) (locks : List (CachePadded (Place S))) → n ≡ length row → IsAlone h (record { hasher = base; callers = c; row = row })
       → Moved (λ i (_ : RecState K V A S) lock. IsAt (record { hasher = base; callers = c; amount = n }) i lock) 0 row locks → IsMap (record { hasher = base; callers = c; amount = length locks }) locks
   map-of_alone base c n row locks count a moved =
       let R : ℕ → RecState K V A S → CachePadded (Place S) → Type 0 = λ i s lock. IsAt (record { hasher = base; callers = c; amount = n }) i lock in

@@ -5,7 +5,7 @@ use Rattle.std.specs.Cmp.{IsEquivalence}
 use Rattle.std.specs.Hash.{HashWrites}
 use Rattle.std.specs.declared.hash.Hasher as hasher
 use Rattle.std.specs.declared.hash.BuildHasher as builder
-use Rattle.dash_shard.specs.Hashing.{hash_of, route_by, route_of_hash}
+use Rattle.dash_shard.specs.Hashing.{IsLawful, KeyHash, hash_of, route_by, route_of_hash}
 use Rattle.dash_shard.specs.Contents.{keys}
 use Rattle.dash_shard.specs.Steps.{Act}
 use Rattle.dash_shard.specs.Shard.{ShardState, IsShard, SameShard, pairs}
@@ -13,7 +13,7 @@ use Rattle.dash_history.specs.declared.step.ShardStep.{ShardStep}
 use Rattle.dash_history.specs.declared.step.Reply as program
 use Rattle.dash_history.specs.declared.step.Record.{Record}
 use Rattle.dash_history.specs.Steps.{step_of, reply_of, alike_record}
-use Rattle.dash_history.specs.Takes.{rules, Answers, Takes}
+use Rattle.dash_history.specs.Takes.{Known, rules, Answers, Takes}
 use Rattle.dash_history.specs.History.{RecState, IsRecorded, Tells, last_or, kinds_of, place_of}
 use Rattle.dash_history.specs.Plan.{Leaves}
 use Rattle.dash_history.proofs.Copies.{Lawful, ActAlike, takes-alike, line-alike, place-alike}
@@ -30,27 +30,29 @@ module _ {K V A : Type 0} (k : K → K → Bool) (v : V → V → Bool) (f : A �
   pub same-caller : r.caller ≡ q.caller
   same-caller = eqb-true _ _ (and_parts _ _ stamp_caller).1
 
-module _ {K V S H : Type 0} (eq : K → K → Bool) (b : builder.Ghosts S H) (h : hasher.Ghosts H) (input : K → HashWrites) (k : K → K → Bool) (v : V → V → Bool)
-    (equal : IsEquivalence eq) (respects : (i j : K) → eq i j ≡ true → input i ≡ input j) (key : IsEquivalence k) (value : IsEquivalence v)
-    (alike_equal : (i j : K) → k i j ≡ true → eq i j ≡ true) where
+module _ {K V S : Type 0} (h : KeyHash K S) (law : IsLawful h) (k : K → K → Bool) (v : V → V → Bool) (key : IsEquivalence k) (value : IsEquivalence v)
+    (alike_equal : (i j : K) → k i j ≡ true → h.eq i j ≡ true) where
   -- what a map with this hasher and amount knows of them
-  pub lawful-by : (base : S) (n : ℕ) → Lawful (rules k v (keys eq (route_by b h input base n) n))
+  pub lawful-by : (base : S) (n : ℕ) → Lawful (rules k v (keys h.eq (route_by h base n) n))
   lawful-by base n = record {
-    equal = equal;
-    route_same = λ i j e. ap (λ w. route_of_hash n (hash_of b h base w)) (respects i j e);
+    equal = law.laws;
+    route_same = λ i j e. ap (route_of_hash n) (law.respects base i j e);
     key = key;
     value = value;
     alike_equal = alike_equal;
   }
 
   module _ {A : Type 0} (f : A → A → Bool) (acts : A → Act K V) (alike_acts : ActAlike k v f acts) where
-    lawful : (s : ShardState K V S) → Lawful (kinds_of eq b h input k v f acts s).rules
+    abbrev w : Known K V A S
+    w = record { keys = h; alike_key = k; alike_value = v; alike_action = f; acts = acts }
+
+    lawful : (s : ShardState K V S) → Lawful (kinds_of w s).rules
     lawful s = lawful-by s.hasher s.amount
 
     -- a step that got this reply and left these pairs was taken
-    pub taken : (s t : ShardState K V S) (step : ShardStep K V A) (reply : program.Reply K V) → IsShard eq b h input s → place_of (kinds_of eq b h input k v f acts s) step ≡ s.number
-        → Answers (kinds_of eq b h input k v f acts s).rules (pairs s) (step_of acts step) (reply_of reply) → Leaves (kinds_of eq b h input k v f acts s) (pairs s) step (pairs t)
-        → SameShard s t → IsShard eq b h input t → Takes (kinds_of eq b h input k v f acts s).rules (pairs s) (step_of acts step) (reply_of reply) (pairs t)
+    pub taken : (s t : ShardState K V S) (step : ShardStep K V A) (reply : program.Reply K V) → IsShard h s → place_of (kinds_of w s) step ≡ s.number
+        → Answers (kinds_of w s).rules (pairs s) (step_of acts step) (reply_of reply) → Leaves (kinds_of w s) (pairs s) step (pairs t)
+        → SameShard s t → IsShard h t → Takes (kinds_of w s).rules (pairs s) (step_of acts step) (reply_of reply) (pairs t)
     taken s t step reply shard here answers leaves stays new = record {
       in_range = subst (λ n. n < s.amount) (sym here) shard.number;
       answers = answers;
@@ -60,19 +62,19 @@ module _ {K V S H : Type 0} (eq : K → K → Bool) (b : builder.Ghosts S H) (h 
 
     -- the recorded shard, with a record of the step at the end of its history
     pub recorded : (s : RecState K V A S) (t : ShardState K V S) (step : ShardStep K V A) (reply : program.Reply K V) (stamp caller : ℕ) (r : Record K V A) (history : List (Record K V A))
-        → IsRecorded eq b h input k v f acts s → SameShard s.shard t → IsShard eq b h input t
-        → Takes (kinds_of eq b h input k v f acts s.shard).rules (pairs s.shard) (step_of acts step) (reply_of reply) (pairs t)
-        → place_of (kinds_of eq b h input k v f acts s.shard) step ≡ s.shard.number → caller < s.callers → s.last < stamp
+        → IsRecorded w s → SameShard s.shard t → IsShard h t
+        → Takes (kinds_of w s.shard).rules (pairs s.shard) (step_of acts step) (reply_of reply) (pairs t)
+        → place_of (kinds_of w s.shard) step ≡ s.shard.number → caller < s.callers → s.last < stamp
         → Tells k v f stamp caller s.shard.number step reply r → history ≡ s.history ++ r ∷ []
-        → IsRecorded eq b h input k v f acts (record { shard = t; callers = s.callers; last = stamp; history = history })
+        → IsRecorded w (record { shard = t; callers = s.callers; last = stamp; history = history })
     recorded s t step reply stamp caller r history old stays new takes here below above tells e =
-        let m = kinds_of eq b h input k v f acts s.shard in
+        let m = kinds_of w s.shard in
         let laws = lawful s.shard in
         let line = line-alike m laws alike_acts step r.step tells.stepped in
         record {
           shard = new;
           history = rw (stays.hasher, stays.amount, stays.number, e)
-              (history-more (kinds_of eq b h input k v f acts s.shard) s.callers s.shard.number s.history (pairs s.shard) (pairs t) r old.history
+              (history-more (kinds_of w s.shard) s.callers s.shard.number s.history (pairs s.shard) (pairs t) r old.history
               (omega (arith, above, old.last, tells.stamped))
               (record { shard = tells.of; place = sym (place-alike m.rules laws _ _ line) ∙ here; caller = subst (λ n. n < s.callers) (sym tells.by) below })
               (takes-alike m.rules laws (pairs s.shard) (pairs t) (step_of acts step) (step_of acts r.step) (reply_of reply) (reply_of r.reply) line tells.replied takes));

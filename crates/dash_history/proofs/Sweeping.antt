@@ -12,6 +12,7 @@ use Rattle.dash_shard.specs.Each.{CalledAlong, Retains}
 use Rattle.dash_history.specs.Sweep.{GivesEach, PutsNext}
 use Rattle.dash_history.specs.Takes.{Rules, rules, AlikeAt}
 use Rattle.dash_history.proofs.Copies.{Lawful, at_laws}
+use Rattle.dash_shard.specs.Hashing.{KeyHash}
 
 -- along the pairs the actions answer the same, and give the same values
 abbrev pub Agree : {K V : Type 0} → (V → V → Bool) → Act K V → Act K V → List (K × V) → Type 0
@@ -52,9 +53,9 @@ module _ {K V : Type 0} (m : Rules K V) (laws : Lawful m) (i : ℕ) (f g : Act K
   ])
 
 -- a shard whose values were replaced by those that were made for them
-module _ {F K V S H : Type 0} {eq : K → K → Bool} {b : builder.Ghosts S H} {h : hasher.Ghosts H} {input : K → HashWrites} {k : K → K → Bool} {v : V → V → Bool} {T : F → K → V → Bool → V → F → Type 0} {f : F}
-    {old new : ShardState K V S} (r : Retains eq b h input T f old new) (left : F → List (V × Bool)) where
-  pub swept : (laws : Lawful (rules k v (keys_of eq b h input old))) (made : Act K V) (ds : List (V × Bool)) → left f ≡ ds → GivesEach v made (pairs old) ds → PutsNextEach T left v made r.act
-      → (j : K) → AlikeAt (rules k v (keys_of eq b h input old)) (after (keys_of eq b h input old) (Retain old.number made) j (at (keys_of eq b h input old) (pairs old) j)) (at (keys_of eq b h input old) (pairs new) j)
+module _ {F K V S : Type 0} {h : KeyHash K S} {k : K → K → Bool} {v : V → V → Bool} {T : F → K → V → Bool → V → F → Type 0} {f : F}
+    {old new : ShardState K V S} (r : Retains h T f old new) (left : F → List (V × Bool)) where
+  pub swept : (laws : Lawful (rules k v (keys_of h old))) (made : Act K V) (ds : List (V × Bool)) → left f ≡ ds → GivesEach v made (pairs old) ds → PutsNextEach T left v made r.act
+      → (j : K) → AlikeAt (rules k v (keys_of h old)) (after (keys_of h old) (Retain old.number made) j (at (keys_of h old) (pairs old) j)) (at (keys_of h old) (pairs new) j)
   swept laws made ds e gives next =
-      leaves (rules k v (keys_of eq b h input old)) laws old.number made r.act (pairs old) (pairs new) (agree T left v made r.act (pairs old) ds f r.last e gives r.called next) r.taken.becomes
+      leaves (rules k v (keys_of h old)) laws old.number made r.act (pairs old) (pairs new) (agree T left v made r.act (pairs old) ds f r.last e gives r.called next) r.taken.becomes

@@ -4,11 +4,11 @@ use Rattle.std.specs.Hash.{HashWrites}
 use Rattle.std.specs.Option.{option_map_or}
 use Rattle.std.specs.declared.hash.Hasher as hasher
 use Rattle.std.specs.declared.hash.BuildHasher as builder
-use Rattle.dash_shard.specs.Hashing.{IsAmount, HashAlike, route_by}
+use Rattle.dash_shard.specs.Hashing.{KeyHash, IsAmount, HashAlike, route_by}
 use Rattle.dash_shard.specs.Contents.{keys}
 use Rattle.dash_shard.specs.Shard.{pairs}
 use Rattle.dash_shard.specs.Steps.{Act}
-use Rattle.dash_history.specs.Takes.{Kinds, kinds, rules}
+use Rattle.dash_history.specs.Takes.{Known, kinds_at, Kinds, kinds, rules}
 use Rattle.dash_history.specs.History.{LogState, RecState, Recorded, place_of}
 use Rattle.dash_history.specs.declared.step.ShardStep.{ShardStep}
 use Rattle.dash_history.specs.declared.step.Reply.{Reply}
@@ -40,13 +40,13 @@ module _ {K V A S : Type 0} where
   abbrev pub last_at : AloneState K V A S → ℕ → ℕ
   last_at a i = option_map_or (λ s. s.last) (slice_get a.row i) 0
 
-  module _ {H : Type 0} (b : builder.Ghosts S H) (h : hasher.Ghosts H) where
+  module _ (h : KeyHash K S) where
     -- the shard i of n, of a map with c callers and a hasher of this meaning
     pub record IsPlaced (meaning : S) (n c i : ℕ) (s : RecState K V A S) : Type 0 where
       pub number : s.shard.number ≡ i
       pub amount : s.shard.amount ≡ n
       pub callers : s.callers ≡ c
-      pub hashes : HashAlike b h meaning s.shard.hasher
+      pub hashes : HashAlike h meaning s.shard.hasher
 
     -- each shard stands in its place
     pub record IsAlone (a : AloneState K V A S) : Type 0 where
@@ -54,9 +54,9 @@ module _ {K V A S : Type 0} where
       pub callers : IsCallers a.callers
       pub placed : (i : ℕ) (s : RecState K V A S) → slice_get a.row i ≡ Some s → IsPlaced a.hasher (length a.row) a.callers i s
 
-    -- what the map knows of its keys, values and actions
-    abbrev pub kinds_in : (K → K → Bool) → (K → HashWrites) → (K → K → Bool) → (V → V → Bool) → (A → A → Bool) → (A → Act K V) → AloneState K V A S → Kinds K V A
-    kinds_in eq input k v f acts a = kinds f acts (rules k v (keys eq (route_by b h input a.hasher (length a.row)) (length a.row)))
+  -- what the map knows of its keys, values and actions
+  abbrev pub kinds_in : Known K V A S → AloneState K V A S → Kinds K V A
+  kinds_in w a = kinds_at w a.hasher (length a.row)
 
   -- The step was taken and recorded on the shard of its place. The other shards are as they were.
   pub record Applied (m : Kinds K V A) (a a' : AloneState K V A S) (l l' : LogState K V A) (step : ShardStep K V A) (reply : Reply K V) : Type 0 where

@@ -10,10 +10,11 @@ use Rattle.dash_history.specs.declared.record.held.Place.{Place}
 use Rattle.dash_history.specs.Takes.{Kinds}
 use Rattle.dash_history.specs.History.{RecState, Grown}
 use Rattle.dash_history.specs.Alone.{IsPlaced}
+use Rattle.dash_shard.specs.Hashing.{KeyHash}
 
 -- a recorded shard fits what its lock was made for: it stands in its place
-abbrev pub FitsPlace : {K V A S H : Type 0} → builder.Ghosts S H → hasher.Ghosts H → Place S → RecState K V A S → Type 0
-FitsPlace b h tag s = IsPlaced b h tag.hasher.value tag.amount tag.callers tag.number s
+abbrev pub FitsPlace : {K V A S : Type 0} → KeyHash K S → Place S → RecState K V A S → Type 0
+FitsPlace h tag s = IsPlaced h tag.hasher.value tag.amount tag.callers tag.number s
 
 -- all that a step at a stamp promises
 pub record Grows {K V A S : Type 0} (m : Kinds K V A) (s s' : RecState K V A S) (stamp caller : ℕ) (step : ShardStep K V A) (result : Result (Reply K V × Record K V A) (ShardStep K V A)) : Type 0 where

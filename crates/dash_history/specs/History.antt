@@ -7,10 +7,11 @@ use Rattle.dash_shard.specs.Steps.{Act, place}
 use Rattle.dash_shard.specs.Shard.{ShardState, IsShard, SameShard, pairs, keys_of}
 use Rattle.dash_history.specs.Alike.{alike_reply}
 use Rattle.dash_history.specs.Steps.{step_of, reply_of, done, alike_step, alike_record}
-use Rattle.dash_history.specs.Takes.{Kinds, kinds, rules, Takes, Runs}
+use Rattle.dash_history.specs.Takes.{Known, kinds_at, Kinds, kinds, rules, Takes, Runs}
 use Rattle.dash_history.specs.declared.step.ShardStep.{ShardStep}
 use Rattle.dash_history.specs.declared.step.Reply.{Reply}
 use Rattle.dash_history.specs.declared.step.Record.{Record}
+use Rattle.dash_shard.specs.Hashing.{KeyHash}
 
 -- the stamp of the last record, or the one given where there is none
 abbrev pub last_or : {K V A : Type 0} → ℕ → List (Record K V A) → ℕ
@@ -89,13 +90,13 @@ pub record Recorded {K V A S : Type 0} (m : Kinds K V A) (s s' : RecState K V A 
   pub log_last : l'.last ≡ stamp_of s l
   pub caller : l'.caller ≡ l.caller
 
-module _ {K V A S H : Type 0} (eq : K → K → Bool) (b : builder.Ghosts S H) (h : hasher.Ghosts H) (input : K → HashWrites) (k : K → K → Bool) (v : V → V → Bool) (f : A → A → Bool) (acts : A → Act K V) where
+module _ {K V A S : Type 0} (w : Known K V A S) where
   -- what the map of a shard knows of its keys, values and actions
   abbrev pub kinds_of : ShardState K V S → Kinds K V A
-  kinds_of s = kinds f acts (rules k v (keys_of eq b h input s))
+  kinds_of s = kinds_at w s.hasher s.amount
 
   -- a recorded shard: its history led to its pairs
   pub record IsRecorded (s : RecState K V A S) : Type 0 where
-    pub shard : IsShard eq b h input s.shard
+    pub shard : IsShard w.keys s.shard
     pub history : IsHistory (kinds_of s.shard) s.callers s.shard.number s.history (pairs s.shard)
     pub last : s.last ≡ last_or 0 s.history

@@ -9,7 +9,7 @@ use Rattle.dash_shard.specs.Hashing.{IsAmount, route_by}
 use Rattle.dash_shard.specs.Contents.{keys}
 use Rattle.dash_shard.specs.Steps.{Act}
 use Rattle.dash_history.specs.Steps.{step_of, reply_of}
-use Rattle.dash_history.specs.Takes.{Kinds, kinds, rules, Answers}
+use Rattle.dash_history.specs.Takes.{Known, kinds_at, Kinds, kinds, rules, Answers}
 use Rattle.dash_history.specs.History.{LogState, Tells, place_of}
 use Rattle.dash_history.specs.Alone.{IsCallers}
 use Rattle.dash_history.specs.declared.step.ShardStep.{ShardStep}
@@ -38,8 +38,8 @@ module _ {S : Type 0} where
     pub placed : (i : ℕ) (lock : CachePadded (Place S)) → slice_get locks i ≡ Some lock → IsAt m i lock
 
   -- what the map knows of its keys, values and actions
-  abbrev pub kinds_on : {K V A H : Type 0} → builder.Ghosts S H → hasher.Ghosts H → (K → K → Bool) → (K → HashWrites) → (K → K → Bool) → (V → V → Bool) → (A → A → Bool) → (A → Act K V) → MapState S → Kinds K V A
-  kinds_on b h eq input k v f acts m = kinds f acts (rules k v (keys eq (route_by b h input m.hasher m.amount) m.amount))
+  abbrev pub kinds_on : {K V A : Type 0} → Known K V A S → MapState S → Kinds K V A
+  kinds_on w m = kinds_at w m.hasher m.amount
 
 -- The log is longer by one record of the step, with the reply, the step's place and a stamp above the log's last. The reply is one
 -- that the step gets from some contents of its shard.

@@ -4,7 +4,7 @@ use Rattle.std.specs.Hash.{HashWrites}
 use Rattle.std.specs.declared.hash.Hasher as hasher
 use Rattle.std.specs.declared.hash.BuildHasher as builder
 use Rattle.dash_shard.specs.Contents.{keys, at, Distinct}
-use Rattle.dash_shard.specs.Hashing.{IsAmount, route_by}
+use Rattle.dash_shard.specs.Hashing.{KeyHash, IsAmount, route_by}
 use Rattle.dash_history.specs.Takes.{Rules, rules}
 use Rattle.dash_history.specs.declared.step.ShardStep.{ShardStep}
 use Rattle.dash_history.specs.declared.step.ShardStep.TheVariants.{Get, Contains, Insert, Remove, RemoveIf, RemoveIfMut, Alter, Read, Count, AlterAll, Retain}
@@ -14,14 +14,14 @@ pub record PlainState (K V S : Type 0) : Type 0 where
   pub amount : ℕ
   pub pairs : List (K × V)
 
-module _ {K V S H : Type 0} (eq : K → K → Bool) (b : builder.Ghosts S H) (h : hasher.Ghosts H) (input : K → HashWrites) (k : K → K → Bool) (v : V → V → Bool) where
+module _ {K V S : Type 0} (h : KeyHash K S) (k : K → K → Bool) (v : V → V → Bool) where
   -- what the map knows of its keys and values
   abbrev pub plain_rules : PlainState K V S → Rules K V
-  plain_rules m = rules k v (keys eq (route_by b h input m.hasher m.amount) m.amount)
+  plain_rules m = rules k v (keys h.eq (route_by h m.hasher m.amount) m.amount)
 
 -- no two keys are equal, and the amount is lawful
-pub record IsPlain {K V S : Type 0} (eq : K → K → Bool) (route : S → ℕ → K → ℕ) (m : PlainState K V S) : Type 0 where
-  pub distinct : Distinct (keys eq (route m.hasher m.amount) m.amount) m.pairs
+pub record IsPlain {K V S : Type 0} (h : KeyHash K S) (m : PlainState K V S) : Type 0 where
+  pub distinct : Distinct (keys h.eq (route_by h m.hasher m.amount) m.amount) m.pairs
   pub amount : IsAmount m.amount
 
 -- the step may be refused at the contents P: it takes memory for copies of pairs that are there, or for a new pair, or the map has no

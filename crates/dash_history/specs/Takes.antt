@@ -1,6 +1,10 @@
 -- What a step does to the contents of a map, up to alike, and what a list of steps does.
-use Rattle.std.specs.Prelude.{◌≡◌, ◌<◌, Bool, List, [], ◌∷◌, Option, IsTrue}
-use Rattle.dash_shard.specs.Contents.{Keys, at, Distinct}
+use Rattle.std.specs.Prelude.{ℕ, ◌≡◌, ◌<◌, Bool, List, [], ◌∷◌, Option, IsTrue}
+use Rattle.std.specs.Hash.{HashWrites}
+use Rattle.std.specs.declared.hash.Hasher as hasher
+use Rattle.std.specs.declared.hash.BuildHasher as builder
+use Rattle.dash_shard.specs.Hashing.{KeyHash, key_hash, route_by}
+use Rattle.dash_shard.specs.Contents.{Keys, keys, at, Distinct}
 use Rattle.dash_shard.specs.Steps.{Step, Reply, Act, place, after, Replies}
 use Rattle.dash_history.specs.Alike.{alike_option, alike_pair, alike_reply}
 
@@ -46,3 +50,29 @@ module _ {K V : Type 0} (m : Rules K V) where
   abbrev pub Runs : List (K × V) → List (Step K V × Reply K V) → List (K × V) → Type 0
   Runs P [] Q = P ≡ Q
   Runs P (d ∷ ds) Q = (M : List (K × V)) × Takes P d.0 d.1 M × Runs M ds Q
+
+-- what a recorded map knows of its keys, values and actions, whatever its hasher and amount
+pub record Known (K V A S : Type 0) : Type 0 where
+  pub keys : KeyHash K S
+  pub alike_key : K → K → Bool
+  pub alike_value : V → V → Bool
+  pub alike_action : A → A → Bool
+  pub acts : A → Act K V
+
+-- the same, from what the bounds of keys, values, actions and hasher say
+abbrev pub known_by : {K V A S H : Type 0} → (K → K → Bool) → (K → HashWrites) → (K → K → Bool) → (V → V → Bool) → (A → A → Bool) → (A → Act K V) → builder.Ghosts S H → hasher.Ghosts H → Known K V A S
+known_by eq input k v f acts b h = record { keys = key_hash eq input b h; alike_key = k; alike_value = v; alike_action = f; acts = acts }
+
+-- what a clause has as K.KeptKey, and as A.KeptAction
+abbrev pub KeptKeyMembers : Type 0 → Type 0
+KeptKeyMembers K = record { hash_input : K → HashWrites; eq : K → K → Bool; alike : K → K → Bool }
+
+abbrev pub ActionMembers : Type 0 → Type 0 → Type 0 → Type 0
+ActionMembers A K V = record { alike : A → A → Bool; acts : A → Act K V }
+
+abbrev pub known : {K V A S H : Type 0} → KeptKeyMembers K → (V → V → Bool) → ActionMembers A K V → builder.Ghosts S H → hasher.Ghosts H → Known K V A S
+known key v action b h = known_by key.eq key.hash_input key.alike v action.alike action.acts b h
+
+-- on a map with this hasher and amount
+abbrev pub kinds_at : {K V A S : Type 0} → Known K V A S → S → ℕ → Kinds K V A
+kinds_at w s n = kinds w.alike_action w.acts (rules w.alike_key w.alike_value (keys w.keys.eq (route_by w.keys s n) n))

@@ -1,8 +1,9 @@
 //! A recorded map of one owner, without locks.
 ghost use Rattle.std.specs.Prelude.{◌≡◌, ◌+◌, ◌-◌, ◌<◌, ◌≤◌, ◌^◌, ◌↔◌, ◌⊎◌, ℕ, max, IsTrue, IsErrOf, IsSomeAnd, IfOk, IfErr, OnOk, length, slice_get};
-ghost use Rattle.dash_shard.specs.Hashing.{IsAmount, HashAlike};
+ghost use Rattle.dash_shard.specs.Hashing.{by, IsAmount, HashAlike};
 ghost use Rattle.dash_history.specs.History.{last_or, place_of};
 ghost use Rattle.dash_history.specs.Alone.{IsCallers, IsFresh, IsAlone, IsPlaced, Applied, fresh_logs, last_at, kinds_in};
+ghost use Rattle.dash_history.specs.Takes.{known};
 
 use crate::action::KeptAction;
 use crate::kept::{Kept, KeptKey};
@@ -28,12 +29,13 @@ pub struct RecAlone<K: KeptKey, V: Kept, S: BuildHasher, A: KeptAction<K, V> = (
 impl<K: KeptKey, V: Kept, S: BuildHasher, A: KeptAction<K, V>> Model for RecAlone<K, V, S, A> {
     ghost use Rattle.std.specs.Prelude.{◌≡◌, ◌≤◌, [], vec_len, vec_capacity};
     ghost use Rattle.dash_history.specs.Alone.{AloneState, IsAlone};
+    ghost use Rattle.dash_shard.specs.Hashing.{key_hash};
 
     ghost Value = { AloneState K V A S };
 
     ghost view = { λ a. record { hasher = a.hasher; callers = a.callers; row = a.row.items } };
 
-    ghost invariant = { λ a. IsAlone S.BuildHasher S.Hasher.Hasher (record { hasher = a.hasher; callers = a.callers; row = a.row.items }) × (a.locks.items ≡ []) × (vec_len a.row ≤ vec_capacity a.locks) };
+    ghost invariant = { λ a. IsAlone (key_hash K.eq K.hash_input S.BuildHasher S.Hasher.Hasher) (record { hasher = a.hasher; callers = a.callers; row = a.row.items }) × (a.locks.items ≡ []) × (vec_len a.row ≤ vec_capacity a.locks) };
 }
 
 // The row of a map with no pairs and no histories.
@@ -44,9 +46,9 @@ fn fresh_row<K: KeptKey + Drop, V: Kept + Drop, S: BuildHasher + Clone, A: KeptA
     callers: u32,
 ) -> Result<Vec<RecShard<K, V, S, A>>, AllocError>
     requires amount { IsAmount amount }
-    requires alike { (s t : S) → S.is_clone s t → HashAlike S.BuildHasher S.Hasher.Hasher s t }
+    requires alike { (s t : S) → S.is_clone s t → HashAlike (by K.Hash S.BuildHasher S.Hasher.Hasher) s t }
     ensures len { IfOk result (λ row. length row.items ≡ amount) }
-    ensures made { IfOk result (λ row. (i : ℕ) (s : _) → slice_get row.items i ≡ Some s → IsPlaced S.BuildHasher S.Hasher.Hasher hasher.now amount callers i s × IsFresh s) }
+    ensures made { IfOk result (λ row. (i : ℕ) (s : _) → slice_get row.items i ≡ Some s → IsPlaced (by K.Hash S.BuildHasher S.Hasher.Hasher) hasher.now amount callers i s × IsFresh s) }
 {
     let mut row = Vec::with_capacity(alloc, amount)?;
     for number in 0..amount {
@@ -87,13 +89,13 @@ impl<K: KeptKey + Drop, V: Kept + Drop, S: BuildHasher, A: KeptAction<K, V> + Dr
     ) -> Result<(RecAlone<K, V, S, A>, Vec<CallerLog<K, V, A>>), ConstructError>
     where
         S: Clone,
-        requires { (s t : S) → S.is_clone s t → HashAlike S.BuildHasher S.Hasher.Hasher s t }
+        requires { (s t : S) → S.is_clone s t → HashAlike (by K.Hash S.BuildHasher S.Hasher.Hasher) s t }
         ensures hasher { IfOk result (λ m. m.0.hasher ≡ hasher) }
         ensures callers { IfOk result (λ m. m.0.callers ≡ callers) }
         ensures amount { IfOk result (λ m. length m.0.row ≡ amount) }
         ensures fresh { IfOk result (λ m. (i : ℕ) (s : _) → slice_get m.0.row i ≡ Some s → IsFresh s) }
         ensures logs { IfOk result (λ m. m.1.items ≡ fresh_logs callers) }
-        ensures lawful { IfOk result (λ m. IsAlone S.BuildHasher S.Hasher.Hasher m.0) }
+        ensures lawful { IfOk result (λ m. IsAlone (by K.Hash S.BuildHasher S.Hasher.Hasher) m.0) }
 
         // In the order of the refusals' numbers.
         ensures bad_amount { IsErrOf result ConstructError.ShardAmount ↔ (IsAmount amount → ⊥) }
@@ -128,7 +130,7 @@ impl<K: KeptKey + Drop, V: Kept + Drop, S: BuildHasher, A: KeptAction<K, V> + Dr
     #[inline]
     pub fn callers(&self) -> u32
         ensures callers { result ≡ self.now.callers }
-        ensures lawful { IsAlone S.BuildHasher S.Hasher.Hasher self.now }
+        ensures lawful { IsAlone (by K.Hash S.BuildHasher S.Hasher.Hasher) self.now }
     {
         self.callers
     }
@@ -137,7 +139,7 @@ impl<K: KeptKey + Drop, V: Kept + Drop, S: BuildHasher, A: KeptAction<K, V> + Dr
     #[inline]
     pub fn shard_count(&self) -> usize
         ensures count { result ≡ length self.now.row }
-        ensures lawful { IsAlone S.BuildHasher S.Hasher.Hasher self.now }
+        ensures lawful { IsAlone (by K.Hash S.BuildHasher S.Hasher.Hasher) self.now }
     {
         let _ = &self.hasher;
         self.row.len()
@@ -152,12 +154,12 @@ impl<K: KeptKey + Drop, V: Kept + Drop, S: BuildHasher, A: KeptAction<K, V> + Dr
         step: ShardStep<K, V, A>,
     ) -> Result<Reply<K, V>, (ShardStep<K, V, A>, RecordFault)>
         requires { log.old.caller < self.old.callers }
-        ensures ok { IfOk result (λ reply. Applied (kinds_in S.BuildHasher S.Hasher.Hasher K.eq K.hash_input K.alike V.alike A.alike A.acts self.old) self.old self.new log.old log.new step reply) }
+        ensures ok { IfOk result (λ reply. Applied (kinds_in (known K.KeptKey V.alike A.KeptAction S.BuildHasher S.Hasher.Hasher) self.old) self.old self.new log.old log.new step reply) }
         ensures refused { IfErr result (λ e. (e.0 ≡ step) × (self.new ≡ self.old) × (log.new ≡ log.old)) }
 
         // In this order; else there was no memory.
-        ensures no_such_shard { (result ≡ Err (step, RecordFault.NoSuchShard)) ↔ (length self.old.row ≤ place_of (kinds_in S.BuildHasher S.Hasher.Hasher K.eq K.hash_input K.alike V.alike A.alike A.acts self.old) step) }
-        ensures last_stamp { (result ≡ Err (step, RecordFault.LastStamp)) ↔ ((place_of (kinds_in S.BuildHasher S.Hasher.Hasher K.eq K.hash_input K.alike V.alike A.alike A.acts self.old) step < length self.old.row) × (max (last_at self.old (place_of (kinds_in S.BuildHasher S.Hasher.Hasher K.eq K.hash_input K.alike V.alike A.alike A.acts self.old) step)) log.old.last ≡ 2 ^ 64 - 1)) }
+        ensures no_such_shard { (result ≡ Err (step, RecordFault.NoSuchShard)) ↔ (length self.old.row ≤ place_of (kinds_in (known K.KeptKey V.alike A.KeptAction S.BuildHasher S.Hasher.Hasher) self.old) step) }
+        ensures last_stamp { (result ≡ Err (step, RecordFault.LastStamp)) ↔ ((place_of (kinds_in (known K.KeptKey V.alike A.KeptAction S.BuildHasher S.Hasher.Hasher) self.old) step < length self.old.row) × (max (last_at self.old (place_of (kinds_in (known K.KeptKey V.alike A.KeptAction S.BuildHasher S.Hasher.Hasher) self.old) step)) log.old.last ≡ 2 ^ 64 - 1)) }
     {
         let place = step.place(&self.hasher, self.row.len());
         if place >= self.row.len() {

@@ -1,5 +1,6 @@
 //! One step of one shard, its reply, and the record of both.
 ghost use Rattle.std.specs.Prelude.{◌≡◌, ◌<◌, IfOk, IsTrue};
+ghost use Rattle.dash_shard.specs.Hashing.{by};
 
 use crate::action::Action;
 use crate::kept::Kept;
@@ -74,7 +75,7 @@ impl<K, V: Kept, A> ShardStep<K, V, A> {
         K: Kept + Eq + Hash,
         A: Action<K, V>,
         requires { IsAmount amount }
-        ensures { result ≡ place (keys K.eq (route_by S.BuildHasher S.Hasher.Hasher K.hash_input hasher.now amount) amount) (step_of A.acts self.now) }
+        ensures { result ≡ place (keys K.eq (route_by (by K.Hash S.BuildHasher S.Hasher.Hasher) hasher.now amount) amount) (step_of A.acts self.now) }
     {
         match self {
             ShardStep::Get(key)

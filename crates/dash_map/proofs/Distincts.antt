@@ -11,6 +11,7 @@ use Rattle.dash_shard.specs.Shard.{ShardState, pairs}
 use Rattle.dash_map.specs.Alone.{AloneState, IsAlone, contents, keys_in}
 use Rattle.dash_map.proofs.Union.{OnShards, at-append, behind, nowhere}
 use Rattle.dash_map.proofs.Lifting.{on-shards}
+use Rattle.dash_shard.specs.Hashing.{KeyHash}
 
 module _ {K V : Type 0} (w : Keys K) where
   -- what stands nowhere in a list stands nowhere behind its first pair
@@ -39,6 +40,6 @@ module _ {K V : Type 0} (w : Keys K) where
         distinct-append (pairs s) (flat_map pairs row) here.distinct (distinct-from (i + 1) row (behind w i s row on))
         (λ k there. nowhere w (i + 1) row k (behind w i s row on) (elim (cases_eq (w.route k) (i + zero)) as (λ _. w.route k < i + 1) [ inl same ↦ omega (arith, same) | inr other ↦ absurd (there (here.routed k other)) ]))
 
-module _ {K V S H : Type 0} (eq : K → K → Bool) (b : builder.Ghosts S H) (h : hasher.Ghosts H) (input : K → HashWrites) where
-  pub distinct-contents : IsEquivalence eq → (a : AloneState K V S) → IsAlone eq b h input a → Distinct (keys_in eq b h input a) (contents a)
-  distinct-contents laws a lawful = distinct-from (keys_in eq b h input a) laws 0 a.row (on-shards eq b h input a.hasher a.row lawful)
+module _ {K V S : Type 0} (h : KeyHash K S) where
+  pub distinct-contents : IsEquivalence h.eq → (a : AloneState K V S) → IsAlone h a → Distinct (keys_in h a) (contents a)
+  distinct-contents laws a lawful = distinct-from (keys_in h a) laws 0 a.row (on-shards h a.hasher a.row lawful)

@@ -8,7 +8,7 @@ use Rattle.std.specs.Hash.{HashWrites}
 use Rattle.std.specs.Map.Calls.{CallableOnEachPair}
 use Rattle.std.specs.declared.hash.Hasher as hasher
 use Rattle.std.specs.declared.hash.BuildHasher as builder
-use Rattle.dash_shard.specs.Hashing.{IsAmount}
+use Rattle.dash_shard.specs.Hashing.{KeyHash, IsAmount}
 use Rattle.dash_shard.specs.Shard.{ShardState, SameShard, IsShard, taken}
 use Rattle.dash_shard.specs.Each.{Sweeps, SweepsShard, Clears, Shrinks, if_kept, altered}
 use Rattle.dash_map.specs.Alone.{AloneState, IsPlaced}
@@ -34,13 +34,13 @@ each-more R olds news s t long each here i x y e e' = elim (append-cases olds s 
   ]
 ]
 
-module _ {K V S H : Type 0} (eq : K → K → Bool) (b : builder.Ghosts S H) (h : hasher.Ghosts H) (input : K → HashWrites) (m : MapState S) where
+module _ {K V S : Type 0} (h : KeyHash K S) (m : MapState S) where
   -- the shards in front of n, each as it stood and as it was left
   pub record Leaving (R : ShardState K V S → ShardState K V S → Type 0) (n : ℕ) : Type 0 where
     pub olds : List (ShardState K V S)
     pub news : List (ShardState K V S)
-    pub stood : SoFar eq b h input m n olds
-    pub stands : SoFar eq b h input m n news
+    pub stood : SoFar h m n olds
+    pub stands : SoFar h m n news
     pub each : (i : ℕ) (s t : ShardState K V S) → slice_get olds i ≡ Some s → slice_get news i ≡ Some t → R s t
 
   -- a row of this map
@@ -49,26 +49,26 @@ module _ {K V S H : Type 0} (eq : K → K → Bool) (b : builder.Ghosts S H) (h 
 
   module _ (R : ShardState K V S → ShardState K V S → Type 0) where
     abbrev pub none-left : Leaving R 0
-    none-left = record { olds = []; news = []; stood = none-yet eq b h input m; stands = none-yet eq b h input m; each = λ i s t e e'. absurd (none-some s e) }
+    none-left = record { olds = []; news = []; stood = none-yet h m; stands = none-yet h m; each = λ i s t e e'. absurd (none-some s e) }
 
     module _ (n : ℕ) (so : Leaving R n) where
-      abbrev pub one-left : (s t : ShardState K V S) → IsPlaced eq b h input m.hasher m.amount n s → SameShard s t → IsShard eq b h input t → R s t → Leaving R (n + 1)
+      abbrev pub one-left : (s t : ShardState K V S) → IsPlaced h m.hasher m.amount n s → SameShard s t → IsShard h t → R s t → Leaving R (n + 1)
       one-left s t placed stays lawful is = record {
         olds = so.olds ++ s ∷ [];
         news = so.news ++ t ∷ [];
-        stood = one-more eq b h input m n so.olds so.stood s placed;
-        stands = one-more eq b h input m n so.news so.stands t (placed-moved eq b h input m.hasher m.amount n s t placed stays lawful);
+        stood = one-more h m n so.olds so.stood s placed;
+        stands = one-more h m n so.news so.stands t (placed-moved h m.hasher m.amount n s t placed stays lawful);
         each = each-more R so.olds so.news s t (so.stood.count ∙ sym so.stands.count) so.each is;
       }
 
       module _ (all : n ≡ m.amount) (amount : IsAmount m.amount) where
-        all-stood : IsBehind eq b h input m (row-of so.olds)
-        all-stood = all-seen eq b h input m n so.olds so.stood all amount
+        all-stood : IsBehind h m (row-of so.olds)
+        all-stood = all-seen h m n so.olds so.stood all amount
 
-        all-stand : IsBehind eq b h input m (row-of so.news)
-        all-stand = all-seen eq b h input m n so.news so.stands all amount
+        all-stand : IsBehind h m (row-of so.news)
+        all-stand = all-seen h m n so.news so.stands all amount
 
-        all-turned : Turning eq b h input R n (row-of so.olds) (row-of so.news)
+        all-turned : Turning h R n (row-of so.olds) (row-of so.news)
         all-turned = record {
           done = λ j s t _ e e'. so.each j s t e e';
           rest = λ j t from e. absurd (omega (arith, from, slice_get_within so.news j t e, so.stands.count));
@@ -77,18 +77,18 @@ module _ {K V S H : Type 0} (eq : K → K → Bool) (b : builder.Ghosts S H) (h 
           lawful = all-stand.lawful;
         }
 
-        all-left : (Q : AloneState K V S → AloneState K V S → Type 0) → Q (row-of so.olds) (row-of so.news) → LeavesShards eq b h input m Q
+        all-left : (Q : AloneState K V S → AloneState K V S → Type 0) → Q (row-of so.olds) (row-of so.news) → LeavesShards h m Q
         all-left Q did = record { before = row-of so.olds; after = row-of so.news; stood = all-stood; stands = all-stand; leaves = did }
 
-  pub all-cleared : (n : ℕ) → Leaving (Clears eq b h input) n → n ≡ m.amount → IsAmount m.amount → LeavesShards {V = V} eq b h input m (ClearsAlone eq b h input)
+  pub all-cleared : (n : ℕ) → Leaving (Clears h) n → n ≡ m.amount → IsAmount m.amount → LeavesShards {V = V} h m (ClearsAlone h)
   all-cleared n so all amount =
-      all-left (Clears eq b h input) n so all amount (ClearsAlone eq b h input)
-      (clears-alone eq b h input n (row-of so.olds) (row-of so.news) (all-turned (Clears eq b h input) n so all amount) (sym so.stands.count))
+      all-left (Clears h) n so all amount (ClearsAlone h)
+      (clears-alone h n (row-of so.olds) (row-of so.news) (all-turned (Clears h) n so all amount) (sym so.stands.count))
 
-  pub all-shrunk : IsEquivalence eq → (n : ℕ) → Leaving (Shrinks eq b h input) n → n ≡ m.amount → IsAmount m.amount → LeavesShards {V = V} eq b h input m (ShrinksAlone eq b h input)
+  pub all-shrunk : IsEquivalence h.eq → (n : ℕ) → Leaving (Shrinks h) n → n ≡ m.amount → IsAmount m.amount → LeavesShards {V = V} h m (ShrinksAlone h)
   all-shrunk laws n so all amount =
-      all-left (Shrinks eq b h input) n so all amount (ShrinksAlone eq b h input)
-      (shrinks-alone eq b h input laws n (row-of so.olds) (row-of so.news) (all-stood (Shrinks eq b h input) n so all amount).lawful (all-turned (Shrinks eq b h input) n so all amount) (sym so.stands.count))
+      all-left (Shrinks h) n so all amount (ShrinksAlone h)
+      (shrinks-alone h laws n (row-of so.olds) (row-of so.news) (all-stood (Shrinks h) n so all amount).lawful (all-turned (Shrinks h) n so all amount) (sym so.stands.count))
 
   module _ {F : Type 0} (T : F → K → V → Bool → V → F → Type 0) (Q : F → K → V → Type 0) (leaves : K → V × Bool → Option (K × V)) (first : F) where
     -- the closure went over the shards in front of n, and may go on
@@ -101,7 +101,7 @@ module _ {K V S H : Type 0} (eq : K → K → Bool) (b : builder.Ghosts S H) (h 
     going-first callable = record { left = none-left SameRoom; swept = (refl, refl); ready = callable }
 
     module _ (n : ℕ) (f : F) (so : Going n f) where
-      pub going-next : (s t : ShardState K V S) (f' : F) → IsPlaced eq b h input m.hasher m.amount n s → SweepsShard eq b h input T leaves f f' s t → Going (n + 1) f'
+      pub going-next : (s t : ShardState K V S) (f' : F) → IsPlaced h m.hasher m.amount n s → SweepsShard h T leaves f f' s t → Going (n + 1) f'
       going-next s t f' placed x = record {
         left = one-left SameRoom n so.left s t placed x.stays x.lawful x.room;
         swept = subst (λ l. Sweeps T leaves first l (places_of (so.left.news ++ t ∷ [])) f') (sym (places-more so.left.olds s))
@@ -114,7 +114,7 @@ module _ {K V S H : Type 0} (eq : K → K → Bool) (b : builder.Ghosts S H) (h 
         whole : (row : List (ShardState K V S)) → length row ≡ n → take n row ≡ row
         whole row count = ap (λ k. take k row) (sym count) ∙ take-length row
 
-        gone : Sweeping eq b h input T Q leaves first n (row-of so.left.olds) (row-of so.left.news) f
+        gone : Sweeping h T Q leaves first n (row-of so.left.olds) (row-of so.left.news) f
         gone = record {
           turning = all-turned SameRoom n so.left all amount;
           swept = subst (λ l. Sweeps T leaves first (places_of l) (places_of (take n so.left.news)) f) (sym (whole so.left.olds so.left.stood.count))
@@ -122,13 +122,13 @@ module _ {K V S H : Type 0} (eq : K → K → Bool) (b : builder.Ghosts S H) (h 
           ready = so.ready _;
         }
 
-  module _ {F : Type 0} (T : F → K → V → Bool → V → F → Type 0) (Q : F → K → V → Type 0) (first : F) (laws : IsEquivalence eq) (n : ℕ) (f : F) (all : n ≡ m.amount) (amount : IsAmount m.amount) where
-    pub all-retained : Going T Q if_kept first n f → LeavesShards eq b h input m (RetainsAlone eq b h input T first)
+  module _ {F : Type 0} (T : F → K → V → Bool → V → F → Type 0) (Q : F → K → V → Type 0) (first : F) (laws : IsEquivalence h.eq) (n : ℕ) (f : F) (all : n ≡ m.amount) (amount : IsAmount m.amount) where
+    pub all-retained : Going T Q if_kept first n f → LeavesShards h m (RetainsAlone h T first)
     all-retained so =
-        all-left SameRoom n so.left all amount (RetainsAlone eq b h input T first)
-        (retains-alone eq b h input T Q first laws n (row-of so.left.olds) (row-of so.left.news) f (all-stood SameRoom n so.left all amount).lawful (sym so.left.stands.count) (gone T Q if_kept first n f so all amount))
+        all-left SameRoom n so.left all amount (RetainsAlone h T first)
+        (retains-alone h T Q first laws n (row-of so.left.olds) (row-of so.left.news) f (all-stood SameRoom n so.left all amount).lawful (sym so.left.stands.count) (gone T Q if_kept first n f so all amount))
 
-    pub all-altered : Going T Q altered first n f → LeavesShards eq b h input m (AltersAllAlone eq b h input T first)
+    pub all-altered : Going T Q altered first n f → LeavesShards h m (AltersAllAlone h T first)
     all-altered so =
-        all-left SameRoom n so.left all amount (AltersAllAlone eq b h input T first)
-        (alters-all-alone eq b h input T Q first laws n (row-of so.left.olds) (row-of so.left.news) f (all-stood SameRoom n so.left all amount).lawful (sym so.left.stands.count) (gone T Q altered first n f so all amount))
+        all-left SameRoom n so.left all amount (AltersAllAlone h T first)
+        (alters-all-alone h T Q first laws n (row-of so.left.olds) (row-of so.left.news) f (all-stood SameRoom n so.left all amount).lawful (sym so.left.stands.count) (gone T Q altered first n f so all amount))

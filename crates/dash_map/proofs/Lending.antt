@@ -8,7 +8,7 @@ use Rattle.std.specs.declared.hash.BuildHasher as builder
 use Rattle.std.proofs.lemmas.Bool.{cases_Bool}
 use Rattle.std.proofs.lemmas.Option.{none-some, same_Some}
 use Rattle.dash_shard.specs.Contents.{Keys, keys, at, IsOnShard}
-use Rattle.dash_shard.specs.Hashing.{route_by}
+use Rattle.dash_shard.specs.Hashing.{KeyHash, route_by}
 use Rattle.dash_shard.specs.Shard.{ShardState, IsShard, pairs, taken, keys_of, with_value_of}
 use Rattle.dash_shard.proofs.Remade.{KeepsKey, remade, on_shard-remade}
 use Rattle.dash_map.specs.Alone.{AloneState, IsAlone}
@@ -58,22 +58,22 @@ module _ {K V : Type 0} (eq : K → K → Bool) (k : K) (v : V) where
         ap (λ y. y ∷ slice_set row i (wrote s)) (sym (wrote-none x (others zero x (λ z. absurd (omega (arith, z))) refl)))
         ∙ ap (λ l. wrote x ∷ l) (wrote-one row i s here (λ j t other e. others (suc j) t (λ z. other (omega (arith, z))) e))
 
-module _ {K V S H : Type 0} (eq : K → K → Bool) (b : builder.Ghosts S H) (h : hasher.Ghosts H) (input : K → HashWrites) (laws : IsEquivalence eq) where
-  valued-shard : (s : ShardState K V S) (k : K) (v : V) → IsShard eq b h input s → IsShard eq b h input (with_value_of eq s k v)
+module _ {K V S : Type 0} (h : KeyHash K S) (laws : IsEquivalence h.eq) where
+  valued-shard : (s : ShardState K V S) (k : K) (v : V) → IsShard h s → IsShard h (with_value_of h.eq s k v)
   valued-shard s k v is = record {
-    contents = subst (λ xs. IsOnShard (keys_of eq b h input s) s.number (taken xs)) (as-remade eq k v s.places) (on_shard-remade (λ p. Some (revalued eq k v p)) (keeps-key eq k v) (keys_of eq b h input s) laws s.number s.places is.contents);
+    contents = subst (λ xs. IsOnShard (keys_of h s) s.number (taken xs)) (as-remade h.eq k v s.places) (on_shard-remade (λ p. Some (revalued h.eq k v p)) (keeps-key h.eq k v) (keys_of h s) laws s.number s.places is.contents);
     number = is.number;
     amount = is.amount;
   }
 
-  module _ (base : S) (row : List (ShardState K V S)) (a : IsAlone eq b h input (record { hasher = base; row = row })) (p : ℕ) (s : ShardState K V S) (here : slice_get row p ≡ Some s) (k : K) (v : V) where
-    pub lent-lawful : IsAlone eq b h input (record { hasher = base; row = slice_set row p (with_value_of eq s k v) })
-    lent-lawful = alone-set eq b h input base p row s (with_value_of eq s k v) a here (record { number = refl; amount = refl; hasher = refl }) (valued-shard s k v (a.placed p s here).shard)
+  module _ (base : S) (row : List (ShardState K V S)) (a : IsAlone h (record { hasher = base; row = row })) (p : ℕ) (s : ShardState K V S) (here : slice_get row p ≡ Some s) (k : K) (v : V) where
+    pub lent-lawful : IsAlone h (record { hasher = base; row = slice_set row p (with_value_of h.eq s k v) })
+    lent-lawful = alone-set h base p row s (with_value_of h.eq s k v) a here (record { number = refl; amount = refl; hasher = refl }) (valued-shard s k v (a.placed p s here).shard)
 
     -- what was written to the shard of the key was written to the map
-    pub lent-state : p ≡ route_by b h input base (length row) k → (z : AloneState K V S) → record { hasher = base; row = row } ≡ z → record { hasher = base; row = slice_set row p (with_value_of eq s k v) } ≡ with_value_at eq z k v
+    pub lent-state : p ≡ route_by h base (length row) k → (z : AloneState K V S) → record { hasher = base; row = row } ≡ z → record { hasher = base; row = slice_set row p (with_value_of h.eq s k v) } ≡ with_value_at h.eq z k v
     lent-state route z view =
-        let w : Keys K = keys eq (route_by b h input base (length row)) (length row) in
-        let on = on-shards eq b h input base row a in
-        ap (λ r. record { hasher = base; row = r }) (wrote-one eq k v w refl row p s here (λ j t other e. (on j t e).routed k (λ same. other (omega (arith, same, route)))))
-        ∙ ap (λ x. with_value_at eq x k v) view
+        let w : Keys K = keys h.eq (route_by h base (length row)) (length row) in
+        let on = on-shards h base row a in
+        ap (λ r. record { hasher = base; row = r }) (wrote-one h.eq k v w refl row p s here (λ j t other e. (on j t e).routed k (λ same. other (omega (arith, same, route)))))
+        ∙ ap (λ x. with_value_at h.eq x k v) view

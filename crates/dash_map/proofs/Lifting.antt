@@ -10,7 +10,7 @@ use Rattle.std.proofs.lemmas.Option.{slice_get-get_or, slice_get_within, same_So
 use Rattle.std.proofs.Math.ListN.{length-set}
 use Rattle.dash_shard.proofs.Rows.{slice_get-set_same, slice_get-set_other}
 use Rattle.dash_shard.proofs.Routing.{route_below}
-use Rattle.dash_shard.specs.Hashing.{IsAmount, HashAlike, hash_of, route_by, route_of_hash}
+use Rattle.dash_shard.specs.Hashing.{IsLawful, KeyHash, IsAmount, HashAlike, hash_of, route_by, route_of_hash}
 use Rattle.dash_shard.specs.Contents.{Keys, keys, at, IsOnShard}
 use Rattle.std.proofs.lemmas.List.{set-get_or}
 use Rattle.dash_shard.specs.Steps.{Step, Reply, Insert, Old, Becomes, line, line_after, LineReplies, at_key}
@@ -20,46 +20,46 @@ use Rattle.dash_shard.specs.Shard.{ShardState, SameShard, IsShard, TakesExactly,
 use Rattle.dash_map.specs.Alone.{AloneState, IsPlaced, IsAlone, TakesAlone, contents, keys_in}
 use Rattle.dash_map.proofs.Union.{OnShards, at-union}
 
-module _ {K V S H : Type 0} (eq : K → K → Bool) (b : builder.Ghosts S H) (h : hasher.Ghosts H) (input : K → HashWrites) where
+module _ {K V S : Type 0} (h : KeyHash K S) where
   -- a shard knows of its keys what the map knows
-  pub keys-same : (base : S) (n i : ℕ) (s : ShardState K V S) → IsPlaced eq b h input base n i s → keys_of eq b h input s ≡ keys eq (route_by b h input base n) n
+  pub keys-same : (base : S) (n i : ℕ) (s : ShardState K V S) → IsPlaced h base n i s → keys_of h s ≡ keys h.eq (route_by h base n) n
   keys-same base n i s p =
-      let route = fun_ext (λ (x : K). ap (λ a. route_of_hash a (hash_of b h s.hasher (input x))) p.amount ∙ ap (route_of_hash n) (p.hashes (input x))) in
-      ap (λ r. keys eq r s.amount) route ∙ ap (λ a. keys eq (route_by b h input base n) a) p.amount
+      let route = fun_ext (λ (x : K). ap (λ a. route_of_hash a (h.hash s.hasher x)) p.amount ∙ ap (route_of_hash n) (p.hashes x)) in
+      ap (λ r. keys h.eq r s.amount) route ∙ ap (λ a. keys h.eq (route_by h base n) a) p.amount
 
-  on-shard : (base : S) (n i : ℕ) (s : ShardState K V S) → IsPlaced eq b h input base n i s → IsOnShard (keys eq (route_by b h input base n) n) i (pairs s)
-  on-shard base n i s p = subst (λ w. IsOnShard w i (pairs s)) (keys-same base n i s p) (subst (λ j. IsOnShard (keys_of eq b h input s) j (pairs s)) p.number p.shard.contents)
+  on-shard : (base : S) (n i : ℕ) (s : ShardState K V S) → IsPlaced h base n i s → IsOnShard (keys h.eq (route_by h base n) n) i (pairs s)
+  on-shard base n i s p = subst (λ w. IsOnShard w i (pairs s)) (keys-same base n i s p) (subst (λ j. IsOnShard (keys_of h s) j (pairs s)) p.number p.shard.contents)
 
-  pub on-shards : (base : S) (row : List (ShardState K V S)) → IsAlone eq b h input (record { hasher = base; row = row }) → OnShards (keys eq (route_by b h input base (length row)) (length row)) 0 row
-  on-shards base row a = λ j s e. subst (λ i. IsOnShard (keys eq (route_by b h input base (length row)) (length row)) i (pairs s)) (omega arith) (on-shard base (length row) j s (a.placed j s e))
+  pub on-shards : (base : S) (row : List (ShardState K V S)) → IsAlone h (record { hasher = base; row = row }) → OnShards (keys h.eq (route_by h base (length row)) (length row)) 0 row
+  on-shards base row a = λ j s e. subst (λ i. IsOnShard (keys h.eq (route_by h base (length row)) (length row)) i (pairs s)) (omega arith) (on-shard base (length row) j s (a.placed j s e))
 
-  pub placed-moved : (base : S) (n i : ℕ) (s t : ShardState K V S) → IsPlaced eq b h input base n i s → SameShard s t → IsShard eq b h input t → IsPlaced eq b h input base n i t
+  pub placed-moved : (base : S) (n i : ℕ) (s t : ShardState K V S) → IsPlaced h base n i s → SameShard s t → IsShard h t → IsPlaced h base n i t
   placed-moved base n i s t p stays new = record {
     number = stays.number ∙ p.number;
     amount = stays.amount ∙ p.amount;
-    hashes = subst (λ x. HashAlike b h base x) (sym stays.hasher) p.hashes;
+    hashes = subst (λ x. HashAlike h base x) (sym stays.hasher) p.hashes;
     shard = new;
   }
 
   -- one shard changed in its place
-  pub alone-set : (base : S) (i : ℕ) (row : List (ShardState K V S)) (s t : ShardState K V S) → IsAlone eq b h input (record { hasher = base; row = row }) → slice_get row i ≡ Some s
-      → SameShard s t → IsShard eq b h input t → IsAlone eq b h input (record { hasher = base; row = slice_set row i t })
+  pub alone-set : (base : S) (i : ℕ) (row : List (ShardState K V S)) (s t : ShardState K V S) → IsAlone h (record { hasher = base; row = row }) → slice_get row i ≡ Some s
+      → SameShard s t → IsShard h t → IsAlone h (record { hasher = base; row = slice_set row i t })
   alone-set base i row s t a here stays new =
       let long : length (slice_set row i t) ≡ length row = length-set row i t in
       record {
         amount = subst IsAmount (sym long) a.amount;
-        placed = λ j x e. subst (λ n. IsPlaced eq b h input base n j x) (sym long) (elim (cases_eq j i) as (λ _. IsPlaced eq b h input base (length row) j x) [
+        placed = λ j x e. subst (λ n. IsPlaced h base n j x) (sym long) (elim (cases_eq j i) as (λ _. IsPlaced h base (length row) j x) [
           | inl same ↦
               let put : t ≡ x = same_Some t x (sym (slice_get-set_same row i t (slice_get_within row i s here)) ∙ ap (λ n. slice_get (slice_set row i t) n) (sym same) ∙ e) in
-              subst (λ n. IsPlaced eq b h input base (length row) n x) (sym same) (subst (λ y. IsPlaced eq b h input base (length row) i y) put (placed-moved base (length row) i s t (a.placed i s here) stays new))
+              subst (λ n. IsPlaced h base (length row) n x) (sym same) (subst (λ y. IsPlaced h base (length row) i y) put (placed-moved base (length row) i s t (a.placed i s here) stays new))
           | inr other ↦ a.placed j x (slice_get-set_other row i j t x other e)
         ]);
       }
 
-  module _ (laws : IsEquivalence eq) (respects : (i j : K) → eq i j ≡ true → input i ≡ input j) (base : S) (row : List (ShardState K V S)) (a : IsAlone eq b h input (record { hasher = base; row = row }))
-      (k : K) (s t : ShardState K V S) (here : slice_get row (route_by b h input base (length row) k) ≡ Some s) (stays : SameShard s t) (new : IsShard eq b h input t) where
+  module _ (law : IsLawful h) (base : S) (row : List (ShardState K V S)) (a : IsAlone h (record { hasher = base; row = row }))
+      (k : K) (s t : ShardState K V S) (here : slice_get row (route_by h base (length row) k) ≡ Some s) (stays : SameShard s t) (new : IsShard h t) where
     abbrev w : Keys K
-    w = keys eq (route_by b h input base (length row)) (length row)
+    w = keys h.eq (route_by h base (length row)) (length row)
 
     abbrev row' : List (ShardState K V S)
     row' = slice_set row (w.route k) t
@@ -68,7 +68,7 @@ module _ {K V S H : Type 0} (eq : K → K → Bool) (b : builder.Ghosts S H) (h 
     on = on-shards base row a
 
     on' : OnShards w 0 row'
-    on' = subst (λ n. OnShards (keys eq (route_by b h input base n) n) 0 row') (length-set row (w.route k) t) (on-shards base row' (alone-set base (w.route k) row s t a here stays new))
+    on' = subst (λ n. OnShards (keys h.eq (route_by h base n) n) 0 row') (length-set row (w.route k) t) (on-shards base row' (alone-set base (w.route k) row s t a here stays new))
 
     -- what stands at a key of the step's shard
     pub at-here : (j : K) → w.route j ≡ w.route k → at w (flat_map pairs row) j ≡ at w (pairs s) j
@@ -80,7 +80,7 @@ module _ {K V S H : Type 0} (eq : K → K → Bool) (b : builder.Ghosts S H) (h 
     at-other : (j : K) → w.route j ≢ w.route k → at w (flat_map pairs row') j ≡ at w (flat_map pairs row) j
     at-other j other =
         let u = get_or row' (w.route j) t in
-        let there : slice_get row' (w.route j) ≡ Some u = slice_get-get_or row' (w.route j) t (omega (arith, length-set row (w.route k) t, route_below (hash_of b h base (input j)) (length row) (omega (arith, a.amount.several)))) in
+        let there : slice_get row' (w.route j) ≡ Some u = slice_get-get_or row' (w.route j) t (omega (arith, length-set row (w.route k) t, route_below (h.hash base j) (length row) (omega (arith, a.amount.several)))) in
         at-union w row' j u on' there ∙ sym (at-union w row j u on (slice_get-set_other row (w.route k) (w.route j) t u other there))
 
     -- a step at the key k that became so on its shard became so on the map
@@ -88,26 +88,26 @@ module _ {K V S H : Type 0} (eq : K → K → Bool) (b : builder.Ghosts S H) (h 
         → (j : K) → at w (flat_map pairs row') j ≡ line_after w (at_key k f g) j (at w (flat_map pairs row) j)
     lifted f g became j = elim (cases_eq (w.route j) (w.route k)) as (λ _. at w (flat_map pairs row') j ≡ line_after w (at_key k f g) j (at w (flat_map pairs row) j)) [
       | inl same ↦ at-after j same ∙ became j ∙ ap (λ o. line_after w (at_key k f g) j o) (sym (at-here j same))
-      | inr other ↦ at-other j other ∙ sym (elim (cases_Bool (eq k j)) as (λ _. line_after w (at_key k f g) j (at w (flat_map pairs row) j) ≡ at w (flat_map pairs row) j) [
-        | inl equal ↦ absurd (other (ap (λ x. route_of_hash (length row) (hash_of b h base x)) (sym (respects k j equal))))
+      | inr other ↦ at-other j other ∙ sym (elim (cases_Bool (h.eq k j)) as (λ _. line_after w (at_key k f g) j (at w (flat_map pairs row) j) ≡ at w (flat_map pairs row) j) [
+        | inl equal ↦ absurd (other (ap (route_of_hash (length row)) (sym (law.respects base k j equal))))
         | inr apart ↦ ap (λ c. cond c (f (at w (flat_map pairs row) j)) (at w (flat_map pairs row) j)) apart
       ])
     ]
 
   -- an insert leaves a shard of the same place, whether it is refused or not
-  pub settled : (r : Result (Option V) (InsertRefused K V)) (s t : ShardState K V S) (k : K) (v : V) → IfOk r (λ o. TakesExactly eq b h input s t (Insert k v) (Old o)) → IfErr r (λ e. (e.key ≡ k) × (e.value ≡ v) × (t ≡ s))
-      → IsShard eq b h input s → SameShard s t × IsShard eq b h input t
+  pub settled : (r : Result (Option V) (InsertRefused K V)) (s t : ShardState K V S) (k : K) (v : V) → IfOk r (λ o. TakesExactly h s t (Insert k v) (Old o)) → IfErr r (λ e. (e.key ≡ k) × (e.value ≡ v) × (t ≡ s))
+      → IsShard h s → SameShard s t × IsShard h t
   settled (Ok o) s t k v taken refused shard = (taken.stays, taken.lawful)
   settled (Err e) s t k v taken refused shard = rw refused.2 (record { number = refl; amount = refl; hasher = refl }, shard)
 
   -- The map, the place that was computed, and the shard that an index lends there.
-  module _ (laws : IsEquivalence eq) (respects : (i j : K) → eq i j ≡ true → input i ≡ input j) (base : S) (row : List (ShardState K V S)) (z : AloneState K V S) (view : record { hasher = base; row = row } ≡ z)
-      (a : IsAlone eq b h input (record { hasher = base; row = row })) (k : K) (p : ℕ) (computed : p ≡ (keys_in eq b h input z).route k) (s : ShardState K V S) (within : p < length row) (read : s ≡ get_or row p s) where
+  module _ (law : IsLawful h) (base : S) (row : List (ShardState K V S)) (z : AloneState K V S) (view : record { hasher = base; row = row } ≡ z)
+      (a : IsAlone h (record { hasher = base; row = row })) (k : K) (p : ℕ) (computed : p ≡ (keys_in h z).route k) (s : ShardState K V S) (within : p < length row) (read : s ≡ get_or row p s) where
     abbrev known : Keys K
-    known = keys eq (route_by b h input base (length row)) (length row)
+    known = keys h.eq (route_by h base (length row)) (length row)
 
     route_is : p ≡ known.route k
-    route_is = computed ∙ sym (ap (λ x. (keys_in eq b h input x).route k) view)
+    route_is = computed ∙ sym (ap (λ x. (keys_in h x).route k) view)
 
     pub here : slice_get row p ≡ Some s
     here = slice_get-get_or row p s within ∙ ap Some (sym read)
@@ -116,34 +116,34 @@ module _ {K V S H : Type 0} (eq : K → K → Bool) (b : builder.Ghosts S H) (h 
     there = subst (λ i. slice_get row i ≡ Some s) route_is here
 
     -- the key goes to that shard
-    pub goes_there : (keys_of eq b h input s).route k ≡ s.number
+    pub goes_there : (keys_of h s).route k ≡ s.number
     goes_there = ap (λ x. x.route k) (keys-same base (length row) p s (a.placed p s here)) ∙ sym route_is ∙ sym (a.placed p s here).number
 
     -- the key has one hash there and by the map's hasher
-    pub hashed_there : (hash : ℕ) → hash ≡ hash_of b h z.hasher (input k) → hash ≡ hash_of b h s.hasher (input k)
-    hashed_there hash is = is ∙ sym (ap (λ x. hash_of b h x.hasher (input k)) view) ∙ sym ((a.placed p s here).hashes (input k))
+    pub hashed_there : (hash : ℕ) → hash ≡ h.hash z.hasher k → hash ≡ h.hash s.hasher k
+    hashed_there hash is = is ∙ sym (ap (λ x. h.hash x.hasher k) view) ∙ sym ((a.placed p s here).hashes k)
 
     -- that shard is the one of the key
-    pub full-there : shard_len s ≡ s.capacity → IsSomeAnd (slice_get z.row ((keys_in eq b h input z).route k)) (λ x. shard_len x ≡ x.capacity)
+    pub full-there : shard_len s ≡ s.capacity → IsSomeAnd (slice_get z.row ((keys_in h z).route k)) (λ x. shard_len x ≡ x.capacity)
     full-there full =
-        let found : slice_get z.row ((keys_in eq b h input z).route k) ≡ Some s = subst (λ i. slice_get z.row i ≡ Some s) computed (subst (λ x. slice_get x.row p ≡ Some s) view here) in
+        let found : slice_get z.row ((keys_in h z).route k) ≡ Some s = subst (λ i. slice_get z.row i ≡ Some s) computed (subst (λ x. slice_get x.row p ≡ Some s) view here) in
         rw found full
 
     -- what stands at the key stands on that shard
-    pub stands : at (keys_in eq b h input z) (contents z) k ≡ at (keys_of eq b h input s) (pairs s) k
-    stands = subst (λ x. at (keys_in eq b h input x) (contents x) k ≡ at known (pairs s) k) view (at-union known row k s (on-shards base row a) there)
+    pub stands : at (keys_in h z) (contents z) k ≡ at (keys_of h s) (pairs s) k
+    stands = subst (λ x. at (keys_in h x) (contents x) k ≡ at known (pairs s) k) view (at-union known row k s (on-shards base row a) there)
 
     -- a step at the key that was taken on that shard was taken on the map
-    pub taken : (t : ShardState K V S) → SameShard s t → IsShard eq b h input t → (f : Option (K × V) → Option (K × V)) (g : Option (K × V) → Reply K V) (step : Step K V) (reply : Reply K V) → line step ≡ at_key k f g
+    pub taken : (t : ShardState K V S) → SameShard s t → IsShard h t → (f : Option (K × V) → Option (K × V)) (g : Option (K × V) → Reply K V) (step : Step K V) (reply : Reply K V) → line step ≡ at_key k f g
         → reply ≡ g (at known (pairs s) k) → ((j : K) → at known (pairs t) j ≡ line_after known (at_key k f g) j (at known (pairs s) j))
-        → TakesAlone eq b h input z (record { hasher = base; row = slice_set row p t }) step reply
+        → TakesAlone h z (record { hasher = base; row = slice_set row p t }) step reply
     taken t stays new f g step reply kind replies becomes =
         let old : AloneState K V S = record { hasher = base; row = row } in
-        let moved = lifted laws respects base row a k s t there stays new f g becomes in
+        let moved = lifted law base row a k s t there stays new f g becomes in
         record {
-          replies = subst (λ l. LineReplies (keys_in eq b h input z) l (contents z) reply) (sym kind) (replies ∙ ap g (sym stands));
-          becomes = subst (λ x. Becomes (keys_in eq b h input x) step (contents x) (flat_map pairs (slice_set row p t))) view
-              (subst (λ i. Becomes (keys_in eq b h input old) step (contents old) (flat_map pairs (slice_set row i t))) (sym route_is)
+          replies = subst (λ l. LineReplies (keys_in h z) l (contents z) reply) (sym kind) (replies ∙ ap g (sym stands));
+          becomes = subst (λ x. Becomes (keys_in h x) step (contents x) (flat_map pairs (slice_set row p t))) view
+              (subst (λ i. Becomes (keys_in h old) step (contents old) (flat_map pairs (slice_set row i t))) (sym route_is)
               (λ j. subst (λ l. at known (flat_map pairs (slice_set row (known.route k) t)) j ≡ line_after known l j (at known (flat_map pairs row) j)) (sym kind) (moved j)));
           hasher = ap (λ x. x.hasher) view;
           amount = length-set row p t ∙ ap (λ x. length x.row) view;

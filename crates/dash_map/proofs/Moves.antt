@@ -6,7 +6,7 @@ use Rattle.std.specs.declared.hash.Hasher as hasher
 use Rattle.std.specs.declared.hash.BuildHasher as builder
 use Rattle.crossbeam_utils.specs.declared.cache_padded.CachePadded.{CachePadded}
 use Rattle.crossbeam_utils.specs.Padded.{padded_value}
-use Rattle.dash_shard.specs.Hashing.{IsAmount, HashAlike}
+use Rattle.dash_shard.specs.Hashing.{KeyHash, IsAmount, HashAlike}
 use Rattle.dash_shard.specs.Held.{FitsPlace}
 use Rattle.dash_shard.specs.Rows.{Moved}
 use Rattle.dash_shard.specs.Shard.{ShardState}
@@ -15,35 +15,35 @@ use Rattle.dash_shard.proofs.Rows.{moved-length, moved-from}
 use Rattle.dash_map.specs.Alone.{IsPlaced, IsAlone}
 use Rattle.dash_map.specs.Map.{MapState, IsAt, IsMap}
 
-module _ {K V S H : Type 0} (eq : K → K → Bool) (b : builder.Ghosts S H) (h : hasher.Ghosts H) (input : K → HashWrites) where
+module _ {K V S : Type 0} (h : KeyHash K S) where
   -- what fits a lock that stands in a place, stands in that place
-  pub placed-behind : (m : MapState S) (i : ℕ) (lock : CachePadded (ShardTag S)) (s : ShardState K V S) → IsAt m i lock → FitsPlace eq b h input (padded_value lock) s → IsPlaced eq b h input m.hasher m.amount i s
+  pub placed-behind : (m : MapState S) (i : ℕ) (lock : CachePadded (ShardTag S)) (s : ShardState K V S) → IsAt m i lock → FitsPlace h (padded_value lock) s → IsPlaced h m.hasher m.amount i s
   placed-behind m i lock s at p = record {
     number = p.number ∙ at.number;
     amount = p.amount ∙ at.amount;
-    hashes = subst (λ x. HashAlike b h x s.hasher) at.hasher p.hashes;
+    hashes = subst (λ x. HashAlike h x s.hasher) at.hasher p.hashes;
     shard = p.lawful;
   }
 
   -- what is held through the lock that an index lends stands in that place of the map, whose state is written z
   pub placed-held : (m z : MapState S) → m ≡ z → (locks : List (CachePadded (ShardTag S))) → IsMap m locks → (i : ℕ) → i < length locks → (lock : CachePadded (ShardTag S)) → lock ≡ get_or locks i lock
-      → (tag : ShardTag S) → tag ≡ padded_value lock → (s : ShardState K V S) → FitsPlace eq b h input tag s → IsPlaced eq b h input z.hasher z.amount i s
+      → (tag : ShardTag S) → tag ≡ padded_value lock → (s : ShardState K V S) → FitsPlace h tag s → IsPlaced h z.hasher z.amount i s
   placed-held m z view locks is i within lock read tag same s fits =
       let here : slice_get locks i ≡ Some lock = slice_get-get_or locks i lock within ∙ ap Some (sym read) in
-      subst (λ x. IsPlaced eq b h input x.hasher x.amount i s) view (placed-behind m i lock s (is.placed i lock here) (subst (λ t. FitsPlace eq b h input t s) same fits))
+      subst (λ x. IsPlaced h x.hasher x.amount i s) view (placed-behind m i lock s (is.placed i lock here) (subst (λ t. FitsPlace h t s) same fits))
 
   pub alone-of_map : (base : S) (locks : List (CachePadded (ShardTag S))) (row : List (ShardState K V S)) → IsMap (record { hasher = base; amount = length locks }) locks
-      → Moved (λ _ lock s. FitsPlace eq b h input (padded_value lock) s) 0 locks row → IsAlone eq b h input (record { hasher = base; row = row })
+      → Moved (λ _ lock s. FitsPlace h (padded_value lock) s) 0 locks row → IsAlone h (record { hasher = base; row = row })
   alone-of_map base locks row m moved =
-      let long : length row ≡ length locks = moved-length (λ _ lock s. FitsPlace eq b h input (padded_value lock) s) 0 locks row moved in
+      let long : length row ≡ length locks = moved-length (λ _ lock s. FitsPlace h (padded_value lock) s) 0 locks row moved in
       record {
         amount = subst IsAmount (sym long) m.amount;
         placed = λ i s e.
-            let from = moved-from (λ _ lock s. FitsPlace eq b h input (padded_value lock) s) locks row moved i s e in
-            subst (λ n. IsPlaced eq b h input base n i s) (sym long) (placed-behind (record { hasher = base; amount = length locks }) i from.0 s (m.placed i from.0 from.1) from.2);
+            let from = moved-from (λ _ lock s. FitsPlace h (padded_value lock) s) locks row moved i s e in
+            subst (λ n. IsPlaced h base n i s) (sym long) (placed-behind (record { hasher = base; amount = length locks }) i from.0 s (m.placed i from.0 from.1) from.2);
       }
 
-  pub map-of_alone : (base : S) (n : ℕ) (row : List (ShardState K V S)) (locks : List (CachePadded (ShardTag S))) → n ≡ length row → IsAlone eq b h input (record { hasher = base; row = row })
+  pub map-of_alone : (base : S) (n : ℕ) (row : List (ShardState K V S)) (locks : List (CachePadded (ShardTag S))) → n ≡ length row → IsAlone h (record { hasher = base; row = row })
       → Moved (λ i (_ : ShardState K V S) lock. IsAt (record { hasher = base; amount = n }) i lock) 0 row locks → IsMap (record { hasher = base; amount = length locks }) locks
   map-of_alone base n row locks count a moved =
       let R : ℕ → ShardState K V S → CachePadded (ShardTag S) → Type 0 = λ i s lock. IsAt (record { hasher = base; amount = n }) i lock in

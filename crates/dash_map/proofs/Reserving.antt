@@ -11,6 +11,7 @@ use Rattle.dash_shard.proofs.Rows.{slice_get-set_same, slice_get-set_other}
 use Rattle.dash_shard.specs.Shard.{ShardState, SameShard, IsShard, pairs, shard_len}
 use Rattle.dash_map.specs.Alone.{AloneState, IsAlone, ReservesAlone, contents}
 use Rattle.dash_map.proofs.Lifting.{alone-set}
+use Rattle.dash_shard.specs.Hashing.{KeyHash}
 
 -- the contents stay where a shard's pairs do
 flat-set : {K V S : Type 0} (row : List (ShardState K V S)) (i : ℕ) (s t : ShardState K V S) → slice_get row i ≡ Some s → pairs t ≡ pairs s → flat_map pairs (slice_set row i t) ≡ flat_map pairs row
@@ -18,25 +19,25 @@ flat-set [] i s t here same = refl
 flat-set (x ∷ row) zero s t here same = ap (λ l. l ++ flat_map pairs row) (same ∙ ap pairs (sym (same_Some x s here)))
 flat-set (x ∷ row) (suc i) s t here same = ap (λ l. pairs x ++ l) (flat-set row i s t here same)
 
-module _ {K V S H : Type 0} (eq : K → K → Bool) (b : builder.Ghosts S H) (h : hasher.Ghosts H) (input : K → HashWrites) where
+module _ {K V S : Type 0} (h : KeyHash K S) where
   -- the first i shards of a map have room for so many pairs more than they have, and nothing else changed
   pub record Reserving (additional i : ℕ) (old now : AloneState K V S) : Type 0 where
     pub room : (j : ℕ) (s : ShardState K V S) → j < i → slice_get now.row j ≡ Some s → shard_len s + additional ≤ s.capacity
     pub pairs : contents now ≡ contents old
     pub hasher : now.hasher ≡ old.hasher
     pub amount : length now.row ≡ length old.row
-    pub lawful : IsAlone eq b h input now
+    pub lawful : IsAlone h now
 
   -- the shard i had its turn, and got its room or stayed as it was
   module _ (additional i : ℕ) (old : AloneState K V S) (base : S) (row : List (ShardState K V S)) (r : Reserving additional i old (record { hasher = base; row = row }))
-      (s t : ShardState K V S) (here : slice_get row i ≡ Some s) (stays : SameShard s t) (new : IsShard eq b h input t) (same : pairs t ≡ pairs s) where
+      (s t : ShardState K V S) (here : slice_get row i ≡ Some s) (stays : SameShard s t) (new : IsShard h t) (same : pairs t ≡ pairs s) where
     pub turned : Reserving additional i old (record { hasher = base; row = slice_set row i t })
     turned = record {
       room = λ j x below e. r.room j x below (slice_get-set_other row i j t x (omega arith) e);
       pairs = flat-set row i s t here same ∙ r.pairs;
       hasher = r.hasher;
       amount = length-set row i t ∙ r.amount;
-      lawful = alone-set eq b h input base i row s t r.lawful here stays new;
+      lawful = alone-set h base i row s t r.lawful here stays new;
     }
 
     pub reserved : shard_len t + additional ≤ t.capacity → Reserving additional (i + 1) old (record { hasher = base; row = slice_set row i t })
@@ -54,6 +55,6 @@ module _ {K V S H : Type 0} (eq : K → K → Bool) (b : builder.Ghosts S H) (h 
     }
 
     -- the shard was refused
-    pub refused : {E : Type 0} (answer : Result (Unit {0}) E) → IsErr answer → ReservesAlone eq b h input additional old (record { hasher = base; row = slice_set row i t }) answer
+    pub refused : {E : Type 0} (answer : Result (Unit {0}) E) → IsErr answer → ReservesAlone h additional old (record { hasher = base; row = slice_set row i t }) answer
     refused (Ok x) failed = cc
     refused (Err e) failed = record { room = tt; pairs = turned.pairs; hasher = turned.hasher; amount = turned.amount; lawful = turned.lawful }

@@ -13,7 +13,7 @@ use Rattle.std.proofs.Math.ListN.{length-set}
 use Rattle.dash_shard.proofs.Rows.{slice_get-set_same, slice_get-set_other}
 use Rattle.dash_shard.proofs.Routing.{route_below}
 use Rattle.dash_shard.specs.Each.{CalledAlong, Retains}
-use Rattle.dash_shard.specs.Hashing.{hash_of, route_by, route_of_hash}
+use Rattle.dash_shard.specs.Hashing.{IsLawful, KeyHash, hash_of, route_by, route_of_hash}
 use Rattle.dash_shard.specs.Contents.{Keys, keys, at, on, Distinct, EachOnce, IsOnShard}
 use Rattle.dash_shard.specs.Steps as table
 use Rattle.dash_shard.specs.Shard.{ShardState, pairs}
@@ -125,57 +125,57 @@ module _ {K V : Type 0} (w : Keys K) (laws : IsEquivalence w.eq) (route_same : (
     ];
   }
 
-module _ {K V S H : Type 0} (eq : K → K → Bool) (b : builder.Ghosts S H) (h : hasher.Ghosts H) (input : K → HashWrites) (k : K → K → Bool) (v : V → V → Bool) where
+module _ {K V S : Type 0} (h : KeyHash K S) (k : K → K → Bool) (v : V → V → Bool) where
   -- a map of the same hasher and amount knows the same
-  pub rules-same : (old new : AloneState K V S) → new.hasher ≡ old.hasher → length new.row ≡ length old.row → rules_in eq b h input k v new ≡ rules_in eq b h input k v old
-  rules-same old new base amount = ap₂ (λ s n. record { keys = keys eq (route_by b h input s n) n; alike_key = k; alike_value = v }) base amount
+  pub rules-same : (old new : AloneState K V S) → new.hasher ≡ old.hasher → length new.row ≡ length old.row → rules_in h k v new ≡ rules_in h k v old
+  rules-same old new base amount = ap₂ (λ s n. record { keys = keys h.eq (route_by h s n) n; alike_key = k; alike_value = v }) base amount
 
-  module _ (equal : IsEquivalence eq) (respects : (i j : K) → eq i j ≡ true → input i ≡ input j) (key : IsEquivalence k) (value : IsEquivalence v) (alike_equal : (i j : K) → k i j ≡ true → eq i j ≡ true) where
-    pub laws-in : (a : AloneState K V S) → Lawful (rules_in eq b h input k v a)
-    laws-in a = lawful-by eq b h input k v equal respects key value alike_equal a.hasher (length a.row)
+  module _ (law : IsLawful h) (key : IsEquivalence k) (value : IsEquivalence v) (alike_equal : (i j : K) → k i j ≡ true → h.eq i j ≡ true) where
+    pub laws-in : (a : AloneState K V S) → Lawful (rules_in h k v a)
+    laws-in a = lawful-by h law k v key value alike_equal a.hasher (length a.row)
 
     -- no two keys of a map that knows the same are equal
-    pub distinct-same : (old new : AloneState K V S) → new.hasher ≡ old.hasher → length new.row ≡ length old.row → IsAlone eq b h input new → Distinct (keys_in eq b h input old) (contents new)
-    distinct-same old new base amount lawful = subst (λ r. Distinct r.keys (contents new)) (rules-same old new base amount) (distinct-contents eq b h input equal new lawful)
+    pub distinct-same : (old new : AloneState K V S) → new.hasher ≡ old.hasher → length new.row ≡ length old.row → IsAlone h new → Distinct (keys_in h old) (contents new)
+    distinct-same old new base amount lawful = subst (λ r. Distinct r.keys (contents new)) (rules-same old new base amount) (distinct-contents h law.laws new lawful)
 
     -- a look whose answer is up to alike
-    pub takes-look : (a : AloneState K V S) (step : table.Step K V) (reply : table.Reply K V) → table.place (keys_in eq b h input a) step < length a.row → IsAlone eq b h input a → Answers (rules_in eq b h input k v a) (contents a) step reply
-        → table.Becomes (keys_in eq b h input a) step (contents a) (contents a) → Takes (rules_in eq b h input k v a) (contents a) step reply (contents a)
+    pub takes-look : (a : AloneState K V S) (step : table.Step K V) (reply : table.Reply K V) → table.place (keys_in h a) step < length a.row → IsAlone h a → Answers (rules_in h k v a) (contents a) step reply
+        → table.Becomes (keys_in h a) step (contents a) (contents a) → Takes (rules_in h k v a) (contents a) step reply (contents a)
     takes-look a step reply below lawful answers stays =
-        takes-exactly (rules_in eq b h input k v a) (laws-in a) (contents a) (contents a) step reply below answers stays (distinct-contents eq b h input equal a lawful)
+        takes-exactly (rules_in h k v a) (laws-in a) (contents a) (contents a) step reply below answers stays (distinct-contents h law.laws a lawful)
 
     -- what was taken to the letter was taken
-    pub takes-alone : (old new : AloneState K V S) (step : table.Step K V) (reply : table.Reply K V) → table.place (keys_in eq b h input old) step < length old.row → TakesAlone eq b h input old new step reply
-        → Takes (rules_in eq b h input k v old) (contents old) step reply (contents new)
+    pub takes-alone : (old new : AloneState K V S) (step : table.Step K V) (reply : table.Reply K V) → table.place (keys_in h old) step < length old.row → TakesAlone h old new step reply
+        → Takes (rules_in h k v old) (contents old) step reply (contents new)
     takes-alone old new step reply below x =
-        takes-exactly (rules_in eq b h input k v old) (laws-in old) (contents old) (contents new) step reply below
-        (record { told = reply; replies = x.replies; alike = (reply_laws (rules_in eq b h input k v old) (laws-in old)).refl reply }) x.becomes (distinct-same old new x.hasher x.amount x.lawful)
+        takes-exactly (rules_in h k v old) (laws-in old) (contents old) (contents new) step reply below
+        (record { told = reply; replies = x.replies; alike = (reply_laws (rules_in h k v old) (laws-in old)).refl reply }) x.becomes (distinct-same old new x.hasher x.amount x.lawful)
 
     -- a shard's pairs are those of the map on it
-    pub each-there : (a : AloneState K V S) (i : ℕ) (s : ShardState K V S) → IsAlone eq b h input a → slice_get a.row i ≡ Some s
-        → EachOnce (keys_in eq b h input a) (on (keys_in eq b h input a) i (contents a)) (pairs s)
+    pub each-there : (a : AloneState K V S) (i : ℕ) (s : ShardState K V S) → IsAlone h a → slice_get a.row i ≡ Some s
+        → EachOnce (keys_in h a) (on (keys_in h a) i (contents a)) (pairs s)
     each-there a i s lawful here =
-        let w = keys_in eq b h input a in
-        let shard : IsOnShard w i (pairs s) = subst (λ n. IsOnShard w n (pairs s)) (omega arith) (on-shards eq b h input a.hasher a.row lawful i s here) in
-        each-on w equal (λ x y e. ap (λ z. route_of_hash (length a.row) (hash_of b h a.hasher z)) (respects x y e)) i (contents a) (pairs s) shard
-        (λ j at_i. at-union w a.row j s (on-shards eq b h input a.hasher a.row lawful) (ap (slice_get a.row) at_i ∙ here))
+        let w = keys_in h a in
+        let shard : IsOnShard w i (pairs s) = subst (λ n. IsOnShard w n (pairs s)) (omega arith) (on-shards h a.hasher a.row lawful i s here) in
+        each-on w law.laws (λ x y e. ap (route_of_hash (length a.row)) (law.respects a.hasher x y e)) i (contents a) (pairs s) shard
+        (λ j at_i. at-union w a.row j s (on-shards h a.hasher a.row lawful) (ap (slice_get a.row) at_i ∙ here))
 
     -- Shard i was swept by calls that did alike what the action f makes.
-    module _ (a : AloneState K V S) (i : ℕ) (s t : ShardState K V S) (lawful : IsAlone eq b h input a) (here : slice_get a.row i ≡ Some s) {F : Type 0} {T : F → K → V → Bool → V → F → Type 0} {x : F} (r : Retains eq b h input T x s t) where
+    module _ (a : AloneState K V S) (i : ℕ) (s t : ShardState K V S) (lawful : IsAlone h a) (here : slice_get a.row i ≡ Some s) {F : Type 0} {T : F → K → V → Bool → V → F → Type 0} {x : F} (r : Retains h T x s t) where
       abbrev w : Keys K
-      w = keys_in eq b h input a
+      w = keys_in h a
 
       abbrev row' : List (ShardState K V S)
       row' = slice_set a.row i t
 
-      pub alone-after : IsAlone eq b h input (record { hasher = a.hasher; row = row' })
-      alone-after = alone-set eq b h input a.hasher i a.row s t lawful here r.taken.stays r.taken.lawful
+      pub alone-after : IsAlone h (record { hasher = a.hasher; row = row' })
+      alone-after = alone-set h a.hasher i a.row s t lawful here r.taken.stays r.taken.lawful
 
       on' : OnShards w 0 row'
-      on' = subst (λ n. OnShards (keys eq (route_by b h input a.hasher n) n) 0 row') (length-set a.row i t) (on-shards eq b h input a.hasher row' alone-after)
+      on' = subst (λ n. OnShards (keys h.eq (route_by h a.hasher n) n) 0 row') (length-set a.row i t) (on-shards h a.hasher row' alone-after)
 
       stood : (j : K) → w.route j ≡ i → at w (contents a) j ≡ at w (pairs s) j
-      stood j same = at-union w a.row j s (on-shards eq b h input a.hasher a.row lawful) (ap (slice_get a.row) same ∙ here)
+      stood j same = at-union w a.row j s (on-shards h a.hasher a.row lawful) (ap (slice_get a.row) same ∙ here)
 
       stands : (j : K) → w.route j ≡ i → at w (flat_map pairs row') j ≡ at w (pairs t) j
       stands j same = at-union w row' j t on' (ap (slice_get row') same ∙ slice_get-set_same a.row i t (slice_get_within a.row i s here))
@@ -183,22 +183,22 @@ module _ {K V S H : Type 0} (eq : K → K → Bool) (b : builder.Ghosts S H) (h 
       stays : (j : K) → w.route j ≢ i → at w (flat_map pairs row') j ≡ at w (contents a) j
       stays j other =
           let u = get_or row' (w.route j) t in
-          let there : slice_get row' (w.route j) ≡ Some u = slice_get-get_or row' (w.route j) t (omega (arith, length-set a.row i t, route_below (hash_of b h a.hasher (input j)) (length a.row) (omega (arith, lawful.amount.several)))) in
-          at-union w row' j u on' there ∙ sym (at-union w a.row j u (on-shards eq b h input a.hasher a.row lawful) (slice_get-set_other a.row i (w.route j) t u other there))
+          let there : slice_get row' (w.route j) ≡ Some u = slice_get-get_or row' (w.route j) t (omega (arith, length-set a.row i t, route_below (h.hash a.hasher j) (length a.row) (omega (arith, lawful.amount.several)))) in
+          at-union w row' j u on' there ∙ sym (at-union w a.row j u (on-shards h a.hasher a.row lawful) (slice_get-set_other a.row i (w.route j) t u other there))
 
       -- what the calls made of the shard
       became : (j : K) → at w (pairs t) j ≡ table.after w (table.Retain i r.act) j (at w (pairs s) j)
       became = subst (λ n. (j : K) → at w (pairs t) j ≡ table.after w (table.Retain n r.act) j (at w (pairs s) j)) (lawful.placed i s here).number
-          (subst (λ u. (j : K) → at u (pairs t) j ≡ table.after u (table.Retain s.number r.act) j (at u (pairs s) j)) (keys-same eq b h input a.hasher (length a.row) i s (lawful.placed i s here)) r.taken.becomes)
+          (subst (λ u. (j : K) → at u (pairs t) j ≡ table.after u (table.Retain s.number r.act) j (at u (pairs s) j)) (keys-same h a.hasher (length a.row) i s (lawful.placed i s here)) r.taken.becomes)
 
       module _ (f : table.Act K V) (did : (j : K) (u : V) (yes : Bool) (new : V) (y : F) → T x j u yes new y → IsTrue (v (f j u).0 new) × (yes ≡ (f j u).1) × (y ≡ x)) where
-        each-key : (j : K) → AlikeAt (rules_in eq b h input k v a) (table.after w (table.Retain i f) j (at w (contents a) j)) (at w (flat_map pairs row') j)
-        each-key j = elim (cases_eq (w.route j) i) as (λ _. AlikeAt (rules_in eq b h input k v a) (table.after w (table.Retain i f) j (at w (contents a) j)) (at w (flat_map pairs row') j)) [
-          | inl same ↦ rw (eq-eqb (w.route j) i same, stood j same, stands j same ∙ became j, eq-eqb (w.route j) i same) (called-alike (rules_in eq b h input k v a) (laws-in a) T f r.act x did (pairs s) r.last r.called j)
-          | inr other ↦ rw (ne_eqb (w.route j) i other, stays j other) ((at_laws (rules_in eq b h input k v a) (laws-in a)).refl (at w (contents a) j))
+        each-key : (j : K) → AlikeAt (rules_in h k v a) (table.after w (table.Retain i f) j (at w (contents a) j)) (at w (flat_map pairs row') j)
+        each-key j = elim (cases_eq (w.route j) i) as (λ _. AlikeAt (rules_in h k v a) (table.after w (table.Retain i f) j (at w (contents a) j)) (at w (flat_map pairs row') j)) [
+          | inl same ↦ rw (eq-eqb (w.route j) i same, stood j same, stands j same ∙ became j, eq-eqb (w.route j) i same) (called-alike (rules_in h k v a) (laws-in a) T f r.act x did (pairs s) r.last r.called j)
+          | inr other ↦ rw (ne_eqb (w.route j) i other, stays j other) ((at_laws (rules_in h k v a) (laws-in a)).refl (at w (contents a) j))
         ]
 
-        pub takes-sweep : Takes (rules_in eq b h input k v a) (contents a) (table.Retain i f) table.Done (flat_map pairs row')
+        pub takes-sweep : Takes (rules_in h k v a) (contents a) (table.Retain i f) table.Done (flat_map pairs row')
         takes-sweep = record {
           in_range = slice_get_within a.row i s here;
           answers = record { told = table.Done; replies = (pairs s, each-there a i s lawful here, refl); alike = refl };

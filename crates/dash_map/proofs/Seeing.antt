@@ -12,7 +12,7 @@ use Rattle.std.specs.declared.hash.Hasher as hasher
 use Rattle.std.specs.declared.hash.BuildHasher as builder
 use Rattle.crossbeam_utils.specs.declared.cache_padded.CachePadded.{CachePadded}
 use Rattle.crossbeam_utils.specs.Padded.{padded_value}
-use Rattle.dash_shard.specs.Hashing.{IsAmount, route_by}
+use Rattle.dash_shard.specs.Hashing.{KeyHash, IsAmount, route_by}
 use Rattle.dash_shard.specs.Contents.{Keys, at}
 use Rattle.dash_shard.specs.Steps.{Act}
 use Rattle.dash_shard.specs.Held.{FitsPlace}
@@ -35,43 +35,43 @@ append-cases (z ∷ xs) y (suc i) x e = elim (append-cases xs y i x e) as (λ _.
   | inr new ↦ inr (ap (λ n. suc n) new.0, new.1)
 ]
 
-module _ {K V S H : Type 0} (eq : K → K → Bool) (b : builder.Ghosts S H) (h : hasher.Ghosts H) (input : K → HashWrites) where
+module _ {K V S : Type 0} (h : KeyHash K S) where
   -- what is read through a hold of the lock at i, where the key goes, stands in the key's place
   pub seen : (m z : MapState S) → m ≡ z → (locks : List (CachePadded (ShardTag S))) → IsMap m locks → (i : ℕ) → i < length locks → (lock : CachePadded (ShardTag S)) → lock ≡ get_or locks i lock
-      → (tag : ShardTag S) → tag ≡ padded_value lock → (s : ShardState K V S) → FitsPlace eq b h input tag s → (k : K) → i ≡ route_by b h input z.hasher z.amount k → (d : ShardState K V S) → d ≡ s
-      → IsPlaced eq b h input z.hasher z.amount (route_by b h input z.hasher z.amount k) d
+      → (tag : ShardTag S) → tag ≡ padded_value lock → (s : ShardState K V S) → FitsPlace h tag s → (k : K) → i ≡ route_by h z.hasher z.amount k → (d : ShardState K V S) → d ≡ s
+      → IsPlaced h z.hasher z.amount (route_by h z.hasher z.amount k) d
   seen m z view locks is i within lock read tag same s fits k route d there =
-      subst (λ x. IsPlaced eq b h input z.hasher z.amount (route_by b h input z.hasher z.amount k) x) (sym there)
-      (subst (λ n. IsPlaced eq b h input z.hasher z.amount n s) route (placed-held eq b h input m z view locks is i within lock read tag same s fits))
+      subst (λ x. IsPlaced h z.hasher z.amount (route_by h z.hasher z.amount k) x) (sym there)
+      (subst (λ n. IsPlaced h z.hasher z.amount n s) route (placed-held h m z view locks is i within lock read tag same s fits))
 
   -- the same of any lock
   pub read-at : (m z : MapState S) → m ≡ z → (row locks : List (CachePadded (ShardTag S))) → locks ≡ row → IsMap m row → (i : ℕ) → i < length locks → (lock : CachePadded (ShardTag S)) → lock ≡ get_or locks i lock
-      → (tag : ShardTag S) → tag ≡ padded_value lock → (s : ShardState K V S) → FitsPlace eq b h input tag s → (d : ShardState K V S) → d ≡ s → IsPlaced eq b h input z.hasher z.amount i d
+      → (tag : ShardTag S) → tag ≡ padded_value lock → (s : ShardState K V S) → FitsPlace h tag s → (d : ShardState K V S) → d ≡ s → IsPlaced h z.hasher z.amount i d
   read-at m z view row locks all is i within lock read tag same s fits d there =
-      subst (λ x. IsPlaced eq b h input z.hasher z.amount i x) (sym there) (placed-held eq b h input m z view locks (subst (IsMap m) (sym all) is) i within lock read tag same s fits)
+      subst (λ x. IsPlaced h z.hasher z.amount i x) (sym there) (placed-held h m z view locks (subst (IsMap m) (sym all) is) i within lock read tag same s fits)
 
   -- the key goes to the shard that stands in its place
-  pub routes : (base : S) (n : ℕ) (k : K) (s : ShardState K V S) → IsPlaced eq b h input base n (route_by b h input base n k) s → Routes eq b h input s k
-  routes base n k s p = ap (λ x. x.route k) (keys-same eq b h input base n _ s p) ∙ sym p.number
+  pub routes : (base : S) (n : ℕ) (k : K) (s : ShardState K V S) → IsPlaced h base n (route_by h base n k) s → Routes h s k
+  routes base n k s p = ap (λ x. x.route k) (keys-same h base n _ s p) ∙ sym p.number
 
   -- the shards in front of n, each as it stood when it was held
   pub record SoFar (m : MapState S) (n : ℕ) (row : List (ShardState K V S)) : Type 0 where
     pub count : length row ≡ n
-    pub placed : (i : ℕ) (s : ShardState K V S) → slice_get row i ≡ Some s → IsPlaced eq b h input m.hasher m.amount i s
+    pub placed : (i : ℕ) (s : ShardState K V S) → slice_get row i ≡ Some s → IsPlaced h m.hasher m.amount i s
 
   pub none-yet : (m : MapState S) → SoFar m 0 []
   none-yet m = record { count = refl; placed = λ i s e. absurd (none-some s e) }
 
-  pub one-more : (m : MapState S) (n : ℕ) (row : List (ShardState K V S)) → SoFar m n row → (s : ShardState K V S) → IsPlaced eq b h input m.hasher m.amount n s → SoFar m (n + 1) (row ++ s ∷ [])
+  pub one-more : (m : MapState S) (n : ℕ) (row : List (ShardState K V S)) → SoFar m n row → (s : ShardState K V S) → IsPlaced h m.hasher m.amount n s → SoFar m (n + 1) (row ++ s ∷ [])
   one-more m n row so s placed = record {
     count = length_push row s ∙ ap (λ k. k + 1) so.count;
-    placed = λ i x e. elim (append-cases row s i x e) as (λ _. IsPlaced eq b h input m.hasher m.amount i x) [
+    placed = λ i x e. elim (append-cases row s i x e) as (λ _. IsPlaced h m.hasher m.amount i x) [
       | inl old ↦ so.placed i x old
-      | inr new ↦ subst (λ y. IsPlaced eq b h input m.hasher m.amount i y) new.1 (subst (λ j. IsPlaced eq b h input m.hasher m.amount j s) (sym (new.0 ∙ so.count)) placed)
+      | inr new ↦ subst (λ y. IsPlaced h m.hasher m.amount i y) new.1 (subst (λ j. IsPlaced h m.hasher m.amount j s) (sym (new.0 ∙ so.count)) placed)
     ];
   }
 
-  pub all-seen : (m : MapState S) (n : ℕ) (row : List (ShardState K V S)) → SoFar m n row → n ≡ m.amount → IsAmount m.amount → IsBehind eq b h input m (record { hasher = m.hasher; row = row })
+  pub all-seen : (m : MapState S) (n : ℕ) (row : List (ShardState K V S)) → SoFar m n row → n ≡ m.amount → IsAmount m.amount → IsBehind h m (record { hasher = m.hasher; row = row })
   all-seen m n row so all amount =
       let long : length row ≡ m.amount = so.count ∙ all in
       record {
@@ -79,7 +79,7 @@ module _ {K V S H : Type 0} (eq : K → K → Bool) (b : builder.Ghosts S H) (h 
         amount = long;
         lawful = record {
           amount = subst IsAmount (sym long) amount;
-          placed = λ i s e. subst (λ k. IsPlaced eq b h input m.hasher k i s) (sym long) (so.placed i s e);
+          placed = λ i s e. subst (λ k. IsPlaced h m.hasher k i s) (sym long) (so.placed i s e);
         };
       }
 

@@ -21,6 +21,7 @@ use Rattle.dash_map.specs.Alone.{AloneState, IsAlone, contents, keys_in}
 use Rattle.dash_map.specs.Whole.{SameRoom, RetainsAlone, AltersAllAlone}
 use Rattle.dash_map.proofs.Distincts.{distinct-contents}
 use Rattle.dash_map.proofs.Turning.{Turning, turning-first, turned, each-turned}
+use Rattle.dash_shard.specs.Hashing.{KeyHash}
 
 taken-append : {A : Type 0} (xs ys : List (Option A)) → taken (xs ++ ys) ≡ taken xs ++ taken ys
 taken-append [] ys = refl
@@ -57,17 +58,17 @@ module _ {F K V : Type 0} (T : F → K → V → Bool → V → F → Type 0) (l
     callable-front : (f : F) (ps qs : List (K × V)) → CallableOnEachPair T Q f (ps ++ qs) → CallableOnEachPair T Q f ps
     callable-front f ps qs c = record { at = λ before after g k x e r. c.at before (after ++ qs) g k x (ap (λ l. l ++ qs) e ∙ append_assoc before ((k, x) ∷ after) qs) r }
 
-module _ {K V S H F : Type 0} (eq : K → K → Bool) (b : builder.Ghosts S H) (h : hasher.Ghosts H) (input : K → HashWrites)
+module _ {K V S F : Type 0} (h : KeyHash K S)
     (T : F → K → V → Bool → V → F → Type 0) (Q : F → K → V → Type 0) (leaves : K → V × Bool → Option (K × V)) (first : F) where
   -- the closure was called along the shards below i, and may be called along those from i on
   pub record Sweeping (i : ℕ) (old now : AloneState K V S) (f : F) : Type 0 where
-    pub turning : Turning eq b h input SameRoom i old now
+    pub turning : Turning h SameRoom i old now
     pub swept : Sweeps T leaves first (places_of (take i old.row)) (places_of (take i now.row)) f
     pub ready : CallableOnEachPair T Q f (flat_map pairs (drop i now.row))
 
-  pub sweeping-first : (old now : AloneState K V S) → now ≡ old → IsAlone eq b h input now → CallableOnEachPair T Q first (contents old) → Sweeping 0 old now first
+  pub sweeping-first : (old now : AloneState K V S) → now ≡ old → IsAlone h now → CallableOnEachPair T Q first (contents old) → Sweeping 0 old now first
   sweeping-first old now same lawful callable = record {
-    turning = turning-first eq b h input SameRoom old now same lawful;
+    turning = turning-first h SameRoom old now same lawful;
     swept = (refl, refl);
     ready = subst (λ x. CallableOnEachPair T Q first (contents x)) (sym same) callable;
   }
@@ -86,14 +87,14 @@ module _ {K V S H F : Type 0} (eq : K → K → Bool) (b : builder.Ghosts S H) (
     sweeping-ready = callable-front T leaves Q f (pairs s) (flat_map pairs (drop (i + 1) row)) ready-both
 
     -- and was
-    pub sweeping-next : (t : ShardState K V S) (f' : F) → SweepsShard eq b h input T leaves f f' s t → Sweeping (i + 1) old (record { hasher = base; row = slice_set row i t }) f'
+    pub sweeping-next : (t : ShardState K V S) (f' : F) → SweepsShard h T leaves f f' s t → Sweeping (i + 1) old (record { hasher = base; row = slice_set row i t }) f'
     sweeping-next t f' x =
         let lt = slice_get_within row i s here in
         let was : slice_get old.row i ≡ Some s = r.turning.rest i s (omega arith) here in
         let before : take (i + 1) old.row ≡ take i old.row ++ s ∷ [] = take_more old.row i s (slice_get_within old.row i s was) ∙ ap (λ y. take i old.row ++ y ∷ []) (get_or_from_slice_get old.row i s s was) in
         let after : take (i + 1) (slice_set row i t) ≡ take i row ++ t ∷ [] = take_more_set row i t lt in
         record {
-          turning = turned eq b h input SameRoom i old base row r.turning s t here x.stays x.lawful x.room;
+          turning = turned h SameRoom i old base row r.turning s t here x.stays x.lawful x.room;
           swept = subst (λ l. Sweeps T leaves first l (places_of (take (i + 1) (slice_set row i t))) f') (sym (ap places_of before ∙ places-more (take i old.row) s))
               (subst (λ l. Sweeps T leaves first (places_of (take i old.row) ++ s.places) l f') (sym (ap places_of after ∙ places-more (take i row) t))
               (sweeps-append T leaves first f f' (places_of (take i old.row)) (places_of (take i row)) s.places t.places r.swept x.swept));
@@ -102,9 +103,9 @@ module _ {K V S H F : Type 0} (eq : K → K → Bool) (b : builder.Ghosts S H) (
         }
 
   -- along all of them
-  module _ (laws : IsEquivalence eq) (i : ℕ) (old now : AloneState K V S) (last : F) (a : IsAlone eq b h input old) (r : Sweeping i old now last) (all : i ≡ length now.row) where
+  module _ (laws : IsEquivalence h.eq) (i : ℕ) (old now : AloneState K V S) (last : F) (a : IsAlone h old) (r : Sweeping i old now last) (all : i ≡ length now.row) where
     abbrev w : Keys K
-    w = keys_in eq b h input old
+    w = keys_in h old
 
     whole : Sweeps T leaves first (places_of old.row) (places_of now.row) last
     whole =
@@ -113,7 +114,7 @@ module _ {K V S H F : Type 0} (eq : K → K → Bool) (b : builder.Ghosts S H) (
         subst (λ l. Sweeps T leaves first (places_of l) (places_of now.row) last) none-more (subst (λ l. Sweeps T leaves first (places_of (take i old.row)) (places_of l) last) none-left r.swept)
 
     distinct : Distinct w (taken (places_of old.row))
-    distinct = subst (Distinct w) (sym (taken-places old.row)) (distinct-contents eq b h input laws old a)
+    distinct = subst (Distinct w) (sym (taken-places old.row)) (distinct-contents h laws old a)
 
     pub did : Acts T leaves w laws first (places_of old.row) (places_of now.row) last
     did = acts T leaves w laws first (places_of old.row) (places_of now.row) last distinct whole
@@ -133,34 +134,34 @@ map-then : {A B : Type 0} (g : A → B) (o : Option A) → option_and_then (λ x
 map-then g None = refl
 map-then g (Some x) = refl
 
-module _ {K V S H F : Type 0} (eq : K → K → Bool) (b : builder.Ghosts S H) (h : hasher.Ghosts H) (input : K → HashWrites)
-    (T : F → K → V → Bool → V → F → Type 0) (Q : F → K → V → Type 0) (first : F) (laws : IsEquivalence eq) (i : ℕ) (old now : AloneState K V S) (last : F) (a : IsAlone eq b h input old) (all : i ≡ length now.row) where
-  pub retains-alone : Sweeping eq b h input T Q if_kept first i old now last → RetainsAlone eq b h input T first old now
+module _ {K V S F : Type 0} (h : KeyHash K S)
+    (T : F → K → V → Bool → V → F → Type 0) (Q : F → K → V → Type 0) (first : F) (laws : IsEquivalence h.eq) (i : ℕ) (old now : AloneState K V S) (last : F) (a : IsAlone h old) (all : i ≡ length now.row) where
+  pub retains-alone : Sweeping h T Q if_kept first i old now last → RetainsAlone h T first old now
   retains-alone r =
-      let d = did eq b h input T Q if_kept first laws i old now last a r all in
+      let d = did h T Q if_kept first laws i old now last a r all in
       record {
         act = d.act;
         last = last;
-        called = called-all eq b h input T Q if_kept first laws i old now last a r all;
-        each = each-made eq b h input T Q if_kept first laws i old now last a r all (kept-key d.act);
+        called = called-all h T Q if_kept first laws i old now last a r all;
+        each = each-made h T Q if_kept first laws i old now last a r all (kept-key d.act);
         len = subst (λ n. length (contents now) ≤ n) (ap length (taken-places old.row))
-            (subst (λ ps. length ps ≤ length (taken (places_of old.row))) (sym (made-all eq b h input T Q if_kept first laws i old now last a r all)) (fewer-remade (makes T if_kept (keys_in eq b h input old) laws d.act) (places_of old.row)));
-        room = each-turned eq b h input SameRoom i old now r.turning all;
+            (subst (λ ps. length ps ≤ length (taken (places_of old.row))) (sym (made-all h T Q if_kept first laws i old now last a r all)) (fewer-remade (makes T if_kept (keys_in h old) laws d.act) (places_of old.row)));
+        room = each-turned h SameRoom i old now r.turning all;
         hasher = r.turning.hasher;
         amount = r.turning.amount;
         lawful = r.turning.lawful;
       }
 
-  pub alters-all-alone : Sweeping eq b h input T Q altered first i old now last → AltersAllAlone eq b h input T first old now
+  pub alters-all-alone : Sweeping h T Q altered first i old now last → AltersAllAlone h T first old now
   alters-all-alone r =
-      let d = did eq b h input T Q altered first laws i old now last a r all in
+      let d = did h T Q altered first laws i old now last a r all in
       record {
         act = d.act;
         last = last;
-        called = called-all eq b h input T Q altered first laws i old now last a r all;
-        each = λ j. each-made eq b h input T Q altered first laws i old now last a r all (altered-key d.act) j ∙ map-then (changed d.act) (at (keys_in eq b h input old) (contents old) j);
-        len = ap length (made-all eq b h input T Q altered first laws i old now last a r all) ∙ length-altered d.act (places_of old.row) ∙ ap length (taken-places old.row);
-        room = each-turned eq b h input SameRoom i old now r.turning all;
+        called = called-all h T Q altered first laws i old now last a r all;
+        each = λ j. each-made h T Q altered first laws i old now last a r all (altered-key d.act) j ∙ map-then (changed d.act) (at (keys_in h old) (contents old) j);
+        len = ap length (made-all h T Q altered first laws i old now last a r all) ∙ length-altered d.act (places_of old.row) ∙ ap length (taken-places old.row);
+        room = each-turned h SameRoom i old now r.turning all;
         hasher = r.turning.hasher;
         amount = r.turning.amount;
         lawful = r.turning.lawful;

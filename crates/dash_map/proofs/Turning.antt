@@ -9,7 +9,7 @@ use Rattle.std.specs.declared.hash.Hasher as hasher
 use Rattle.std.specs.declared.hash.BuildHasher as builder
 use Rattle.dash_shard.proofs.Rows.{slice_get-set_same, slice_get-set_other}
 use Rattle.dash_shard.proofs.Routing.{route_below}
-use Rattle.dash_shard.specs.Hashing.{hash_of, route_by}
+use Rattle.dash_shard.specs.Hashing.{KeyHash, hash_of, route_by}
 use Rattle.dash_shard.specs.Contents.{Keys, keys, at, Distinct}
 use Rattle.dash_shard.specs.Shard.{ShardState, SameShard, IsShard, pairs, shard_len}
 use Rattle.dash_shard.specs.Each.{Clears, Shrinks}
@@ -39,10 +39,10 @@ module _ {K V S : Type 0} where
   as-many (x ∷ xs) (y ∷ ys) long each =
       omega (arith, length-append (pairs x) (flat_map pairs xs), length-append (pairs y) (flat_map pairs ys), each zero x y refl refl, as-many xs ys (omega (arith, long)) (λ j. each (suc j)))
 
-module _ {K V S H : Type 0} (eq : K → K → Bool) (b : builder.Ghosts S H) (h : hasher.Ghosts H) (input : K → HashWrites) where
+module _ {K V S : Type 0} (h : KeyHash K S) where
   -- maps of one hasher and amount know the same of their keys
-  pub known-same : (old new : AloneState K V S) → new.hasher ≡ old.hasher → length new.row ≡ length old.row → keys_in eq b h input new ≡ keys_in eq b h input old
-  known-same old new base amount = ap₂ (λ s n. keys eq (route_by b h input s n) n) base amount
+  pub known-same : (old new : AloneState K V S) → new.hasher ≡ old.hasher → length new.row ≡ length old.row → keys_in h new ≡ keys_in h old
+  known-same old new base amount = ap₂ (λ s n. keys h.eq (route_by h s n) n) base amount
 
   module _ (R : ShardState K V S → ShardState K V S → Type 0) where
     -- the shards below i had their turn, and R says what became of each; those from i on are as they were
@@ -51,9 +51,9 @@ module _ {K V S H : Type 0} (eq : K → K → Bool) (b : builder.Ghosts S H) (h 
       pub rest : (j : ℕ) (t : ShardState K V S) → i ≤ j → slice_get now.row j ≡ Some t → slice_get old.row j ≡ Some t
       pub hasher : now.hasher ≡ old.hasher
       pub amount : length now.row ≡ length old.row
-      pub lawful : IsAlone eq b h input now
+      pub lawful : IsAlone h now
 
-    pub turning-first : (old now : AloneState K V S) → now ≡ old → IsAlone eq b h input now → Turning 0 old now
+    pub turning-first : (old now : AloneState K V S) → now ≡ old → IsAlone h now → Turning 0 old now
     turning-first old now same lawful = record {
       done = λ j s t below. absurd (omega (arith, below));
       rest = λ j t from e. subst (λ x. slice_get x.row j ≡ Some t) same e;
@@ -64,7 +64,7 @@ module _ {K V S H : Type 0} (eq : K → K → Bool) (b : builder.Ghosts S H) (h 
 
     -- the shard i had its turn
     pub turned : (i : ℕ) (old : AloneState K V S) (base : S) (row : List (ShardState K V S)) → Turning i old (record { hasher = base; row = row }) → (s t : ShardState K V S) → slice_get row i ≡ Some s
-        → SameShard s t → IsShard eq b h input t → R s t → Turning (i + 1) old (record { hasher = base; row = slice_set row i t })
+        → SameShard s t → IsShard h t → R s t → Turning (i + 1) old (record { hasher = base; row = slice_set row i t })
     turned i old base row r s t here stays new did = record {
       done = λ j x y below e f. elim (cases_eq j i) as (λ _. R x y) [
         | inl this ↦
@@ -76,16 +76,16 @@ module _ {K V S H : Type 0} (eq : K → K → Bool) (b : builder.Ghosts S H) (h 
       rest = λ j y from f. r.rest j y (omega (arith, from)) (slice_get-set_other row i j t y (λ e. absurd (omega (arith, from, e))) f);
       hasher = r.hasher;
       amount = length-set row i t ∙ r.amount;
-      lawful = alone-set eq b h input base i row s t r.lawful here stays new;
+      lawful = alone-set h base i row s t r.lawful here stays new;
     }
 
     -- all had
     pub each-turned : (i : ℕ) (old now : AloneState K V S) → Turning i old now → i ≡ length now.row → EachShard R old now
     each-turned i old now r all j s t e f = r.done j s t (omega (arith, all, slice_get_within now.row j t f)) e f
 
-  pub clears-alone : (i : ℕ) (old now : AloneState K V S) → Turning (Clears eq b h input) i old now → i ≡ length now.row → ClearsAlone eq b h input old now
+  pub clears-alone : (i : ℕ) (old now : AloneState K V S) → Turning (Clears h) i old now → i ≡ length now.row → ClearsAlone h old now
   clears-alone i old now r all =
-      let each = each-turned (Clears eq b h input) i old now r all in
+      let each = each-turned (Clears h) i old now r all in
       record {
         empty = none-there now.row (λ j t f. (each j (get_or old.row j t) t (slice_get-get_or old.row j t (omega (arith, slice_get_within now.row j t f, r.amount))) f).empty);
         room = λ j s t e f. (each j s t e f).room;
@@ -94,16 +94,16 @@ module _ {K V S H : Type 0} (eq : K → K → Bool) (b : builder.Ghosts S H) (h 
         lawful = r.lawful;
       }
 
-  pub shrinks-alone : IsEquivalence eq → (i : ℕ) (old now : AloneState K V S) → IsAlone eq b h input old → Turning (Shrinks eq b h input) i old now → i ≡ length now.row → ShrinksAlone eq b h input old now
+  pub shrinks-alone : IsEquivalence h.eq → (i : ℕ) (old now : AloneState K V S) → IsAlone h old → Turning (Shrinks h) i old now → i ≡ length now.row → ShrinksAlone h old now
   shrinks-alone laws i old now a r all =
-      let each = each-turned (Shrinks eq b h input) i old now r all in
-      let w : Keys K = keys_in eq b h input old in
-      let known : keys_in eq b h input now ≡ w = known-same old now r.hasher r.amount in
-      let on : OnShards w 0 old.row = on-shards eq b h input old.hasher old.row a in
-      let on' : OnShards w 0 now.row = subst (λ x. OnShards x 0 now.row) known (on-shards eq b h input now.hasher now.row r.lawful) in
+      let each = each-turned (Shrinks h) i old now r all in
+      let w : Keys K = keys_in h old in
+      let known : keys_in h now ≡ w = known-same old now r.hasher r.amount in
+      let on : OnShards w 0 old.row = on-shards h old.hasher old.row a in
+      let on' : OnShards w 0 now.row = subst (λ x. OnShards x 0 now.row) known (on-shards h now.hasher now.row r.lawful) in
       record {
         pairs = record {
-          distinct = subst (λ x. Distinct x (contents now)) known (distinct-contents eq b h input laws now r.lawful);
+          distinct = subst (λ x. Distinct x (contents now)) known (distinct-contents h laws now r.lawful);
           same = λ k. same-there k on on' each;
         };
         len = as-many old.row now.row r.amount (λ j s t e f. (each j s t e f).len);
@@ -113,10 +113,10 @@ module _ {K V S H : Type 0} (eq : K → K → Bool) (b : builder.Ghosts S H) (h 
         lawful = r.lawful;
       }
     where
-      same-there : (k : K) → OnShards (keys_in eq b h input old) 0 old.row → OnShards (keys_in eq b h input old) 0 now.row → EachShard (Shrinks eq b h input) old now → at (keys_in eq b h input old) (contents now) k ≡ at (keys_in eq b h input old) (contents old) k
+      same-there : (k : K) → OnShards (keys_in h old) 0 old.row → OnShards (keys_in h old) 0 now.row → EachShard (Shrinks h) old now → at (keys_in h old) (contents now) k ≡ at (keys_in h old) (contents old) k
       same-there k on on' each =
-          let w : Keys K = keys_in eq b h input old in
-          let below : w.route k < length old.row = route_below (hash_of b h old.hasher (input k)) (length old.row) (omega (arith, a.amount.several)) in
+          let w : Keys K = keys_in h old in
+          let below : w.route k < length old.row = route_below (h.hash old.hasher k) (length old.row) (omega (arith, a.amount.several)) in
           let s = some-there old.row (w.route k) below in
           let t = some-there now.row (w.route k) (omega (arith, below, r.amount)) in
           at-union w now.row k t.0 on' t.1 ∙ (each (w.route k) s.0 t.0 s.1 t.1).pairs.same k ∙ sym (at-union w old.row k s.0 on s.1)

@@ -3,7 +3,7 @@ use Rattle.std.specs.Prelude.{ℕ, ◌≡◌, ◌+◌, ◌≤◌, Bool, List, le
 use Rattle.std.specs.Hash.{HashWrites}
 use Rattle.std.specs.declared.hash.Hasher as hasher
 use Rattle.std.specs.declared.hash.BuildHasher as builder
-use Rattle.dash_shard.specs.Hashing.{IsAmount, HashAlike, route_by}
+use Rattle.dash_shard.specs.Hashing.{KeyHash, IsAmount, HashAlike, route_by}
 use Rattle.dash_shard.specs.Contents.{Keys, keys, at}
 use Rattle.dash_shard.specs.Steps.{Act, Step, Reply, RemoveIf, RemoveIfMut, Alter, Pair, Done, Replies, Becomes}
 use Rattle.dash_shard.specs.Shard.{ShardState, pairs, shard_len, IsShard}
@@ -18,13 +18,13 @@ module _ {K V S : Type 0} where
   abbrev pub contents : AloneState K V S → List (K × V)
   contents a = flat_map pairs a.row
 
-  module _ {H : Type 0} (eq : K → K → Bool) (b : builder.Ghosts S H) (h : hasher.Ghosts H) (input : K → HashWrites) where
+  module _ (h : KeyHash K S) where
     -- the shard i of n, of a map with a hasher of this meaning
     pub record IsPlaced (meaning : S) (n i : ℕ) (s : ShardState K V S) : Type 0 where
       pub number : s.number ≡ i
       pub amount : s.amount ≡ n
-      pub hashes : HashAlike b h meaning s.hasher
-      pub shard : IsShard eq b h input s
+      pub hashes : HashAlike h meaning s.hasher
+      pub shard : IsShard h s
 
     -- each shard stands in its place
     pub record IsAlone (a : AloneState K V S) : Type 0 where
@@ -33,7 +33,7 @@ module _ {K V S : Type 0} where
 
     -- what the map knows of its keys
     abbrev pub keys_in : AloneState K V S → Keys K
-    keys_in a = keys eq (route_by b h input a.hasher (length a.row)) (length a.row)
+    keys_in a = keys h.eq (route_by h a.hasher (length a.row)) (length a.row)
 
     -- takes, on the whole map and to the letter: the step gets the reply of the table, and the contents become what the table says
     pub record TakesAlone (old new : AloneState K V S) (step : Step K V) (reply : Reply K V) : Type 0 where

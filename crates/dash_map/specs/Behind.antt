@@ -4,7 +4,7 @@ use Rattle.std.specs.Hash.{HashWrites}
 use Rattle.std.specs.Map.Calls.{CallableOnEachPair}
 use Rattle.std.specs.declared.hash.Hasher as hasher
 use Rattle.std.specs.declared.hash.BuildHasher as builder
-use Rattle.dash_shard.specs.Hashing.{route_by}
+use Rattle.dash_shard.specs.Hashing.{KeyHash, route_by}
 use Rattle.dash_shard.specs.Contents.{at}
 use Rattle.dash_shard.specs.Shard.{ShardState, keys_of, pairs}
 use Rattle.dash_map.specs.Alone.{AloneState, IsPlaced, IsAlone, ReservesAlone}
@@ -25,22 +25,22 @@ Changed {V = V} changes (Some p) result = (d : V × Bool) × changes p d × (res
 abbrev pub CallableOnPairs : {F K V : Type 0} → (F → K → V → Bool → V → F → Type 0) → (F → K → V → Type 0) → F → Type 0
 CallableOnPairs {K = K} {V = V} T Q f = (ps : List (K × V)) → CallableOnEachPair T Q f ps
 
-module _ {K V S H : Type 0} (eq : K → K → Bool) (b : builder.Ghosts S H) (h : hasher.Ghosts H) (input : K → HashWrites) where
+module _ {K V S : Type 0} (h : KeyHash K S) where
   -- P is so of what stood at the key, in a shard that stood in the place where the key goes
   abbrev pub SawPair : MapState S → K → (Option (K × V) → Type 0) → Type 0
-  SawPair m key P = (s : ShardState K V S) × IsPlaced eq b h input m.hasher m.amount (route_by b h input m.hasher m.amount key) s × P (at (keys_of eq b h input s) (pairs s) key)
+  SawPair m key P = (s : ShardState K V S) × IsPlaced h m.hasher m.amount (route_by h m.hasher m.amount key) s × P (at (keys_of h s) (pairs s) key)
 
   -- a shard that stood in the place where the key goes, and the one that was left there: R of the two
   abbrev pub LeavesShard : MapState S → K → (ShardState K V S → ShardState K V S → Type 0) → Type 0
   LeavesShard m key R =
-      let Stands : ShardState K V S → Type 0 = IsPlaced eq b h input m.hasher m.amount (route_by b h input m.hasher m.amount key) in
+      let Stands : ShardState K V S → Type 0 = IsPlaced h m.hasher m.amount (route_by h m.hasher m.amount key) in
       (s : ShardState K V S) × (t : ShardState K V S) × Stands s × Stands t × R s t
 
   -- shards that may stand behind the locks of this map
   pub record IsBehind (m : MapState S) (a : AloneState K V S) : Type 0 where
     pub hasher : a.hasher ≡ m.hasher
     pub amount : length a.row ≡ m.amount
-    pub lawful : IsAlone eq b h input a
+    pub lawful : IsAlone h a
 
   -- P is so of the shards, each as it stood at a moment of its own
   abbrev pub SawShards : MapState S → (AloneState K V S → Type 0) → Type 0
@@ -54,11 +54,11 @@ module _ {K V S H : Type 0} (eq : K → K → Bool) (b : builder.Ghosts S H) (h 
     pub stands : IsBehind m after
     pub leaves : R before after
 
-module _ {K S H : Type 0} (V : Type 0) (eq : K → K → Bool) (b : builder.Ghosts S H) (h : hasher.Ghosts H) (input : K → HashWrites) where
+module _ {K S : Type 0} (V : Type 0) (h : KeyHash K S) where
   -- shards behind the locks of this map were given room
   pub record ReservesBehind (m : MapState S) (additional : ℕ) {E : Type 0} (result : Result (Unit {0}) E) : Type 0 where
     pub before : AloneState K V S
     pub after : AloneState K V S
-    pub stood : IsBehind eq b h input m before
-    pub stands : IsBehind eq b h input m after
-    pub reserves : ReservesAlone eq b h input additional before after result
+    pub stood : IsBehind h m before
+    pub stands : IsBehind h m after
+    pub reserves : ReservesAlone h additional before after result

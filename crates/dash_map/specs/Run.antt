@@ -16,6 +16,7 @@ use Rattle.dash_map.specs.Map.{MapState}
 use Rattle.dash_map.specs.declared.run.Fault.{Fault}
 use Rattle.dash_map.specs.declared.run.Fault.TheVariants.{NoSuchShard}
 use Rattle.dash_map.specs.declared.run.RunOutcome.{RunOutcome}
+use Rattle.dash_shard.specs.Hashing.{KeyHash}
 
 module _ {K V A : Type 0} where
   -- the step is on the pair at its key, and has no action
@@ -56,15 +57,15 @@ module _ {K V A : Type 0} where
       pub taken : Runs m P (map (answered acts) front) Q
       pub stops : IfSome outcome.stopped (λ stop. IsRefused stop.0.items stop.1)
 
-module _ {K V S H : Type 0} (eq : K → K → Bool) (b : builder.Ghosts S H) (h : hasher.Ghosts H) (input : K → HashWrites) (k : K → K → Bool) (v : V → V → Bool) where
+module _ {K V S : Type 0} (h : KeyHash K S) (k : K → K → Bool) (v : V → V → Bool) where
   -- what the map knows of its keys and values
   abbrev pub rules_in : AloneState K V S → Rules K V
-  rules_in a = rules k v (keys_in eq b h input a)
+  rules_in a = rules k v (keys_in h a)
 
   -- the run was one on shards that stood behind the locks of this map, and what it left stands there
   pub record RanBehind {A : Type 0} (acts : A → table.Act K V) (m : MapState S) (steps : List (ShardStep K V A)) (outcome : RunOutcome K V A) : Type 0 where
     pub before : AloneState K V S
     pub after : AloneState K V S
-    pub stood : IsBehind eq b h input m before
-    pub stands : IsBehind eq b h input m after
+    pub stood : IsBehind h m before
+    pub stands : IsBehind h m after
     pub ran : Ran (rules_in before) acts (contents before) (contents after) steps outcome

@@ -8,6 +8,7 @@ use Rattle.dash_shard.specs.Steps.{Act, changed, if_yes}
 use Rattle.dash_shard.specs.Shard.{ShardState}
 use Rattle.dash_shard.specs.Each.{CalledAlong, Shrinks}
 use Rattle.dash_map.specs.Alone.{AloneState, IsAlone, contents, keys_in}
+use Rattle.dash_shard.specs.Hashing.{KeyHash}
 
 module _ {K V S : Type 0} where
   -- each shard is to the one that stood in its place what R says
@@ -18,44 +19,44 @@ module _ {K V S : Type 0} where
   abbrev pub SameRoom : ShardState K V S → ShardState K V S → Type 0
   SameRoom s t = t.capacity ≡ s.capacity
 
-module _ {K V S H : Type 0} (eq : K → K → Bool) (b : builder.Ghosts S H) (h : hasher.Ghosts H) (input : K → HashWrites) where
+module _ {K V S : Type 0} (h : KeyHash K S) where
   -- all that `clear` promises: no pair stays
   pub record ClearsAlone (old new : AloneState K V S) : Type 0 where
     pub empty : contents new ≡ []
     pub room : EachShard SameRoom old new
     pub hasher : new.hasher ≡ old.hasher
     pub amount : length new.row ≡ length old.row
-    pub lawful : IsAlone eq b h input new
+    pub lawful : IsAlone h new
 
   -- all that `shrink_to_fit` promises: the pairs stay, and each shard was shrunk
   pub record ShrinksAlone (old new : AloneState K V S) : Type 0 where
-    pub pairs : EachOnce (keys_in eq b h input old) (contents old) (contents new)
+    pub pairs : EachOnce (keys_in h old) (contents old) (contents new)
     pub len : length (contents new) ≡ length (contents old)
-    pub shards : EachShard (Shrinks eq b h input) old new
+    pub shards : EachShard (Shrinks h) old new
     pub hasher : new.hasher ≡ old.hasher
     pub amount : length new.row ≡ length old.row
-    pub lawful : IsAlone eq b h input new
+    pub lawful : IsAlone h new
 
   -- all that `retain` promises: a pair stays, with its new value, where the action, which is what f did, answers yes
   pub record RetainsAlone {F : Type 0} (T : F → K → V → Bool → V → F → Type 0) (f : F) (old new : AloneState K V S) : Type 0 where
     pub act : Act K V
     pub last : F
     pub called : CalledAlong T act f (contents old) last
-    pub each : (j : K) → at (keys_in eq b h input old) (contents new) j ≡ option_and_then (λ p. if_yes act p (changed act p)) (at (keys_in eq b h input old) (contents old) j)
+    pub each : (j : K) → at (keys_in h old) (contents new) j ≡ option_and_then (λ p. if_yes act p (changed act p)) (at (keys_in h old) (contents old) j)
     pub len : length (contents new) ≤ length (contents old)
     pub room : EachShard SameRoom old new
     pub hasher : new.hasher ≡ old.hasher
     pub amount : length new.row ≡ length old.row
-    pub lawful : IsAlone eq b h input new
+    pub lawful : IsAlone h new
 
   -- all that `alter_all` promises: each pair stays, with the value that the action, which is what f did, makes of its own
   pub record AltersAllAlone {F : Type 0} (T : F → K → V → Bool → V → F → Type 0) (f : F) (old new : AloneState K V S) : Type 0 where
     pub act : Act K V
     pub last : F
     pub called : CalledAlong T act f (contents old) last
-    pub each : (j : K) → at (keys_in eq b h input old) (contents new) j ≡ option_map (changed act) (at (keys_in eq b h input old) (contents old) j)
+    pub each : (j : K) → at (keys_in h old) (contents new) j ≡ option_map (changed act) (at (keys_in h old) (contents old) j)
     pub len : length (contents new) ≡ length (contents old)
     pub room : EachShard SameRoom old new
     pub hasher : new.hasher ≡ old.hasher
     pub amount : length new.row ≡ length old.row
-    pub lawful : IsAlone eq b h input new
+    pub lawful : IsAlone h new

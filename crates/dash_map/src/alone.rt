@@ -1,7 +1,7 @@
 //! A map of one owner, without locks.
 ghost use Rattle.std.specs.Prelude.{◌≡◌, ◌⊎◌, ℕ, ◌+◌, ◌-◌, ◌^◌, ◌<◌, ◌≤◌, ◌↔◌, min, IsErrOf, IfOk, IfErr, OnOk, Some, None, length, slice_get, OnErr, is_some, IsSomeAnd, IfSome, sum_by, ◌==◌};
 ghost use Rattle.crossbeam_utils.specs.Padded.{padded_value};
-ghost use Rattle.dash_shard.specs.Hashing.{IsAmount, HashAlike, hash_of};
+ghost use Rattle.dash_shard.specs.Hashing.{by, IsAmount, HashAlike};
 ghost use Rattle.dash_shard.specs.Shard.{shard_len};
 ghost use Rattle.dash_shard.specs.Held.{FitsPlace};
 ghost use Rattle.dash_map.specs.Amounts.{Overflows, share};
@@ -43,12 +43,13 @@ pub struct Alone<K: Eq + Hash, V, S: BuildHasher> {
 impl<K: Eq + Hash, V, S: BuildHasher> Model for Alone<K, V, S> {
     ghost use Rattle.std.specs.Prelude.{◌≡◌, ◌≤◌, [], vec_len, vec_capacity};
     ghost use Rattle.dash_map.specs.Alone.{AloneState, IsAlone};
+    ghost use Rattle.dash_shard.specs.Hashing.{key_hash};
 
     ghost Value = { AloneState K V S };
 
     ghost view = { λ a. record { hasher = a.hasher; row = a.row.items } };
 
-    ghost invariant = { λ a. IsAlone K.eq S.BuildHasher S.Hasher.Hasher K.hash_input (record { hasher = a.hasher; row = a.row.items }) × (a.locks.items ≡ []) × (vec_len a.row ≤ vec_capacity a.locks) };
+    ghost invariant = { λ a. IsAlone (key_hash K.eq K.hash_input S.BuildHasher S.Hasher.Hasher) (record { hasher = a.hasher; row = a.row.items }) × (a.locks.items ≡ []) × (vec_len a.row ≤ vec_capacity a.locks) };
 }
 
 // The row of a map with no pairs, each shard with room for `capacity`.
@@ -59,9 +60,9 @@ fn fresh_row<K: Eq + Hash + Drop, V: Drop, S: BuildHasher + Clone + Drop>(
     capacity: usize,
 ) -> Result<Vec<Shard<K, V, S>>, ConstructError>
     requires amount { IsAmount amount }
-    requires alike { (s t : S) → S.is_clone s t → HashAlike S.BuildHasher S.Hasher.Hasher s t }
+    requires alike { (s t : S) → S.is_clone s t → HashAlike (by K.Hash S.BuildHasher S.Hasher.Hasher) s t }
     ensures len { IfOk result (λ row. length row.items ≡ amount) }
-    ensures placed { IfOk result (λ row. (i : ℕ) (s : _) → slice_get row.items i ≡ Some s → IsPlaced K.eq S.BuildHasher S.Hasher.Hasher K.hash_input hasher.now amount i s) }
+    ensures placed { IfOk result (λ row. (i : ℕ) (s : _) → slice_get row.items i ≡ Some s → IsPlaced (by K.Hash S.BuildHasher S.Hasher.Hasher) hasher.now amount i s) }
     ensures fresh { IfOk result (λ row. (i : ℕ) (s : _) → slice_get row.items i ≡ Some s → (shard_len s ≡ 0) × (capacity ≤ s.capacity)) }
     ensures memory { IfErr result (λ e. e ≡ ConstructError.Memory) }
 {
@@ -87,7 +88,7 @@ impl<K: Eq + Hash + Drop, V: Drop, S: BuildHasher> Alone<K, V, S> {
     ) -> Result<Alone<K, V, S>, ConstructError>
     where
         S: Clone + Drop,
-        requires { (s t : S) → S.is_clone s t → HashAlike S.BuildHasher S.Hasher.Hasher s t }
+        requires { (s t : S) → S.is_clone s t → HashAlike (by K.Hash S.BuildHasher S.Hasher.Hasher) s t }
         ensures hasher { IfOk result (λ a. a.hasher ≡ hasher) }
         ensures amount { IfOk result (λ a. length a.row ≡ amount) }
         ensures fresh { IfOk result (λ a. (i : ℕ) (s : _) → slice_get a.row i ≡ Some s → (shard_len s ≡ 0) × (share capacity amount ≤ s.capacity)) }
@@ -112,7 +113,7 @@ impl<K: Eq + Hash + Drop, V: Drop, S: BuildHasher> Alone<K, V, S> {
     #[inline]
     pub fn shard_count(&self) -> usize
         ensures count { result ≡ length self.now.row }
-        ensures lawful { IsAlone K.eq S.BuildHasher S.Hasher.Hasher K.hash_input self.now }
+        ensures lawful { IsAlone (by K.Hash S.BuildHasher S.Hasher.Hasher) self.now }
     {
         let _ = &self.hasher;
         self.row.len()
@@ -121,8 +122,8 @@ impl<K: Eq + Hash + Drop, V: Drop, S: BuildHasher> Alone<K, V, S> {
     // The key's hash, and the number of the shard that it goes to.
     #[inline]
     fn place_of(&self, key: &K) -> (u64, usize)
-        ensures hash { result.0 ≡ hash_of S.BuildHasher S.Hasher.Hasher self.now.hasher (K.hash_input key.now) }
-        ensures place { result.1 ≡ (keys_in K.eq S.BuildHasher S.Hasher.Hasher K.hash_input self.now).route key.now }
+        ensures hash { result.0 ≡ (by K.Hash S.BuildHasher S.Hasher.Hasher).hash self.now.hasher key.now }
+        ensures place { result.1 ≡ (keys_in (by K.Hash S.BuildHasher S.Hasher.Hasher) self.now).route key.now }
         ensures below { result.1 < length self.now.row }
     {
         let hash = self.hasher.hash_one(key);
@@ -134,10 +135,10 @@ impl<K: Eq + Hash + Drop, V: Drop, S: BuildHasher> Alone<K, V, S> {
     /// Takes memory for a new key where its shard is full, and is refused (1) only then. It waits for nobody.
     #[inline]
     pub fn insert(&mut self, key: K, value: V) -> Result<Option<V>, InsertRefused<K, V>>
-        ensures taken { IfOk result (λ old. TakesAlone K.eq S.BuildHasher S.Hasher.Hasher K.hash_input self.old self.new (Insert key value) (Old old)) }
+        ensures taken { IfOk result (λ old. TakesAlone (by K.Hash S.BuildHasher S.Hasher.Hasher) self.old self.new (Insert key value) (Old old)) }
         ensures refused { IfErr result (λ e. (e.key ≡ key) × (e.value ≡ value) × (self.new ≡ self.old)) }
-        ensures absent { OnErr result (at (keys_in K.eq S.BuildHasher S.Hasher.Hasher K.hash_input self.old) (contents self.old) key ≡ None) }
-        ensures full { OnErr result (IsSomeAnd (slice_get self.old.row ((keys_in K.eq S.BuildHasher S.Hasher.Hasher K.hash_input self.old).route key)) (λ s. shard_len s ≡ s.capacity)) }
+        ensures absent { OnErr result (at (keys_in (by K.Hash S.BuildHasher S.Hasher.Hasher) self.old) (contents self.old) key ≡ None) }
+        ensures full { OnErr result (IsSomeAnd (slice_get self.old.row ((keys_in (by K.Hash S.BuildHasher S.Hasher.Hasher) self.old).route key)) (λ s. shard_len s ≡ s.capacity)) }
     {
         let (hash, place) = self.place_of(&key);
         self.row[place].insert_hashed(hash, key, value)
@@ -146,7 +147,7 @@ impl<K: Eq + Hash + Drop, V: Drop, S: BuildHasher> Alone<K, V, S> {
     /// Takes the pair whose key equals `key` out, and answers it. It takes no memory, and can't be refused.
     #[inline]
     pub fn remove(&mut self, key: &K) -> Option<(K, V)>
-        ensures { TakesAlone K.eq S.BuildHasher S.Hasher.Hasher K.hash_input self.old self.new (Remove key.now) (Pair result) }
+        ensures { TakesAlone (by K.Hash S.BuildHasher S.Hasher.Hasher) self.old self.new (Remove key.now) (Pair result) }
     {
         let (hash, place) = self.place_of(key);
         self.remove_hashed(hash, place, key)
@@ -155,10 +156,10 @@ impl<K: Eq + Hash + Drop, V: Drop, S: BuildHasher> Alone<K, V, S> {
     // As `remove`, by the key's hash and place.
     #[inline]
     fn remove_hashed(&mut self, hash: u64, place: usize, key: &K) -> Option<(K, V)>
-        requires hash { hash ≡ hash_of S.BuildHasher S.Hasher.Hasher self.old.hasher (K.hash_input key.now) }
-        requires place { place ≡ (keys_in K.eq S.BuildHasher S.Hasher.Hasher K.hash_input self.old).route key.now }
+        requires hash { hash ≡ (by K.Hash S.BuildHasher S.Hasher.Hasher).hash self.old.hasher key.now }
+        requires place { place ≡ (keys_in (by K.Hash S.BuildHasher S.Hasher.Hasher) self.old).route key.now }
         requires below { place < length self.old.row }
-        ensures { TakesAlone K.eq S.BuildHasher S.Hasher.Hasher K.hash_input self.old self.new (Remove key.now) (Pair result) }
+        ensures { TakesAlone (by K.Hash S.BuildHasher S.Hasher.Hasher) self.old self.new (Remove key.now) (Pair result) }
     {
         let _ = &self.hasher;
         self.row[place].remove_hashed(hash, key)
@@ -167,8 +168,8 @@ impl<K: Eq + Hash + Drop, V: Drop, S: BuildHasher> Alone<K, V, S> {
     /// Takes the pair whose key equals `key` out if `f` answers yes on it, and answers it. It takes no memory, and can't be refused.
     #[inline]
     pub fn remove_if<F: FnOnce(&K, &V) -> bool>(&mut self, key: &K, f: F) -> Option<(K, V)>
-        requires { IfSome (at (keys_in K.eq S.BuildHasher S.Hasher.Hasher K.hash_input self.old) (contents self.old) key.now) (MayAsk F.FnOnce f) }
-        ensures { TakesAsked K.eq S.BuildHasher S.Hasher.Hasher K.hash_input (AnswersOn F.FnOnce f) self.old self.new key.now result }
+        requires { IfSome (at (keys_in (by K.Hash S.BuildHasher S.Hasher.Hasher) self.old) (contents self.old) key.now) (MayAsk F.FnOnce f) }
+        ensures { TakesAsked (by K.Hash S.BuildHasher S.Hasher.Hasher) (AnswersOn F.FnOnce f) self.old self.new key.now result }
     {
         let (hash, place) = self.place_of(key);
         self.row[place].remove_if_hashed(hash, key, f)
@@ -177,8 +178,8 @@ impl<K: Eq + Hash + Drop, V: Drop, S: BuildHasher> Alone<K, V, S> {
     /// The pair whose key equals `key`.
     #[inline]
     pub fn get(&self, key: &K) -> Option<(&K, &V)>
-        ensures pair { Replies (keys_in K.eq S.BuildHasher S.Hasher.Hasher K.hash_input self.now) (Get key.now) (contents self.now) (Pair (option_map deref_pair result)) }
-        ensures lawful { IsAlone K.eq S.BuildHasher S.Hasher.Hasher K.hash_input self.now }
+        ensures pair { Replies (keys_in (by K.Hash S.BuildHasher S.Hasher.Hasher) self.now) (Get key.now) (contents self.now) (Pair (option_map deref_pair result)) }
+        ensures lawful { IsAlone (by K.Hash S.BuildHasher S.Hasher.Hasher) self.now }
     {
         let (hash, place) = self.place_of(key);
         self.get_hashed(hash, place, key)
@@ -187,11 +188,11 @@ impl<K: Eq + Hash + Drop, V: Drop, S: BuildHasher> Alone<K, V, S> {
     // As `get`, by the key's hash and place.
     #[inline]
     fn get_hashed(&self, hash: u64, place: usize, key: &K) -> Option<(&K, &V)>
-        requires hash { hash ≡ hash_of S.BuildHasher S.Hasher.Hasher self.now.hasher (K.hash_input key.now) }
-        requires place { place ≡ (keys_in K.eq S.BuildHasher S.Hasher.Hasher K.hash_input self.now).route key.now }
+        requires hash { hash ≡ (by K.Hash S.BuildHasher S.Hasher.Hasher).hash self.now.hasher key.now }
+        requires place { place ≡ (keys_in (by K.Hash S.BuildHasher S.Hasher.Hasher) self.now).route key.now }
         requires below { place < length self.now.row }
-        ensures pair { Replies (keys_in K.eq S.BuildHasher S.Hasher.Hasher K.hash_input self.now) (Get key.now) (contents self.now) (Pair (option_map deref_pair result)) }
-        ensures lawful { IsAlone K.eq S.BuildHasher S.Hasher.Hasher K.hash_input self.now }
+        ensures pair { Replies (keys_in (by K.Hash S.BuildHasher S.Hasher.Hasher) self.now) (Get key.now) (contents self.now) (Pair (option_map deref_pair result)) }
+        ensures lawful { IsAlone (by K.Hash S.BuildHasher S.Hasher.Hasher) self.now }
     {
         let _ = &self.hasher;
         let shard = &self.row[place];
@@ -202,8 +203,8 @@ impl<K: Eq + Hash + Drop, V: Drop, S: BuildHasher> Alone<K, V, S> {
     /// Whether there is a pair whose key equals `key`.
     #[inline]
     pub fn contains_key(&self, key: &K) -> bool
-        ensures found { Replies (keys_in K.eq S.BuildHasher S.Hasher.Hasher K.hash_input self.now) (Contains key.now) (contents self.now) (Found result) }
-        ensures lawful { IsAlone K.eq S.BuildHasher S.Hasher.Hasher K.hash_input self.now }
+        ensures found { Replies (keys_in (by K.Hash S.BuildHasher S.Hasher.Hasher) self.now) (Contains key.now) (contents self.now) (Found result) }
+        ensures lawful { IsAlone (by K.Hash S.BuildHasher S.Hasher.Hasher) self.now }
     {
         self.get(key).is_some()
     }
@@ -211,9 +212,9 @@ impl<K: Eq + Hash + Drop, V: Drop, S: BuildHasher> Alone<K, V, S> {
     /// What `f` answers on the pair whose key equals `key`.
     #[inline]
     pub fn view<R, F: FnOnce(&K, &V) -> R>(&self, key: &K, f: F) -> Option<R>
-        requires { IfSome (at (keys_in K.eq S.BuildHasher S.Hasher.Hasher K.hash_input self.now) (contents self.now) key.now) (MayAsk F.FnOnce f) }
-        ensures viewed { Viewed F.FnOnce f (at (keys_in K.eq S.BuildHasher S.Hasher.Hasher K.hash_input self.now) (contents self.now) key.now) result }
-        ensures lawful { IsAlone K.eq S.BuildHasher S.Hasher.Hasher K.hash_input self.now }
+        requires { IfSome (at (keys_in (by K.Hash S.BuildHasher S.Hasher.Hasher) self.now) (contents self.now) key.now) (MayAsk F.FnOnce f) }
+        ensures viewed { Viewed F.FnOnce f (at (keys_in (by K.Hash S.BuildHasher S.Hasher.Hasher) self.now) (contents self.now) key.now) result }
+        ensures lawful { IsAlone (by K.Hash S.BuildHasher S.Hasher.Hasher) self.now }
     {
         let (key, value) = self.get(key)?;
         Some(f(key, value))
@@ -222,7 +223,7 @@ impl<K: Eq + Hash + Drop, V: Drop, S: BuildHasher> Alone<K, V, S> {
     /// How many pairs there are, held at 2^64 - 1. It asks each shard once. The original's `len` locks shard after shard for this.
     pub fn len(&self) -> usize
         ensures len { result ≡ min (length (contents self.now)) (2 ^ 64 - 1) }
-        ensures lawful { IsAlone K.eq S.BuildHasher S.Hasher.Hasher K.hash_input self.now }
+        ensures lawful { IsAlone (by K.Hash S.BuildHasher S.Hasher.Hasher) self.now }
     {
         let mut len: usize = 0;
         for shard in &self.row {
@@ -234,7 +235,7 @@ impl<K: Eq + Hash + Drop, V: Drop, S: BuildHasher> Alone<K, V, S> {
     /// Whether there are no pairs.
     pub fn is_empty(&self) -> bool
         ensures empty { result ≡ (length (contents self.now) == 0) }
-        ensures lawful { IsAlone K.eq S.BuildHasher S.Hasher.Hasher K.hash_input self.now }
+        ensures lawful { IsAlone (by K.Hash S.BuildHasher S.Hasher.Hasher) self.now }
     {
         self.len() == 0
     }
@@ -244,7 +245,7 @@ impl<K: Eq + Hash + Drop, V: Drop, S: BuildHasher> Alone<K, V, S> {
     pub fn capacity(&self) -> usize
         ensures capacity { result ≡ min (sum_by (λ s. s.capacity) self.now.row) (2 ^ 64 - 1) }
         ensures holds { min (length (contents self.now)) (2 ^ 64 - 1) ≤ result }
-        ensures lawful { IsAlone K.eq S.BuildHasher S.Hasher.Hasher K.hash_input self.now }
+        ensures lawful { IsAlone (by K.Hash S.BuildHasher S.Hasher.Hasher) self.now }
     {
         let mut capacity: usize = 0;
         for shard in &self.row {
@@ -258,7 +259,7 @@ impl<K: Eq + Hash + Drop, V: Drop, S: BuildHasher> Alone<K, V, S> {
     ///
     /// It asks the shards in their order, and is refused (11) at the first that finds no memory: those before it keep their room.
     pub fn try_reserve(&mut self, additional: usize) -> Result<(), TryReserveError>
-        ensures { ReservesAlone K.eq S.BuildHasher S.Hasher.Hasher K.hash_input additional self.old self.new result }
+        ensures { ReservesAlone (by K.Hash S.BuildHasher S.Hasher.Hasher) additional self.old self.new result }
     {
         let _ = &self.hasher;
         for place in 0..self.row.len() {
@@ -281,7 +282,7 @@ impl<K: Eq + Hash + Drop, V: Drop, S: BuildHasher> Alone<K, V, S> {
             &mut row,
             &mut locks,
             |number: usize, shard: Shard<K, V, S>| -> Locked<K, V, S>
-                requires { IsPlaced K.eq S.BuildHasher S.Hasher.Hasher K.hash_input hasher amount number shard }
+                requires { IsPlaced (by K.Hash S.BuildHasher S.Hasher.Hasher) hasher amount number shard }
                 ensures { IsAt (record { hasher = hasher; amount = amount }) number result }
             {
                 let tag = ShardTag {
@@ -305,7 +306,7 @@ impl<K: Eq + Hash, V, S: BuildHasher> DashMap<K, V, S> {
     pub fn alone(self) -> Alone<K, V, S>
         ensures hasher { result.hasher ≡ self.hasher }
         ensures amount { length result.row ≡ self.amount }
-        ensures lawful { IsAlone K.eq S.BuildHasher S.Hasher.Hasher K.hash_input result }
+        ensures lawful { IsAlone (by K.Hash S.BuildHasher S.Hasher.Hasher) result }
     {
         let DashMap {
             hasher,
@@ -316,7 +317,7 @@ impl<K: Eq + Hash, V, S: BuildHasher> DashMap<K, V, S> {
             &mut row,
             &mut shards,
             |_: usize, lock: Locked<K, V, S>| -> Shard<K, V, S>
-                ensures { FitsPlace K.eq S.BuildHasher S.Hasher.Hasher K.hash_input (padded_value lock) result }
+                ensures { FitsPlace (by K.Hash S.BuildHasher S.Hasher.Hasher) (padded_value lock) result }
             { lock.into_inner().into_inner() },
         );
         Alone {

@@ -1,6 +1,6 @@
 //! The map that threads share.
 ghost use Rattle.std.specs.Prelude.{◌≡◌, ◌⊎◌, ℕ, ◌<◌, ◌↔◌, IsErrOf, IfOk, IfErr, OnOk};
-ghost use Rattle.dash_shard.specs.Hashing.{IsAmount, HashAlike, hash_of, route_of_hash, route_by};
+ghost use Rattle.dash_shard.specs.Hashing.{by, IsAmount, HashAlike, hash_of, route_of_hash, route_by};
 ghost use Rattle.dash_map.specs.Amounts.{IsParallelism, IsDefault, Overflows};
 
 use crate::alone::Alone;
@@ -121,7 +121,7 @@ impl<K: Eq + Hash + Drop, V: Drop, S: BuildHasher + Clone + Drop> DashMap<K, V, 
     /// It is refused where the parallelism is 0 or above 2^61 (6), then where the capacity can't be rounded up (7), then where there is no
     /// memory (8). The original reads the parallelism from the system.
     pub fn with_hasher(alloc: Global, hasher: S, parallelism: usize) -> Result<Self, ConstructError>
-        requires { (s t : S) → S.is_clone s t → HashAlike S.BuildHasher S.Hasher.Hasher s t }
+        requires { (s t : S) → S.is_clone s t → HashAlike (by K.Hash S.BuildHasher S.Hasher.Hasher) s t }
         ensures hasher { IfOk result (λ m. m.hasher ≡ hasher) }
         ensures amount { IfOk result (λ m. IsDefault parallelism m.amount) }
         ensures bad_parallelism { IsErrOf result ConstructError.Parallelism ↔ (IsParallelism parallelism → ⊥) }
@@ -137,7 +137,7 @@ impl<K: Eq + Hash + Drop, V: Drop, S: BuildHasher + Clone + Drop> DashMap<K, V, 
         hasher: S,
         parallelism: usize,
     ) -> Result<Self, ConstructError>
-        requires { (s t : S) → S.is_clone s t → HashAlike S.BuildHasher S.Hasher.Hasher s t }
+        requires { (s t : S) → S.is_clone s t → HashAlike (by K.Hash S.BuildHasher S.Hasher.Hasher) s t }
         ensures hasher { IfOk result (λ m. m.hasher ≡ hasher) }
         ensures amount { IfOk result (λ m. IsDefault parallelism m.amount) }
         ensures bad_parallelism { IsErrOf result ConstructError.Parallelism ↔ (IsParallelism parallelism → ⊥) }
@@ -156,7 +156,7 @@ impl<K: Eq + Hash + Drop, V: Drop, S: BuildHasher + Clone + Drop> DashMap<K, V, 
         hasher: S,
         amount: usize,
     ) -> Result<Self, ConstructError>
-        requires { (s t : S) → S.is_clone s t → HashAlike S.BuildHasher S.Hasher.Hasher s t }
+        requires { (s t : S) → S.is_clone s t → HashAlike (by K.Hash S.BuildHasher S.Hasher.Hasher) s t }
         ensures made { IfOk result (λ m. m ≡ record { hasher = hasher; amount = amount }) }
         ensures bad_amount { IsErrOf result ConstructError.ShardAmount ↔ (IsAmount amount → ⊥) }
         ensures kinds { IfErr result (λ e. (e ≡ ConstructError.ShardAmount) ⊎ (e ≡ ConstructError.Memory)) }
@@ -174,7 +174,7 @@ impl<K: Eq + Hash + Drop, V: Drop, S: BuildHasher + Clone + Drop> DashMap<K, V, 
         hasher: S,
         amount: usize,
     ) -> Result<Self, ConstructError>
-        requires { (s t : S) → S.is_clone s t → HashAlike S.BuildHasher S.Hasher.Hasher s t }
+        requires { (s t : S) → S.is_clone s t → HashAlike (by K.Hash S.BuildHasher S.Hasher.Hasher) s t }
         ensures made { IfOk result (λ m. m ≡ record { hasher = hasher; amount = amount }) }
         ensures bad_amount { IsErrOf result ConstructError.ShardAmount ↔ (IsAmount amount → ⊥) }
         ensures overflow { IsErrOf result ConstructError.CapacityOverflow ↔ (IsAmount amount × Overflows capacity amount) }
@@ -196,7 +196,7 @@ impl<K: Eq + Hash, V, S: BuildHasher> DashMap<K, V, S> {
     /// The number of the shard that a key goes to.
     #[inline]
     pub fn determine_map(&self, key: &K) -> usize
-        ensures route { result ≡ route_by S.BuildHasher S.Hasher.Hasher K.hash_input self.now.hasher self.now.amount key.now }
+        ensures route { result ≡ route_by (by K.Hash S.BuildHasher S.Hasher.Hasher) self.now.hasher self.now.amount key.now }
         ensures below { result < self.now.amount }
     {
         self.determine_shard(self.hash_usize(key))

@@ -3,7 +3,7 @@ ghost use Rattle.std.specs.Prelude.{◌≡◌, ◌<◌, ◌==◌, ◌-◌, ◌^�
 ghost use Rattle.std.specs.Map.Calls.{CalledAtPair, TakesPair};
 ghost use Rattle.dash_shard.specs.Closures.{MayAsk, AnswersOn, Viewed, MayChange, ChangesOn, MayGive, GivesOn};
 ghost use Rattle.dash_shard.specs.Each.{CalledOnPair, TakesOnPair};
-ghost use Rattle.dash_shard.specs.Hashing.{route_by};
+ghost use Rattle.dash_shard.specs.Hashing.{by, route_by};
 ghost use Rattle.dash_shard.specs.Held.{Alters};
 ghost use Rattle.dash_map.specs.Alone.{AloneState, IsPlaced, contents};
 ghost use Rattle.dash_map.specs.Behind.{Asked, Changed, SawPair, SawShards, LeavesShard, LeavesShards, CallableOnPairs};
@@ -34,7 +34,7 @@ pub trait Map<K: Eq + Hash, V, S: BuildHasher> {
     /// As `DashMap::shards_mut`.
     fn _yield_write_shard<R: Wait + Clock>(&self, rt: &R, shard: usize) -> ShardMut<'_, K, V, S>
         requires { shard < (state self.now).amount }
-        ensures { IsPlaced K.eq S.BuildHasher S.Hasher.Hasher K.hash_input (state self.now).hasher (state self.now).amount shard result };
+        ensures { IsPlaced (by K.Hash S.BuildHasher S.Hasher.Hasher) (state self.now).hasher (state self.now).amount shard result };
 
     /// As `DashMap::insert`.
     fn _insert<R: Wait + Clock>(
@@ -60,7 +60,7 @@ pub trait Map<K: Eq + Hash, V, S: BuildHasher> {
         f: F,
     ) -> Option<(K, V)>
         requires { (p : K × V) → IsTrue (K.eq p.0 key.now) → MayAsk F.FnOnce f p }
-        ensures { SawPair K.eq S.BuildHasher S.Hasher.Hasher K.hash_input (state self.now) key.now (λ p. Asked (AnswersOn F.FnOnce f) p result) };
+        ensures { SawPair (by K.Hash S.BuildHasher S.Hasher.Hasher) (state self.now) key.now (λ p. Asked (AnswersOn F.FnOnce f) p result) };
 
     /// As `DashMap::remove_if_mut`.
     fn _remove_if_mut<R: Wait + Clock, F: FnOnce(&K, &mut V) -> bool>(
@@ -70,20 +70,20 @@ pub trait Map<K: Eq + Hash, V, S: BuildHasher> {
         f: F,
     ) -> Option<(K, V)>
         requires { (p : K × V) → IsTrue (K.eq p.0 key.now) → MayChange F.FnOnce f p }
-        ensures { SawPair K.eq S.BuildHasher S.Hasher.Hasher K.hash_input (state self.now) key.now (λ p. Changed (ChangesOn F.FnOnce f) p result) };
+        ensures { SawPair (by K.Hash S.BuildHasher S.Hasher.Hasher) (state self.now) key.now (λ p. Changed (ChangesOn F.FnOnce f) p result) };
 
     /// As `DashMap::get`.
     fn _get<R: Wait + Clock>(&self, rt: &R, key: &K) -> Option<Ref<'_, K, V, S>>
         ensures equal { IfSome result (λ found. IsTrue (K.eq found.key key.now)) }
         ensures stands { IfSome result Stands }
-        ensures placed { IfSome result (λ found. IsPlaced K.eq S.BuildHasher S.Hasher.Hasher K.hash_input (state self.now).hasher (state self.now).amount (route_by S.BuildHasher S.Hasher.Hasher K.hash_input (state self.now).hasher (state self.now).amount key.now) found.shard) };
+        ensures placed { IfSome result (λ found. IsPlaced (by K.Hash S.BuildHasher S.Hasher.Hasher) (state self.now).hasher (state self.now).amount (route_by (by K.Hash S.BuildHasher S.Hasher.Hasher) (state self.now).hasher (state self.now).amount key.now) found.shard) };
 
     /// As `DashMap::shrink_to_fit`.
     fn _shrink_to_fit<R: Wait + Clock>(&self, rt: &R)
     where
         K: Drop,
         V: Drop,
-        ensures { LeavesShards K.eq S.BuildHasher S.Hasher.Hasher K.hash_input (state self.now) (ShrinksAlone {V = V} K.eq S.BuildHasher S.Hasher.Hasher K.hash_input) };
+        ensures { LeavesShards (by K.Hash S.BuildHasher S.Hasher.Hasher) (state self.now) (ShrinksAlone {V = V} (by K.Hash S.BuildHasher S.Hasher.Hasher)) };
 
     /// As `DashMap::retain`.
     fn _retain<R: Wait + Clock, F: FnMut(&K, &mut V) -> bool>(&self, rt: &R, f: F)
@@ -91,30 +91,30 @@ pub trait Map<K: Eq + Hash, V, S: BuildHasher> {
         K: Drop,
         V: Drop,
         requires { CallableOnPairs (CalledAtPair F.FnMut) (TakesPair F.FnMut) f }
-        ensures { LeavesShards K.eq S.BuildHasher S.Hasher.Hasher K.hash_input (state self.now) (RetainsAlone K.eq S.BuildHasher S.Hasher.Hasher K.hash_input (CalledAtPair F.FnMut) f) };
+        ensures { LeavesShards (by K.Hash S.BuildHasher S.Hasher.Hasher) (state self.now) (RetainsAlone (by K.Hash S.BuildHasher S.Hasher.Hasher) (CalledAtPair F.FnMut) f) };
 
     /// As `DashMap::len`.
     fn _len<R: Wait + Clock>(&self, rt: &R) -> usize
-        ensures { SawShards K.eq S.BuildHasher S.Hasher.Hasher K.hash_input (state self.now) (λ (a : AloneState K V S). result ≡ min (length (contents a)) (2 ^ 64 - 1)) };
+        ensures { SawShards (by K.Hash S.BuildHasher S.Hasher.Hasher) (state self.now) (λ (a : AloneState K V S). result ≡ min (length (contents a)) (2 ^ 64 - 1)) };
 
     /// As `DashMap::capacity`.
     fn _capacity<R: Wait + Clock>(&self, rt: &R) -> usize
-        ensures { SawShards K.eq S.BuildHasher S.Hasher.Hasher K.hash_input (state self.now) (λ (a : AloneState K V S). result ≡ min (sum_by (λ s. s.capacity) a.row) (2 ^ 64 - 1)) };
+        ensures { SawShards (by K.Hash S.BuildHasher S.Hasher.Hasher) (state self.now) (λ (a : AloneState K V S). result ≡ min (sum_by (λ s. s.capacity) a.row) (2 ^ 64 - 1)) };
 
     /// As `DashMap::alter`.
     fn _alter<R: Wait + Clock, F: FnOnce(&K, V) -> V>(&self, rt: &R, key: &K, f: F)
         requires { (p : K × V) → IsTrue (K.eq p.0 key.now) → MayGive F.FnOnce f p }
-        ensures { LeavesShard K.eq S.BuildHasher S.Hasher.Hasher K.hash_input (state self.now) key.now (λ s t. Alters K.eq S.BuildHasher S.Hasher.Hasher K.hash_input (GivesOn F.FnOnce f) s t key.now) };
+        ensures { LeavesShard (by K.Hash S.BuildHasher S.Hasher.Hasher) (state self.now) key.now (λ s t. Alters (by K.Hash S.BuildHasher S.Hasher.Hasher) (GivesOn F.FnOnce f) s t key.now) };
 
     /// As `DashMap::alter_all`.
     fn _alter_all<R: Wait + Clock, F: FnMut(&K, V) -> V>(&self, rt: &R, f: F)
         requires { CallableOnPairs (CalledOnPair F.FnMut) (TakesOnPair F.FnMut) f }
-        ensures { LeavesShards K.eq S.BuildHasher S.Hasher.Hasher K.hash_input (state self.now) (AltersAllAlone K.eq S.BuildHasher S.Hasher.Hasher K.hash_input (CalledOnPair F.FnMut) f) };
+        ensures { LeavesShards (by K.Hash S.BuildHasher S.Hasher.Hasher) (state self.now) (AltersAllAlone (by K.Hash S.BuildHasher S.Hasher.Hasher) (CalledOnPair F.FnMut) f) };
 
     /// As `DashMap::view`.
     fn _view<R: Wait + Clock, T, F: FnOnce(&K, &V) -> T>(&self, rt: &R, key: &K, f: F) -> Option<T>
         requires { (p : K × V) → IsTrue (K.eq p.0 key.now) → MayAsk F.FnOnce f p }
-        ensures { SawPair K.eq S.BuildHasher S.Hasher.Hasher K.hash_input (state self.now) key.now (λ p. Viewed F.FnOnce f p result) };
+        ensures { SawPair (by K.Hash S.BuildHasher S.Hasher.Hasher) (state self.now) key.now (λ p. Viewed F.FnOnce f p result) };
 
     /// A copy of `DashMap::hasher`, refused where it finds no memory.
     fn _hasher(&self) -> Result<S, AllocError>
@@ -127,15 +127,15 @@ pub trait Map<K: Eq + Hash, V, S: BuildHasher> {
     where
         K: Drop,
         V: Drop,
-        ensures { LeavesShards K.eq S.BuildHasher S.Hasher.Hasher K.hash_input (state self.now) (ClearsAlone {V = V} K.eq S.BuildHasher S.Hasher.Hasher K.hash_input) };
+        ensures { LeavesShards (by K.Hash S.BuildHasher S.Hasher.Hasher) (state self.now) (ClearsAlone {V = V} (by K.Hash S.BuildHasher S.Hasher.Hasher)) };
 
     /// As `DashMap::contains_key`.
     fn _contains_key<R: Wait + Clock>(&self, rt: &R, key: &K) -> bool
-        ensures { SawPair K.eq S.BuildHasher S.Hasher.Hasher K.hash_input (state self.now) key.now (λ (p : Option (K × V)). result ≡ is_some p) };
+        ensures { SawPair (by K.Hash S.BuildHasher S.Hasher.Hasher) (state self.now) key.now (λ (p : Option (K × V)). result ≡ is_some p) };
 
     /// As `DashMap::is_empty`.
     fn _is_empty<R: Wait + Clock>(&self, rt: &R) -> bool
-        ensures { SawShards K.eq S.BuildHasher S.Hasher.Hasher K.hash_input (state self.now) (λ (a : AloneState K V S). result ≡ (length (contents a) == 0)) };
+        ensures { SawShards (by K.Hash S.BuildHasher S.Hasher.Hasher) (state self.now) (λ (a : AloneState K V S). result ≡ (length (contents a) == 0)) };
 }
 
 impl<K: Eq + Hash, V, S: BuildHasher> Map<K, V, S> for DashMap<K, V, S> {

@@ -6,7 +6,7 @@ use Rattle.std.specs.Hash.{HashWrites}
 use Rattle.std.specs.declared.hash.Hasher as hasher
 use Rattle.std.specs.declared.hash.BuildHasher as builder
 use Rattle.std.proofs.lemmas.Option.{none-some, same_Some}
-use Rattle.dash_shard.specs.Hashing.{hash_of}
+use Rattle.dash_shard.specs.Hashing.{IsLawful, KeyHash, hash_of}
 use Rattle.dash_shard.specs.Contents.{Keys, at, IsOnShard}
 use Rattle.dash_shard.specs.Steps.{Act, Step, Retain, AlterAll, Done, on_shard, line, line_after, LineReplies}
 use Rattle.dash_shard.specs.Shard.{ShardState, place, taken, pairs, keys_of, IsShard, TakesExactly, StaysInPlace}
@@ -34,69 +34,69 @@ length-altered act [] = refl
 length-altered act (None ∷ xs) = length-altered act xs
 length-altered act (Some p ∷ xs) = omega (arith, length-altered act xs)
 
-module _ {K V S H : Type 0} (eq : K → K → Bool) (b : builder.Ghosts S H) (h : hasher.Ghosts H) (input : K → HashWrites)
-    (laws : IsEquivalence eq) (respects : (x y : K) → eq x y ≡ true → input x ≡ input y) (s : S) (number amount : ℕ) where
+module _ {K V S : Type 0} (h : KeyHash K S)
+    (law : IsLawful h) (s : S) (number amount : ℕ) where
   abbrev of : Table K V → ShardState K V S
-  of t = state eq b h input laws respects s number amount t
+  of t = state h law s number amount t
 
-  module _ (t new : Table K V) (inside : Inside eq b h input laws respects s number amount t) (becomes : K × V → Option (K × V)) (keeps : KeepsKey becomes)
+  module _ (t new : Table K V) (inside : Inside h law s number amount t) (becomes : K × V → Option (K × V)) (keeps : KeepsKey becomes)
       (places : pairs_of new.nodes.items ≡ remade becomes (pairs_of t.nodes.items)) where
     abbrev w : Keys K
-    w = keys_of eq b h input (of t)
+    w = keys_of h (of t)
 
-    remade-shard : IsShard eq b h input (of new)
+    remade-shard : IsShard h (of new)
     remade-shard = record {
-      contents = subst (λ xs. IsOnShard w number (taken xs)) (sym places) (on_shard-remade becomes keeps w laws number (pairs_of t.nodes.items) inside.shard.contents);
+      contents = subst (λ xs. IsOnShard w number (taken xs)) (sym places) (on_shard-remade becomes keeps w law.laws number (pairs_of t.nodes.items) inside.shard.contents);
       number = inside.shard.number;
       amount = inside.shard.amount;
     }
 
-    pub remade-inside : hashes_of new.nodes.items ≡ hashes_of t.nodes.items → new.len ≡ length (taken (pairs_of new.nodes.items)) → IsTable new → Inside eq b h input laws respects s number amount new
+    pub remade-inside : hashes_of new.nodes.items ≡ hashes_of t.nodes.items → new.len ≡ length (taken (pairs_of new.nodes.items)) → IsTable new → Inside h law s number amount new
     remade-inside hashes counted table = record {
       shard = remade-shard;
       table = table;
-      hashed = subst (λ xs. IsHashed (λ j. hash_of b h s (input j)) xs (hashes_of new.nodes.items)) (sym places)
-          (subst (λ hs. IsHashed (λ j. hash_of b h s (input j)) (remade becomes (pairs_of t.nodes.items)) hs) (sym hashes) (hashed-remade becomes keeps (λ j. hash_of b h s (input j)) _ _ inside.hashed));
+      hashed = subst (λ xs. IsHashed (λ j. h.hash s j) xs (hashes_of new.nodes.items)) (sym places)
+          (subst (λ hs. IsHashed (λ j. h.hash s j) (remade becomes (pairs_of t.nodes.items)) hs) (sym hashes) (hashed-remade becomes keeps (λ j. h.hash s j) _ _ inside.hashed));
       counted = counted;
     }
 
     -- a step on this shard that makes just this of each pair
     module _ (step : Step K V) (is : line step ≡ on_shard number becomes (λ _. Done)) where
-      pub remade-takes : TakesExactly eq b h input (of t) (of new) step Done
+      pub remade-takes : TakesExactly h (of t) (of new) step Done
       remade-takes = record {
-        replies = subst (λ l. LineReplies w l (pairs (of t)) Done) (sym is) (pairs (of t), each-once w laws number (pairs (of t)) inside.shard.contents, refl);
-        becomes = λ j. ap (λ xs. at w (taken xs) j) places ∙ becomes-remade becomes keeps w laws number (pairs_of t.nodes.items) inside.shard.contents j
+        replies = subst (λ l. LineReplies w l (pairs (of t)) Done) (sym is) (pairs (of t), each-once w law.laws number (pairs (of t)) inside.shard.contents, refl);
+        becomes = λ j. ap (λ xs. at w (taken xs) j) places ∙ becomes-remade becomes keeps w law.laws number (pairs_of t.nodes.items) inside.shard.contents j
             ∙ ap (λ l. line_after w l j (at w (pairs (of t)) j)) (sym is);
         stays = record { number = refl; amount = refl; hasher = refl };
         lawful = remade-shard;
       }
 
-      pub remade-stays : StaysInPlace eq b h input (of t) (of new) step
-      remade-stays i p e = ap (λ xs. place xs i) places ∙ stays-remade becomes keeps w laws number (pairs_of t.nodes.items) inside.shard.contents i p e
+      pub remade-stays : StaysInPlace h (of t) (of new) step
+      remade-stays i p e = ap (λ xs. place xs i) places ∙ stays-remade becomes keeps w law.laws number (pairs_of t.nodes.items) inside.shard.contents i p e
           ∙ ap (λ l. line_after w l p.0 (Some p)) (sym is)
 
-  module _ (t new : Table K V) (inside : Inside eq b h input laws respects s number amount t) {F : Type 0} (T : F → K → V → Bool → V → F → Type 0) (f : F) where
+  module _ (t new : Table K V) (inside : Inside h law s number amount t) {F : Type 0} (T : F → K → V → Bool → V → F → Type 0) (f : F) where
     -- the pairs that were kept
     module _ (swept : (last : F) × Sweeps T if_kept f (pairs_of t.nodes.items) (pairs_of new.nodes.items) last) where
-      did : Acts T if_kept (keys_of eq b h input (of t)) laws f (pairs_of t.nodes.items) (pairs_of new.nodes.items) swept.0
-      did = acts T if_kept (keys_of eq b h input (of t)) laws f _ _ swept.0 inside.shard.contents.distinct swept.1
+      did : Acts T if_kept (keys_of h (of t)) law.laws f (pairs_of t.nodes.items) (pairs_of new.nodes.items) swept.0
+      did = acts T if_kept (keys_of h (of t)) law.laws f _ _ swept.0 inside.shard.contents.distinct swept.1
 
-      pub retained-inside : hashes_of new.nodes.items ≡ hashes_of t.nodes.items → new.len ≡ length (taken (pairs_of new.nodes.items)) → IsTable new → Inside eq b h input laws respects s number amount new
+      pub retained-inside : hashes_of new.nodes.items ≡ hashes_of t.nodes.items → new.len ≡ length (taken (pairs_of new.nodes.items)) → IsTable new → Inside h law s number amount new
       retained-inside = remade-inside t new inside _ (kept-key did.act) did.made
 
-      pub retains : length new.nodes.items ≡ length t.nodes.items → (z : ShardState K V S) → of t ≡ z → Retains eq b h input T f z (of new)
-      retains room z view = subst (λ x. Retains eq b h input T f x (of new)) view (record {
+      pub retains : length new.nodes.items ≡ length t.nodes.items → (z : ShardState K V S) → of t ≡ z → Retains h T f z (of new)
+      retains room z view = subst (λ x. Retains h T f x (of new)) view (record {
         act = did.act;
         last = swept.0;
         called = did.called;
         taken = remade-takes t new inside _ (kept-key did.act) did.made (Retain number did.act) refl;
         places = remade-stays t new inside _ (kept-key did.act) did.made (Retain number did.act) refl;
         room = room;
-        len = subst (λ xs. length (taken xs) ≤ length (taken (pairs_of t.nodes.items))) (sym did.made) (fewer-remade (makes T if_kept (keys_of eq b h input (of t)) laws did.act) (pairs_of t.nodes.items));
+        len = subst (λ xs. length (taken xs) ≤ length (taken (pairs_of t.nodes.items))) (sym did.made) (fewer-remade (makes T if_kept (keys_of h (of t)) law.laws did.act) (pairs_of t.nodes.items));
       })
 
-      pub sweeps-kept : length new.nodes.items ≡ length t.nodes.items → (z : ShardState K V S) → of t ≡ z → SweepsShard eq b h input T if_kept f swept.0 z (of new)
-      sweeps-kept room z view = subst (λ x. SweepsShard eq b h input T if_kept f swept.0 x (of new)) view (record {
+      pub sweeps-kept : length new.nodes.items ≡ length t.nodes.items → (z : ShardState K V S) → of t ≡ z → SweepsShard h T if_kept f swept.0 z (of new)
+      sweeps-kept room z view = subst (λ x. SweepsShard h T if_kept f swept.0 x (of new)) view (record {
         swept = swept.1;
         room = room;
         stays = record { number = refl; amount = refl; hasher = refl };
@@ -105,17 +105,17 @@ module _ {K V S H : Type 0} (eq : K → K → Bool) (b : builder.Ghosts S H) (h 
 
     -- the pairs whose values were altered
     module _ (swept : (last : F) × Sweeps T altered f (pairs_of t.nodes.items) (pairs_of new.nodes.items) last) where
-      made : Acts T altered (keys_of eq b h input (of t)) laws f (pairs_of t.nodes.items) (pairs_of new.nodes.items) swept.0
-      made = acts T altered (keys_of eq b h input (of t)) laws f _ _ swept.0 inside.shard.contents.distinct swept.1
+      made : Acts T altered (keys_of h (of t)) law.laws f (pairs_of t.nodes.items) (pairs_of new.nodes.items) swept.0
+      made = acts T altered (keys_of h (of t)) law.laws f _ _ swept.0 inside.shard.contents.distinct swept.1
 
       same-length : length (taken (pairs_of new.nodes.items)) ≡ length (taken (pairs_of t.nodes.items))
       same-length = ap (λ xs. length (taken xs)) made.made ∙ length-altered made.act (pairs_of t.nodes.items)
 
-      pub altered-inside : hashes_of new.nodes.items ≡ hashes_of t.nodes.items → new.len ≡ t.len → IsTable new → Inside eq b h input laws respects s number amount new
+      pub altered-inside : hashes_of new.nodes.items ≡ hashes_of t.nodes.items → new.len ≡ t.len → IsTable new → Inside h law s number amount new
       altered-inside hashes len table = remade-inside t new inside _ (altered-key made.act) made.made hashes (len ∙ inside.counted ∙ sym same-length) table
 
-      pub alters : length new.nodes.items ≡ length t.nodes.items → (z : ShardState K V S) → of t ≡ z → AltersAll eq b h input T f z (of new)
-      alters room z view = subst (λ x. AltersAll eq b h input T f x (of new)) view (record {
+      pub alters : length new.nodes.items ≡ length t.nodes.items → (z : ShardState K V S) → of t ≡ z → AltersAll h T f z (of new)
+      alters room z view = subst (λ x. AltersAll h T f x (of new)) view (record {
         act = made.act;
         last = swept.0;
         called = made.called;
@@ -125,8 +125,8 @@ module _ {K V S H : Type 0} (eq : K → K → Bool) (b : builder.Ghosts S H) (h 
         len = same-length;
       })
 
-      pub sweeps-altered : length new.nodes.items ≡ length t.nodes.items → (z : ShardState K V S) → of t ≡ z → SweepsShard eq b h input T altered f swept.0 z (of new)
-      sweeps-altered room z view = subst (λ x. SweepsShard eq b h input T altered f swept.0 x (of new)) view (record {
+      pub sweeps-altered : length new.nodes.items ≡ length t.nodes.items → (z : ShardState K V S) → of t ≡ z → SweepsShard h T altered f swept.0 z (of new)
+      sweeps-altered room z view = subst (λ x. SweepsShard h T altered f swept.0 x (of new)) view (record {
         swept = swept.1;
         room = room;
         stays = record { number = refl; amount = refl; hasher = refl };
@@ -134,7 +134,7 @@ module _ {K V S H : Type 0} (eq : K → K → Bool) (b : builder.Ghosts S H) (h 
       })
 
   -- no pair is left
-  module _ (t new : Table K V) (inside : Inside eq b h input laws respects s number amount t) (places : pairs_of new.nodes.items ≡ map (λ _. None) (pairs_of t.nodes.items)) where
+  module _ (t new : Table K V) (inside : Inside h law s number amount t) (places : pairs_of new.nodes.items ≡ map (λ _. None) (pairs_of t.nodes.items)) where
     nothing : {A B : Type 0} (o : Option A) → None ≡ option_and_then {T = A} {U = B} (λ _. None) o
     nothing None = refl
     nothing (Some x) = refl
@@ -149,11 +149,11 @@ module _ {K V S H : Type 0} (eq : K → K → Bool) (b : builder.Ghosts S H) (h 
     none-left : taken (pairs_of new.nodes.items) ≡ []
     none-left = ap taken places ∙ taken-none (pairs_of t.nodes.items)
 
-    pub cleared-inside : hashes_of new.nodes.items ≡ hashes_of t.nodes.items → new.len ≡ 0 → IsTable new → Inside eq b h input laws respects s number amount new
+    pub cleared-inside : hashes_of new.nodes.items ≡ hashes_of t.nodes.items → new.len ≡ 0 → IsTable new → Inside h law s number amount new
     cleared-inside hashes len table = remade-inside t new inside (λ _. None) none-key (places ∙ none-made (pairs_of t.nodes.items)) hashes (len ∙ ap length (sym none-left)) table
 
-    pub clears : length new.nodes.items ≡ length t.nodes.items → (z : ShardState K V S) → of t ≡ z → Clears eq b h input z (of new)
-    clears room z view = subst (λ x. Clears eq b h input x (of new)) view (record {
+    pub clears : length new.nodes.items ≡ length t.nodes.items → (z : ShardState K V S) → of t ≡ z → Clears h z (of new)
+    clears room z view = subst (λ x. Clears h x (of new)) view (record {
       taken = remade-takes t new inside (λ _. None) none-key (places ∙ none-made (pairs_of t.nodes.items)) (Retain number (λ _ v. (v, false))) refl;
       empty = none-left;
       room = room;

@@ -16,6 +16,7 @@ use Rattle.dash_shard.specs.Held.{Removes, RemovesIfMut, AltersBy, Alters, Repla
 use Rattle.dash_shard.specs.Table.{Holds, IsTable, IsRewritten, pairs_of, hashes_of}
 use Rattle.dash_shard.proofs.Shards.{state, Inside, at-found, removed, removes}
 use Rattle.dash_shard.proofs.Rewriting.{found-at, rewritten-len, rewritten-inside, rewritten-place, rewritten-at, rewritten-becomes, rewritten-stays}
+use Rattle.dash_shard.specs.Hashing.{IsLawful, KeyHash}
 
 -- to every value v, and to the answer c
 abbrev pub to : {K V : Type 0} → V → Bool → Act K V
@@ -53,11 +54,11 @@ module _ {K V : Type 0} (w : Keys K) (f : Option (K × V) → Option (K × V)) (
 written-gone : {K V : Type 0} (t mid new : Table K V) (i : ℕ) (q : K × V) → IsRewritten i q t mid → pairs_of new.nodes.items ≡ set (pairs_of mid.nodes.items) i None → pairs_of new.nodes.items ≡ set (pairs_of t.nodes.items) i None
 written-gone t mid new i q r e = e ∙ ap (λ xs. set xs i None) r.pairs ∙ set-set (pairs_of t.nodes.items) i (Some q) None
 
-module _ {K V S H : Type 0} (eq : K → K → Bool) (b : builder.Ghosts S H) (h : hasher.Ghosts H) (input : K → HashWrites) where
+module _ {K V S : Type 0} (h : KeyHash K S) where
   -- nothing is altered where there is nothing
-  pub unaltered : (z : ShardState K V S) (k : K) → IsShard eq b h input z → AltersBy eq b h input idle z z k
+  pub unaltered : (z : ShardState K V S) (k : K) → IsShard h z → AltersBy h idle z z k
   unaltered z k shard =
-      let w = keys_of eq b h input z in
+      let w = keys_of h z in
       record {
         taken = record {
           replies = refl;
@@ -71,9 +72,9 @@ module _ {K V S H : Type 0} (eq : K → K → Bool) (b : builder.Ghosts S H) (h 
       }
 
   -- nothing goes where there is nothing
-  pub unremoved : (z : ShardState K V S) (k : K) → IsShard eq b h input z → RemovesIfMut eq b h input idle z z k None
+  pub unremoved : (z : ShardState K V S) (k : K) → IsShard h z → RemovesIfMut h idle z z k None
   unremoved z k shard =
-      let w = keys_of eq b h input z in
+      let w = keys_of h z in
       let f : Option (K × V) → Option (K × V) = option_and_then (λ p. if_no idle p (changed idle p)) in
       record {
         taken = record {
@@ -88,9 +89,9 @@ module _ {K V S H : Type 0} (eq : K → K → Bool) (b : builder.Ghosts S H) (h 
       }
 
   -- a removal takes a pair that stood there, and answers it with the value v
-  pub removed-changed : (z n : ShardState K V S) (k : K) (p : K × V) (v : V) → at (keys_of eq b h input z) (pairs z) k ≡ Some p → Removes eq b h input z n k (Some p) → RemovesIfMut eq b h input (to v true) z n k (Some (p.0, v))
+  pub removed-changed : (z n : ShardState K V S) (k : K) (p : K × V) (v : V) → at (keys_of h z) (pairs z) k ≡ Some p → Removes h z n k (Some p) → RemovesIfMut h (to v true) z n k (Some (p.0, v))
   removed-changed z n k p v there x =
-      let w = keys_of eq b h input z in
+      let w = keys_of h z in
       record {
         taken = record {
           replies = ap (λ o. Pair (option_and_then (λ q. if_yes (to v true) q (changed (to v true) q)) o)) (sym there);
@@ -103,10 +104,10 @@ module _ {K V S H : Type 0} (eq : K → K → Bool) (b : builder.Ghosts S H) (h 
         places = x.places;
       }
 
-  module _ (laws : IsEquivalence eq) (respects : (x y : K) → eq x y ≡ true → input x ≡ input y) (s : S) (number amount : ℕ)
-      (t new : Table K V) (inside : Inside eq b h input laws respects s number amount t) (k : K) (i : ℕ) (found : Holds eq t.nodes.items k i) (z : ShardState K V S) (view : state eq b h input laws respects s number amount t ≡ z) where
+  module _ (law : IsLawful h) (s : S) (number amount : ℕ)
+      (t new : Table K V) (inside : Inside h law s number amount t) (k : K) (i : ℕ) (found : Holds h.eq t.nodes.items k i) (z : ShardState K V S) (view : state h law s number amount t ≡ z) where
     abbrev pub now : ShardState K V S
-    now = state eq b h input laws respects s number amount new
+    now = state h law s number amount new
 
     -- the pair with the value v
     abbrev pub valued : V → K × V
@@ -114,71 +115,71 @@ module _ {K V S H : Type 0} (eq : K → K → Bool) (b : builder.Ghosts S H) (h 
 
     -- it stands in the place of the pair
     module _ (v : V) (r : IsRewritten i (valued v) t new) where
-      pub altered-inside : Inside eq b h input laws respects s number amount new
-      altered-inside = rewritten-inside eq b h input laws respects s number amount t new inside k i found (valued v) found.equal r
+      pub altered-inside : Inside h law s number amount new
+      altered-inside = rewritten-inside h law s number amount t new inside k i found (valued v) found.equal r
 
-      pub alters : (c : Bool) → AltersBy eq b h input (to v c) z now k
-      alters c = subst (λ x. AltersBy eq b h input (to v c) x now k) view (record {
+      pub alters : (c : Bool) → AltersBy h (to v c) z now k
+      alters c = subst (λ x. AltersBy h (to v c) x now k) view (record {
         taken = record {
           replies = refl;
-          becomes = rewritten-becomes eq b h input laws respects s number amount t new inside k i found (valued v) found.equal r (option_map (changed (to v c))) refl;
+          becomes = rewritten-becomes h law s number amount t new inside k i found (valued v) found.equal r (option_map (changed (to v c))) refl;
           stays = record { number = refl; amount = refl; hasher = refl };
           lawful = altered-inside.shard;
         };
-        len = rewritten-len eq b h input laws respects s number amount t new inside k i found (valued v) found.equal r;
+        len = rewritten-len h law s number amount t new inside k i found (valued v) found.equal r;
         room = r.places;
-        places = rewritten-stays eq b h input laws respects s number amount t new inside k i found (valued v) found.equal r (option_map (changed (to v c))) refl;
+        places = rewritten-stays h law s number amount t new inside k i found (valued v) found.equal r (option_map (changed (to v c))) refl;
       })
 
-      pub stays-changed : RemovesIfMut eq b h input (to v false) z now k None
+      pub stays-changed : RemovesIfMut h (to v false) z now k None
       stays-changed =
           let f : Option (K × V) → Option (K × V) = option_and_then (λ p. if_no (to v false) p (changed (to v false) p)) in
-          subst (λ x. RemovesIfMut eq b h input (to v false) x now k None) view (record {
+          subst (λ x. RemovesIfMut h (to v false) x now k None) view (record {
             taken = record {
-              replies = ap (λ o. Pair (option_and_then (λ q. if_yes (to v false) q (changed (to v false) q)) o)) (sym (found-at eq b h input laws respects s number amount t new inside k i found (valued v) found.equal r));
-              becomes = rewritten-becomes eq b h input laws respects s number amount t new inside k i found (valued v) found.equal r f refl;
+              replies = ap (λ o. Pair (option_and_then (λ q. if_yes (to v false) q (changed (to v false) q)) o)) (sym (found-at h law s number amount t new inside k i found (valued v) found.equal r));
+              becomes = rewritten-becomes h law s number amount t new inside k i found (valued v) found.equal r f refl;
               stays = record { number = refl; amount = refl; hasher = refl };
               lawful = altered-inside.shard;
             };
-            len = sym (rewritten-len eq b h input laws respects s number amount t new inside k i found (valued v) found.equal r) ∙ sym (add-zero _);
+            len = sym (rewritten-len h law s number amount t new inside k i found (valued v) found.equal r) ∙ sym (add-zero _);
             room = r.places;
-            places = rewritten-stays eq b h input laws respects s number amount t new inside k i found (valued v) found.equal r f refl;
+            places = rewritten-stays h law s number amount t new inside k i found (valued v) found.equal r f refl;
           })
 
     -- what is found at the key
-    pub stood : (P : K × V → Type 0) → P found.pair → IfSome (at (keys_of eq b h input z) (pairs z) k) P
-    stood P holds = subst (λ x. IfSome (at (keys_of eq b h input x) (pairs x) k) P) view (rw (at-found eq b h input laws respects s number amount t inside k i found) holds)
+    pub stood : (P : K × V → Type 0) → P found.pair → IfSome (at (keys_of h z) (pairs z) k) P
+    stood P holds = subst (λ x. IfSome (at (keys_of h x) (pairs x) k) P) view (rw (at-found h law s number amount t inside k i found) holds)
 
     -- where a call gave the pair a value, of which G says what the call says
     module _ (G : K × V → V → Type 0) (gave : IfSome (place (pairs_of t.nodes.items) i) (λ p. (v : V) × IsRewritten i (p.0, v) t new × G p v)) where
       given : (v : V) × IsRewritten i (valued v) t new × G found.pair v
       given = subst (λ o. IfSome o (λ p. (v : V) × IsRewritten i (p.0, v) t new × G p v)) found.is gave
 
-      pub given-inside : Inside eq b h input laws respects s number amount new
+      pub given-inside : Inside h law s number amount new
       given-inside = altered-inside given.0 given.1
 
-      pub given-alters : Alters eq b h input G z now k
+      pub given-alters : Alters h G z now k
       given-alters = (to given.0 true, alters given.0 given.1 true, stood (λ p. G p given.0) given.2)
 
     -- it stood there with the value v, and then went
-    module _ (here : Routes eq b h input z k) (v : V) (mid : Table K V) (r : IsRewritten i (valued v) t mid) (places : pairs_of new.nodes.items ≡ set (pairs_of mid.nodes.items) i None)
+    module _ (here : Routes h z k) (v : V) (mid : Table K V) (r : IsRewritten i (valued v) t mid) (places : pairs_of new.nodes.items ≡ set (pairs_of mid.nodes.items) i None)
         (hashes : hashes_of new.nodes.items ≡ hashes_of mid.nodes.items) (len : new.len + 1 ≡ mid.len) (table : IsTable new) where
-      pub gone-inside : Inside eq b h input laws respects s number amount new
-      gone-inside = (removed eq b h input laws respects s number amount t inside k z view here new i found (written-gone t mid new i (valued v) r places) (hashes ∙ r.hashes) (len ∙ r.len) table).inside
+      pub gone-inside : Inside h law s number amount new
+      gone-inside = (removed h law s number amount t inside k z view here new i found (written-gone t mid new i (valued v) r places) (hashes ∙ r.hashes) (len ∙ r.len) table).inside
 
-      pub gone-changed : RemovesIfMut eq b h input (to v true) z now k (Some (valued v))
-      gone-changed = removed-changed z now k found.pair v (subst (λ x. at (keys_of eq b h input x) (pairs x) k ≡ Some found.pair) view (at-found eq b h input laws respects s number amount t inside k i found))
-          (removes eq b h input laws respects s number amount t inside k z view here new i found (written-gone t mid new i (valued v) r places) (hashes ∙ r.hashes) (len ∙ r.len) table)
+      pub gone-changed : RemovesIfMut h (to v true) z now k (Some (valued v))
+      gone-changed = removed-changed z now k found.pair v (subst (λ x. at (keys_of h x) (pairs x) k ≡ Some found.pair) view (at-found h law s number amount t inside k i found))
+          (removes h law s number amount t inside k z view here new i found (written-gone t mid new i (valued v) r places) (hashes ∙ r.hashes) (len ∙ r.len) table)
 
     -- a new pair with an equal key stands there
-    pub replaces : (q : K × V) (equal : eq q.0 k ≡ true) → IsRewritten i q t new → (old : K × V) → place (pairs_of t.nodes.items) i ≡ Some old → k ≡ q.0 → Replaces eq b h input z now i q.0 q.1 old
-    replaces q equal r old there same = subst (λ x. Replaces eq b h input x now i q.0 q.1 old) view (record {
+    pub replaces : (q : K × V) (equal : h.eq q.0 k ≡ true) → IsRewritten i q t new → (old : K × V) → place (pairs_of t.nodes.items) i ≡ Some old → k ≡ q.0 → Replaces h z now i q.0 q.1 old
+    replaces q equal r old there same = subst (λ x. Replaces h x now i q.0 q.1 old) view (record {
       answers = there;
-      here = rewritten-place eq b h input laws respects s number amount t new inside k i found q equal r i ∙ rw (eq-eqb i i refl) refl;
-      others = λ j other. rewritten-place eq b h input laws respects s number amount t new inside k i found q equal r j ∙ rw (ne_eqb j i other) refl;
-      contents = λ j. rewritten-at eq b h input laws respects s number amount t new inside k i found q equal r j ∙ ap (λ x. cond (eq x j) (Some q) (at (keys_of eq b h input (state eq b h input laws respects s number amount t)) (pairs (state eq b h input laws respects s number amount t)) j)) same;
-      len = rewritten-len eq b h input laws respects s number amount t new inside k i found q equal r;
+      here = rewritten-place h law s number amount t new inside k i found q equal r i ∙ rw (eq-eqb i i refl) refl;
+      others = λ j other. rewritten-place h law s number amount t new inside k i found q equal r j ∙ rw (ne_eqb j i other) refl;
+      contents = λ j. rewritten-at h law s number amount t new inside k i found q equal r j ∙ ap (λ x. cond (h.eq x j) (Some q) (at (keys_of h (state h law s number amount t)) (pairs (state h law s number amount t)) j)) same;
+      len = rewritten-len h law s number amount t new inside k i found q equal r;
       room = r.places;
       stays = record { number = refl; amount = refl; hasher = refl };
-      lawful = (rewritten-inside eq b h input laws respects s number amount t new inside k i found q equal r).shard;
+      lawful = (rewritten-inside h law s number amount t new inside k i found q equal r).shard;
     })

@@ -9,6 +9,7 @@ use Rattle.dash_shard.specs.Contents.{Keys, at}
 use Rattle.dash_shard.specs.Steps.{Remove, RemoveIf, Pair, Replies, Becomes, after}
 use Rattle.dash_shard.specs.Shard.{ShardState, pairs, keys_of, IsShard}
 use Rattle.dash_shard.specs.Held.{Removes, RemovesIf}
+use Rattle.dash_shard.specs.Hashing.{KeyHash}
 
 -- what stands there, and nothing
 there : {A : Type 0} (o : Option A) → option_and_then Some o ≡ o
@@ -32,10 +33,10 @@ module _ {K V : Type 0} (w : Keys K) where
     | inr other ↦ rw other refl
   ]
 
-module _ {K V S H : Type 0} (eq : K → K → Bool) (b : builder.Ghosts S H) (h : hasher.Ghosts H) (input : K → HashWrites) where
-  pub asked-yes : (z n : ShardState K V S) (k : K) (r : Option (K × V)) → Removes eq b h input z n k r → RemovesIf eq b h input true z n k r
+module _ {K V S : Type 0} (h : KeyHash K S) where
+  pub asked-yes : (z n : ShardState K V S) (k : K) (r : Option (K × V)) → Removes h z n k r → RemovesIf h true z n k r
   asked-yes z n k r x =
-      let w = keys_of eq b h input z in
+      let w = keys_of h z in
       record {
         taken = record {
           replies = yes-replies w k (pairs z) r x.taken.replies;
@@ -48,9 +49,9 @@ module _ {K V S H : Type 0} (eq : K → K → Bool) (b : builder.Ghosts S H) (h 
         places = x.places;
       }
 
-  pub asked-no : (z : ShardState K V S) (k : K) → IsShard eq b h input z → RemovesIf eq b h input false z z k None
+  pub asked-no : (z : ShardState K V S) (k : K) → IsShard h z → RemovesIf h false z z k None
   asked-no z k shard =
-      let w = keys_of eq b h input z in
+      let w = keys_of h z in
       record {
         taken = record {
           replies = ap Pair (sym (nothing (at w (pairs z) k)));

@@ -16,16 +16,17 @@ use Rattle.dash_shard.specs.Table.{node, pairs_of, with_value, with_value_at}
 use Rattle.dash_shard.proofs.Rewriting.{holds-pair, valued-rewritten, rewritten-inside}
 use Rattle.dash_shard.proofs.Shards.{state, Inside}
 use Rattle.dash_shard.proofs.Tables.{place_node}
+use Rattle.dash_shard.specs.Hashing.{IsLawful, KeyHash}
 
-module _ {K V S H : Type 0} (eq : K → K → Bool) (b : builder.Ghosts S H) (h : hasher.Ghosts H) (input : K → HashWrites)
-    (laws : IsEquivalence eq) (respects : (x y : K) → eq x y ≡ true → input x ≡ input y) (s : S) (number amount : ℕ)
-    (t : Table K V) (inside : Inside eq b h input laws respects s number amount t) (i : ℕ) where
-  pub lent-inside : (p : K × V) → place (pairs_of t.nodes.items) i ≡ Some p → (v : V) → Inside eq b h input laws respects s number amount (with_value_at t i v)
+module _ {K V S : Type 0} (h : KeyHash K S)
+    (law : IsLawful h) (s : S) (number amount : ℕ)
+    (t : Table K V) (inside : Inside h law s number amount t) (i : ℕ) where
+  pub lent-inside : (p : K × V) → place (pairs_of t.nodes.items) i ≡ Some p → (v : V) → Inside h law s number amount (with_value_at t i v)
   lent-inside p there v =
-      rewritten-inside eq b h input laws respects s number amount t (with_value_at t i v) inside p.0 i (holds-pair eq t.nodes.items p.0 i p there (rw there (laws.refl p.0))) (p.0, v) (laws.refl p.0)
+      rewritten-inside h law s number amount t (with_value_at t i v) inside p.0 i (holds-pair h.eq t.nodes.items p.0 i p there (rw there (law.laws.refl p.0))) (p.0, v) (law.laws.refl p.0)
       (valued-rewritten t i p v inside.table there)
 
-  pub lent-state : (v : V) → state eq b h input laws respects s number amount (with_value_at t i v) ≡ with_value_in (state eq b h input laws respects s number amount t) i v
+  pub lent-state : (v : V) → state h law s number amount (with_value_at t i v) ≡ with_value_in (state h law s number amount t) i v
   lent-state v =
       let nodes = t.nodes.items in
       let of : List (Option (K × V)) → ℕ → ShardState K V S = λ ps n. record { places = ps; number = number; amount = amount; hasher = s; capacity = n } in

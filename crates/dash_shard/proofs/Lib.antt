@@ -8,6 +8,7 @@ mod Changing
 pub mod Equals
 mod Exchanging
 mod HoldFields
+pub mod Lawful
 pub mod Lending
 mod LockBorrows
 mod LockShown

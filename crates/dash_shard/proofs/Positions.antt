@@ -7,7 +7,7 @@ use Rattle.std.specs.declared.hash.Hasher as hasher
 use Rattle.std.specs.declared.hash.BuildHasher as builder
 use Rattle.std.proofs.lemmas.Bool.{cases_eq, both_ways, true≢false}
 use Rattle.std.proofs.lemmas.Option.{none-some, same_Some}
-use Rattle.dash_shard.specs.Hashing.{hash_of}
+use Rattle.dash_shard.specs.Hashing.{IsLawful, KeyHash, hash_of}
 use Rattle.dash_shard.specs.Shard.{ShardState, place, HasKey}
 use Rattle.dash_shard.specs.Held.{Finds}
 use Rattle.dash_shard.specs.declared.shard.table.Table.{Table}
@@ -19,35 +19,35 @@ held : {A : Type 0} {P : A → Type 0} (o : Option A) → IsSomeAnd o P → (p :
 held None h = absurd h
 held (Some p) h = (p, refl, h)
 
-module _ {K V S H : Type 0} (eq : K → K → Bool) (b : builder.Ghosts S H) (h : hasher.Ghosts H) (input : K → HashWrites) where
-  module _ (laws : IsEquivalence eq) (respects : (x y : K) → eq x y ≡ true → input x ≡ input y) (s : S) (number amount : ℕ)
-      (t : Table K V) (inside : Inside eq b h input laws respects s number amount t) (k : K) (hash : ℕ) (is : hash ≡ hash_of b h s (input k)) where
-    finds : (m : ℕ) → Holds eq t.nodes.items k m → Finds eq b h input (state eq b h input laws respects s number amount t) k (Some m)
+module _ {K V S : Type 0} (h : KeyHash K S) where
+  module _ (law : IsLawful h) (s : S) (number amount : ℕ)
+      (t : Table K V) (inside : Inside h law s number amount t) (k : K) (hash : ℕ) (is : hash ≡ h.hash s k) where
+    finds : (m : ℕ) → Holds h.eq t.nodes.items k m → Finds h (state h law s number amount t) k (Some m)
     finds m found = record {
       position = λ i. (
-        λ e. subst (λ j. HasKey eq (state eq b h input laws respects s number amount t) k j) (same_Some m i e) (rw found.is found.equal),
+        λ e. subst (λ j. HasKey h.eq (state h law s number amount t) k j) (same_Some m i e) (rw found.is found.equal),
         λ has. let there = held (place (pairs_of t.nodes.items) i) has in ap Some (elim (cases_eq m i) as (λ _. m ≡ i) [
           | inl same ↦ same
-          | inr other ↦ absurd (both_ways (eq there.0.0 k) (others-found eq b h input laws respects s number amount t inside k m found i there.0 (λ e. other (sym e)) there.1) there.2)
+          | inr other ↦ absurd (both_ways (h.eq there.0.0 k) (others-found h law s number amount t inside k m found i there.0 (λ e. other (sym e)) there.1) there.2)
         ]),
       );
-      pair = found.is ∙ sym (at-found eq b h input laws respects s number amount t inside k m found);
-      absent = (λ none. absurd (true≢false none), λ none. absurd (none-some found.pair (sym none ∙ at-found eq b h input laws respects s number amount t inside k m found)));
+      pair = found.is ∙ sym (at-found h law s number amount t inside k m found);
+      absent = (λ none. absurd (true≢false none), λ none. absurd (none-some found.pair (sym none ∙ at-found h law s number amount t inside k m found)));
       lawful = inside.shard;
     }
 
-    misses : IsAbsent eq t.nodes.items hash k → Finds eq b h input (state eq b h input laws respects s number amount t) k None
+    misses : IsAbsent h.eq t.nodes.items hash k → Finds h (state h law s number amount t) k None
     misses absent = record {
       position = λ i. (
         λ e. absurd (none-some i e),
         λ has. let there = held (place (pairs_of t.nodes.items) i) has in
-            absurd (both_ways (eq there.0.0 k) (missing eq b h input laws respects s number amount t inside k hash is absent i there.0 there.1) there.2),
+            absurd (both_ways (h.eq there.0.0 k) (missing h law s number amount t inside k hash is absent i there.0 there.1) there.2),
       );
       pair = tt;
-      absent = (λ _. at-missing eq b h input laws respects s number amount t inside k hash is absent, λ _. refl);
+      absent = (λ _. at-missing h law s number amount t inside k hash is absent, λ _. refl);
       lawful = inside.shard;
     }
 
-    pub located : (z : ShardState K V S) → state eq b h input laws respects s number amount t ≡ z → (r : Option ℕ) → IfSome r (Holds eq t.nodes.items k) → IfNone r (IsAbsent eq t.nodes.items hash k) → Finds eq b h input z k r
-    located z view None some none = subst (λ x. Finds eq b h input x k None) view (misses none)
-    located z view (Some m) some none = subst (λ x. Finds eq b h input x k (Some m)) view (finds m some)
+    pub located : (z : ShardState K V S) → state h law s number amount t ≡ z → (r : Option ℕ) → IfSome r (Holds h.eq t.nodes.items k) → IfNone r (IsAbsent h.eq t.nodes.items hash k) → Finds h z k r
+    located z view None some none = subst (λ x. Finds h x k None) view (misses none)
+    located z view (Some m) some none = subst (λ x. Finds h x k (Some m)) view (finds m some)

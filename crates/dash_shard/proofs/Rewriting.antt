@@ -13,7 +13,7 @@ use Rattle.std.proofs.lemmas.Option.{none-some, same_Some}
 use Rattle.std.proofs.Math.ListN.{length-set}
 use Rattle.dash_shard.specs.declared.shard.table.Node.{Node}
 use Rattle.dash_shard.specs.declared.shard.table.Table.{Table}
-use Rattle.dash_shard.specs.Hashing.{hash_of}
+use Rattle.dash_shard.specs.Hashing.{IsLawful, KeyHash, hash_of}
 use Rattle.dash_shard.specs.Contents.{Keys, at, IsOnShard}
 use Rattle.dash_shard.specs.Shard.{ShardState, place, taken, pairs, keys_of, Routes, IsShard}
 use Rattle.dash_shard.specs.Table.{node, blank, Holds, IsTable, IsRewritten, IsHashed, pairs_of, hashes_of, with_value_at}
@@ -87,20 +87,20 @@ module _ {K V : Type 0} (t : Table K V) (i : ℕ) (n : Node K V) (table : IsTabl
       from None e h = absurd (true≢false (sym some ∙ ap is_some (there ∙ e)))
       from (Some p) e h = rw (there ∙ e) (h.0, rewritten t i n p (p.0, h.0) table within read e _ (ap (λ o. set t.nodes.items i (record n { pair = o })) h.1) refl refl, h.2)
 
-module _ {K V S H : Type 0} (eq : K → K → Bool) (b : builder.Ghosts S H) (h : hasher.Ghosts H) (input : K → HashWrites)
-    (laws : IsEquivalence eq) (respects : (x y : K) → eq x y ≡ true → input x ≡ input y) (s : S) (number amount : ℕ)
-    (t new : Table K V) (inside : Inside eq b h input laws respects s number amount t) (k : K) (i : ℕ) (found : Holds eq t.nodes.items k i) (q : K × V) (equal : eq q.0 k ≡ true) (r : IsRewritten i q t new) where
+module _ {K V S : Type 0} (h : KeyHash K S)
+    (law : IsLawful h) (s : S) (number amount : ℕ)
+    (t new : Table K V) (inside : Inside h law s number amount t) (k : K) (i : ℕ) (found : Holds h.eq t.nodes.items k i) (q : K × V) (equal : h.eq q.0 k ≡ true) (r : IsRewritten i q t new) where
   abbrev before : ShardState K V S
-  before = state eq b h input laws respects s number amount t
+  before = state h law s number amount t
 
   abbrev after_it : ShardState K V S
-  after_it = state eq b h input laws respects s number amount new
+  after_it = state h law s number amount new
 
   abbrev w : Keys K
-  w = keys_of eq b h input before
+  w = keys_of h before
 
   abbrev hash : K → ℕ
-  hash j = hash_of b h s (input j)
+  hash j = h.hash s j
 
   abbrev spots : List (Option (K × V))
   spots = pairs_of t.nodes.items
@@ -109,28 +109,28 @@ module _ {K V S H : Type 0} (eq : K → K → Bool) (b : builder.Ghosts S H) (h 
   within = omega (arith, found.within, length-map t.nodes.items (λ n. n.pair))
 
   pub found-at : at w (pairs before) k ≡ Some found.pair
-  found-at = at-found eq b h input laws respects s number amount t inside k i found
+  found-at = at-found h law s number amount t inside k i found
 
   -- a key that is there goes there
-  routes : Routes eq b h input before k
+  routes : Routes h before k
   routes = elim (cases_eq (w.route k) number) as (λ _. w.route k ≡ number) [
     | inl here ↦ here
     | inr away ↦ absurd (none-some found.pair (sym (inside.shard.contents.routed k away) ∙ found-at))
   ]
 
   was-equal : Equal w k (place spots i)
-  was-equal = equal-found eq b h input laws respects s number amount t inside k i found
+  was-equal = equal-found h law s number amount t inside k i found
 
   now-equal : Equal w k (Some q)
-  now-equal p e = subst (λ x. eq x.0 k ≡ true) (same_Some q p e) equal
+  now-equal p e = subst (λ x. h.eq x.0 k ≡ true) (same_Some q p e) equal
 
   alone : NoOther w spots k i
-  alone = others-found eq b h input laws respects s number amount t inside k i found
+  alone = others-found h law s number amount t inside k i found
 
-  shard : IsShard eq b h input after_it
+  shard : IsShard h after_it
   shard = record {
     contents = subst (λ xs. IsOnShard w number (taken xs)) (sym r.pairs)
-        (on_shard-written w laws number spots k i (Some q) (routes-equal eq b h input laws respects s number amount t inside k routes) within was-equal now-equal alone inside.shard.contents);
+        (on_shard-written w law.laws number spots k i (Some q) (routes-equal h law s number amount t inside k routes) within was-equal now-equal alone inside.shard.contents);
     number = inside.shard.number;
     amount = inside.shard.amount;
   }
@@ -138,13 +138,13 @@ module _ {K V S H : Type 0} (eq : K → K → Bool) (b : builder.Ghosts S H) (h 
   pub rewritten-len : length (pairs after_it) ≡ length (pairs before)
   rewritten-len = ap (λ xs. length (taken xs)) r.pairs ∙ length-taken-replace spots i q found.pair found.is
 
-  pub rewritten-inside : Inside eq b h input laws respects s number amount new
+  pub rewritten-inside : Inside h law s number amount new
   rewritten-inside = record {
     shard = shard;
     table = r.table;
     hashed = subst (λ xs. IsHashed hash xs (hashes_of new.nodes.items)) (sym r.pairs)
         (subst (λ hs. IsHashed hash (set spots i (Some q)) hs) (sym r.hashes)
-        (hashed-replace hash spots _ i found.pair q within found.is (ap (hash_of b h s) (respects found.pair.0 k found.equal ∙ sym (respects q.0 k equal))) inside.hashed));
+        (hashed-replace hash spots _ i found.pair q within found.is ((law.respects s found.pair.0 k found.equal ∙ sym (law.respects s q.0 k equal))) inside.hashed));
     counted = r.len ∙ inside.counted ∙ sym rewritten-len;
   }
 
@@ -154,17 +154,17 @@ module _ {K V S H : Type 0} (eq : K → K → Bool) (b : builder.Ghosts S H) (h 
     | inr other ↦ rw (ne_eqb j i other) (get_or-set_other spots i j (Some q) None other)
   ]
 
-  pub rewritten-at : (j : K) → at w (pairs after_it) j ≡ (if eq k j then Some q else at w (pairs before) j)
-  rewritten-at j = ap (λ xs. at w (taken xs) j) r.pairs ∙ at-written w laws spots k i (Some q) within was-equal now-equal alone j
+  pub rewritten-at : (j : K) → at w (pairs after_it) j ≡ (if h.eq k j then Some q else at w (pairs before) j)
+  rewritten-at j = ap (λ xs. at w (taken xs) j) r.pairs ∙ at-written w law.laws spots k i (Some q) within was-equal now-equal alone j
 
   -- where f makes the new pair of the old one
   module _ (f : Option (K × V) → Option (K × V)) (makes : f (Some found.pair) ≡ Some q) where
-    pub rewritten-becomes : (j : K) → at w (pairs after_it) j ≡ (if eq k j then f (at w (pairs before) j) else at w (pairs before) j)
-    rewritten-becomes j = rewritten-at j ∙ elim (cases_Bool (eq k j)) as (λ _. (if eq k j then Some q else at w (pairs before) j) ≡ (if eq k j then f (at w (pairs before) j) else at w (pairs before) j)) [
-      | inl same ↦ rw same (sym makes ∙ ap f (sym found-at ∙ at-equal w laws (pairs before) k j same))
+    pub rewritten-becomes : (j : K) → at w (pairs after_it) j ≡ (if h.eq k j then f (at w (pairs before) j) else at w (pairs before) j)
+    rewritten-becomes j = rewritten-at j ∙ elim (cases_Bool (h.eq k j)) as (λ _. (if h.eq k j then Some q else at w (pairs before) j) ≡ (if h.eq k j then f (at w (pairs before) j) else at w (pairs before) j)) [
+      | inl same ↦ rw same (sym makes ∙ ap f (sym found-at ∙ at-equal w law.laws (pairs before) k j same))
       | inr other ↦ rw other refl
     ]
 
-    pub rewritten-stays : (j : ℕ) (p : K × V) → place spots j ≡ Some p → place (pairs_of new.nodes.items) j ≡ (if eq k p.0 then f (Some p) else Some p)
+    pub rewritten-stays : (j : ℕ) (p : K × V) → place spots j ≡ Some p → place (pairs_of new.nodes.items) j ≡ (if h.eq k p.0 then f (Some p) else Some p)
     rewritten-stays j p e = ap (λ xs. place xs j) r.pairs
-        ∙ stays-written w laws spots k i (Some q) f within was-equal alone (λ x there. sym makes ∙ ap f (sym found.is ∙ there)) j p e
+        ∙ stays-written w law.laws spots k i (Some q) f within was-equal alone (λ x there. sym makes ∙ ap f (sym found.is ∙ there)) j p e

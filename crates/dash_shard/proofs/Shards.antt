@@ -10,7 +10,7 @@ use Rattle.std.proofs.lemmas.Bool.{cases_Bool, cases_eq}
 use Rattle.std.proofs.lemmas.List.{length-map}
 use Rattle.std.proofs.lemmas.Option.{none-some, same_Some}
 use Rattle.std.proofs.Math.ListN.{replicate, length-set}
-use Rattle.dash_shard.specs.Hashing.{IsAmount, hash_of, route_of_hash}
+use Rattle.dash_shard.specs.Hashing.{IsLawful, KeyHash, IsAmount, hash_of, route_of_hash}
 use Rattle.dash_shard.specs.Contents.{Keys, at, IsOnShard}
 use Rattle.dash_shard.specs.Steps.{Insert, Remove, Old, Pair, after, key_or}
 use Rattle.dash_shard.specs.Shard.{ShardState, place, taken, pairs, shard_len, keys_of, Routes, IsShard, TakesExactly, StaysInPlace}
@@ -92,48 +92,48 @@ columns : {K V : Type 0} (nodes : List (Node K V)) → length (hashes_of nodes) 
 columns nodes = length-map nodes (λ n. n.hash) ∙ sym (length-map nodes (λ n. n.pair))
 
 -- the hash by the hasher of a state is that by the hasher of the same state
-pub hash-same : {K V S H : Type 0} (b : builder.Ghosts S H) (h : hasher.Ghosts H) (writes : HashWrites) (s t : ShardState K V S) → s ≡ t → (hash : ℕ) → hash ≡ hash_of b h t.hasher writes → hash ≡ hash_of b h s.hasher writes
-hash-same b h writes s t same hash is = is ∙ sym (ap (λ x. hash_of b h x.hasher writes) same)
+pub hash-same : {K V S : Type 0} {h : KeyHash K S} → IsLawful h → (k : K) (s t : ShardState K V S) → s ≡ t → (hash : ℕ) → hash ≡ h.hash t.hasher k → hash ≡ h.hash s.hasher k
+hash-same {h = h} law k s t same hash is = is ∙ sym (ap (λ x. h.hash x.hasher k) same)
 
-module _ {K V S H : Type 0} (eq : K → K → Bool) (b : builder.Ghosts S H) (h : hasher.Ghosts H) (input : K → HashWrites)
-    (laws : IsEquivalence eq) (respects : (x y : K) → eq x y ≡ true → input x ≡ input y) (s : S) (number amount : ℕ) where
+module _ {K V S : Type 0} (h : KeyHash K S)
+    (law : IsLawful h) (s : S) (number amount : ℕ) where
   -- the state of the shard that has this table
   abbrev pub state : Table K V → ShardState K V S
   state t = record { places = pairs_of t.nodes.items; number = number; amount = amount; hasher = s; capacity = length t.nodes.items }
 
   abbrev pub Inside : Table K V → Type 0
-  Inside t = IsInside eq b h input t (state t)
+  Inside t = IsInside h t (state t)
 
   -- what an insert leaves, where o is the old value
   pub record Inserted (old new : Table K V) (k : K) (v : V) (o : Option V) : Type 0 where
     pub inside : Inside new
-    pub takes : TakesExactly eq b h input (state old) (state new) (Insert k v) (Old o)
+    pub takes : TakesExactly h (state old) (state new) (Insert k v) (Old o)
     pub len : length (pairs (state new)) ≡ length (pairs (state old)) + cond (is_some o) 0 1
-    pub stays : StaysInPlace eq b h input (state old) (state new) (Insert k v)
+    pub stays : StaysInPlace h (state old) (state new) (Insert k v)
 
   -- what a removal leaves, where o is the pair that it answers
   pub record Removed (old new : Table K V) (k : K) (o : Option (K × V)) : Type 0 where
     pub inside : Inside new
-    pub takes : TakesExactly eq b h input (state old) (state new) (Remove k) (Pair o)
+    pub takes : TakesExactly h (state old) (state new) (Remove k) (Pair o)
     pub len : length (pairs (state old)) ≡ length (pairs (state new)) + cond (is_some o) 1 0
-    pub stays : StaysInPlace eq b h input (state old) (state new) (Remove k)
+    pub stays : StaysInPlace h (state old) (state new) (Remove k)
 
   -- the same as contracts see it, where the state before is written z
   module _ (old new : Table K V) (k : K) (v : V) (o : Option V) (z : ShardState K V S) (view : state old ≡ z) (i : Inserted old new k v o) where
-    pub inserts : (shard_len z < z.capacity → length new.nodes.items ≡ z.capacity) → Inserts eq b h input z (state new) k v (Ok o)
+    pub inserts : (shard_len z < z.capacity → length new.nodes.items ≡ z.capacity) → Inserts h z (state new) k v (Ok o)
     inserts room = record {
-      taken = subst (λ x. TakesExactly eq b h input x (state new) (Insert k v) (Old o)) view i.takes;
+      taken = subst (λ x. TakesExactly h x (state new) (Insert k v) (Old o)) view i.takes;
       len = subst (λ x. shard_len (state new) ≡ shard_len x + cond (is_some o) 0 1) view i.len;
       room = room;
-      places = λ _. subst (λ x. StaysInPlace eq b h input x (state new) (Insert k v)) view i.stays;
+      places = λ _. subst (λ x. StaysInPlace h x (state new) (Insert k v)) view i.stays;
       refused = tt;
       absent = tt;
       full = tt;
     }
 
   -- what an insert that finds no memory leaves
-  pub refuses : (old new : Table K V) (k : K) (v : V) (z : ShardState K V S) → state old ≡ z → Inside old → (new.nodes.items ≡ old.nodes.items) × (old.len ≡ length old.nodes.items) → at (keys_of eq b h input (state old)) (pairs (state old)) k ≡ None
-      → Inserts eq b h input z (state new) k v (Err (record { key = k; value = v }))
+  pub refuses : (old new : Table K V) (k : K) (v : V) (z : ShardState K V S) → state old ≡ z → Inside old → (new.nodes.items ≡ old.nodes.items) × (old.len ≡ length old.nodes.items) → at (keys_of h (state old)) (pairs (state old)) k ≡ None
+      → Inserts h z (state new) k v (Err (record { key = k; value = v }))
   refuses old new k v z view inside same none =
       let of : List (Node K V) → ShardState K V S = λ ns. record { places = pairs_of ns; number = number; amount = amount; hasher = s; capacity = length ns } in
       let back : state new ≡ z = ap of same.0 ∙ view in
@@ -143,44 +143,44 @@ module _ {K V S H : Type 0} (eq : K → K → Bool) (b : builder.Ghosts S H) (h 
         room = λ _. ap (λ x. x.capacity) back;
         places = tt;
         refused = (refl, refl, back);
-        absent = subst (λ x. at (keys_of eq b h input x) (pairs x) k ≡ None) view none;
+        absent = subst (λ x. at (keys_of h x) (pairs x) k ≡ None) view none;
         full = subst (λ x. shard_len x ≡ x.capacity) view (sym inside.counted ∙ same.1);
       }
 
   module _ (t : Table K V) (inside : Inside t) (k : K) where
     abbrev w : Keys K
-    w = keys_of eq b h input (state t)
+    w = keys_of h (state t)
 
     -- a key that goes here takes equal keys with it
-    pub routes-equal : Routes eq b h input (state t) k → (j : K) → eq k j ≡ true → w.route j ≡ number
-    routes-equal routes j same = ap (λ writes. route_of_hash amount (hash_of b h s writes)) (sym (respects k j same)) ∙ routes
+    pub routes-equal : Routes h (state t) k → (j : K) → h.eq k j ≡ true → w.route j ≡ number
+    routes-equal routes j same = ap (route_of_hash amount) (sym (law.respects s k j same)) ∙ routes
 
     -- what a look-up found is the pair at the key, and no other pair is
-    pub equal-found : (i : ℕ) (found : Holds eq t.nodes.items k i) → Equal w k (place (pairs_of t.nodes.items) i)
-    equal-found i found p e = subst (λ q. eq q.0 k ≡ true) (same_Some found.pair p (sym found.is ∙ e)) found.equal
+    pub equal-found : (i : ℕ) (found : Holds h.eq t.nodes.items k i) → Equal w k (place (pairs_of t.nodes.items) i)
+    equal-found i found p e = subst (λ q. h.eq q.0 k ≡ true) (same_Some found.pair p (sym found.is ∙ e)) found.equal
 
-    pub others-found : (i : ℕ) → Holds eq t.nodes.items k i → NoOther w (pairs_of t.nodes.items) k i
-    others-found i found = others-fail w laws (pairs_of t.nodes.items) k i found.pair inside.shard.contents.distinct found.is found.equal
+    pub others-found : (i : ℕ) → Holds h.eq t.nodes.items k i → NoOther w (pairs_of t.nodes.items) k i
+    others-found i found = others-fail w law.laws (pairs_of t.nodes.items) k i found.pair inside.shard.contents.distinct found.is found.equal
 
-    pub at-found : (i : ℕ) (found : Holds eq t.nodes.items k i) → at w (pairs (state t)) k ≡ Some found.pair
+    pub at-found : (i : ℕ) (found : Holds h.eq t.nodes.items k i) → at w (pairs (state t)) k ≡ Some found.pair
     at-found i found = at-sole w (pairs_of t.nodes.items) k i (equal-found i found) (others-found i found) ∙ found.is
 
     -- what a look-up didn't find isn't there
-    pub missing : (hash : ℕ) → hash ≡ hash_of b h s (input k) → IsAbsent eq t.nodes.items hash k → (i : ℕ) (p : K × V) → place (pairs_of t.nodes.items) i ≡ Some p → eq p.0 k ≡ false
-    missing hash is absent i p e = elim (cases_Bool (eq p.0 k)) as (λ _. eq p.0 k ≡ false) [
-      | inl equal ↦ absent i p e (inside.hashed i p e ∙ ap (hash_of b h s) (respects p.0 k equal) ∙ sym is)
+    pub missing : (hash : ℕ) → hash ≡ h.hash s k → IsAbsent h.eq t.nodes.items hash k → (i : ℕ) (p : K × V) → place (pairs_of t.nodes.items) i ≡ Some p → h.eq p.0 k ≡ false
+    missing hash is absent i p e = elim (cases_Bool (h.eq p.0 k)) as (λ _. h.eq p.0 k ≡ false) [
+      | inl equal ↦ absent i p e (inside.hashed i p e ∙ (law.respects s p.0 k equal) ∙ sym is)
       | inr fails ↦ fails
     ]
 
-    pub at-missing : (hash : ℕ) → hash ≡ hash_of b h s (input k) → IsAbsent eq t.nodes.items hash k → at w (pairs (state t)) k ≡ None
+    pub at-missing : (hash : ℕ) → hash ≡ h.hash s k → IsAbsent h.eq t.nodes.items hash k → at w (pairs (state t)) k ≡ None
     at-missing hash is absent = at-absent w (pairs_of t.nodes.items) k (missing hash is absent)
 
-    module _ (z : ShardState K V S) (view : state t ≡ z) (here : Routes eq b h input z k) (v : V) (new : Table K V) where
-      routes : Routes eq b h input (state t) k
-      routes = subst (λ x. Routes eq b h input x k) (sym view) here
+    module _ (z : ShardState K V S) (view : state t ≡ z) (here : Routes h z k) (v : V) (new : Table K V) where
+      routes : Routes h (state t) k
+      routes = subst (λ x. Routes h x k) (sym view) here
 
       -- another value under the stored key
-      module _ (i : ℕ) (found : Holds eq t.nodes.items k i)
+      module _ (i : ℕ) (found : Holds h.eq t.nodes.items k i)
           (places : pairs_of new.nodes.items ≡ set (pairs_of t.nodes.items) i (option_map (λ p. (p.0, v)) (place (pairs_of t.nodes.items) i)))
           (hashes : hashes_of new.nodes.items ≡ hashes_of t.nodes.items) (len : new.len ≡ t.len) (table : IsTable new) where
         within : i < length (pairs_of t.nodes.items)
@@ -190,12 +190,12 @@ module _ {K V S H : Type 0} (eq : K → K → Bool) (b : builder.Ghosts S H) (h 
         now = places ∙ ap (λ o. set (pairs_of t.nodes.items) i (option_map (λ p. (p.0, v)) o)) found.is
 
         equal-now : Equal w k (Some (found.pair.0, v))
-        equal-now p e = subst (λ q. eq q.0 k ≡ true) (same_Some (found.pair.0, v) p e) found.equal
+        equal-now p e = subst (λ q. h.eq q.0 k ≡ true) (same_Some (found.pair.0, v) p e) found.equal
 
-        replaced-shard : IsShard eq b h input (state new)
+        replaced-shard : IsShard h (state new)
         replaced-shard = record {
           contents = subst (λ xs. IsOnShard w number (taken xs)) (sym now)
-              (on_shard-written w laws number (pairs_of t.nodes.items) k i _ (routes-equal routes) within (equal-found i found) equal-now (others-found i found) inside.shard.contents);
+              (on_shard-written w law.laws number (pairs_of t.nodes.items) k i _ (routes-equal routes) within (equal-found i found) equal-now (others-found i found) inside.shard.contents);
           number = inside.shard.number;
           amount = inside.shard.amount;
         }
@@ -204,24 +204,24 @@ module _ {K V S H : Type 0} (eq : K → K → Bool) (b : builder.Ghosts S H) (h 
         replaced-inside = record {
           shard = replaced-shard;
           table = table;
-          hashed = subst (λ xs. IsHashed (λ j. hash_of b h s (input j)) xs (hashes_of new.nodes.items)) (sym now)
-              (subst (λ hs. IsHashed (λ j. hash_of b h s (input j)) (set (pairs_of t.nodes.items) i (Some (found.pair.0, v))) hs) (sym hashes)
-              (hashed-replace (λ j. hash_of b h s (input j)) _ _ i found.pair (found.pair.0, v) within found.is refl inside.hashed));
+          hashed = subst (λ xs. IsHashed (λ j. h.hash s j) xs (hashes_of new.nodes.items)) (sym now)
+              (subst (λ hs. IsHashed (λ j. h.hash s j) (set (pairs_of t.nodes.items) i (Some (found.pair.0, v))) hs) (sym hashes)
+              (hashed-replace (λ j. h.hash s j) _ _ i found.pair (found.pair.0, v) within found.is refl inside.hashed));
           counted = len ∙ inside.counted ∙ sym (ap (λ xs. length (taken xs)) now ∙ length-taken-replace _ i _ found.pair found.is);
         }
 
-        replaced-takes : TakesExactly eq b h input (state t) (state new) (Insert k v) (Old (Some found.pair.1))
+        replaced-takes : TakesExactly h (state t) (state new) (Insert k v) (Old (Some found.pair.1))
         replaced-takes = record {
           replies = ap (λ o. Old (option_map (λ p. p.1) o)) (sym (at-found i found));
           becomes = λ j. ap (λ xs. at w (taken xs) j) now
-              ∙ at-written w laws (pairs_of t.nodes.items) k i _ within (equal-found i found) equal-now (others-found i found) j
-              ∙ stored j (cases_Bool (eq k j));
+              ∙ at-written w law.laws (pairs_of t.nodes.items) k i _ within (equal-found i found) equal-now (others-found i found) j
+              ∙ stored j (cases_Bool (h.eq k j));
           stays = record { number = refl; amount = refl; hasher = refl };
           lawful = replaced-shard;
         }
           where
-            stored : (j : K) → (eq k j ≡ true) ⊎ (eq k j ≡ false) → cond (eq k j) (Some (found.pair.0, v)) (at w (pairs (state t)) j) ≡ after w (Insert k v) j (at w (pairs (state t)) j)
-            stored j (inl same) = rw same (ap (λ o. Some (key_or k o, v)) (sym (at-found i found) ∙ at-equal w laws (pairs (state t)) k j same))
+            stored : (j : K) → (h.eq k j ≡ true) ⊎ (h.eq k j ≡ false) → cond (h.eq k j) (Some (found.pair.0, v)) (at w (pairs (state t)) j) ≡ after w (Insert k v) j (at w (pairs (state t)) j)
+            stored j (inl same) = rw same (ap (λ o. Some (key_or k o, v)) (sym (at-found i found) ∙ at-equal w law.laws (pairs (state t)) k j same))
             stored j (inr other) = rw other refl
 
         pub replaced : Inserted t new k v (Some found.pair.1)
@@ -230,13 +230,13 @@ module _ {K V S H : Type 0} (eq : K → K → Bool) (b : builder.Ghosts S H) (h 
           takes = replaced-takes;
           len = ap (λ xs. length (taken xs)) now ∙ length-taken-replace _ i _ found.pair found.is ∙ sym (add-zero _);
           stays = λ j p e. ap (λ xs. place xs j) now
-              ∙ stays-written w laws (pairs_of t.nodes.items) k i _ (λ o. Some (key_or k o, v)) within (equal-found i found) (others-found i found)
+              ∙ stays-written w law.laws (pairs_of t.nodes.items) k i _ (λ o. Some (key_or k o, v)) within (equal-found i found) (others-found i found)
               (λ q there. ap (λ r. Some (r.0, v)) (same_Some found.pair q (sym found.is ∙ there))) j p e;
         }
 
       -- a new pair on a free place
       module _ (i hash : ℕ) (free : i < length t.nodes.items) (empty : place (pairs_of t.nodes.items) i ≡ None)
-          (is : hash ≡ hash_of b h s (input k)) (none : at w (pairs (state t)) k ≡ None)
+          (is : hash ≡ h.hash s k) (none : at w (pairs (state t)) k ≡ None)
           (places : pairs_of new.nodes.items ≡ set (pairs_of t.nodes.items) i (Some (k, v)))
           (hashes : hashes_of new.nodes.items ≡ set (hashes_of t.nodes.items) i hash) (len : new.len ≡ t.len + 1) (table : IsTable new) where
         room : i < length (pairs_of t.nodes.items)
@@ -246,15 +246,15 @@ module _ {K V S H : Type 0} (eq : K → K → Bool) (b : builder.Ghosts S H) (h 
         equal-before p e = absurd (none-some p (sym empty ∙ e))
 
         equal-filled : Equal w k (Some (k, v))
-        equal-filled p e = subst (λ q. eq q.0 k ≡ true) (same_Some (k, v) p e) (laws.refl k)
+        equal-filled p e = subst (λ q. h.eq q.0 k ≡ true) (same_Some (k, v) p e) (law.laws.refl k)
 
         no-other : NoOther w (pairs_of t.nodes.items) k i
         no-other j p _ e = absent-at w (pairs_of t.nodes.items) k none j p e
 
-        filled-shard : IsShard eq b h input (state new)
+        filled-shard : IsShard h (state new)
         filled-shard = record {
           contents = subst (λ xs. IsOnShard w number (taken xs)) (sym places)
-              (on_shard-written w laws number (pairs_of t.nodes.items) k i _ (routes-equal routes) room equal-before equal-filled no-other inside.shard.contents);
+              (on_shard-written w law.laws number (pairs_of t.nodes.items) k i _ (routes-equal routes) room equal-before equal-filled no-other inside.shard.contents);
           number = inside.shard.number;
           amount = inside.shard.amount;
         }
@@ -266,24 +266,24 @@ module _ {K V S H : Type 0} (eq : K → K → Bool) (b : builder.Ghosts S H) (h 
         filled-inside = record {
           shard = filled-shard;
           table = table;
-          hashed = subst (λ xs. IsHashed (λ j. hash_of b h s (input j)) xs (hashes_of new.nodes.items)) (sym places)
-              (subst (λ hs. IsHashed (λ j. hash_of b h s (input j)) (set (pairs_of t.nodes.items) i (Some (k, v))) hs) (sym hashes)
-              (hashed-fill (λ j. hash_of b h s (input j)) _ _ i k v hash room (columns t.nodes.items) is inside.hashed));
+          hashed = subst (λ xs. IsHashed (λ j. h.hash s j) xs (hashes_of new.nodes.items)) (sym places)
+              (subst (λ hs. IsHashed (λ j. h.hash s j) (set (pairs_of t.nodes.items) i (Some (k, v))) hs) (sym hashes)
+              (hashed-fill (λ j. h.hash s j) _ _ i k v hash room (columns t.nodes.items) is inside.hashed));
           counted = len ∙ ap (λ n. n + 1) inside.counted ∙ sym filled-len;
         }
 
-        filled-takes : TakesExactly eq b h input (state t) (state new) (Insert k v) (Old None)
+        filled-takes : TakesExactly h (state t) (state new) (Insert k v) (Old None)
         filled-takes = record {
           replies = ap (λ o. Old (option_map (λ p. p.1) o)) (sym none);
           becomes = λ j. ap (λ xs. at w (taken xs) j) places
-              ∙ at-written w laws (pairs_of t.nodes.items) k i _ room equal-before equal-filled no-other j
-              ∙ put j (cases_Bool (eq k j));
+              ∙ at-written w law.laws (pairs_of t.nodes.items) k i _ room equal-before equal-filled no-other j
+              ∙ put j (cases_Bool (h.eq k j));
           stays = record { number = refl; amount = refl; hasher = refl };
           lawful = filled-shard;
         }
           where
-            put : (j : K) → (eq k j ≡ true) ⊎ (eq k j ≡ false) → cond (eq k j) (Some (k, v)) (at w (pairs (state t)) j) ≡ after w (Insert k v) j (at w (pairs (state t)) j)
-            put j (inl same) = rw same (ap (λ o. Some (key_or k o, v)) (sym none ∙ at-equal w laws (pairs (state t)) k j same))
+            put : (j : K) → (h.eq k j ≡ true) ⊎ (h.eq k j ≡ false) → cond (h.eq k j) (Some (k, v)) (at w (pairs (state t)) j) ≡ after w (Insert k v) j (at w (pairs (state t)) j)
+            put j (inl same) = rw same (ap (λ o. Some (key_or k o, v)) (sym none ∙ at-equal w law.laws (pairs (state t)) k j same))
             put j (inr other) = rw other refl
 
         pub filled : Inserted t new k v None
@@ -292,7 +292,7 @@ module _ {K V S H : Type 0} (eq : K → K → Bool) (b : builder.Ghosts S H) (h 
           takes = filled-takes;
           len = filled-len;
           stays = λ j p e. ap (λ xs. place xs j) places
-              ∙ stays-written w laws (pairs_of t.nodes.items) k i _ (λ o. Some (key_or k o, v)) room equal-before no-other (λ q there. absurd (none-some q (sym empty ∙ there))) j p e;
+              ∙ stays-written w law.laws (pairs_of t.nodes.items) k i _ (λ o. Some (key_or k o, v)) room equal-before no-other (λ q there. absurd (none-some q (sym empty ∙ there))) j p e;
         }
 
       -- a new pair on the next free place, where there is room
@@ -300,16 +300,16 @@ module _ {K V S H : Type 0} (eq : K → K → Bool) (b : builder.Ghosts S H) (h 
         next : (next_place t < length t.nodes.items) × (place (pairs_of t.nodes.items) (next_place t) ≡ None)
         next = next_free t inside.table (omega (arith, inside.counted, subst (λ x. shard_len x < x.capacity) (sym view) room))
 
-        pub filled-next : hash ≡ hash_of b h s (input k) → at (keys_of eq b h input z) (pairs z) k ≡ None → hashes_of new.nodes.items ≡ set (hashes_of t.nodes.items) (next_place t) hash → new.len ≡ t.len + 1
+        pub filled-next : hash ≡ h.hash s k → at (keys_of h z) (pairs z) k ≡ None → hashes_of new.nodes.items ≡ set (hashes_of t.nodes.items) (next_place t) hash → new.len ≡ t.len + 1
             → IsTable new → Inserted t new k v None
-        filled-next is none hashes len table = filled (next_place t) hash next.0 next.1 is (subst (λ x. at (keys_of eq b h input x) (pairs x) k ≡ None) (sym view) none) places hashes len table
+        filled-next is none hashes len table = filled (next_place t) hash next.0 next.1 is (subst (λ x. at (keys_of h x) (pairs x) k ≡ None) (sym view) none) places hashes len table
 
         pub filled-place : place (pairs_of new.nodes.items) (next_place t) ≡ Some (k, v)
         filled-place = ap (λ xs. place xs (next_place t)) places ∙ get_or-set_same (pairs_of t.nodes.items) (next_place t) (Some (k, v)) None (omega (arith, next.0, length-map t.nodes.items (λ n. n.pair)))
 
-    module _ (z : ShardState K V S) (view : state t ≡ z) (here : Routes eq b h input z k) where
+    module _ (z : ShardState K V S) (view : state t ≡ z) (here : Routes h z k) where
       -- the pair goes, and its place is empty
-      module _ (new : Table K V) (i : ℕ) (found : Holds eq t.nodes.items k i) (places : pairs_of new.nodes.items ≡ set (pairs_of t.nodes.items) i None)
+      module _ (new : Table K V) (i : ℕ) (found : Holds h.eq t.nodes.items k i) (places : pairs_of new.nodes.items ≡ set (pairs_of t.nodes.items) i None)
           (hashes : hashes_of new.nodes.items ≡ hashes_of t.nodes.items) (len : new.len + 1 ≡ t.len) (table : IsTable new) where
         spot : i < length (pairs_of t.nodes.items)
         spot = omega (arith, found.within, length-map t.nodes.items (λ n. n.pair))
@@ -317,10 +317,10 @@ module _ {K V S H : Type 0} (eq : K → K → Bool) (b : builder.Ghosts S H) (h 
         equal-none : Equal {V = V} w k None
         equal-none p e = absurd (none-some p e)
 
-        removed-shard : IsShard eq b h input (state new)
+        removed-shard : IsShard h (state new)
         removed-shard = record {
           contents = subst (λ xs. IsOnShard w number (taken xs)) (sym places)
-              (on_shard-written w laws number (pairs_of t.nodes.items) k i None (routes-equal (subst (λ x. Routes eq b h input x k) (sym view) here)) spot (equal-found i found) equal-none (others-found i found)
+              (on_shard-written w law.laws number (pairs_of t.nodes.items) k i None (routes-equal (subst (λ x. Routes h x k) (sym view) here)) spot (equal-found i found) equal-none (others-found i found)
               inside.shard.contents);
           number = inside.shard.number;
           amount = inside.shard.amount;
@@ -334,25 +334,25 @@ module _ {K V S H : Type 0} (eq : K → K → Bool) (b : builder.Ghosts S H) (h 
           inside = record {
             shard = removed-shard;
             table = table;
-            hashed = subst (λ xs. IsHashed (λ j. hash_of b h s (input j)) xs (hashes_of new.nodes.items)) (sym places)
-                (subst (λ hs. IsHashed (λ j. hash_of b h s (input j)) (set (pairs_of t.nodes.items) i None) hs) (sym hashes)
-                (hashed-clear (λ j. hash_of b h s (input j)) _ _ i spot inside.hashed));
+            hashed = subst (λ xs. IsHashed (λ j. h.hash s j) xs (hashes_of new.nodes.items)) (sym places)
+                (subst (λ hs. IsHashed (λ j. h.hash s j) (set (pairs_of t.nodes.items) i None) hs) (sym hashes)
+                (hashed-clear (λ j. h.hash s j) _ _ i spot inside.hashed));
             counted = omega (arith, len, inside.counted, removed-len);
           };
           takes = record {
             replies = ap Pair (sym (at-found i found));
             becomes = λ j. ap (λ xs. at w (taken xs) j) places
-                ∙ at-written w laws (pairs_of t.nodes.items) k i None spot (equal-found i found) equal-none (others-found i found) j;
+                ∙ at-written w law.laws (pairs_of t.nodes.items) k i None spot (equal-found i found) equal-none (others-found i found) j;
             stays = record { number = refl; amount = refl; hasher = refl };
             lawful = removed-shard;
           };
           len = removed-len;
           stays = λ j p e. ap (λ xs. place xs j) places
-              ∙ stays-written w laws (pairs_of t.nodes.items) k i None (λ _. None) spot (equal-found i found) (others-found i found) (λ _ _. refl) j p e;
+              ∙ stays-written w law.laws (pairs_of t.nodes.items) k i None (λ _. None) spot (equal-found i found) (others-found i found) (λ _ _. refl) j p e;
         }
 
-        pub removes : Removes eq b h input z (state new) k (Some found.pair)
-        removes = subst (λ x. Removes eq b h input x (state new) k (Some found.pair)) view (record {
+        pub removes : Removes h z (state new) k (Some found.pair)
+        removes = subst (λ x. Removes h x (state new) k (Some found.pair)) view (record {
           taken = removed.takes;
           len = removed-len;
           room = sym (length-map new.nodes.items (λ n. n.pair)) ∙ ap length places ∙ length-set (pairs_of t.nodes.items) i None ∙ length-map t.nodes.items (λ n. n.pair);
@@ -360,28 +360,28 @@ module _ {K V S H : Type 0} (eq : K → K → Bool) (b : builder.Ghosts S H) (h 
         })
 
     -- a pair that stands somewhere is counted
-    pub some-found : (i : ℕ) → Holds eq t.nodes.items k i → 0 < t.len
+    pub some-found : (i : ℕ) → Holds h.eq t.nodes.items k i → 0 < t.len
     some-found i found = omega (arith, inside.counted, length-taken-clear (pairs_of t.nodes.items) i found.pair found.is)
 
     -- nothing goes where no key is equal
-    module _ (hash : ℕ) (is : hash ≡ hash_of b h s (input k)) (absent : IsAbsent eq t.nodes.items hash k) where
-      unmoved-takes : TakesExactly eq b h input (state t) (state t) (Remove k) (Pair None)
+    module _ (hash : ℕ) (is : hash ≡ h.hash s k) (absent : IsAbsent h.eq t.nodes.items hash k) where
+      unmoved-takes : TakesExactly h (state t) (state t) (Remove k) (Pair None)
       unmoved-takes = record {
         replies = ap Pair (sym (at-missing hash is absent));
-        becomes = λ j. gone j (cases_Bool (eq k j));
+        becomes = λ j. gone j (cases_Bool (h.eq k j));
         stays = record { number = refl; amount = refl; hasher = refl };
         lawful = inside.shard;
       }
         where
-          gone : (j : K) → (eq k j ≡ true) ⊎ (eq k j ≡ false) → at w (pairs (state t)) j ≡ after w (Remove k) j (at w (pairs (state t)) j)
-          gone j (inl same) = rw same (sym (at-equal w laws (pairs (state t)) k j same) ∙ at-missing hash is absent)
+          gone : (j : K) → (h.eq k j ≡ true) ⊎ (h.eq k j ≡ false) → at w (pairs (state t)) j ≡ after w (Remove k) j (at w (pairs (state t)) j)
+          gone j (inl same) = rw same (sym (at-equal w law.laws (pairs (state t)) k j same) ∙ at-missing hash is absent)
           gone j (inr other) = rw other refl
 
-      unmoved-stays : StaysInPlace eq b h input (state t) (state t) (Remove k)
-      unmoved-stays i p e = e ∙ sym (rw (laws.symm k p.0 ∙ missing hash is absent i p e) refl)
+      unmoved-stays : StaysInPlace h (state t) (state t) (Remove k)
+      unmoved-stays i p e = e ∙ sym (rw (law.laws.symm k p.0 ∙ missing hash is absent i p e) refl)
 
-      pub unmoved : (z : ShardState K V S) → state t ≡ z → Removes eq b h input z z k None
-      unmoved z view = subst (λ x. Removes eq b h input x x k None) view (record {
+      pub unmoved : (z : ShardState K V S) → state t ≡ z → Removes h z z k None
+      unmoved z view = subst (λ x. Removes h x x k None) view (record {
         taken = unmoved-takes;
         len = sym (add-zero _);
         room = refl;
@@ -390,9 +390,9 @@ module _ {K V S H : Type 0} (eq : K → K → Bool) (b : builder.Ghosts S H) (h 
 
   -- a table with no pairs
   module _ (t : Table K V) (table : IsTable t) (empty : taken (pairs_of t.nodes.items) ≡ []) (len : t.len ≡ 0) where
-    pub fresh-shard : number < amount → IsAmount amount → IsShard eq b h input (state t)
+    pub fresh-shard : number < amount → IsAmount amount → IsShard h (state t)
     fresh-shard below lawful = record {
-      contents = subst (λ ps. IsOnShard (keys_of eq b h input (state t)) number ps) (sym empty) (record { distinct = tt; routed = λ k away. refl });
+      contents = subst (λ ps. IsOnShard (keys_of h (state t)) number ps) (sym empty) (record { distinct = tt; routed = λ k away. refl });
       number = below;
       amount = lawful;
     }
@@ -413,21 +413,21 @@ module _ {K V S H : Type 0} (eq : K → K → Bool) (b : builder.Ghosts S H) (h 
     pub grown-inside : Inside new
     grown-inside = record {
       shard = record {
-        contents = subst (λ ps. IsOnShard (keys_of eq b h input (state t)) number ps) (sym grown-pairs) inside.shard.contents;
+        contents = subst (λ ps. IsOnShard (keys_of h (state t)) number ps) (sym grown-pairs) inside.shard.contents;
         number = inside.shard.number;
         amount = inside.shard.amount;
       };
       table = table;
-      hashed = subst (λ xs. IsHashed (λ j. hash_of b h s (input j)) xs (hashes_of new.nodes.items)) (sym grown.pairs)
-          (subst (λ hs. IsHashed (λ j. hash_of b h s (input j)) (pairs_of t.nodes.items ++ replicate grown.more None) hs) (sym grown.hashes)
-          (hashed-empties (λ j. hash_of b h s (input j)) _ _ grown.more (columns t.nodes.items) inside.hashed));
+      hashed = subst (λ xs. IsHashed (λ j. h.hash s j) xs (hashes_of new.nodes.items)) (sym grown.pairs)
+          (subst (λ hs. IsHashed (λ j. h.hash s j) (pairs_of t.nodes.items ++ replicate grown.more None) hs) (sym grown.hashes)
+          (hashed-empties (λ j. h.hash s j) _ _ grown.more (columns t.nodes.items) inside.hashed));
       counted = len ∙ inside.counted ∙ ap length (sym grown-pairs);
     }
 
     -- what making room leaves, where the state before is written z
     pub reserved : (z : ShardState K V S) → state t ≡ z → {E : Type 0} → (additional : ℕ) (r : Result (Unit {0}) E) → OnOk r (new.len + additional ≤ length new.nodes.items) → OnErr r (new.nodes.items ≡ t.nodes.items)
-        → Reserves eq b h input additional z (state new) r
-    reserved z view additional r ok err = subst (λ x. Reserves eq b h input additional x (state new) r) view (record {
+        → Reserves h additional z (state new) r
+    reserved z view additional r ok err = subst (λ x. Reserves h additional x (state new) r) view (record {
       room = on-ok r ok;
       pairs = grown-pairs;
       places = λ i p e. ap (λ xs. place xs i) grown.pairs ∙ place-empties (pairs_of t.nodes.items) grown.more i ∙ e;
@@ -452,8 +452,8 @@ module _ {K V S H : Type 0} (eq : K → K → Bool) (b : builder.Ghosts S H) (h 
     inserted-grown last k v o i = record {
       inside = i.inside;
       takes = record {
-        replies = i.takes.replies ∙ ap (λ ps. Old (option_map (λ p. p.1) (at (keys_of eq b h input (state t)) ps k))) grown-pairs;
-        becomes = λ j. i.takes.becomes j ∙ ap (λ ps. after (keys_of eq b h input (state t)) (Insert k v) j (at (keys_of eq b h input (state t)) ps j)) grown-pairs;
+        replies = i.takes.replies ∙ ap (λ ps. Old (option_map (λ p. p.1) (at (keys_of h (state t)) ps k))) grown-pairs;
+        becomes = λ j. i.takes.becomes j ∙ ap (λ ps. after (keys_of h (state t)) (Insert k v) j (at (keys_of h (state t)) ps j)) grown-pairs;
         stays = record { number = refl; amount = refl; hasher = refl };
         lawful = i.takes.lawful;
       };
@@ -462,14 +462,14 @@ module _ {K V S H : Type 0} (eq : K → K → Bool) (b : builder.Ghosts S H) (h 
     }
 
     -- a new pair, in the room that was made
-    module _ (k : K) (z : ShardState K V S) (view : state t ≡ z) (here : Routes eq b h input z k) (v : V) (last : Table K V) (hash : ℕ) where
-      pub pushed : new.len < length new.nodes.items → hash ≡ hash_of b h s (input k) → IsAbsent eq t.nodes.items hash k
+    module _ (k : K) (z : ShardState K V S) (view : state t ≡ z) (here : Routes h z k) (v : V) (last : Table K V) (hash : ℕ) where
+      pub pushed : new.len < length new.nodes.items → hash ≡ h.hash s k → IsAbsent h.eq t.nodes.items hash k
           → pairs_of last.nodes.items ≡ set (pairs_of new.nodes.items) (next_place new) (Some (k, v)) → hashes_of last.nodes.items ≡ set (hashes_of new.nodes.items) (next_place new) hash
           → last.len ≡ new.len + 1 → IsTable last → Inserted t last k v None
       pushed room is absent places hashes longer lawful =
           let free = next_free new table room in
           inserted-grown last k v None
-          (filled new grown-inside k (state new) refl (subst (λ x. Routes eq b h input x k) (sym view) here) v last (next_place new) hash free.0 free.1
+          (filled new grown-inside k (state new) refl (subst (λ x. Routes h x k) (sym view) here) v last (next_place new) hash free.0 free.1
           is
-          (ap (λ ps. at (keys_of eq b h input (state t)) ps k) grown-pairs ∙ at-missing t inside k hash is absent)
+          (ap (λ ps. at (keys_of h (state t)) ps k) grown-pairs ∙ at-missing t inside k hash is absent)
           places hashes longer lawful)

@@ -10,26 +10,27 @@ use Rattle.dash_shard.specs.Each.{Shrinks}
 use Rattle.dash_shard.specs.declared.shard.table.Table.{Table}
 use Rattle.dash_shard.specs.Table.{pairs_of, IsTable, IsCarried}
 use Rattle.dash_shard.proofs.Shards.{state, Inside}
+use Rattle.dash_shard.specs.Hashing.{IsLawful, KeyHash}
 
-module _ {K V S H : Type 0} (eq : K → K → Bool) (b : builder.Ghosts S H) (h : hasher.Ghosts H) (input : K → HashWrites)
-    (laws : IsEquivalence eq) (respects : (x y : K) → eq x y ≡ true → input x ≡ input y) (s : S) (number amount : ℕ)
-    (t new : Table K V) (inside : Inside eq b h input laws respects s number amount t)
+module _ {K V S : Type 0} (h : KeyHash K S)
+    (law : IsLawful h) (s : S) (number amount : ℕ)
+    (t new : Table K V) (inside : Inside h law s number amount t)
     (once : (w : Keys K) → IsEquivalence w.eq → Distinct w (taken (pairs_of t.nodes.items)) → EachOnce w (taken (pairs_of t.nodes.items)) (taken (pairs_of new.nodes.items)))
     (carried : IsCarried t.nodes.items new.nodes.items) (len : new.len ≡ t.len) (counted : new.len ≡ length (taken (pairs_of new.nodes.items))) (table : IsTable new) where
   abbrev of : Table K V → ShardState K V S
-  of u = state eq b h input laws respects s number amount u
+  of u = state h law s number amount u
 
-  each : EachOnce (keys_of eq b h input (of t)) (pairs (of t)) (pairs (of new))
-  each = once (keys_of eq b h input (of t)) laws inside.shard.contents.distinct
+  each : EachOnce (keys_of h (of t)) (pairs (of t)) (pairs (of new))
+  each = once (keys_of h (of t)) law.laws inside.shard.contents.distinct
 
-  shrunk-shard : IsShard eq b h input (of new)
+  shrunk-shard : IsShard h (of new)
   shrunk-shard = record {
     contents = record { distinct = each.distinct; routed = λ k away. each.same k ∙ inside.shard.contents.routed k away };
     number = inside.shard.number;
     amount = inside.shard.amount;
   }
 
-  pub shrunk-inside : Inside eq b h input laws respects s number amount new
+  pub shrunk-inside : Inside h law s number amount new
   shrunk-inside = record {
     shard = shrunk-shard;
     table = table;
@@ -37,8 +38,8 @@ module _ {K V S H : Type 0} (eq : K → K → Bool) (b : builder.Ghosts S H) (h 
     counted = counted;
   }
 
-  pub shrinks : length new.nodes.items ≤ length t.nodes.items → (t.len ≡ 0 → length new.nodes.items ≡ 0) → (z : ShardState K V S) → of t ≡ z → Shrinks eq b h input z (of new)
-  shrinks room none z view = subst (λ x. Shrinks eq b h input x (of new)) view (record {
+  pub shrinks : length new.nodes.items ≤ length t.nodes.items → (t.len ≡ 0 → length new.nodes.items ≡ 0) → (z : ShardState K V S) → of t ≡ z → Shrinks h z (of new)
+  shrinks room none z view = subst (λ x. Shrinks h x (of new)) view (record {
     pairs = each;
     len = sym counted ∙ len ∙ inside.counted;
     room = room;

@@ -8,6 +8,7 @@ use Rattle.dash_shard.specs.Steps.{Act, AlterAll, Retain, Done}
 use Rattle.dash_shard.specs.Shard.{ShardState, pairs, shard_len, keys_of, IsShard, SameShard, TakesExactly, StaysInPlace}
 use Rattle.dash_shard.specs.Contents.{EachOnce}
 use denote.Ref.{Bor}
+use Rattle.dash_shard.specs.Hashing.{KeyHash}
 
 module _ {F K V : Type 0} (g : Mut F (Bor K × (V × Unit {0})) V) where
   -- a call of f at a `&` to k and at v may return w, and leave f'
@@ -50,14 +51,14 @@ if_kept k d = if d.1 then Some (k, d.0) else None
 abbrev pub altered : {K V : Type 0} → K → V × Bool → Option (K × V)
 altered k d = Some (k, d.0)
 
-module _ {K V S H : Type 0} (eq : K → K → Bool) (b : builder.Ghosts S H) (h : hasher.Ghosts H) (input : K → HashWrites) where
+module _ {K V S : Type 0} (h : KeyHash K S) where
   -- all that `retain` promises: a pair stays where the action, which is what f did, answers yes
   pub record Retains {F : Type 0} (T : F → K → V → Bool → V → F → Type 0) (f : F) (old new : ShardState K V S) : Type 0 where
     pub act : Act K V
     pub last : F
     pub called : CalledAlong T act f (pairs old) last
-    pub taken : TakesExactly eq b h input old new (Retain old.number act) Done
-    pub places : StaysInPlace eq b h input old new (Retain old.number act)
+    pub taken : TakesExactly h old new (Retain old.number act) Done
+    pub places : StaysInPlace h old new (Retain old.number act)
     pub room : new.capacity ≡ old.capacity
     pub len : shard_len new ≤ shard_len old
 
@@ -66,29 +67,29 @@ module _ {K V S H : Type 0} (eq : K → K → Bool) (b : builder.Ghosts S H) (h 
     pub act : Act K V
     pub last : F
     pub called : CalledAlong T act f (pairs old) last
-    pub taken : TakesExactly eq b h input old new (AlterAll old.number act) Done
-    pub places : StaysInPlace eq b h input old new (AlterAll old.number act)
+    pub taken : TakesExactly h old new (AlterAll old.number act) Done
+    pub places : StaysInPlace h old new (AlterAll old.number act)
     pub room : new.capacity ≡ old.capacity
     pub len : shard_len new ≡ shard_len old
 
   -- all that `clear` promises: no pair stays
   pub record Clears (old new : ShardState K V S) : Type 0 where
-    pub taken : TakesExactly eq b h input old new (Retain old.number (λ _ v. (v, false))) Done
+    pub taken : TakesExactly h old new (Retain old.number (λ _ v. (v, false))) Done
     pub empty : pairs new ≡ []
     pub room : new.capacity ≡ old.capacity
 
   -- all that `shrink_to_fit` promises: the pairs stay, in as many places as before or fewer, and none for no pairs
   pub record Shrinks (old new : ShardState K V S) : Type 0 where
-    pub pairs : EachOnce (keys_of eq b h input old) (pairs old) (pairs new)
+    pub pairs : EachOnce (keys_of h old) (pairs old) (pairs new)
     pub len : shard_len new ≡ shard_len old
     pub room : new.capacity ≤ old.capacity
     pub none : shard_len old ≡ 0 → new.capacity ≡ 0
     pub stays : SameShard old new
-    pub lawful : IsShard eq b h input new
+    pub lawful : IsShard h new
 
   -- all that a walk over a shard with f promises: what became of the pair of each place, in rising order, and how f was left
   pub record SweepsShard {F : Type 0} (T : F → K → V → Bool → V → F → Type 0) (leaves : K → V × Bool → Option (K × V)) (f last : F) (old new : ShardState K V S) : Type 0 where
     pub swept : Sweeps T leaves f old.places new.places last
     pub room : new.capacity ≡ old.capacity
     pub stays : SameShard old new
-    pub lawful : IsShard eq b h input new
+    pub lawful : IsShard h new

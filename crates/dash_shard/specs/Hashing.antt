@@ -1,8 +1,10 @@
 -- The hash of a key, and the shard that it goes to.
-use Rattle.std.specs.Prelude.{◌≡◌, ℕ, ◌*◌, ◌/◌, ◌%◌, ◌^◌, ◌<◌, ◌==◌, List, length, bit_xor, if◌then◌else◌}
+use Rattle.std.specs.Prelude.{◌≡◌, ℕ, ◌*◌, ◌/◌, ◌%◌, ◌^◌, ◌<◌, ◌==◌, Bool, true, List, length, bit_xor, if◌then◌else◌}
 use Rattle.std.specs.List.{fold}
 use Rattle.std.specs.Int.{w64, from_le_bytes, IsPowerOfTwo}
 use Rattle.std.specs.Hash.{HashWrites}
+use Rattle.std.specs.Cmp.{IsEquivalence}
+use Rattle.std.specs.HashMap.Lent.{HashMembers}
 use Rattle.std.specs.declared.hash.Hasher as hasher
 use Rattle.std.specs.declared.hash.BuildHasher as builder
 
@@ -32,15 +34,32 @@ fnv_from = fold fnv_step
 unfoldable pub placed : ℕ → List ℕ → ℕ
 placed s bytes = if length bytes == 8 then from_le_bytes w64 bytes * 2 ^ 55 % 2 ^ 64 else s
 
-module _ {S H : Type 0} (b : builder.Ghosts S H) (h : hasher.Ghosts H) where
-  -- the hash that the builder s gives to what a key writes
-  unfoldable pub hash_of : S → HashWrites → ℕ
-  hash_of s writes = h.finish (fold h.write (b.build_hasher s) writes)
+-- the hash that the builder s gives to what a key writes
+unfoldable pub hash_of : {S H : Type 0} → builder.Ghosts S H → hasher.Ghosts H → S → HashWrites → ℕ
+hash_of b h s writes = h.finish (fold h.write (b.build_hasher s) writes)
 
-  -- two builders give everything one hash
+-- what is known of keys: which are equal, and the hash that each gets from a hasher
+pub record KeyHash (K S : Type 0) : Type 0 where
+  pub eq : K → K → Bool
+  pub hash : S → K → ℕ
+
+-- the same, from what the bounds of the key and of the hasher say
+abbrev pub key_hash : {K S H : Type 0} → (K → K → Bool) → (K → HashWrites) → builder.Ghosts S H → hasher.Ghosts H → KeyHash K S
+key_hash eq input b h = record { eq = eq; hash = λ s k. hash_of b h s (input k) }
+
+abbrev pub by : {K S H : Type 0} → HashMembers K → builder.Ghosts S H → hasher.Ghosts H → KeyHash K S
+by key b h = key_hash key.eq key.hash_input b h
+
+module _ {K S : Type 0} (h : KeyHash K S) where
+  -- two hashers give each key one hash
   abbrev pub HashAlike : S → S → Type 0
-  HashAlike s t = (writes : HashWrites) → hash_of t writes ≡ hash_of s writes
+  HashAlike s t = (k : K) → h.hash t k ≡ h.hash s k
 
   -- the shard of a key among n, by its hash
-  abbrev pub route_by : {K : Type 0} → (K → HashWrites) → S → ℕ → K → ℕ
-  route_by input s n k = route_of_hash n (hash_of s (input k))
+  abbrev pub route_by : S → ℕ → K → ℕ
+  route_by s n k = route_of_hash n (h.hash s k)
+
+  -- lawful keys and hasher: `==` is an equivalence, and equal keys get one hash
+  pub record IsLawful : Type 0 where
+    pub laws : IsEquivalence h.eq
+    pub respects : (s : S) (x y : K) → h.eq x y ≡ true → h.hash s x ≡ h.hash s y

@@ -5,7 +5,7 @@ use Rattle.std.specs.Coded.{Coded, code_by, coded×, coded_ℕ, coded_list, code
 use Rattle.std.specs.Hash.{HashWrites}
 use Rattle.std.specs.declared.hash.Hasher as hasher
 use Rattle.std.specs.declared.hash.BuildHasher as builder
-use Rattle.dash_shard.specs.Hashing.{IsAmount, route_by}
+use Rattle.dash_shard.specs.Hashing.{KeyHash, IsAmount, route_by}
 use Rattle.dash_shard.specs.Contents.{Keys, keys, IsOnShard}
 use Rattle.dash_shard.specs.Steps.{Step, Reply, Replies, Becomes, after}
 
@@ -67,14 +67,14 @@ module _ {K V S : Type 0} where
   abbrev pub with_value_of : (K → K → Bool) → ShardState K V S → K → V → ShardState K V S
   with_value_of eq s k v = record s { places = map (option_map (λ p. (p.0, if eq p.0 k then v else p.1))) s.places }
 
-  module _ {H : Type 0} (eq : K → K → Bool) (b : builder.Ghosts S H) (h : hasher.Ghosts H) (input : K → HashWrites) where
+  module _ (h : KeyHash K S) where
     -- what a map of the shard's hasher and amount knows of its keys
     abbrev pub keys_of : ShardState K V S → Keys K
-    keys_of s = keys eq (route_by b h input s.hasher s.amount) s.amount
+    keys_of s = keys h.eq (route_by h s.hasher s.amount) s.amount
 
     -- a key goes to this shard
     abbrev pub Routes : ShardState K V S → K → Type 0
-    Routes s k = route_by b h input s.hasher s.amount k ≡ s.number
+    Routes s k = route_by h s.hasher s.amount k ≡ s.number
 
     -- no two keys are equal, each goes to this shard, and the shard is one of a lawful amount
     pub record IsShard (s : ShardState K V S) : Type 0 where

@@ -6,7 +6,7 @@ use Rattle.std.specs.Vec.{with_item}
 use Rattle.std.specs.Hash.{HashWrites}
 use Rattle.std.specs.declared.hash.Hasher as hasher
 use Rattle.std.specs.declared.hash.BuildHasher as builder
-use Rattle.dash_shard.specs.Hashing.{hash_of}
+use Rattle.dash_shard.specs.Hashing.{KeyHash, hash_of}
 use Rattle.dash_shard.specs.Shard.{ShardState, IsShard, shard_len, place}
 use Rattle.dash_shard.specs.declared.shard.table.Node.{Node}
 use Rattle.dash_shard.specs.declared.shard.table.Table.{Table}
@@ -161,11 +161,11 @@ module _ {K V S : Type 0} where
   held_state s t is_lent = record s { places = if is_lent then pairs_of t.nodes.items else s.places; capacity = if is_lent then length t.nodes.items else s.capacity }
 
 -- a shard's table and state
-module _ {K V S H : Type 0} (eq : K → K → Bool) (b : builder.Ghosts S H) (h : hasher.Ghosts H) (input : K → HashWrites) where
+module _ {K V S : Type 0} (h : KeyHash K S) where
   pub record IsInside (t : Table K V) (s : ShardState K V S) : Type 0 where
-    pub shard : IsShard eq b h input s
+    pub shard : IsShard h s
     pub table : IsTable t
-    pub hashed : IsHashed (λ k. hash_of b h s.hasher (input k)) s.places (hashes_of t.nodes.items)
+    pub hashed : IsHashed (λ k. h.hash s.hasher k) s.places (hashes_of t.nodes.items)
     pub counted : t.len ≡ shard_len s
 
   -- a shard's table was exchanged for t, and was r

@@ -3,7 +3,7 @@ ghost use Rattle.std.specs.Prelude.{◌≡◌, ◌+◌, ◌<◌, ◌≤◌, ◌�
 ghost use Rattle.std.specs.Option.{option_map, option_copied_mut};
 ghost use Rattle.std.specs.Map.Iter.{deref_pair};
 ghost use Rattle.std.specs.Borrow.{sem};
-ghost use Rattle.dash_shard.specs.Hashing.{IsAmount, hash_of};
+ghost use Rattle.dash_shard.specs.Hashing.{by, IsAmount};
 ghost use Rattle.dash_shard.specs.Contents.{at};
 ghost use Rattle.dash_shard.specs.Steps.{Get, Contains, Insert, Remove, Pair, Found, Old, Replies};
 ghost use Rattle.dash_shard.specs.Shard.{place, pairs, shard_len, keys_of, Routes, IsShard, TakesExactly, StaysInPlace};
@@ -39,6 +39,7 @@ impl<K: Eq + Hash, V, S: BuildHasher> Model for Shard<K, V, S> {
     ghost use Rattle.std.specs.Prelude.{length};
     ghost use Rattle.dash_shard.specs.Shard.{ShardState, shard_code};
     ghost use Rattle.dash_shard.specs.Table.{IsInside, pairs_of};
+    ghost use Rattle.dash_shard.specs.Hashing.{key_hash};
 
     ghost Value = { ShardState K V S };
 
@@ -46,7 +47,7 @@ impl<K: Eq + Hash, V, S: BuildHasher> Model for Shard<K, V, S> {
 
     ghost view = { λ s. record { places = pairs_of s.table.nodes.items; number = s.number; amount = s.amount; hasher = s.hasher; capacity = length s.table.nodes.items } };
 
-    ghost invariant = { λ s. IsInside K.eq S.BuildHasher S.Hasher.Hasher K.hash_input s.table (record { places = pairs_of s.table.nodes.items; number = s.number; amount = s.amount; hasher = s.hasher; capacity = length s.table.nodes.items }) };
+    ghost invariant = { λ s. IsInside (key_hash K.eq K.hash_input S.BuildHasher S.Hasher.Hasher) s.table (record { places = pairs_of s.table.nodes.items; number = s.number; amount = s.amount; hasher = s.hasher; capacity = length s.table.nodes.items }) };
 }
 
 /// No memory for a new key (1). The pair comes back, and the shard or map is as it was.
@@ -80,7 +81,7 @@ impl<K: Eq + Hash, V, S: BuildHasher> Shard<K, V, S> {
         ensures amount { IfOk result (λ s. s.amount ≡ amount) }
         ensures hasher { IfOk result (λ s. s.hasher ≡ hasher) }
         ensures capacity { IfOk result (λ s. capacity ≤ s.capacity) }
-        ensures lawful { IfOk result (IsShard K.eq S.BuildHasher S.Hasher.Hasher K.hash_input) }
+        ensures lawful { IfOk result (IsShard (by K.Hash S.BuildHasher S.Hasher.Hasher)) }
         ensures refused { IfErr result (λ e. e ≡ Memory) }
         ensures free { capacity ≡ 0 → IsOk result }
     {
@@ -99,7 +100,7 @@ impl<K: Eq + Hash, V, S: BuildHasher> Shard<K, V, S> {
     #[inline]
     pub fn number(&self) -> usize
         ensures number { result ≡ self.now.number }
-        ensures lawful { IsShard K.eq S.BuildHasher S.Hasher.Hasher K.hash_input self.now }
+        ensures lawful { IsShard (by K.Hash S.BuildHasher S.Hasher.Hasher) self.now }
     {
         self.number
     }
@@ -108,7 +109,7 @@ impl<K: Eq + Hash, V, S: BuildHasher> Shard<K, V, S> {
     #[inline]
     pub fn amount(&self) -> usize
         ensures amount { result ≡ self.now.amount }
-        ensures lawful { IsShard K.eq S.BuildHasher S.Hasher.Hasher K.hash_input self.now }
+        ensures lawful { IsShard (by K.Hash S.BuildHasher S.Hasher.Hasher) self.now }
     {
         self.amount
     }
@@ -116,7 +117,7 @@ impl<K: Eq + Hash, V, S: BuildHasher> Shard<K, V, S> {
     /// Whether the key goes to this shard, which the keyed calls ask.
     #[inline]
     pub fn routes(&self, key: &K) -> bool
-        ensures { IsTrue result ↔ Routes K.eq S.BuildHasher S.Hasher.Hasher K.hash_input self.now key.now }
+        ensures { IsTrue result ↔ Routes (by K.Hash S.BuildHasher S.Hasher.Hasher) self.now key.now }
     {
         determine_shard(self.hasher.hash_one(key), self.amount) == self.number
     }
@@ -124,7 +125,7 @@ impl<K: Eq + Hash, V, S: BuildHasher> Shard<K, V, S> {
     // The hash of a key, by the shard's hasher.
     #[inline(always)]
     fn hash_one(&self, key: &K) -> u64
-        ensures { result ≡ hash_of S.BuildHasher S.Hasher.Hasher self.now.hasher (K.hash_input key.now) }
+        ensures { result ≡ (by K.Hash S.BuildHasher S.Hasher.Hasher).hash self.now.hasher key.now }
     {
         self.hasher.hash_one(key)
     }
@@ -137,15 +138,15 @@ impl<K: Eq + Hash, V, S: BuildHasher> Shard<K, V, S> {
     where
         K: Drop,
         V: Drop,
-        requires { Routes K.eq S.BuildHasher S.Hasher.Hasher K.hash_input self.old key }
-        ensures taken { IfOk result (λ old. TakesExactly K.eq S.BuildHasher S.Hasher.Hasher K.hash_input self.old self.new (Insert key value) (Old old)) }
+        requires { Routes (by K.Hash S.BuildHasher S.Hasher.Hasher) self.old key }
+        ensures taken { IfOk result (λ old. TakesExactly (by K.Hash S.BuildHasher S.Hasher.Hasher) self.old self.new (Insert key value) (Old old)) }
         ensures len { IfOk result (λ old. shard_len self.new ≡ shard_len self.old + (if is_some old then 0 else 1)) }
         ensures room { shard_len self.old < self.old.capacity → self.new.capacity ≡ self.old.capacity }
-        ensures places { OnOk result (self.new.capacity ≡ self.old.capacity → StaysInPlace K.eq S.BuildHasher S.Hasher.Hasher K.hash_input self.old self.new (Insert key value)) }
+        ensures places { OnOk result (self.new.capacity ≡ self.old.capacity → StaysInPlace (by K.Hash S.BuildHasher S.Hasher.Hasher) self.old self.new (Insert key value)) }
 
         // A refusal hands the pair back, and comes only for a new key in a full shard.
         ensures refused { IfErr result (λ e. (e.key ≡ key) × (e.value ≡ value) × (self.new ≡ self.old)) }
-        ensures absent { OnErr result (at (keys_of K.eq S.BuildHasher S.Hasher.Hasher K.hash_input self.old) (pairs self.old) key ≡ None) }
+        ensures absent { OnErr result (at (keys_of (by K.Hash S.BuildHasher S.Hasher.Hasher) self.old) (pairs self.old) key ≡ None) }
         ensures full { OnErr result (shard_len self.old ≡ self.old.capacity) }
     {
         let hash = self.hash_one(&key);
@@ -163,9 +164,9 @@ impl<K: Eq + Hash, V, S: BuildHasher> Shard<K, V, S> {
     where
         K: Drop,
         V: Drop,
-        requires hash { hash ≡ hash_of S.BuildHasher S.Hasher.Hasher self.old.hasher (K.hash_input key) }
-        requires route { Routes K.eq S.BuildHasher S.Hasher.Hasher K.hash_input self.old key }
-        ensures { Inserts K.eq S.BuildHasher S.Hasher.Hasher K.hash_input self.old self.new key value result }
+        requires hash { hash ≡ (by K.Hash S.BuildHasher S.Hasher.Hasher).hash self.old.hasher key }
+        requires route { Routes (by K.Hash S.BuildHasher S.Hasher.Hasher) self.old key }
+        ensures { Inserts (by K.Hash S.BuildHasher S.Hasher.Hasher) self.old self.new key value result }
     {
         if let Some(place) = self.table.find(hash, &key) {
             return Ok(Some(self.table.replace(place, value)));
@@ -182,11 +183,11 @@ impl<K: Eq + Hash, V, S: BuildHasher> Shard<K, V, S> {
     /// The room stays, for pairs that come later.
     #[inline]
     pub fn remove(&mut self, key: &K) -> Option<(K, V)>
-        requires { Routes K.eq S.BuildHasher S.Hasher.Hasher K.hash_input self.old key.now }
-        ensures taken { TakesExactly K.eq S.BuildHasher S.Hasher.Hasher K.hash_input self.old self.new (Remove key.now) (Pair result) }
+        requires { Routes (by K.Hash S.BuildHasher S.Hasher.Hasher) self.old key.now }
+        ensures taken { TakesExactly (by K.Hash S.BuildHasher S.Hasher.Hasher) self.old self.new (Remove key.now) (Pair result) }
         ensures len { shard_len self.old ≡ shard_len self.new + (if is_some result then 1 else 0) }
         ensures room { self.new.capacity ≡ self.old.capacity }
-        ensures places { StaysInPlace K.eq S.BuildHasher S.Hasher.Hasher K.hash_input self.old self.new (Remove key.now) }
+        ensures places { StaysInPlace (by K.Hash S.BuildHasher S.Hasher.Hasher) self.old self.new (Remove key.now) }
     {
         let hash = self.hash_one(key);
         self.remove_hashed(hash, key)
@@ -195,9 +196,9 @@ impl<K: Eq + Hash, V, S: BuildHasher> Shard<K, V, S> {
     /// As `remove`, for a caller who has the key's hash.
     #[inline]
     pub fn remove_hashed(&mut self, hash: u64, key: &K) -> Option<(K, V)>
-        requires hash { hash ≡ hash_of S.BuildHasher S.Hasher.Hasher self.old.hasher (K.hash_input key.now) }
-        requires route { Routes K.eq S.BuildHasher S.Hasher.Hasher K.hash_input self.old key.now }
-        ensures { Removes K.eq S.BuildHasher S.Hasher.Hasher K.hash_input self.old self.new key.now result }
+        requires hash { hash ≡ (by K.Hash S.BuildHasher S.Hasher.Hasher).hash self.old.hasher key.now }
+        requires route { Routes (by K.Hash S.BuildHasher S.Hasher.Hasher) self.old key.now }
+        ensures { Removes (by K.Hash S.BuildHasher S.Hasher.Hasher) self.old self.new key.now result }
     {
         let position = self.table.find(hash, key)?;
         Some(self.table.take(position))
@@ -206,9 +207,9 @@ impl<K: Eq + Hash, V, S: BuildHasher> Shard<K, V, S> {
     /// Takes the pair whose key equals `key` out if `f` answers yes on it, and answers it. It takes no memory, and can't be refused.
     #[inline]
     pub fn remove_if<F: FnOnce(&K, &V) -> bool>(&mut self, key: &K, f: F) -> Option<(K, V)>
-        requires route { Routes K.eq S.BuildHasher S.Hasher.Hasher K.hash_input self.old key.now }
-        requires callable { IfSome (at (keys_of K.eq S.BuildHasher S.Hasher.Hasher K.hash_input self.old) (pairs self.old) key.now) (MayAsk F.FnOnce f) }
-        ensures { RemovesAsked K.eq S.BuildHasher S.Hasher.Hasher K.hash_input (AnswersOn F.FnOnce f) self.old self.new key.now result }
+        requires route { Routes (by K.Hash S.BuildHasher S.Hasher.Hasher) self.old key.now }
+        requires callable { IfSome (at (keys_of (by K.Hash S.BuildHasher S.Hasher.Hasher) self.old) (pairs self.old) key.now) (MayAsk F.FnOnce f) }
+        ensures { RemovesAsked (by K.Hash S.BuildHasher S.Hasher.Hasher) (AnswersOn F.FnOnce f) self.old self.new key.now result }
     {
         let hash = self.hash_one(key);
         self.remove_if_hashed(hash, key, f)
@@ -222,10 +223,10 @@ impl<K: Eq + Hash, V, S: BuildHasher> Shard<K, V, S> {
         key: &K,
         f: F,
     ) -> Option<(K, V)>
-        requires hash { hash ≡ hash_of S.BuildHasher S.Hasher.Hasher self.old.hasher (K.hash_input key.now) }
-        requires route { Routes K.eq S.BuildHasher S.Hasher.Hasher K.hash_input self.old key.now }
-        requires callable { IfSome (at (keys_of K.eq S.BuildHasher S.Hasher.Hasher K.hash_input self.old) (pairs self.old) key.now) (MayAsk F.FnOnce f) }
-        ensures { RemovesAsked K.eq S.BuildHasher S.Hasher.Hasher K.hash_input (AnswersOn F.FnOnce f) self.old self.new key.now result }
+        requires hash { hash ≡ (by K.Hash S.BuildHasher S.Hasher.Hasher).hash self.old.hasher key.now }
+        requires route { Routes (by K.Hash S.BuildHasher S.Hasher.Hasher) self.old key.now }
+        requires callable { IfSome (at (keys_of (by K.Hash S.BuildHasher S.Hasher.Hasher) self.old) (pairs self.old) key.now) (MayAsk F.FnOnce f) }
+        ensures { RemovesAsked (by K.Hash S.BuildHasher S.Hasher.Hasher) (AnswersOn F.FnOnce f) self.old self.new key.now result }
     {
         let place = self.position_of_hashed(hash, key)?;
         let (stored, value) = self.at(place);
@@ -238,9 +239,9 @@ impl<K: Eq + Hash, V, S: BuildHasher> Shard<K, V, S> {
     /// As `remove_if`, where `f` may write the value. On yes the pair is answered as `f` left it, and on no it stays so.
     #[inline]
     pub fn remove_if_mut<F: FnOnce(&K, &mut V) -> bool>(&mut self, key: &K, f: F) -> Option<(K, V)>
-        requires route { Routes K.eq S.BuildHasher S.Hasher.Hasher K.hash_input self.old key.now }
-        requires callable { IfSome (at (keys_of K.eq S.BuildHasher S.Hasher.Hasher K.hash_input self.old) (pairs self.old) key.now) (MayChange F.FnOnce f) }
-        ensures { RemovesChanged K.eq S.BuildHasher S.Hasher.Hasher K.hash_input (ChangesOn F.FnOnce f) self.old self.new key.now result }
+        requires route { Routes (by K.Hash S.BuildHasher S.Hasher.Hasher) self.old key.now }
+        requires callable { IfSome (at (keys_of (by K.Hash S.BuildHasher S.Hasher.Hasher) self.old) (pairs self.old) key.now) (MayChange F.FnOnce f) }
+        ensures { RemovesChanged (by K.Hash S.BuildHasher S.Hasher.Hasher) (ChangesOn F.FnOnce f) self.old self.new key.now result }
     {
         let hash = self.hash_one(key);
         self.remove_if_mut_hashed(hash, key, f)
@@ -254,10 +255,10 @@ impl<K: Eq + Hash, V, S: BuildHasher> Shard<K, V, S> {
         key: &K,
         f: F,
     ) -> Option<(K, V)>
-        requires hash { hash ≡ hash_of S.BuildHasher S.Hasher.Hasher self.old.hasher (K.hash_input key.now) }
-        requires route { Routes K.eq S.BuildHasher S.Hasher.Hasher K.hash_input self.old key.now }
-        requires callable { IfSome (at (keys_of K.eq S.BuildHasher S.Hasher.Hasher K.hash_input self.old) (pairs self.old) key.now) (MayChange F.FnOnce f) }
-        ensures { RemovesChanged K.eq S.BuildHasher S.Hasher.Hasher K.hash_input (ChangesOn F.FnOnce f) self.old self.new key.now result }
+        requires hash { hash ≡ (by K.Hash S.BuildHasher S.Hasher.Hasher).hash self.old.hasher key.now }
+        requires route { Routes (by K.Hash S.BuildHasher S.Hasher.Hasher) self.old key.now }
+        requires callable { IfSome (at (keys_of (by K.Hash S.BuildHasher S.Hasher.Hasher) self.old) (pairs self.old) key.now) (MayChange F.FnOnce f) }
+        ensures { RemovesChanged (by K.Hash S.BuildHasher S.Hasher.Hasher) (ChangesOn F.FnOnce f) self.old self.new key.now result }
     {
         let place = self.position_of_hashed(hash, key)?;
         let (key, value) = self.table.pair_mut(place);
@@ -271,9 +272,9 @@ impl<K: Eq + Hash, V, S: BuildHasher> Shard<K, V, S> {
     /// no memory, and can't be refused.
     #[inline]
     pub fn alter<F: FnOnce(&K, V) -> V>(&mut self, key: &K, f: F)
-        requires route { Routes K.eq S.BuildHasher S.Hasher.Hasher K.hash_input self.old key.now }
-        requires callable { IfSome (at (keys_of K.eq S.BuildHasher S.Hasher.Hasher K.hash_input self.old) (pairs self.old) key.now) (MayGive F.FnOnce f) }
-        ensures { Alters K.eq S.BuildHasher S.Hasher.Hasher K.hash_input (GivesOn F.FnOnce f) self.old self.new key.now }
+        requires route { Routes (by K.Hash S.BuildHasher S.Hasher.Hasher) self.old key.now }
+        requires callable { IfSome (at (keys_of (by K.Hash S.BuildHasher S.Hasher.Hasher) self.old) (pairs self.old) key.now) (MayGive F.FnOnce f) }
+        ensures { Alters (by K.Hash S.BuildHasher S.Hasher.Hasher) (GivesOn F.FnOnce f) self.old self.new key.now }
     {
         let hash = self.hash_one(key);
         self.alter_hashed(hash, key, f);
@@ -282,10 +283,10 @@ impl<K: Eq + Hash, V, S: BuildHasher> Shard<K, V, S> {
     /// As `alter`, for a caller who has the key's hash.
     #[inline]
     pub fn alter_hashed<F: FnOnce(&K, V) -> V>(&mut self, hash: u64, key: &K, f: F)
-        requires hash { hash ≡ hash_of S.BuildHasher S.Hasher.Hasher self.old.hasher (K.hash_input key.now) }
-        requires route { Routes K.eq S.BuildHasher S.Hasher.Hasher K.hash_input self.old key.now }
-        requires callable { IfSome (at (keys_of K.eq S.BuildHasher S.Hasher.Hasher K.hash_input self.old) (pairs self.old) key.now) (MayGive F.FnOnce f) }
-        ensures { Alters K.eq S.BuildHasher S.Hasher.Hasher K.hash_input (GivesOn F.FnOnce f) self.old self.new key.now }
+        requires hash { hash ≡ (by K.Hash S.BuildHasher S.Hasher.Hasher).hash self.old.hasher key.now }
+        requires route { Routes (by K.Hash S.BuildHasher S.Hasher.Hasher) self.old key.now }
+        requires callable { IfSome (at (keys_of (by K.Hash S.BuildHasher S.Hasher.Hasher) self.old) (pairs self.old) key.now) (MayGive F.FnOnce f) }
+        ensures { Alters (by K.Hash S.BuildHasher S.Hasher.Hasher) (GivesOn F.FnOnce f) self.old self.new key.now }
     {
         if let Some(place) = self.position_of_hashed(hash, key) {
             self.table.alter(place, f);
@@ -295,8 +296,8 @@ impl<K: Eq + Hash, V, S: BuildHasher> Shard<K, V, S> {
     /// The pair whose key equals `key`.
     #[inline]
     pub fn get(&self, key: &K) -> Option<(&K, &V)>
-        ensures pair { Replies (keys_of K.eq S.BuildHasher S.Hasher.Hasher K.hash_input self.now) (Get key.now) (pairs self.now) (Pair (option_map deref_pair result)) }
-        ensures lawful { IsShard K.eq S.BuildHasher S.Hasher.Hasher K.hash_input self.now }
+        ensures pair { Replies (keys_of (by K.Hash S.BuildHasher S.Hasher.Hasher) self.now) (Get key.now) (pairs self.now) (Pair (option_map deref_pair result)) }
+        ensures lawful { IsShard (by K.Hash S.BuildHasher S.Hasher.Hasher) self.now }
     {
         let position = self.position_of(key)?;
         Some(self.at(position))
@@ -306,8 +307,8 @@ impl<K: Eq + Hash, V, S: BuildHasher> Shard<K, V, S> {
     #[inline]
     pub fn get_mut(&mut self, key: &K) -> Option<&mut V>
         ensures* writes_back { sem 𝓛 (lends_get K.row V.row S.row S.Hasher.row K.Hash S.BuildHasher S.Hasher.Hasher self.entry key.now result) }
-        ensures value { option_copied_mut result ≡ option_map (λ p. p.1) (at (keys_of K.eq S.BuildHasher S.Hasher.Hasher K.hash_input self.old) (pairs self.old) key.now) }
-        ensures lawful { IsShard K.eq S.BuildHasher S.Hasher.Hasher K.hash_input self.old }
+        ensures value { option_copied_mut result ≡ option_map (λ p. p.1) (at (keys_of (by K.Hash S.BuildHasher S.Hasher.Hasher) self.old) (pairs self.old) key.now) }
+        ensures lawful { IsShard (by K.Hash S.BuildHasher S.Hasher.Hasher) self.old }
     {
         let hash = self.hash_one(key);
         self.get_mut_hashed(hash, key)
@@ -316,10 +317,10 @@ impl<K: Eq + Hash, V, S: BuildHasher> Shard<K, V, S> {
     /// As `get_mut`, for a caller who has the key's hash.
     #[inline]
     pub fn get_mut_hashed(&mut self, hash: u64, key: &K) -> Option<&mut V>
-        requires { hash ≡ hash_of S.BuildHasher S.Hasher.Hasher self.old.hasher (K.hash_input key.now) }
+        requires { hash ≡ (by K.Hash S.BuildHasher S.Hasher.Hasher).hash self.old.hasher key.now }
         ensures* writes_back { sem 𝓛 (lends_get K.row V.row S.row S.Hasher.row K.Hash S.BuildHasher S.Hasher.Hasher self.entry key.now result) }
-        ensures value { option_copied_mut result ≡ option_map (λ p. p.1) (at (keys_of K.eq S.BuildHasher S.Hasher.Hasher K.hash_input self.old) (pairs self.old) key.now) }
-        ensures lawful { IsShard K.eq S.BuildHasher S.Hasher.Hasher K.hash_input self.old }
+        ensures value { option_copied_mut result ≡ option_map (λ p. p.1) (at (keys_of (by K.Hash S.BuildHasher S.Hasher.Hasher) self.old) (pairs self.old) key.now) }
+        ensures lawful { IsShard (by K.Hash S.BuildHasher S.Hasher.Hasher) self.old }
     {
         match self.position_of_hashed(hash, key) {
             Some(position) => Some(self.at_mut(position).1),
@@ -330,8 +331,8 @@ impl<K: Eq + Hash, V, S: BuildHasher> Shard<K, V, S> {
     /// Whether there is a pair whose key equals `key`.
     #[inline]
     pub fn contains_key(&self, key: &K) -> bool
-        ensures found { Replies (keys_of K.eq S.BuildHasher S.Hasher.Hasher K.hash_input self.now) (Contains key.now) (pairs self.now) (Found result) }
-        ensures lawful { IsShard K.eq S.BuildHasher S.Hasher.Hasher K.hash_input self.now }
+        ensures found { Replies (keys_of (by K.Hash S.BuildHasher S.Hasher.Hasher) self.now) (Contains key.now) (pairs self.now) (Found result) }
+        ensures lawful { IsShard (by K.Hash S.BuildHasher S.Hasher.Hasher) self.now }
     {
         self.get(key).is_some()
     }
@@ -339,9 +340,9 @@ impl<K: Eq + Hash, V, S: BuildHasher> Shard<K, V, S> {
     /// What `f` answers on the pair whose key equals `key`.
     #[inline]
     pub fn view<R, F: FnOnce(&K, &V) -> R>(&self, key: &K, f: F) -> Option<R>
-        requires { IfSome (at (keys_of K.eq S.BuildHasher S.Hasher.Hasher K.hash_input self.now) (pairs self.now) key.now) (MayAsk F.FnOnce f) }
-        ensures viewed { Viewed F.FnOnce f (at (keys_of K.eq S.BuildHasher S.Hasher.Hasher K.hash_input self.now) (pairs self.now) key.now) result }
-        ensures lawful { IsShard K.eq S.BuildHasher S.Hasher.Hasher K.hash_input self.now }
+        requires { IfSome (at (keys_of (by K.Hash S.BuildHasher S.Hasher.Hasher) self.now) (pairs self.now) key.now) (MayAsk F.FnOnce f) }
+        ensures viewed { Viewed F.FnOnce f (at (keys_of (by K.Hash S.BuildHasher S.Hasher.Hasher) self.now) (pairs self.now) key.now) result }
+        ensures lawful { IsShard (by K.Hash S.BuildHasher S.Hasher.Hasher) self.now }
     {
         let place = self.position_of(key)?;
         let (key, value) = self.at(place);
@@ -353,7 +354,7 @@ impl<K: Eq + Hash, V, S: BuildHasher> Shard<K, V, S> {
     pub fn len(&self) -> usize
         ensures len { result ≡ shard_len self.now }
         ensures within { result ≤ self.now.capacity }
-        ensures lawful { IsShard K.eq S.BuildHasher S.Hasher.Hasher K.hash_input self.now }
+        ensures lawful { IsShard (by K.Hash S.BuildHasher S.Hasher.Hasher) self.now }
     {
         self.table.len()
     }
@@ -369,7 +370,7 @@ impl<K: Eq + Hash, V, S: BuildHasher> Shard<K, V, S> {
     /// Makes room for so many pairs more, where there is less. It is refused (11) only where there is no memory for it; the pairs stay, and
     /// so do their places.
     pub fn try_reserve(&mut self, additional: usize) -> Result<(), TryReserveError>
-        ensures { Reserves K.eq S.BuildHasher S.Hasher.Hasher K.hash_input additional self.old self.new result }
+        ensures { Reserves (by K.Hash S.BuildHasher S.Hasher.Hasher) additional self.old self.new result }
     {
         match self.table.reserve(additional) {
             Ok(()) => Ok(()),

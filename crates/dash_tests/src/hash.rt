@@ -1,6 +1,6 @@
 //! Hashes and routes, as worked by hand or elsewhere.
 ghost use Rattle.std.specs.Prelude.{◌≡◌, IfOk};
-ghost use Rattle.dash_shard.specs.Hashing.{HashAlike, hash_of};
+ghost use Rattle.dash_shard.specs.Hashing.{by, HashAlike};
 
 use crate::places::{new_shard, put};
 use dash_shard::hash::{FixedState, PlaceState, ZeroState, determine_shard, is_shard_amount};
@@ -46,12 +46,12 @@ fn zero(rt: HostRuntime) {
 
 // By a clone, as the shards of a map hash.
 #[tactic(auto, unfolding(dash_shard::specs::Hashing::hash_of))]
-fn hash_by_clone<K: Hash, S: BuildHasher + Clone + Drop>(
+fn hash_by_clone<K: Eq + Hash, S: BuildHasher + Clone + Drop>(
     state: &S,
     key: &K,
 ) -> Result<u64, AllocError>
-    requires { (s t : S) → S.is_clone s t → HashAlike S.BuildHasher S.Hasher.Hasher s t }
-    ensures { IfOk result (λ hash. hash ≡ hash_of S.BuildHasher S.Hasher.Hasher state.now (K.hash_input key.now)) }
+    requires { (s t : S) → S.is_clone s t → HashAlike (by K.Hash S.BuildHasher S.Hasher.Hasher) s t }
+    ensures { IfOk result (λ hash. hash ≡ (by K.Hash S.BuildHasher S.Hasher.Hasher).hash state.now key.now) }
 {
     Ok(state.clone()?.hash_one(key))
 }

@@ -1,5 +1,6 @@
 //! Shards by hand. By `PlaceState` the key k of four shards goes to shard k modulo 4, so 1, 5 and 9 go to shard 1.
 ghost use Rattle.std.specs.Prelude.{◌≡◌, ◌<◌};
+ghost use Rattle.dash_shard.specs.Hashing.{by};
 ghost use Rattle.dash_shard.specs.Shard.{Routes};
 
 use dash_shard::error::ConstructError;
@@ -59,7 +60,7 @@ pub(crate) fn here<K: Eq + Hash, V, S: BuildHasher>(
     key: K,
 ) -> K
     ensures key { result ≡ key }
-    ensures routes { Routes K.eq S.BuildHasher S.Hasher.Hasher K.hash_input shard.now result }
+    ensures routes { Routes (by K.Hash S.BuildHasher S.Hasher.Hasher) shard.now result }
 {
     assert!(rt; shard.routes(&key), "the key goes to another shard");
     key
@@ -83,7 +84,7 @@ pub(crate) fn here_held<K: Eq + Hash, V, S: BuildHasher>(
     key: K,
 ) -> K
     ensures key { result ≡ key }
-    ensures routes { Routes K.eq S.BuildHasher S.Hasher.Hasher K.hash_input held.now result }
+    ensures routes { Routes (by K.Hash S.BuildHasher S.Hasher.Hasher) held.now result }
 {
     assert!(rt; held.routes(&key), "the key goes to another shard");
     key

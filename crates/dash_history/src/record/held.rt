@@ -1,8 +1,10 @@
 //! A recorded shard that is held for writing, changed in place behind its lock.
 ghost use Rattle.std.specs.Prelude.{◌≡◌, ◌+◌, ◌-◌, ◌<◌, ◌^◌, ◌↔◌, ◌⊎◌, max, IfOk, IfErr, IsTrue};
+ghost use Rattle.dash_shard.specs.Hashing.{by};
 ghost use Rattle.dash_shard.specs.Shard.{Routes, SameShard};
 ghost use Rattle.dash_history.specs.History.{IsRecorded, Recorded, place_of, kinds_of};
 ghost use Rattle.dash_history.specs.Held.{FitsPlace, Grows};
+ghost use Rattle.dash_history.specs.Takes.{known};
 
 use super::{CallerLog, RecShard, RecordFault, make_room};
 use crate::action::KeptAction;
@@ -26,7 +28,7 @@ pub struct Place<S> {
 impl<K: KeptKey, V: Kept, S: BuildHasher, A: KeptAction<K, V>> Tagged for RecShard<K, V, S, A> {
     type Tag = Place<S>;
 
-    ghost fits = { λ tag shard. FitsPlace S.BuildHasher S.Hasher.Hasher tag shard };
+    ghost fits = { λ tag shard. FitsPlace (by K.Hash S.BuildHasher S.Hasher.Hasher) tag shard };
 }
 
 /// A recorded shard that is held for writing: the hold ends when it is dropped. A contract sees it as the shard with its history.
@@ -58,7 +60,7 @@ impl<'a, K: KeptKey, V: Kept, S: BuildHasher, A: KeptAction<K, V>> RecShardMut<'
     #[inline]
     pub fn of(guard: RwLockWriteGuard<'a, RecShard<K, V, S, A>>) -> RecShardMut<'a, K, V, S, A>
         ensures value { result ≡ guard.entry.value }
-        ensures fits { FitsPlace S.BuildHasher S.Hasher.Hasher guard.entry.tag result }
+        ensures fits { FitsPlace (by K.Hash S.BuildHasher S.Hasher.Hasher) guard.entry.tag result }
     {
         RecShardMut { guard }
     }
@@ -75,7 +77,7 @@ impl<K: KeptKey + Drop, V: Kept + Drop, S: BuildHasher, A: KeptAction<K, V> + Dr
     #[inline]
     pub fn number(&self) -> usize
         ensures number { result ≡ self.now.shard.number }
-        ensures legal { IsRecorded K.eq S.BuildHasher S.Hasher.Hasher K.hash_input K.alike V.alike A.alike A.acts self.now }
+        ensures legal { IsRecorded (known K.KeptKey V.alike A.KeptAction S.BuildHasher S.Hasher.Hasher) self.now }
     {
         self.guard.shard.number()
     }
@@ -107,7 +109,7 @@ impl<K: KeptKey + Drop, V: Kept + Drop, S: BuildHasher, A: KeptAction<K, V> + Dr
     /// Whether the key goes to this shard.
     #[inline]
     pub fn routes(&self, key: &K) -> bool
-        ensures { IsTrue result ↔ Routes K.eq S.BuildHasher S.Hasher.Hasher K.hash_input self.now.shard key.now }
+        ensures { IsTrue result ↔ Routes (by K.Hash S.BuildHasher S.Hasher.Hasher) self.now.shard key.now }
     {
         self.guard.shard.routes(key)
     }
@@ -119,20 +121,20 @@ impl<K: KeptKey + Drop, V: Kept + Drop, S: BuildHasher, A: KeptAction<K, V> + Dr
         caller: u32,
         step: ShardStep<K, V, A>,
     ) -> Result<(Reply<K, V>, Record<K, V, A>), ShardStep<K, V, A>>
-        requires place { place_of (kinds_of K.eq S.BuildHasher S.Hasher.Hasher K.hash_input K.alike V.alike A.alike A.acts self.old.shard) step ≡ self.old.shard.number }
+        requires place { place_of (kinds_of (known K.KeptKey V.alike A.KeptAction S.BuildHasher S.Hasher.Hasher) self.old.shard) step ≡ self.old.shard.number }
         requires caller { caller < self.old.callers }
         requires above { self.old.last < stamp }
-        ensures { Grows (kinds_of K.eq S.BuildHasher S.Hasher.Hasher K.hash_input K.alike V.alike A.alike A.acts self.old.shard) self.old self.new stamp caller step result }
+        ensures { Grows (kinds_of (known K.KeptKey V.alike A.KeptAction S.BuildHasher S.Hasher.Hasher) self.old.shard) self.old self.new stamp caller step result }
     {
         self.guard.change(
             |shard: &mut RecShard<K, V, S, A>| -> Result<
                 (Reply<K, V>, Record<K, V, A>),
                 ShardStep<K, V, A>,
             >
-                requires place { place_of (kinds_of K.eq S.BuildHasher S.Hasher.Hasher K.hash_input K.alike V.alike A.alike A.acts shard.old.shard) step ≡ shard.old.shard.number }
+                requires place { place_of (kinds_of (known K.KeptKey V.alike A.KeptAction S.BuildHasher S.Hasher.Hasher) shard.old.shard) step ≡ shard.old.shard.number }
                 requires caller { caller < shard.old.callers }
                 requires above { shard.old.last < stamp }
-                ensures { Grows (kinds_of K.eq S.BuildHasher S.Hasher.Hasher K.hash_input K.alike V.alike A.alike A.acts shard.old.shard) shard.old shard.new stamp caller step result }
+                ensures { Grows (kinds_of (known K.KeptKey V.alike A.KeptAction S.BuildHasher S.Hasher.Hasher) shard.old.shard) shard.old shard.new stamp caller step result }
             { shard.grow(stamp, caller, step) },
         )
     }
@@ -146,9 +148,9 @@ impl<K: KeptKey + Drop, V: Kept + Drop, S: BuildHasher, A: KeptAction<K, V> + Dr
         log: &mut CallerLog<K, V, A>,
         step: ShardStep<K, V, A>,
     ) -> Result<Reply<K, V>, (ShardStep<K, V, A>, RecordFault)>
-        requires place { place_of (kinds_of K.eq S.BuildHasher S.Hasher.Hasher K.hash_input K.alike V.alike A.alike A.acts self.old.shard) step ≡ self.old.shard.number }
+        requires place { place_of (kinds_of (known K.KeptKey V.alike A.KeptAction S.BuildHasher S.Hasher.Hasher) self.old.shard) step ≡ self.old.shard.number }
         requires caller { log.old.caller < self.old.callers }
-        ensures ok { IfOk result (λ reply. Recorded (kinds_of K.eq S.BuildHasher S.Hasher.Hasher K.hash_input K.alike V.alike A.alike A.acts self.old.shard) self.old self.new log.old log.new step reply) }
+        ensures ok { IfOk result (λ reply. Recorded (kinds_of (known K.KeptKey V.alike A.KeptAction S.BuildHasher S.Hasher.Hasher) self.old.shard) self.old self.new log.old log.new step reply) }
         ensures refused { IfErr result (λ e. (e.0 ≡ step) × (self.new ≡ self.old) × (log.new ≡ log.old)) }
         ensures last_stamp { (result ≡ Err (step, RecordFault.LastStamp)) ↔ (max self.old.last log.old.last ≡ 2 ^ 64 - 1) }
         ensures log_last { log.old.last ≡ 2 ^ 64 - 1 → result ≡ Err (step, RecordFault.LastStamp) }

@@ -1,11 +1,12 @@
 //! A recorded map that threads share, and its two moves: shards out of their locks, and behind them again.
 ghost use Rattle.std.specs.Prelude.{◌≡◌, ◌<◌, ◌↔◌, ◌⊎◌, IsErrOf, IfOk, IfErr, length};
 ghost use Rattle.crossbeam_utils.specs.Padded.{padded_value};
-ghost use Rattle.dash_shard.specs.Hashing.{IsAmount, HashAlike};
+ghost use Rattle.dash_shard.specs.Hashing.{by, IsAmount, HashAlike};
 ghost use Rattle.dash_history.specs.Alone.{IsAlone, IsCallers, IsPlaced, fresh_logs};
 ghost use Rattle.dash_history.specs.Held.{FitsPlace};
 ghost use Rattle.dash_history.specs.History.{IsRecorded, place_of};
 ghost use Rattle.dash_history.specs.Map.{IsAt, kinds_on};
+ghost use Rattle.dash_history.specs.Takes.{known};
 
 use super::held::{Place, RecShardMut};
 use super::{CallerLog, RecShard};
@@ -68,7 +69,7 @@ impl<K: KeptKey + Drop, V: Kept + Drop, S: BuildHasher, A: KeptAction<K, V> + Dr
     ) -> Result<(RecordedMap<K, V, S, A>, Vec<CallerLog<K, V, A>>), ConstructError>
     where
         S: Clone,
-        requires { (s t : S) → S.is_clone s t → HashAlike S.BuildHasher S.Hasher.Hasher s t }
+        requires { (s t : S) → S.is_clone s t → HashAlike (by K.Hash S.BuildHasher S.Hasher.Hasher) s t }
         ensures made { IfOk result (λ m. m.0 ≡ record { hasher = hasher; callers = callers; amount = amount }) }
         ensures logs { IfOk result (λ m. m.1.items ≡ fresh_logs callers) }
 
@@ -102,7 +103,7 @@ impl<K: KeptKey + Drop, V: Kept + Drop, S: BuildHasher, A: KeptAction<K, V> + Dr
     /// The number of the shard that a step goes to.
     #[inline]
     pub(crate) fn place(&self, step: &ShardStep<K, V, A>) -> usize
-        ensures { result ≡ place_of (kinds_on S.BuildHasher S.Hasher.Hasher K.eq K.hash_input K.alike V.alike A.alike A.acts self.now) step.now }
+        ensures { result ≡ place_of (kinds_on (known K.KeptKey V.alike A.KeptAction S.BuildHasher S.Hasher.Hasher) self.now) step.now }
     {
         step.place(&self.hasher, self.row.len())
     }
@@ -111,8 +112,8 @@ impl<K: KeptKey + Drop, V: Kept + Drop, S: BuildHasher, A: KeptAction<K, V> + Dr
     #[inline]
     pub fn held<R: Wait + Clock>(&self, rt: &R, shard: usize) -> RecShardMut<'_, K, V, S, A>
         requires { shard < self.now.amount }
-        ensures placed { IsPlaced S.BuildHasher S.Hasher.Hasher self.now.hasher self.now.amount self.now.callers shard result }
-        ensures legal { IsRecorded K.eq S.BuildHasher S.Hasher.Hasher K.hash_input K.alike V.alike A.alike A.acts result }
+        ensures placed { IsPlaced (by K.Hash S.BuildHasher S.Hasher.Hasher) self.now.hasher self.now.amount self.now.callers shard result }
+        ensures legal { IsRecorded (known K.KeptKey V.alike A.KeptAction S.BuildHasher S.Hasher.Hasher) result }
     {
         RecShardMut::of(self.row[shard].write(rt))
     }
@@ -122,7 +123,7 @@ impl<K: KeptKey + Drop, V: Kept + Drop, S: BuildHasher, A: KeptAction<K, V> + Dr
         ensures hasher { result.hasher ≡ self.hasher }
         ensures callers { result.callers ≡ self.callers }
         ensures amount { length result.row ≡ self.amount }
-        ensures lawful { IsAlone S.BuildHasher S.Hasher.Hasher result }
+        ensures lawful { IsAlone (by K.Hash S.BuildHasher S.Hasher.Hasher) result }
     {
         let RecordedMap {
             hasher,
@@ -134,7 +135,7 @@ impl<K: KeptKey + Drop, V: Kept + Drop, S: BuildHasher, A: KeptAction<K, V> + Dr
             &mut row,
             &mut shards,
             |_: usize, lock: Locked<K, V, S, A>| -> RecShard<K, V, S, A>
-                ensures { FitsPlace S.BuildHasher S.Hasher.Hasher (padded_value lock) result }
+                ensures { FitsPlace (by K.Hash S.BuildHasher S.Hasher.Hasher) (padded_value lock) result }
             { lock.into_inner().into_inner() },
         );
         RecAlone {
@@ -167,7 +168,7 @@ impl<K: KeptKey + Drop, V: Kept + Drop, S: BuildHasher, A: KeptAction<K, V> + Dr
             &mut row,
             &mut locks,
             |number: usize, shard: RecShard<K, V, S, A>| -> Locked<K, V, S, A>
-                requires { IsPlaced S.BuildHasher S.Hasher.Hasher hasher amount callers number shard }
+                requires { IsPlaced (by K.Hash S.BuildHasher S.Hasher.Hasher) hasher amount callers number shard }
                 ensures { IsAt (record { hasher = hasher; callers = callers; amount = amount }) number result }
             {
                 let place = Place {

@@ -1,11 +1,12 @@
 //! What a step will do to a shard: it is made first, since it takes memory, and carried out once all copies are there.
 ghost use Rattle.std.specs.Prelude.{◌≡◌, IfOk, IfErr, OnOk, IsTrue};
+ghost use Rattle.dash_shard.specs.Hashing.{by};
 ghost use Rattle.dash_history.specs.Alike.{alike_option, alike_pair};
 ghost use Rattle.dash_shard.specs.Contents.{at};
 ghost use Rattle.dash_shard.specs.Steps.{Act, Retain, Becomes, after};
 ghost use Rattle.dash_shard.specs.Shard.{pairs, keys_of, Routes, IsShard, SameShard};
 ghost use Rattle.dash_history.specs.Steps.{step_of, reply_of};
-ghost use Rattle.dash_history.specs.Takes.{Answers};
+ghost use Rattle.dash_history.specs.Takes.{known, Answers};
 ghost use Rattle.dash_history.specs.History.{kinds_of, place_of};
 ghost use Rattle.dash_history.specs.Plan.{change_step, Decides, HasPair, Leaves, MakesEach};
 
@@ -29,9 +30,9 @@ pub(super) fn prepare<
     shard: &Shard<K, V, S>,
     step: &ShardStep<K, V, A>,
 ) -> Result<(Reply<K, V>, Change<V>), AllocError>
-    requires { place_of (kinds_of K.eq S.BuildHasher S.Hasher.Hasher K.hash_input K.alike V.alike A.alike A.acts shard.now) step.now ≡ shard.now.number }
-    ensures answers { IfOk result (λ plan. Answers (kinds_of K.eq S.BuildHasher S.Hasher.Hasher K.hash_input K.alike V.alike A.alike A.acts shard.now).rules (pairs shard.now) (step_of A.acts step.now) (reply_of plan.0)) }
-    ensures decides { IfOk result (λ plan. Decides (kinds_of K.eq S.BuildHasher S.Hasher.Hasher K.hash_input K.alike V.alike A.alike A.acts shard.now) (pairs shard.now) step.now plan.1) }
+    requires { place_of (kinds_of (known K.KeptKey V.alike A.KeptAction S.BuildHasher S.Hasher.Hasher) shard.now) step.now ≡ shard.now.number }
+    ensures answers { IfOk result (λ plan. Answers (kinds_of (known K.KeptKey V.alike A.KeptAction S.BuildHasher S.Hasher.Hasher) shard.now).rules (pairs shard.now) (step_of A.acts step.now) (reply_of plan.0)) }
+    ensures decides { IfOk result (λ plan. Decides (kinds_of (known K.KeptKey V.alike A.KeptAction S.BuildHasher S.Hasher.Hasher) shard.now) (pairs shard.now) step.now plan.1) }
 {
     match step {
         ShardStep::Get(key) | ShardStep::Remove(key) => {
@@ -67,11 +68,11 @@ fn make_change<K: KeptKey + Drop, V: Kept + Drop, S: BuildHasher>(
     key: K,
     change: Change<V>,
 )
-    requires route { Routes K.eq S.BuildHasher S.Hasher.Hasher K.hash_input shard.old key }
-    requires there { HasPair change (at (keys_of K.eq S.BuildHasher S.Hasher.Hasher K.hash_input shard.old) (pairs shard.old) key) }
-    ensures becomes { Becomes (keys_of K.eq S.BuildHasher S.Hasher.Hasher K.hash_input shard.old) (change_step key change) (pairs shard.old) (pairs shard.new) }
+    requires route { Routes (by K.Hash S.BuildHasher S.Hasher.Hasher) shard.old key }
+    requires there { HasPair change (at (keys_of (by K.Hash S.BuildHasher S.Hasher.Hasher) shard.old) (pairs shard.old) key) }
+    ensures becomes { Becomes (keys_of (by K.Hash S.BuildHasher S.Hasher.Hasher) shard.old) (change_step key change) (pairs shard.old) (pairs shard.new) }
     ensures stays { SameShard shard.old shard.new }
-    ensures lawful { IsShard K.eq S.BuildHasher S.Hasher.Hasher K.hash_input shard.old → IsShard K.eq S.BuildHasher S.Hasher.Hasher K.hash_input shard.new }
+    ensures lawful { IsShard (by K.Hash S.BuildHasher S.Hasher.Hasher) shard.old → IsShard (by K.Hash S.BuildHasher S.Hasher.Hasher) shard.new }
 {
     match change {
         Change::Stays | Change::Each(_) => (),
@@ -85,9 +86,9 @@ fn change_each<K: KeptKey + Drop, V: Kept + Drop, S: BuildHasher>(
     shard: &mut Shard<K, V, S>,
     change: Change<V>,
 )
-    ensures leaves { (f : Act K V) → MakesEach V.alike f (pairs shard.old) change → (j : K) → IsTrue (alike_option (alike_pair K.alike V.alike) (after (keys_of K.eq S.BuildHasher S.Hasher.Hasher K.hash_input shard.old) (Retain shard.old.number f) j (at (keys_of K.eq S.BuildHasher S.Hasher.Hasher K.hash_input shard.old) (pairs shard.old) j)) (at (keys_of K.eq S.BuildHasher S.Hasher.Hasher K.hash_input shard.old) (pairs shard.new) j)) }
+    ensures leaves { (f : Act K V) → MakesEach V.alike f (pairs shard.old) change → (j : K) → IsTrue (alike_option (alike_pair K.alike V.alike) (after (keys_of (by K.Hash S.BuildHasher S.Hasher.Hasher) shard.old) (Retain shard.old.number f) j (at (keys_of (by K.Hash S.BuildHasher S.Hasher.Hasher) shard.old) (pairs shard.old) j)) (at (keys_of (by K.Hash S.BuildHasher S.Hasher.Hasher) shard.old) (pairs shard.new) j)) }
     ensures stays { SameShard shard.old shard.new }
-    ensures lawful { IsShard K.eq S.BuildHasher S.Hasher.Hasher K.hash_input shard.old → IsShard K.eq S.BuildHasher S.Hasher.Hasher K.hash_input shard.new }
+    ensures lawful { IsShard (by K.Hash S.BuildHasher S.Hasher.Hasher) shard.old → IsShard (by K.Hash S.BuildHasher S.Hasher.Hasher) shard.new }
 {
     let Change::Each(made) = change else {
         return;
@@ -106,11 +107,11 @@ pub(super) fn carry_out<
     step: ShardStep<K, V, A>,
     decided: Change<V>,
 ) -> Result<(), ShardStep<K, V, A>>
-    requires place { place_of (kinds_of K.eq S.BuildHasher S.Hasher.Hasher K.hash_input K.alike V.alike A.alike A.acts shard.old) step ≡ shard.old.number }
-    requires decides { Decides (kinds_of K.eq S.BuildHasher S.Hasher.Hasher K.hash_input K.alike V.alike A.alike A.acts shard.old) (pairs shard.old) step decided }
-    ensures ok { OnOk result (Leaves (kinds_of K.eq S.BuildHasher S.Hasher.Hasher K.hash_input K.alike V.alike A.alike A.acts shard.old) (pairs shard.old) step (pairs shard.new)) }
+    requires place { place_of (kinds_of (known K.KeptKey V.alike A.KeptAction S.BuildHasher S.Hasher.Hasher) shard.old) step ≡ shard.old.number }
+    requires decides { Decides (kinds_of (known K.KeptKey V.alike A.KeptAction S.BuildHasher S.Hasher.Hasher) shard.old) (pairs shard.old) step decided }
+    ensures ok { OnOk result (Leaves (kinds_of (known K.KeptKey V.alike A.KeptAction S.BuildHasher S.Hasher.Hasher) shard.old) (pairs shard.old) step (pairs shard.new)) }
     ensures stays { SameShard shard.old shard.new }
-    ensures lawful { IsShard K.eq S.BuildHasher S.Hasher.Hasher K.hash_input shard.old → IsShard K.eq S.BuildHasher S.Hasher.Hasher K.hash_input shard.new }
+    ensures lawful { IsShard (by K.Hash S.BuildHasher S.Hasher.Hasher) shard.old → IsShard (by K.Hash S.BuildHasher S.Hasher.Hasher) shard.new }
     ensures err { IfErr result (λ back. (back ≡ step) × (shard.new ≡ shard.old)) }
 {
     match step {

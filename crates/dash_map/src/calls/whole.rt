@@ -1,5 +1,6 @@
 //! Calls of threads on all pairs of a map that they share: shard after shard, each in its turn held for writing.
 ghost use Rattle.std.specs.Map.Calls.{CalledAtPair, TakesPair};
+ghost use Rattle.dash_shard.specs.Hashing.{by};
 ghost use Rattle.dash_shard.specs.Each.{CalledOnPair, TakesOnPair};
 ghost use Rattle.dash_map.specs.Behind.{CallableOnPairs, LeavesShards};
 ghost use Rattle.dash_map.specs.Whole.{ClearsAlone, ShrinksAlone, RetainsAlone, AltersAllAlone};
@@ -20,7 +21,7 @@ impl<K: Eq + Hash, V, S: BuildHasher> DashMap<K, V, S> {
         K: Drop,
         V: Drop,
         requires { CallableOnPairs (CalledAtPair F.FnMut) (TakesPair F.FnMut) f }
-        ensures { LeavesShards K.eq S.BuildHasher S.Hasher.Hasher K.hash_input self.now (RetainsAlone K.eq S.BuildHasher S.Hasher.Hasher K.hash_input (CalledAtPair F.FnMut) f) }
+        ensures { LeavesShards (by K.Hash S.BuildHasher S.Hasher.Hasher) self.now (RetainsAlone (by K.Hash S.BuildHasher S.Hasher.Hasher) (CalledAtPair F.FnMut) f) }
     {
         for place in 0..self.row.len() {
             f = self.shards_mut(rt, place).retain_by(f);
@@ -33,7 +34,7 @@ impl<K: Eq + Hash, V, S: BuildHasher> DashMap<K, V, S> {
     where
         K: Drop,
         V: Drop,
-        ensures { LeavesShards K.eq S.BuildHasher S.Hasher.Hasher K.hash_input self.now (ClearsAlone {V = V} K.eq S.BuildHasher S.Hasher.Hasher K.hash_input) }
+        ensures { LeavesShards (by K.Hash S.BuildHasher S.Hasher.Hasher) self.now (ClearsAlone {V = V} (by K.Hash S.BuildHasher S.Hasher.Hasher)) }
     {
         for place in 0..self.row.len() {
             self.shards_mut(rt, place).clear();
@@ -44,7 +45,7 @@ impl<K: Eq + Hash, V, S: BuildHasher> DashMap<K, V, S> {
     /// no memory, and can't be refused.
     pub fn alter_all<R: Wait + Clock, F: FnMut(&K, V) -> V>(&self, rt: &R, mut f: F)
         requires { CallableOnPairs (CalledOnPair F.FnMut) (TakesOnPair F.FnMut) f }
-        ensures { LeavesShards K.eq S.BuildHasher S.Hasher.Hasher K.hash_input self.now (AltersAllAlone K.eq S.BuildHasher S.Hasher.Hasher K.hash_input (CalledOnPair F.FnMut) f) }
+        ensures { LeavesShards (by K.Hash S.BuildHasher S.Hasher.Hasher) self.now (AltersAllAlone (by K.Hash S.BuildHasher S.Hasher.Hasher) (CalledOnPair F.FnMut) f) }
     {
         for place in 0..self.row.len() {
             f = self.shards_mut(rt, place).alter_all_by(f);
@@ -58,7 +59,7 @@ impl<K: Eq + Hash, V, S: BuildHasher> DashMap<K, V, S> {
     where
         K: Drop,
         V: Drop,
-        ensures { LeavesShards K.eq S.BuildHasher S.Hasher.Hasher K.hash_input self.now (ShrinksAlone {V = V} K.eq S.BuildHasher S.Hasher.Hasher K.hash_input) }
+        ensures { LeavesShards (by K.Hash S.BuildHasher S.Hasher.Hasher) self.now (ShrinksAlone {V = V} (by K.Hash S.BuildHasher S.Hasher.Hasher)) }
     {
         for place in 0..self.row.len() {
             self.shards_mut(rt, place).shrink_to_fit();

@@ -2,7 +2,7 @@
 ghost use Rattle.std.specs.Prelude.{◌≡◌, ◌↔◌, IsTrue, IsSome, IfSome, IsNone, None};
 ghost use Rattle.std.specs.Option.{option_map};
 ghost use Rattle.std.specs.Map.Iter.{deref_pair};
-ghost use Rattle.dash_shard.specs.Hashing.{hash_of};
+ghost use Rattle.dash_shard.specs.Hashing.{by};
 ghost use Rattle.dash_shard.specs.Contents.{at};
 ghost use Rattle.dash_shard.specs.Steps.{Get, Pair, Replies};
 ghost use Rattle.dash_shard.specs.Shard.{place, pairs, keys_of, IsShard};
@@ -85,9 +85,9 @@ impl<'a, K: Eq + Hash, V, S: BuildHasher> Ref<'a, K, V, S> {
         hash: u64,
         key: &K,
     ) -> Option<Ref<'a, K, V, S>>
-        requires { hash ≡ hash_of S.BuildHasher S.Hasher.Hasher guard.value.hasher (K.hash_input key.now) }
-        ensures pair { Replies (keys_of K.eq S.BuildHasher S.Hasher.Hasher K.hash_input guard.entry.value) (Get key.now) (pairs guard.entry.value) (Pair (option_map pair_of result)) }
-        ensures absent { IsNone result ↔ (at (keys_of K.eq S.BuildHasher S.Hasher.Hasher K.hash_input guard.entry.value) (pairs guard.entry.value) key.now ≡ None) }
+        requires { hash ≡ (by K.Hash S.BuildHasher S.Hasher.Hasher).hash guard.value.hasher key.now }
+        ensures pair { Replies (keys_of (by K.Hash S.BuildHasher S.Hasher.Hasher) guard.entry.value) (Get key.now) (pairs guard.entry.value) (Pair (option_map pair_of result)) }
+        ensures absent { IsNone result ↔ (at (keys_of (by K.Hash S.BuildHasher S.Hasher.Hasher) guard.entry.value) (pairs guard.entry.value) key.now ≡ None) }
         ensures equal { IfSome result (λ found. IsTrue (K.eq found.key key.now)) }
         ensures shard { IfSome result (λ found. found.shard ≡ guard.entry.value) }
         ensures stands { IfSome result Stands }
@@ -101,7 +101,7 @@ impl<'a, K: Eq + Hash, V, S: BuildHasher> Ref<'a, K, V, S> {
     pub fn key(&self) -> &K
         ensures key { result.now ≡ self.now.key }
         ensures stands { Stands self.now }
-        ensures lawful { IsShard K.eq S.BuildHasher S.Hasher.Hasher K.hash_input self.now.shard }
+        ensures lawful { IsShard (by K.Hash S.BuildHasher S.Hasher.Hasher) self.now.shard }
     {
         self.pair().0
     }
@@ -111,7 +111,7 @@ impl<'a, K: Eq + Hash, V, S: BuildHasher> Ref<'a, K, V, S> {
     pub fn value(&self) -> &V
         ensures value { result.now ≡ self.now.value }
         ensures stands { Stands self.now }
-        ensures lawful { IsShard K.eq S.BuildHasher S.Hasher.Hasher K.hash_input self.now.shard }
+        ensures lawful { IsShard (by K.Hash S.BuildHasher S.Hasher.Hasher) self.now.shard }
     {
         self.pair().1
     }
@@ -121,7 +121,7 @@ impl<'a, K: Eq + Hash, V, S: BuildHasher> Ref<'a, K, V, S> {
     pub fn pair(&self) -> (&K, &V)
         ensures pair { deref_pair result ≡ pair_of self.now }
         ensures stands { Stands self.now }
-        ensures lawful { IsShard K.eq S.BuildHasher S.Hasher.Hasher K.hash_input self.now.shard }
+        ensures lawful { IsShard (by K.Hash S.BuildHasher S.Hasher.Hasher) self.now.shard }
     {
         self.guard.at(self.position)
     }

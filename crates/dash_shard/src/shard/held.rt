@@ -2,7 +2,7 @@
 ghost use Rattle.std.specs.Prelude.{◌≡◌, ◌<◌, ◌≤◌, ◌↔◌, IsTrue, IfSome};
 ghost use Rattle.std.specs.Option.{option_map};
 ghost use Rattle.std.specs.Map.Iter.{deref_pair};
-ghost use Rattle.dash_shard.specs.Hashing.{hash_of};
+ghost use Rattle.dash_shard.specs.Hashing.{by};
 ghost use Rattle.dash_shard.specs.Contents.{at};
 ghost use Rattle.dash_shard.specs.Steps.{Get, Contains, Pair, Found, Replies};
 ghost use Rattle.dash_shard.specs.Shard.{place, pairs, shard_len, keys_of, Routes, IsShard};
@@ -37,7 +37,7 @@ impl<S: BuildHasher> ShardTag<S> {
         ensures number { result.number ≡ shard.now.number }
         ensures amount { result.amount ≡ shard.now.amount }
         ensures hasher { result.hasher.value ≡ shard.now.hasher }
-        ensures fits { FitsPlace K.eq S.BuildHasher S.Hasher.Hasher K.hash_input result shard.now }
+        ensures fits { FitsPlace (by K.Hash S.BuildHasher S.Hasher.Hasher) result shard.now }
     {
         ShardTag {
             number: shard.number,
@@ -50,7 +50,7 @@ impl<S: BuildHasher> ShardTag<S> {
 impl<K: Eq + Hash, V, S: BuildHasher> Tagged for Shard<K, V, S> {
     type Tag = ShardTag<S>;
 
-    ghost fits = { λ tag shard. FitsPlace K.eq S.BuildHasher S.Hasher.Hasher K.hash_input tag shard };
+    ghost fits = { λ tag shard. FitsPlace (by K.Hash S.BuildHasher S.Hasher.Hasher) tag shard };
 }
 
 /// A shard that is held for writing, as the original's write guard of one shard: the hold ends when it is dropped.
@@ -69,6 +69,7 @@ pub struct ShardMut<'a, K: Eq + Hash, V, S: BuildHasher> {
 impl<'a, K: Eq + Hash, V, S: BuildHasher> Model for ShardMut<'a, K, V, S> {
     ghost use Rattle.dash_shard.specs.Shard.{ShardState, shard_code};
     ghost use Rattle.dash_shard.specs.Table.{held_state, IsHeld};
+    ghost use Rattle.dash_shard.specs.Hashing.{key_hash};
 
     ghost Value = { ShardState K V S };
 
@@ -76,7 +77,7 @@ impl<'a, K: Eq + Hash, V, S: BuildHasher> Model for ShardMut<'a, K, V, S> {
 
     ghost view = { λ s. held_state s.guard.value s.table s.is_lent };
 
-    ghost invariant = { λ s. IsHeld K.eq S.BuildHasher S.Hasher.Hasher K.hash_input s.guard.value s.table s.is_lent };
+    ghost invariant = { λ s. IsHeld (key_hash K.eq K.hash_input S.BuildHasher S.Hasher.Hasher) s.guard.value s.table s.is_lent };
 }
 
 impl<K: Eq + Hash, V, S: BuildHasher> Drop for ShardMut<'_, K, V, S> {
@@ -99,7 +100,7 @@ impl<'a, K: Eq + Hash, V, S: BuildHasher> RwLockWriteGuard<'a, Shard<K, V, S>> {
     #[inline]
     pub fn shard(self) -> ShardMut<'a, K, V, S>
         ensures value { result ≡ self.entry.value }
-        ensures fits { FitsPlace K.eq S.BuildHasher S.Hasher.Hasher K.hash_input self.entry.tag result }
+        ensures fits { FitsPlace (by K.Hash S.BuildHasher S.Hasher.Hasher) self.entry.tag result }
     {
         let table = Table::new(self.table.allocator());
         ShardMut {
@@ -115,7 +116,7 @@ impl<K: Eq + Hash, V, S: BuildHasher> ShardMut<'_, K, V, S> {
     // The table that has the pairs.
     #[inline]
     fn table(&self) -> &Table<K, V>
-        ensures inside { IsInside K.eq S.BuildHasher S.Hasher.Hasher K.hash_input result.now self.now }
+        ensures inside { IsInside (by K.Hash S.BuildHasher S.Hasher.Hasher) result.now self.now }
         ensures table { with_table self.now result.now ≡ self.now }
     {
         if self.is_lent {
@@ -129,7 +130,7 @@ impl<K: Eq + Hash, V, S: BuildHasher> ShardMut<'_, K, V, S> {
     #[inline]
     pub fn number(&self) -> usize
         ensures number { result ≡ self.now.number }
-        ensures lawful { IsShard K.eq S.BuildHasher S.Hasher.Hasher K.hash_input self.now }
+        ensures lawful { IsShard (by K.Hash S.BuildHasher S.Hasher.Hasher) self.now }
     {
         self.guard.number()
     }
@@ -138,7 +139,7 @@ impl<K: Eq + Hash, V, S: BuildHasher> ShardMut<'_, K, V, S> {
     #[inline]
     pub fn amount(&self) -> usize
         ensures amount { result ≡ self.now.amount }
-        ensures lawful { IsShard K.eq S.BuildHasher S.Hasher.Hasher K.hash_input self.now }
+        ensures lawful { IsShard (by K.Hash S.BuildHasher S.Hasher.Hasher) self.now }
     {
         self.guard.amount()
     }
@@ -146,7 +147,7 @@ impl<K: Eq + Hash, V, S: BuildHasher> ShardMut<'_, K, V, S> {
     /// Whether the key goes to this shard, which the keyed calls ask.
     #[inline]
     pub fn routes(&self, key: &K) -> bool
-        ensures { IsTrue result ↔ Routes K.eq S.BuildHasher S.Hasher.Hasher K.hash_input self.now key.now }
+        ensures { IsTrue result ↔ Routes (by K.Hash S.BuildHasher S.Hasher.Hasher) self.now key.now }
     {
         self.guard.routes(key)
     }
@@ -159,8 +160,8 @@ impl<K: Eq + Hash, V, S: BuildHasher> ShardMut<'_, K, V, S> {
     where
         K: Drop,
         V: Drop,
-        requires { Routes K.eq S.BuildHasher S.Hasher.Hasher K.hash_input self.old key }
-        ensures { Inserts K.eq S.BuildHasher S.Hasher.Hasher K.hash_input self.old self.new key value result }
+        requires { Routes (by K.Hash S.BuildHasher S.Hasher.Hasher) self.old key }
+        ensures { Inserts (by K.Hash S.BuildHasher S.Hasher.Hasher) self.old self.new key value result }
     {
         let hash = self.guard.hash_one(&key);
         self.insert_hashed(hash, key, value)
@@ -177,17 +178,17 @@ impl<K: Eq + Hash, V, S: BuildHasher> ShardMut<'_, K, V, S> {
     where
         K: Drop,
         V: Drop,
-        requires hash { hash ≡ hash_of S.BuildHasher S.Hasher.Hasher self.old.hasher (K.hash_input key) }
-        requires route { Routes K.eq S.BuildHasher S.Hasher.Hasher K.hash_input self.old key }
-        ensures { Inserts K.eq S.BuildHasher S.Hasher.Hasher K.hash_input self.old self.new key value result }
+        requires hash { hash ≡ (by K.Hash S.BuildHasher S.Hasher.Hasher).hash self.old.hasher key }
+        requires route { Routes (by K.Hash S.BuildHasher S.Hasher.Hasher) self.old key }
+        ensures { Inserts (by K.Hash S.BuildHasher S.Hasher.Hasher) self.old self.new key value result }
     {
         put_back(&mut self.guard, &mut self.table, self.is_lent);
         self.is_lent = false;
         self.guard.change(
             |shard: &mut Shard<K, V, S>| -> Result<Option<V>, InsertRefused<K, V>>
-                requires hash { hash ≡ hash_of S.BuildHasher S.Hasher.Hasher shard.old.hasher (K.hash_input key) }
-                requires route { Routes K.eq S.BuildHasher S.Hasher.Hasher K.hash_input shard.old key }
-                ensures { Inserts K.eq S.BuildHasher S.Hasher.Hasher K.hash_input shard.old shard.new key value result }
+                requires hash { hash ≡ (by K.Hash S.BuildHasher S.Hasher.Hasher).hash shard.old.hasher key }
+                requires route { Routes (by K.Hash S.BuildHasher S.Hasher.Hasher) shard.old key }
+                ensures { Inserts (by K.Hash S.BuildHasher S.Hasher.Hasher) shard.old shard.new key value result }
             { shard.insert_hashed(hash, key, value) },
         )
     }
@@ -197,8 +198,8 @@ impl<K: Eq + Hash, V, S: BuildHasher> ShardMut<'_, K, V, S> {
     /// The room stays, for pairs that come later.
     #[inline]
     pub fn remove(&mut self, key: &K) -> Option<(K, V)>
-        requires { Routes K.eq S.BuildHasher S.Hasher.Hasher K.hash_input self.old key.now }
-        ensures { Removes K.eq S.BuildHasher S.Hasher.Hasher K.hash_input self.old self.new key.now result }
+        requires { Routes (by K.Hash S.BuildHasher S.Hasher.Hasher) self.old key.now }
+        ensures { Removes (by K.Hash S.BuildHasher S.Hasher.Hasher) self.old self.new key.now result }
     {
         let hash = self.guard.hash_one(key);
         self.remove_hashed(hash, key)
@@ -207,17 +208,17 @@ impl<K: Eq + Hash, V, S: BuildHasher> ShardMut<'_, K, V, S> {
     /// As `remove`, for a caller who has the key's hash.
     #[inline]
     pub fn remove_hashed(&mut self, hash: u64, key: &K) -> Option<(K, V)>
-        requires hash { hash ≡ hash_of S.BuildHasher S.Hasher.Hasher self.old.hasher (K.hash_input key.now) }
-        requires route { Routes K.eq S.BuildHasher S.Hasher.Hasher K.hash_input self.old key.now }
-        ensures { Removes K.eq S.BuildHasher S.Hasher.Hasher K.hash_input self.old self.new key.now result }
+        requires hash { hash ≡ (by K.Hash S.BuildHasher S.Hasher.Hasher).hash self.old.hasher key.now }
+        requires route { Routes (by K.Hash S.BuildHasher S.Hasher.Hasher) self.old key.now }
+        ensures { Removes (by K.Hash S.BuildHasher S.Hasher.Hasher) self.old self.new key.now result }
     {
         put_back(&mut self.guard, &mut self.table, self.is_lent);
         self.is_lent = false;
         self.guard.change(
             |shard: &mut Shard<K, V, S>| -> Option<(K, V)>
-                requires hash { hash ≡ hash_of S.BuildHasher S.Hasher.Hasher shard.old.hasher (K.hash_input key.now) }
-                requires route { Routes K.eq S.BuildHasher S.Hasher.Hasher K.hash_input shard.old key.now }
-                ensures { Removes K.eq S.BuildHasher S.Hasher.Hasher K.hash_input shard.old shard.new key.entry.now result }
+                requires hash { hash ≡ (by K.Hash S.BuildHasher S.Hasher.Hasher).hash shard.old.hasher key.now }
+                requires route { Routes (by K.Hash S.BuildHasher S.Hasher.Hasher) shard.old key.now }
+                ensures { Removes (by K.Hash S.BuildHasher S.Hasher.Hasher) shard.old shard.new key.entry.now result }
             { shard.remove_hashed(hash, key) },
         )
     }
@@ -225,9 +226,9 @@ impl<K: Eq + Hash, V, S: BuildHasher> ShardMut<'_, K, V, S> {
     /// Takes the pair whose key equals `key` out if `f` answers yes on it, and answers it. It takes no memory, and can't be refused.
     #[inline]
     pub fn remove_if<F: FnOnce(&K, &V) -> bool>(&mut self, key: &K, f: F) -> Option<(K, V)>
-        requires route { Routes K.eq S.BuildHasher S.Hasher.Hasher K.hash_input self.old key.now }
-        requires callable { IfSome (at (keys_of K.eq S.BuildHasher S.Hasher.Hasher K.hash_input self.old) (pairs self.old) key.now) (MayAsk F.FnOnce f) }
-        ensures { RemovesAsked K.eq S.BuildHasher S.Hasher.Hasher K.hash_input (AnswersOn F.FnOnce f) self.old self.new key.now result }
+        requires route { Routes (by K.Hash S.BuildHasher S.Hasher.Hasher) self.old key.now }
+        requires callable { IfSome (at (keys_of (by K.Hash S.BuildHasher S.Hasher.Hasher) self.old) (pairs self.old) key.now) (MayAsk F.FnOnce f) }
+        ensures { RemovesAsked (by K.Hash S.BuildHasher S.Hasher.Hasher) (AnswersOn F.FnOnce f) self.old self.new key.now result }
     {
         let hash = self.guard.hash_one(key);
         self.remove_if_hashed(hash, key, f)
@@ -241,19 +242,19 @@ impl<K: Eq + Hash, V, S: BuildHasher> ShardMut<'_, K, V, S> {
         key: &K,
         f: F,
     ) -> Option<(K, V)>
-        requires hash { hash ≡ hash_of S.BuildHasher S.Hasher.Hasher self.old.hasher (K.hash_input key.now) }
-        requires route { Routes K.eq S.BuildHasher S.Hasher.Hasher K.hash_input self.old key.now }
-        requires callable { IfSome (at (keys_of K.eq S.BuildHasher S.Hasher.Hasher K.hash_input self.old) (pairs self.old) key.now) (MayAsk F.FnOnce f) }
-        ensures { RemovesAsked K.eq S.BuildHasher S.Hasher.Hasher K.hash_input (AnswersOn F.FnOnce f) self.old self.new key.now result }
+        requires hash { hash ≡ (by K.Hash S.BuildHasher S.Hasher.Hasher).hash self.old.hasher key.now }
+        requires route { Routes (by K.Hash S.BuildHasher S.Hasher.Hasher) self.old key.now }
+        requires callable { IfSome (at (keys_of (by K.Hash S.BuildHasher S.Hasher.Hasher) self.old) (pairs self.old) key.now) (MayAsk F.FnOnce f) }
+        ensures { RemovesAsked (by K.Hash S.BuildHasher S.Hasher.Hasher) (AnswersOn F.FnOnce f) self.old self.new key.now result }
     {
         put_back(&mut self.guard, &mut self.table, self.is_lent);
         self.is_lent = false;
         self.guard.change(
             |shard: &mut Shard<K, V, S>| -> Option<(K, V)>
-                requires hash { hash ≡ hash_of S.BuildHasher S.Hasher.Hasher shard.old.hasher (K.hash_input key.now) }
-                requires route { Routes K.eq S.BuildHasher S.Hasher.Hasher K.hash_input shard.old key.now }
-                requires callable { IfSome (at (keys_of K.eq S.BuildHasher S.Hasher.Hasher K.hash_input shard.old) (pairs shard.old) key.now) (MayAsk F.FnOnce f) }
-                ensures { RemovesAsked K.eq S.BuildHasher S.Hasher.Hasher K.hash_input (AnswersOn F.FnOnce f) shard.old shard.new key.entry.now result }
+                requires hash { hash ≡ (by K.Hash S.BuildHasher S.Hasher.Hasher).hash shard.old.hasher key.now }
+                requires route { Routes (by K.Hash S.BuildHasher S.Hasher.Hasher) shard.old key.now }
+                requires callable { IfSome (at (keys_of (by K.Hash S.BuildHasher S.Hasher.Hasher) shard.old) (pairs shard.old) key.now) (MayAsk F.FnOnce f) }
+                ensures { RemovesAsked (by K.Hash S.BuildHasher S.Hasher.Hasher) (AnswersOn F.FnOnce f) shard.old shard.new key.entry.now result }
             { shard.remove_if_hashed(hash, key, f) },
         )
     }
@@ -261,9 +262,9 @@ impl<K: Eq + Hash, V, S: BuildHasher> ShardMut<'_, K, V, S> {
     /// As `remove_if`, where `f` may write the value. On yes the pair is answered as `f` left it, and on no it stays so.
     #[inline]
     pub fn remove_if_mut<F: FnOnce(&K, &mut V) -> bool>(&mut self, key: &K, f: F) -> Option<(K, V)>
-        requires route { Routes K.eq S.BuildHasher S.Hasher.Hasher K.hash_input self.old key.now }
-        requires callable { IfSome (at (keys_of K.eq S.BuildHasher S.Hasher.Hasher K.hash_input self.old) (pairs self.old) key.now) (MayChange F.FnOnce f) }
-        ensures { RemovesChanged K.eq S.BuildHasher S.Hasher.Hasher K.hash_input (ChangesOn F.FnOnce f) self.old self.new key.now result }
+        requires route { Routes (by K.Hash S.BuildHasher S.Hasher.Hasher) self.old key.now }
+        requires callable { IfSome (at (keys_of (by K.Hash S.BuildHasher S.Hasher.Hasher) self.old) (pairs self.old) key.now) (MayChange F.FnOnce f) }
+        ensures { RemovesChanged (by K.Hash S.BuildHasher S.Hasher.Hasher) (ChangesOn F.FnOnce f) self.old self.new key.now result }
     {
         let hash = self.guard.hash_one(key);
         self.remove_if_mut_hashed(hash, key, f)
@@ -277,19 +278,19 @@ impl<K: Eq + Hash, V, S: BuildHasher> ShardMut<'_, K, V, S> {
         key: &K,
         f: F,
     ) -> Option<(K, V)>
-        requires hash { hash ≡ hash_of S.BuildHasher S.Hasher.Hasher self.old.hasher (K.hash_input key.now) }
-        requires route { Routes K.eq S.BuildHasher S.Hasher.Hasher K.hash_input self.old key.now }
-        requires callable { IfSome (at (keys_of K.eq S.BuildHasher S.Hasher.Hasher K.hash_input self.old) (pairs self.old) key.now) (MayChange F.FnOnce f) }
-        ensures { RemovesChanged K.eq S.BuildHasher S.Hasher.Hasher K.hash_input (ChangesOn F.FnOnce f) self.old self.new key.now result }
+        requires hash { hash ≡ (by K.Hash S.BuildHasher S.Hasher.Hasher).hash self.old.hasher key.now }
+        requires route { Routes (by K.Hash S.BuildHasher S.Hasher.Hasher) self.old key.now }
+        requires callable { IfSome (at (keys_of (by K.Hash S.BuildHasher S.Hasher.Hasher) self.old) (pairs self.old) key.now) (MayChange F.FnOnce f) }
+        ensures { RemovesChanged (by K.Hash S.BuildHasher S.Hasher.Hasher) (ChangesOn F.FnOnce f) self.old self.new key.now result }
     {
         put_back(&mut self.guard, &mut self.table, self.is_lent);
         self.is_lent = false;
         self.guard.change(
             |shard: &mut Shard<K, V, S>| -> Option<(K, V)>
-                requires hash { hash ≡ hash_of S.BuildHasher S.Hasher.Hasher shard.old.hasher (K.hash_input key.now) }
-                requires route { Routes K.eq S.BuildHasher S.Hasher.Hasher K.hash_input shard.old key.now }
-                requires callable { IfSome (at (keys_of K.eq S.BuildHasher S.Hasher.Hasher K.hash_input shard.old) (pairs shard.old) key.now) (MayChange F.FnOnce f) }
-                ensures { RemovesChanged K.eq S.BuildHasher S.Hasher.Hasher K.hash_input (ChangesOn F.FnOnce f) shard.old shard.new key.entry.now result }
+                requires hash { hash ≡ (by K.Hash S.BuildHasher S.Hasher.Hasher).hash shard.old.hasher key.now }
+                requires route { Routes (by K.Hash S.BuildHasher S.Hasher.Hasher) shard.old key.now }
+                requires callable { IfSome (at (keys_of (by K.Hash S.BuildHasher S.Hasher.Hasher) shard.old) (pairs shard.old) key.now) (MayChange F.FnOnce f) }
+                ensures { RemovesChanged (by K.Hash S.BuildHasher S.Hasher.Hasher) (ChangesOn F.FnOnce f) shard.old shard.new key.entry.now result }
             { shard.remove_if_mut_hashed(hash, key, f) },
         )
     }
@@ -298,9 +299,9 @@ impl<K: Eq + Hash, V, S: BuildHasher> ShardMut<'_, K, V, S> {
     /// no memory, and can't be refused.
     #[inline]
     pub fn alter<F: FnOnce(&K, V) -> V>(&mut self, key: &K, f: F)
-        requires route { Routes K.eq S.BuildHasher S.Hasher.Hasher K.hash_input self.old key.now }
-        requires callable { IfSome (at (keys_of K.eq S.BuildHasher S.Hasher.Hasher K.hash_input self.old) (pairs self.old) key.now) (MayGive F.FnOnce f) }
-        ensures { Alters K.eq S.BuildHasher S.Hasher.Hasher K.hash_input (GivesOn F.FnOnce f) self.old self.new key.now }
+        requires route { Routes (by K.Hash S.BuildHasher S.Hasher.Hasher) self.old key.now }
+        requires callable { IfSome (at (keys_of (by K.Hash S.BuildHasher S.Hasher.Hasher) self.old) (pairs self.old) key.now) (MayGive F.FnOnce f) }
+        ensures { Alters (by K.Hash S.BuildHasher S.Hasher.Hasher) (GivesOn F.FnOnce f) self.old self.new key.now }
     {
         let hash = self.guard.hash_one(key);
         self.alter_hashed(hash, key, f);
@@ -309,19 +310,19 @@ impl<K: Eq + Hash, V, S: BuildHasher> ShardMut<'_, K, V, S> {
     /// As `alter`, for a caller who has the key's hash.
     #[inline]
     pub fn alter_hashed<F: FnOnce(&K, V) -> V>(&mut self, hash: u64, key: &K, f: F)
-        requires hash { hash ≡ hash_of S.BuildHasher S.Hasher.Hasher self.old.hasher (K.hash_input key.now) }
-        requires route { Routes K.eq S.BuildHasher S.Hasher.Hasher K.hash_input self.old key.now }
-        requires callable { IfSome (at (keys_of K.eq S.BuildHasher S.Hasher.Hasher K.hash_input self.old) (pairs self.old) key.now) (MayGive F.FnOnce f) }
-        ensures { Alters K.eq S.BuildHasher S.Hasher.Hasher K.hash_input (GivesOn F.FnOnce f) self.old self.new key.now }
+        requires hash { hash ≡ (by K.Hash S.BuildHasher S.Hasher.Hasher).hash self.old.hasher key.now }
+        requires route { Routes (by K.Hash S.BuildHasher S.Hasher.Hasher) self.old key.now }
+        requires callable { IfSome (at (keys_of (by K.Hash S.BuildHasher S.Hasher.Hasher) self.old) (pairs self.old) key.now) (MayGive F.FnOnce f) }
+        ensures { Alters (by K.Hash S.BuildHasher S.Hasher.Hasher) (GivesOn F.FnOnce f) self.old self.new key.now }
     {
         put_back(&mut self.guard, &mut self.table, self.is_lent);
         self.is_lent = false;
         self.guard.change(
             |shard: &mut Shard<K, V, S>|
-                requires hash { hash ≡ hash_of S.BuildHasher S.Hasher.Hasher shard.old.hasher (K.hash_input key.now) }
-                requires route { Routes K.eq S.BuildHasher S.Hasher.Hasher K.hash_input shard.old key.now }
-                requires callable { IfSome (at (keys_of K.eq S.BuildHasher S.Hasher.Hasher K.hash_input shard.old) (pairs shard.old) key.now) (MayGive F.FnOnce f) }
-                ensures { Alters K.eq S.BuildHasher S.Hasher.Hasher K.hash_input (GivesOn F.FnOnce f) shard.old shard.new key.entry.now }
+                requires hash { hash ≡ (by K.Hash S.BuildHasher S.Hasher.Hasher).hash shard.old.hasher key.now }
+                requires route { Routes (by K.Hash S.BuildHasher S.Hasher.Hasher) shard.old key.now }
+                requires callable { IfSome (at (keys_of (by K.Hash S.BuildHasher S.Hasher.Hasher) shard.old) (pairs shard.old) key.now) (MayGive F.FnOnce f) }
+                ensures { Alters (by K.Hash S.BuildHasher S.Hasher.Hasher) (GivesOn F.FnOnce f) shard.old shard.new key.entry.now }
             { shard.alter_hashed(hash, key, f) },
         );
     }
@@ -329,8 +330,8 @@ impl<K: Eq + Hash, V, S: BuildHasher> ShardMut<'_, K, V, S> {
     /// The pair whose key equals `key`.
     #[inline]
     pub fn get(&self, key: &K) -> Option<(&K, &V)>
-        ensures pair { Replies (keys_of K.eq S.BuildHasher S.Hasher.Hasher K.hash_input self.now) (Get key.now) (pairs self.now) (Pair (option_map deref_pair result)) }
-        ensures lawful { IsShard K.eq S.BuildHasher S.Hasher.Hasher K.hash_input self.now }
+        ensures pair { Replies (keys_of (by K.Hash S.BuildHasher S.Hasher.Hasher) self.now) (Get key.now) (pairs self.now) (Pair (option_map deref_pair result)) }
+        ensures lawful { IsShard (by K.Hash S.BuildHasher S.Hasher.Hasher) self.now }
     {
         let position = self.position_of(key)?;
         Some(self.at(position))
@@ -339,8 +340,8 @@ impl<K: Eq + Hash, V, S: BuildHasher> ShardMut<'_, K, V, S> {
     /// Whether there is a pair whose key equals `key`.
     #[inline]
     pub fn contains_key(&self, key: &K) -> bool
-        ensures found { Replies (keys_of K.eq S.BuildHasher S.Hasher.Hasher K.hash_input self.now) (Contains key.now) (pairs self.now) (Found result) }
-        ensures lawful { IsShard K.eq S.BuildHasher S.Hasher.Hasher K.hash_input self.now }
+        ensures found { Replies (keys_of (by K.Hash S.BuildHasher S.Hasher.Hasher) self.now) (Contains key.now) (pairs self.now) (Found result) }
+        ensures lawful { IsShard (by K.Hash S.BuildHasher S.Hasher.Hasher) self.now }
     {
         self.get(key).is_some()
     }
@@ -348,9 +349,9 @@ impl<K: Eq + Hash, V, S: BuildHasher> ShardMut<'_, K, V, S> {
     /// What `f` answers on the pair whose key equals `key`.
     #[inline]
     pub fn view<R, F: FnOnce(&K, &V) -> R>(&self, key: &K, f: F) -> Option<R>
-        requires { IfSome (at (keys_of K.eq S.BuildHasher S.Hasher.Hasher K.hash_input self.now) (pairs self.now) key.now) (MayAsk F.FnOnce f) }
-        ensures viewed { Viewed F.FnOnce f (at (keys_of K.eq S.BuildHasher S.Hasher.Hasher K.hash_input self.now) (pairs self.now) key.now) result }
-        ensures lawful { IsShard K.eq S.BuildHasher S.Hasher.Hasher K.hash_input self.now }
+        requires { IfSome (at (keys_of (by K.Hash S.BuildHasher S.Hasher.Hasher) self.now) (pairs self.now) key.now) (MayAsk F.FnOnce f) }
+        ensures viewed { Viewed F.FnOnce f (at (keys_of (by K.Hash S.BuildHasher S.Hasher.Hasher) self.now) (pairs self.now) key.now) result }
+        ensures lawful { IsShard (by K.Hash S.BuildHasher S.Hasher.Hasher) self.now }
     {
         let place = self.position_of(key)?;
         let (key, value) = self.at(place);
@@ -362,7 +363,7 @@ impl<K: Eq + Hash, V, S: BuildHasher> ShardMut<'_, K, V, S> {
     pub fn len(&self) -> usize
         ensures len { result ≡ shard_len self.now }
         ensures within { result ≤ self.now.capacity }
-        ensures lawful { IsShard K.eq S.BuildHasher S.Hasher.Hasher K.hash_input self.now }
+        ensures lawful { IsShard (by K.Hash S.BuildHasher S.Hasher.Hasher) self.now }
     {
         self.table().len()
     }
@@ -378,13 +379,13 @@ impl<K: Eq + Hash, V, S: BuildHasher> ShardMut<'_, K, V, S> {
     /// Makes room for so many pairs more, where there is less. It is refused (11) only where there is no memory for it; the pairs stay, and
     /// so do their places.
     pub fn try_reserve(&mut self, additional: usize) -> Result<(), TryReserveError>
-        ensures { Reserves K.eq S.BuildHasher S.Hasher.Hasher K.hash_input additional self.old self.new result }
+        ensures { Reserves (by K.Hash S.BuildHasher S.Hasher.Hasher) additional self.old self.new result }
     {
         put_back(&mut self.guard, &mut self.table, self.is_lent);
         self.is_lent = false;
         self.guard.change(
             |shard: &mut Shard<K, V, S>| -> Result<(), TryReserveError>
-                ensures { Reserves K.eq S.BuildHasher S.Hasher.Hasher K.hash_input additional shard.old shard.new result }
+                ensures { Reserves (by K.Hash S.BuildHasher S.Hasher.Hasher) additional shard.old shard.new result }
             { shard.try_reserve(additional) },
         )
     }

@@ -1,10 +1,11 @@
 use Rattle.std.proofs.Common.{rules}
 use Rattle.dash_history.proofs.Recording.{lawful-by}
 use Rattle.dash_history.proofs.Sweeping.{swept}
+use Rattle.dash_shard.proofs.Lawful.{lawful-of}
 use Rattle.dash_history.proofs.sweep.put_each.Goals as goal
 
 pub returns-clause-leaves : goal.returns-clause-leaves
 returns-clause-leaves g c f gives =
     let s = c.args.shard.now in
-    let laws = lawful-by _ g.S.BuildHasher g.S.Hasher.Hasher _ _ _ g.met.K.Eq.laws g.met.K.Hash.respects_eq g.met.K.Kept.alike_laws g.met.V.Kept.alike_laws g.met.K.KeptKey.alike_equal s.hasher s.amount in
+    let laws = lawful-by _ (lawful-of g.S.BuildHasher g.S.Hasher.Hasher g.met.K.Eq.laws g.met.K.Hash.respects_eq) _ _ g.met.K.Kept.alike_laws g.met.V.Kept.alike_laws g.met.K.KeptKey.alike_equal s.hasher s.amount in
     swept c.retain.ensures (λ x. x.0.now.items) laws f _ c.from-made.ensures.0 gives (λ x k v b w y called. search rules)

@@ -1,5 +1,5 @@
 use Rattle.std.proofs.Common.{◌≡◌, ◌≤◌, ◌∙◌, sym, subst, arith, Some, slice_get, List, ℕ, length}
-use Rattle.dash_shard.specs.Hashing.{HashAlike}
+use Rattle.dash_shard.specs.Hashing.{key_hash, HashAlike}
 use Rattle.dash_shard.specs.Shard.{ShardState, shard_len}
 use Rattle.dash_shard.proofs.Rows.{each-more}
 use Rattle.dash_map.specs.Alone.{IsPlaced}
@@ -8,10 +8,10 @@ use Rattle.dash_map.proofs.alone.fresh_row.Goals as goal
 pub loop-number-preserved : goal.loop-number-preserved
 loop-number-preserved g c =
     let At : Type 0 = ShardState g.row.K.Denot g.row.V.Denot g.row.S.Denot in
-    let Made = λ (i : ℕ) (s : At). IsPlaced g.K.PartialEq.eq g.S.BuildHasher g.S.Hasher.Hasher g.K.Hash.hash_input c.args.hasher.now c.args.amount i s × (shard_len s ≡ 0) × (c.args.capacity ≤ s.capacity) in
+    let Made = λ (i : ℕ) (s : At). IsPlaced (key_hash g.K.PartialEq.eq g.K.Hash.hash_input g.S.BuildHasher g.S.Hasher.Hasher) c.args.hasher.now c.args.amount i s × (shard_len s ≡ 0) × (c.args.capacity ≤ s.capacity) in
     let new = c.in_ok-new.ensures in
-    let meaning = λ (s : g.row.S.Denot). HashAlike g.S.BuildHasher g.S.Hasher.Hasher c.args.hasher.now s in
-    let placed : IsPlaced g.K.PartialEq.eq g.S.BuildHasher g.S.Hasher.Hasher g.K.Hash.hash_input c.args.hasher.now c.args.amount (length c.loop-number.row.items) c.in_ok-new.field-0 = record {
+    let meaning = λ (s : g.row.S.Denot). HashAlike (key_hash g.K.PartialEq.eq g.K.Hash.hash_input g.S.BuildHasher g.S.Hasher.Hasher) c.args.hasher.now s in
+    let placed : IsPlaced (key_hash g.K.PartialEq.eq g.K.Hash.hash_input g.S.BuildHasher g.S.Hasher.Hasher) c.args.hasher.now c.args.amount (length c.loop-number.row.items) c.in_ok-new.field-0 = record {
       number = new.number ∙ sym c.loop-number.invariant.len;
       amount = new.amount;
       hashes = subst meaning (sym new.hasher) (c.requires.alike _ _ c.in-Ok-clone.ensures.cases);

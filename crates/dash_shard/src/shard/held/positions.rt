@@ -1,7 +1,7 @@
 //! A held shard's calls by place.
 ghost use Rattle.std.specs.Prelude.{◌≡◌, ◌<◌, IsSome, Some, None};
 ghost use Rattle.std.specs.Map.Iter.{deref_pair};
-ghost use Rattle.dash_shard.specs.Hashing.{hash_of};
+ghost use Rattle.dash_shard.specs.Hashing.{by};
 ghost use Rattle.dash_shard.specs.Contents.{at};
 ghost use Rattle.dash_shard.specs.Shard.{place, pairs, shard_len, HasKey, IsNextTaken, keys_of, Routes, IsShard};
 ghost use Rattle.dash_shard.specs.Held.{InsertsNew, Finds, Replaces};
@@ -15,7 +15,7 @@ impl<K: Eq + Hash, V, S: BuildHasher> ShardMut<'_, K, V, S> {
     /// The place of the pair whose key equals `key`, for `at`. It is good while the shard isn't changed.
     #[inline]
     pub fn position_of(&self, key: &K) -> Option<usize>
-        ensures { Finds K.eq S.BuildHasher S.Hasher.Hasher K.hash_input self.now key.now result }
+        ensures { Finds (by K.Hash S.BuildHasher S.Hasher.Hasher) self.now key.now result }
     {
         self.position_of_hashed(self.guard.hash_one(key), key)
     }
@@ -23,8 +23,8 @@ impl<K: Eq + Hash, V, S: BuildHasher> ShardMut<'_, K, V, S> {
     /// As `position_of`, for a caller who has the key's hash.
     #[inline]
     pub fn position_of_hashed(&self, hash: u64, key: &K) -> Option<usize>
-        requires { hash ≡ hash_of S.BuildHasher S.Hasher.Hasher self.now.hasher (K.hash_input key.now) }
-        ensures { Finds K.eq S.BuildHasher S.Hasher.Hasher K.hash_input self.now key.now result }
+        requires { hash ≡ (by K.Hash S.BuildHasher S.Hasher.Hasher).hash self.now.hasher key.now }
+        ensures { Finds (by K.Hash S.BuildHasher S.Hasher.Hasher) self.now key.now result }
     {
         self.table().find(hash, key)
     }
@@ -34,7 +34,7 @@ impl<K: Eq + Hash, V, S: BuildHasher> ShardMut<'_, K, V, S> {
     pub fn at(&self, position: usize) -> (&K, &V)
         requires { IsSome (place self.now.places position) }
         ensures pair { place self.now.places position ≡ Some (deref_pair result) }
-        ensures lawful { IsShard K.eq S.BuildHasher S.Hasher.Hasher K.hash_input self.now }
+        ensures lawful { IsShard (by K.Hash S.BuildHasher S.Hasher.Hasher) self.now }
     {
         self.table().at(position)
     }
@@ -45,19 +45,19 @@ impl<K: Eq + Hash, V, S: BuildHasher> ShardMut<'_, K, V, S> {
     where
         K: Drop,
         V: Drop,
-        requires route { Routes K.eq S.BuildHasher S.Hasher.Hasher K.hash_input self.old key }
-        requires absent { at (keys_of K.eq S.BuildHasher S.Hasher.Hasher K.hash_input self.old) (pairs self.old) key ≡ None }
+        requires route { Routes (by K.Hash S.BuildHasher S.Hasher.Hasher) self.old key }
+        requires absent { at (keys_of (by K.Hash S.BuildHasher S.Hasher.Hasher) self.old) (pairs self.old) key ≡ None }
         requires room { shard_len self.old < self.old.capacity }
-        ensures { InsertsNew K.eq S.BuildHasher S.Hasher.Hasher K.hash_input self.old self.new key value result }
+        ensures { InsertsNew (by K.Hash S.BuildHasher S.Hasher.Hasher) self.old self.new key value result }
     {
         put_back(&mut self.guard, &mut self.table, self.is_lent);
         self.is_lent = false;
         self.guard.change(
             |shard: &mut Shard<K, V, S>| -> usize
-                requires route { Routes K.eq S.BuildHasher S.Hasher.Hasher K.hash_input shard.old key }
-                requires absent { at (keys_of K.eq S.BuildHasher S.Hasher.Hasher K.hash_input shard.old) (pairs shard.old) key ≡ None }
+                requires route { Routes (by K.Hash S.BuildHasher S.Hasher.Hasher) shard.old key }
+                requires absent { at (keys_of (by K.Hash S.BuildHasher S.Hasher.Hasher) shard.old) (pairs shard.old) key ≡ None }
                 requires room { shard_len shard.old < shard.old.capacity }
-                ensures { InsertsNew K.eq S.BuildHasher S.Hasher.Hasher K.hash_input shard.old shard.new key value result }
+                ensures { InsertsNew (by K.Hash S.BuildHasher S.Hasher.Hasher) shard.old shard.new key value result }
             { shard.insert_new(key, value) },
         )
     }
@@ -70,14 +70,14 @@ impl<K: Eq + Hash, V, S: BuildHasher> ShardMut<'_, K, V, S> {
         K: Drop,
         V: Drop,
         requires { HasKey K.eq self.old key position }
-        ensures { Replaces K.eq S.BuildHasher S.Hasher.Hasher K.hash_input self.old self.new position key value result }
+        ensures { Replaces (by K.Hash S.BuildHasher S.Hasher.Hasher) self.old self.new position key value result }
     {
         put_back(&mut self.guard, &mut self.table, self.is_lent);
         self.is_lent = false;
         self.guard.change(
             |shard: &mut Shard<K, V, S>| -> (K, V)
                 requires { HasKey K.eq shard.old key position }
-                ensures { Replaces K.eq S.BuildHasher S.Hasher.Hasher K.hash_input shard.old shard.new position key value result }
+                ensures { Replaces (by K.Hash S.BuildHasher S.Hasher.Hasher) shard.old shard.new position key value result }
             { shard.replace_at(position, key, value) },
         )
     }
@@ -86,7 +86,7 @@ impl<K: Eq + Hash, V, S: BuildHasher> ShardMut<'_, K, V, S> {
     #[inline]
     pub fn next_taken(&self, position: usize) -> Option<usize>
         ensures next { IsNextTaken self.now.places position result }
-        ensures lawful { IsShard K.eq S.BuildHasher S.Hasher.Hasher K.hash_input self.now }
+        ensures lawful { IsShard (by K.Hash S.BuildHasher S.Hasher.Hasher) self.now }
     {
         self.table().next_taken(position)
     }

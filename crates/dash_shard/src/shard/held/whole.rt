@@ -1,5 +1,6 @@
 //! The calls on all pairs of a shard that is held for writing.
 ghost use Rattle.std.specs.Prelude.{◌≡◌};
+ghost use Rattle.dash_shard.specs.Hashing.{by};
 ghost use Rattle.std.specs.Map.Calls.{CalledAtPair, TakesPair, CallableOnEachPair};
 ghost use Rattle.dash_shard.specs.Shard.{pairs, IsShard};
 ghost use Rattle.dash_shard.specs.Each.{CalledOnPair, TakesOnPair, if_kept, altered, Retains, AltersAll, SweepsShard, Clears, Shrinks};
@@ -19,14 +20,14 @@ impl<K: Eq + Hash, V, S: BuildHasher> ShardMut<'_, K, V, S> {
         K: Drop,
         V: Drop,
         requires { CallableOnEachPair (CalledAtPair F.FnMut) (TakesPair F.FnMut) f (pairs self.old) }
-        ensures { Retains K.eq S.BuildHasher S.Hasher.Hasher K.hash_input (CalledAtPair F.FnMut) f self.old self.new }
+        ensures { Retains (by K.Hash S.BuildHasher S.Hasher.Hasher) (CalledAtPair F.FnMut) f self.old self.new }
     {
         put_back(&mut self.guard, &mut self.table, self.is_lent);
         self.is_lent = false;
         self.guard.change(
             |shard: &mut Shard<K, V, S>|
                 requires { CallableOnEachPair (CalledAtPair F.FnMut) (TakesPair F.FnMut) f (pairs shard.old) }
-                ensures { Retains K.eq S.BuildHasher S.Hasher.Hasher K.hash_input (CalledAtPair F.FnMut) f shard.old shard.new }
+                ensures { Retains (by K.Hash S.BuildHasher S.Hasher.Hasher) (CalledAtPair F.FnMut) f shard.old shard.new }
             { shard.retain(f) },
         )
     }
@@ -37,14 +38,14 @@ impl<K: Eq + Hash, V, S: BuildHasher> ShardMut<'_, K, V, S> {
         K: Drop,
         V: Drop,
         requires { CallableOnEachPair (CalledAtPair F.FnMut) (TakesPair F.FnMut) f (pairs self.old) }
-        ensures { SweepsShard K.eq S.BuildHasher S.Hasher.Hasher K.hash_input (CalledAtPair F.FnMut) if_kept f result self.old self.new }
+        ensures { SweepsShard (by K.Hash S.BuildHasher S.Hasher.Hasher) (CalledAtPair F.FnMut) if_kept f result self.old self.new }
     {
         put_back(&mut self.guard, &mut self.table, self.is_lent);
         self.is_lent = false;
         self.guard.change(
             |shard: &mut Shard<K, V, S>| -> F
                 requires { CallableOnEachPair (CalledAtPair F.FnMut) (TakesPair F.FnMut) f (pairs shard.old) }
-                ensures { SweepsShard K.eq S.BuildHasher S.Hasher.Hasher K.hash_input (CalledAtPair F.FnMut) if_kept f result shard.old shard.new }
+                ensures { SweepsShard (by K.Hash S.BuildHasher S.Hasher.Hasher) (CalledAtPair F.FnMut) if_kept f result shard.old shard.new }
             {
                 let mut f = f;
                 shard.retain_by(&mut f);
@@ -58,14 +59,14 @@ impl<K: Eq + Hash, V, S: BuildHasher> ShardMut<'_, K, V, S> {
     /// `f` is called once at each pair, in rising order of places. The pairs keep their places. It takes no memory, and can't be refused.
     pub fn alter_all<F: FnMut(&K, V) -> V>(&mut self, f: F)
         requires { CallableOnEachPair (CalledOnPair F.FnMut) (TakesOnPair F.FnMut) f (pairs self.old) }
-        ensures { AltersAll K.eq S.BuildHasher S.Hasher.Hasher K.hash_input (CalledOnPair F.FnMut) f self.old self.new }
+        ensures { AltersAll (by K.Hash S.BuildHasher S.Hasher.Hasher) (CalledOnPair F.FnMut) f self.old self.new }
     {
         put_back(&mut self.guard, &mut self.table, self.is_lent);
         self.is_lent = false;
         self.guard.change(
             |shard: &mut Shard<K, V, S>|
                 requires { CallableOnEachPair (CalledOnPair F.FnMut) (TakesOnPair F.FnMut) f (pairs shard.old) }
-                ensures { AltersAll K.eq S.BuildHasher S.Hasher.Hasher K.hash_input (CalledOnPair F.FnMut) f shard.old shard.new }
+                ensures { AltersAll (by K.Hash S.BuildHasher S.Hasher.Hasher) (CalledOnPair F.FnMut) f shard.old shard.new }
             { shard.alter_all(f) },
         )
     }
@@ -73,14 +74,14 @@ impl<K: Eq + Hash, V, S: BuildHasher> ShardMut<'_, K, V, S> {
     /// As `alter_all`, and hands `f` back, so that the caller may go on with it.
     pub fn alter_all_by<F: FnMut(&K, V) -> V>(&mut self, f: F) -> F
         requires { CallableOnEachPair (CalledOnPair F.FnMut) (TakesOnPair F.FnMut) f (pairs self.old) }
-        ensures { SweepsShard K.eq S.BuildHasher S.Hasher.Hasher K.hash_input (CalledOnPair F.FnMut) altered f result self.old self.new }
+        ensures { SweepsShard (by K.Hash S.BuildHasher S.Hasher.Hasher) (CalledOnPair F.FnMut) altered f result self.old self.new }
     {
         put_back(&mut self.guard, &mut self.table, self.is_lent);
         self.is_lent = false;
         self.guard.change(
             |shard: &mut Shard<K, V, S>| -> F
                 requires { CallableOnEachPair (CalledOnPair F.FnMut) (TakesOnPair F.FnMut) f (pairs shard.old) }
-                ensures { SweepsShard K.eq S.BuildHasher S.Hasher.Hasher K.hash_input (CalledOnPair F.FnMut) altered f result shard.old shard.new }
+                ensures { SweepsShard (by K.Hash S.BuildHasher S.Hasher.Hasher) (CalledOnPair F.FnMut) altered f result shard.old shard.new }
             {
                 let mut f = f;
                 shard.alter_all_by(&mut f);
@@ -94,13 +95,13 @@ impl<K: Eq + Hash, V, S: BuildHasher> ShardMut<'_, K, V, S> {
     where
         K: Drop,
         V: Drop,
-        ensures { Clears K.eq S.BuildHasher S.Hasher.Hasher K.hash_input self.old self.new }
+        ensures { Clears (by K.Hash S.BuildHasher S.Hasher.Hasher) self.old self.new }
     {
         put_back(&mut self.guard, &mut self.table, self.is_lent);
         self.is_lent = false;
         self.guard.change(
             |shard: &mut Shard<K, V, S>|
-                ensures { Clears K.eq S.BuildHasher S.Hasher.Hasher K.hash_input shard.old shard.new }
+                ensures { Clears (by K.Hash S.BuildHasher S.Hasher.Hasher) shard.old shard.new }
             { shard.clear() },
         )
     }
@@ -113,13 +114,13 @@ impl<K: Eq + Hash, V, S: BuildHasher> ShardMut<'_, K, V, S> {
     where
         K: Drop,
         V: Drop,
-        ensures { Shrinks K.eq S.BuildHasher S.Hasher.Hasher K.hash_input self.old self.new }
+        ensures { Shrinks (by K.Hash S.BuildHasher S.Hasher.Hasher) self.old self.new }
     {
         put_back(&mut self.guard, &mut self.table, self.is_lent);
         self.is_lent = false;
         self.guard.change(
             |shard: &mut Shard<K, V, S>|
-                ensures { Shrinks K.eq S.BuildHasher S.Hasher.Hasher K.hash_input shard.old shard.new }
+                ensures { Shrinks (by K.Hash S.BuildHasher S.Hasher.Hasher) shard.old shard.new }
             { shard.shrink_to_fit() },
         )
     }
@@ -128,7 +129,7 @@ impl<K: Eq + Hash, V, S: BuildHasher> ShardMut<'_, K, V, S> {
     #[inline]
     pub fn iter(&self) -> Iter<'_, K, V>
         ensures pairs { result ≡ pairs self.now }
-        ensures lawful { IsShard K.eq S.BuildHasher S.Hasher.Hasher K.hash_input self.now }
+        ensures lawful { IsShard (by K.Hash S.BuildHasher S.Hasher.Hasher) self.now }
     {
         self.table().iter()
     }

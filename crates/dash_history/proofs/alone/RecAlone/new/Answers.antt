@@ -1,5 +1,5 @@
 use Rattle.std.proofs.Common.{arith, subst, sym}
-use Rattle.dash_shard.specs.Hashing.{IsAmount}
+use Rattle.dash_shard.specs.Hashing.{key_hash, IsAmount}
 use Rattle.dash_history.specs.Alone.{IsCallers, IsPlaced}
 use Rattle.dash_history.proofs.Refusals.{made-refused, callers-amount, memory-amount, memory-callers}
 use Rattle.dash_history.proofs.alone.RecAlone.new.Goals as goal
@@ -11,7 +11,7 @@ invariant_of-alone g c =
       record {
         amount = subst IsAmount (sym made.len) lawful;
         callers = record { some = omega arith; few = omega arith };
-        placed = λ i s e. subst (λ n. IsPlaced g.S.BuildHasher g.S.Hasher.Hasher c.args.hasher n c.args.callers i s) (sym made.len) (made.made i s e).0;
+        placed = λ i s e. subst (λ n. IsPlaced (key_hash g.K.PartialEq.eq g.K.Hash.hash_input g.S.BuildHasher g.S.Hasher.Hasher) c.args.hasher n c.args.callers i s) (sym made.len) (made.made i s e).0;
       },
       c.in-Ok-with_capacity.ensures.items,
       omega (arith, made.len, c.in-Ok.row.ok, c.in-Ok-with_capacity.ensures.capacity),
@@ -27,7 +27,7 @@ returns-clause-lawful g c =
     record {
       amount = subst IsAmount (sym made.len) lawful;
       callers = record { some = omega arith; few = omega arith };
-      placed = λ i s e. subst (λ n. IsPlaced g.S.BuildHasher g.S.Hasher.Hasher c.args.hasher n c.args.callers i s) (sym made.len) (made.made i s e).0;
+      placed = λ i s e. subst (λ n. IsPlaced (key_hash g.K.PartialEq.eq g.K.Hash.hash_input g.S.BuildHasher g.S.Hasher.Hasher) c.args.hasher n c.args.callers i s) (sym made.len) (made.made i s e).0;
     }
 
 pub returns-then-callers-eq0-clause-bad_amount : goal.returns-then-callers-eq0-clause-bad_amount

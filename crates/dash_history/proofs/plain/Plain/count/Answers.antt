@@ -5,10 +5,11 @@ use Rattle.dash_history.specs.Plain.{plain_rules}
 use Rattle.dash_history.proofs.Planning.{on-more}
 use Rattle.dash_history.proofs.plain.Plain.count.Goals as goal
 use Rattle.dash_history.proofs.plain.Plain.count.Goals.{then-goes_to, else-goes_to}
+use Rattle.dash_shard.specs.Hashing.{key_hash}
 
 pub loop-pair-preserved : goal.loop-pair-preserved
 loop-pair-preserved g c =
-    let w = (plain_rules g.K.PartialEq.eq g.S.BuildHasher g.S.Hasher.Hasher g.K.Hash.hash_input g.K.Kept.alike g.V.Kept.alike c.args.self.now).keys in
+    let w = (plain_rules (key_hash g.K.PartialEq.eq g.K.Hash.hash_input g.S.BuildHasher g.S.Hasher.Hasher) g.K.Kept.alike g.V.Kept.alike c.args.self.now).keys in
     let items = c.deref-pair-items.result.now in
     let i = c.loop-pair.pair-index in
     let p = c.pair-item.result in

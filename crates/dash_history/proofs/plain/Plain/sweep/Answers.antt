@@ -1,7 +1,7 @@
 use Rattle.std.proofs.Common.{◌≡◌, ◌+◌, ◌++◌, ◌∷◌, [], Some, true, is_some, take, inl, inr, length, arith, refl, sym, ap, subst, ◌∙◌, append-nil}
 use Rattle.std.proofs.lemmas.List.{take_more, take_all}
 use Rattle.std.specs.Result.{is_ok}
-use Rattle.dash_shard.specs.Hashing.{route_by}
+use Rattle.dash_shard.specs.Hashing.{key_hash, route_by}
 use Rattle.dash_shard.specs.Contents.{Distinct}
 use Rattle.dash_history.specs.Plain.{PlainState, IsPlain, plain_rules}
 use Rattle.dash_shard.specs.Steps.{Retain, after}
@@ -11,10 +11,11 @@ use Rattle.dash_history.proofs.PlainSweeps.{ok-is, with_first, Swept, swept-more
 use Rattle.dash_history.proofs.Recording.{lawful-by}
 use Rattle.dash_history.proofs.plain.Plain.sweep.Goals as goal
 use Rattle.dash_history.proofs.plain.Plain.sweep.Goals.{in-Some+in_ok-ok, in_default}
+use Rattle.dash_shard.proofs.Lawful.{lawful-of}
 
 pub loop-pair-preserved : goal.loop-pair-preserved
 loop-pair-preserved g c =
-    let m = plain_rules g.K.PartialEq.eq g.S.BuildHasher g.S.Hasher.Hasher g.K.Hash.hash_input g.K.Kept.alike g.V.Kept.alike c.args.self.now in
+    let m = plain_rules (key_hash g.K.PartialEq.eq g.K.Hash.hash_input g.S.BuildHasher g.S.Hasher.Hasher) g.K.Kept.alike g.V.Kept.alike c.args.self.now in
     let items = c.deref-pair-items.result.now in
     let i = c.loop-pair.pair-index in
     let p = c.pair-item.result in
@@ -36,15 +37,15 @@ pub invariant_of-self : goal.invariant_of-self
 invariant_of-self g c =
     let At : Type 0 = PlainState g.row.K.Denot g.row.V.Denot g.row.S.Denot in
     let now = c.args.self.now in
-    let m = plain_rules g.K.PartialEq.eq g.S.BuildHasher g.S.Hasher.Hasher g.K.Hash.hash_input g.K.Kept.alike g.V.Kept.alike now in
+    let m = plain_rules (key_hash g.K.PartialEq.eq g.K.Hash.hash_input g.S.BuildHasher g.S.Hasher.Hasher) g.K.Kept.alike g.V.Kept.alike now in
     let f = keeping c.args.all (g.A.Action.acts c.args.action.now) in
-    let laws = lawful-by _ g.S.BuildHasher g.S.Hasher.Hasher _ _ _ g.met.K.Eq.laws g.met.K.Hash.respects_eq g.met.K.Kept.alike_laws g.met.V.Kept.alike_laws g.met.K.KeptKey.alike_equal now.hasher now.amount in
-    let plain = subst (λ (x : At). IsPlain g.K.PartialEq.eq (route_by g.S.BuildHasher g.S.Hasher.Hasher g.K.Hash.hash_input) x) c.self.view_is c.self.invariant in
+    let laws = lawful-by _ (lawful-of g.S.BuildHasher g.S.Hasher.Hasher g.met.K.Eq.laws g.met.K.Hash.respects_eq) _ _ g.met.K.Kept.alike_laws g.met.V.Kept.alike_laws g.met.K.KeptKey.alike_equal now.hasher now.amount in
+    let plain = subst (λ (x : At). IsPlain (key_hash g.K.PartialEq.eq g.K.Hash.hash_input g.S.BuildHasher g.S.Hasher.Hasher) x) c.self.view_is c.self.invariant in
     let all = take_all c.loop-pair.pair-index c.deref-pair-items.result.now (omega (arith, c.loop-pair-test.false)) ∙ c.deref-pair-items.ensures.value ∙ ap (λ (x : At). x.pairs) c.self.view_is in
     let swept = subst (λ P. Swept m c.args.shard f P c.loop-pair.next.items) all c.loop-pair.invariant in
     let distinct = swept-distinct m c.args.shard f laws now.pairs c.loop-pair.next.items plain.distinct swept in
     record {
-      distinct = subst (λ (x : At). Distinct (plain_rules g.K.PartialEq.eq g.S.BuildHasher g.S.Hasher.Hasher g.K.Hash.hash_input g.K.Kept.alike g.V.Kept.alike x).keys c.loop-pair.next.items) (sym c.self.view_is) distinct;
+      distinct = subst (λ (x : At). Distinct (plain_rules (key_hash g.K.PartialEq.eq g.K.Hash.hash_input g.S.BuildHasher g.S.Hasher.Hasher) g.K.Kept.alike g.V.Kept.alike x).keys c.loop-pair.next.items) (sym c.self.view_is) distinct;
       amount = c.self.invariant.amount;
     }
 
@@ -94,10 +95,10 @@ pub returns-clause-leaves : goal.returns-clause-leaves
 returns-clause-leaves g c e j =
     let At : Type 0 = PlainState g.row.K.Denot g.row.V.Denot g.row.S.Denot in
     let now = c.args.self.now in
-    let m = plain_rules g.K.PartialEq.eq g.S.BuildHasher g.S.Hasher.Hasher g.K.Hash.hash_input g.K.Kept.alike g.V.Kept.alike now in
+    let m = plain_rules (key_hash g.K.PartialEq.eq g.K.Hash.hash_input g.S.BuildHasher g.S.Hasher.Hasher) g.K.Kept.alike g.V.Kept.alike now in
     let f = keeping c.args.all (g.A.Action.acts c.args.action.now) in
-    let laws = lawful-by _ g.S.BuildHasher g.S.Hasher.Hasher _ _ _ g.met.K.Eq.laws g.met.K.Hash.respects_eq g.met.K.Kept.alike_laws g.met.V.Kept.alike_laws g.met.K.KeptKey.alike_equal now.hasher now.amount in
-    let plain = subst (λ (x : At). IsPlain g.K.PartialEq.eq (route_by g.S.BuildHasher g.S.Hasher.Hasher g.K.Hash.hash_input) x) c.self.view_is c.self.invariant in
+    let laws = lawful-by _ (lawful-of g.S.BuildHasher g.S.Hasher.Hasher g.met.K.Eq.laws g.met.K.Hash.respects_eq) _ _ g.met.K.Kept.alike_laws g.met.V.Kept.alike_laws g.met.K.KeptKey.alike_equal now.hasher now.amount in
+    let plain = subst (λ (x : At). IsPlain (key_hash g.K.PartialEq.eq g.K.Hash.hash_input g.S.BuildHasher g.S.Hasher.Hasher) x) c.self.view_is c.self.invariant in
     let all = take_all c.loop-pair.pair-index c.deref-pair-items.result.now (omega (arith, c.loop-pair-test.false)) ∙ c.deref-pair-items.ensures.value ∙ ap (λ (x : At). x.pairs) c.self.view_is in
     let swept = subst (λ P. Swept m c.args.shard f P c.loop-pair.next.items) all c.loop-pair.invariant in
     swept-at m c.args.shard f laws now.pairs c.loop-pair.next.items plain.distinct swept j
@@ -106,10 +107,10 @@ pub returns-clause-distinct : goal.returns-clause-distinct
 returns-clause-distinct g c =
     let At : Type 0 = PlainState g.row.K.Denot g.row.V.Denot g.row.S.Denot in
     let now = c.args.self.now in
-    let m = plain_rules g.K.PartialEq.eq g.S.BuildHasher g.S.Hasher.Hasher g.K.Hash.hash_input g.K.Kept.alike g.V.Kept.alike now in
+    let m = plain_rules (key_hash g.K.PartialEq.eq g.K.Hash.hash_input g.S.BuildHasher g.S.Hasher.Hasher) g.K.Kept.alike g.V.Kept.alike now in
     let f = keeping c.args.all (g.A.Action.acts c.args.action.now) in
-    let laws = lawful-by _ g.S.BuildHasher g.S.Hasher.Hasher _ _ _ g.met.K.Eq.laws g.met.K.Hash.respects_eq g.met.K.Kept.alike_laws g.met.V.Kept.alike_laws g.met.K.KeptKey.alike_equal now.hasher now.amount in
-    let plain = subst (λ (x : At). IsPlain g.K.PartialEq.eq (route_by g.S.BuildHasher g.S.Hasher.Hasher g.K.Hash.hash_input) x) c.self.view_is c.self.invariant in
+    let laws = lawful-by _ (lawful-of g.S.BuildHasher g.S.Hasher.Hasher g.met.K.Eq.laws g.met.K.Hash.respects_eq) _ _ g.met.K.Kept.alike_laws g.met.V.Kept.alike_laws g.met.K.KeptKey.alike_equal now.hasher now.amount in
+    let plain = subst (λ (x : At). IsPlain (key_hash g.K.PartialEq.eq g.K.Hash.hash_input g.S.BuildHasher g.S.Hasher.Hasher) x) c.self.view_is c.self.invariant in
     let all = take_all c.loop-pair.pair-index c.deref-pair-items.result.now (omega (arith, c.loop-pair-test.false)) ∙ c.deref-pair-items.ensures.value ∙ ap (λ (x : At). x.pairs) c.self.view_is in
     let swept = subst (λ P. Swept m c.args.shard f P c.loop-pair.next.items) all c.loop-pair.invariant in
     swept-distinct m c.args.shard f laws now.pairs c.loop-pair.next.items plain.distinct swept

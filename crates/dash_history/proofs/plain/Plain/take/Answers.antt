@@ -6,7 +6,7 @@ use Rattle.std.specs.Cmp.{IsEquivalence}
 use Rattle.std.specs.Option.{option_map, option_and_then, ok_or}
 use Rattle.std.specs.Map.Iter.{deref_pair}
 use Rattle.dash_history.specs.Alike.{alike_option, alike_pair}
-use Rattle.dash_shard.specs.Hashing.{route_by}
+use Rattle.dash_shard.specs.Hashing.{key_hash, route_by}
 use Rattle.dash_shard.specs.Steps.{Pair, Found, Old, Pairs, Number, Done}
 use Rattle.dash_history.specs.Plan.{HasPair}
 use Rattle.dash_history.proofs.Planning.{takes-planned, on-distinct}
@@ -17,6 +17,7 @@ use Rattle.dash_history.specs.Plain.{PlainState, IsPlain, plain_rules}
 use Rattle.dash_history.proofs.Plains.{looked}
 use Rattle.dash_history.proofs.Copies.{takes-exactly, reply_laws}
 use Rattle.dash_history.proofs.Recording.{lawful-by}
+use Rattle.dash_shard.proofs.Lawful.{lawful-of}
 use Rattle.dash_history.proofs.plain.Plain.take.Goals as goal
 
 -- a reference to what is there
@@ -32,25 +33,25 @@ shown false o = refl
 
 pub returns-in-Ok-clause-ok : goal.returns-in-Ok-clause-ok
 returns-in-Ok-clause-ok g c =
-    let m = plain_rules g.K.PartialEq.eq g.S.BuildHasher g.S.Hasher.Hasher g.K.Hash.hash_input g.K.Kept.alike g.V.Kept.alike c.args.self.now in
-    let laws = lawful-by _ g.S.BuildHasher g.S.Hasher.Hasher _ _ _ g.met.K.Eq.laws g.met.K.Hash.respects_eq g.met.K.Kept.alike_laws g.met.V.Kept.alike_laws g.met.K.KeptKey.alike_equal c.args.self.now.hasher c.args.self.now.amount in
-    let plain = subst (λ (x : PlainState g.row.K.Denot g.row.V.Denot g.row.S.Denot). IsPlain g.K.PartialEq.eq (route_by g.S.BuildHasher g.S.Hasher.Hasher g.K.Hash.hash_input) x) c.self.view_is c.self.invariant in
+    let m = plain_rules (key_hash g.K.PartialEq.eq g.K.Hash.hash_input g.S.BuildHasher g.S.Hasher.Hasher) g.K.Kept.alike g.V.Kept.alike c.args.self.now in
+    let laws = lawful-by _ (lawful-of g.S.BuildHasher g.S.Hasher.Hasher g.met.K.Eq.laws g.met.K.Hash.respects_eq) _ _ g.met.K.Kept.alike_laws g.met.V.Kept.alike_laws g.met.K.KeptKey.alike_equal c.args.self.now.hasher c.args.self.now.amount in
+    let plain = subst (λ (x : PlainState g.row.K.Denot g.row.V.Denot g.row.S.Denot). IsPlain (key_hash g.K.PartialEq.eq g.K.Hash.hash_input g.S.BuildHasher g.S.Hasher.Hasher) x) c.self.view_is c.self.invariant in
     rw c.in-Get.is (takes-exactly m laws c.args.self.now.pairs c.args.self.now.pairs (table.Get c.in-Get.key) (Pair c.in-Ok.pair) (route_below _ _ (omega (arith, plain.amount.several)))
     (record { told = Pair (at m.keys c.args.self.now.pairs c.in-Get.key); replies = refl; alike = subst (λ o. IsTrue (alike_option (alike_pair g.K.Kept.alike g.V.Kept.alike) o c.in-Ok.pair)) c.get.ensures c.in-Ok.ensures.copy }) (looked m.keys c.in-Get.key c.args.self.now.pairs) plain.distinct)
 
 pub returns-in-Ok-put-clause-ok : goal.returns-in-Ok-put-clause-ok
 returns-in-Ok-put-clause-ok g c =
-    let m = plain_rules g.K.PartialEq.eq g.S.BuildHasher g.S.Hasher.Hasher g.K.Hash.hash_input g.K.Kept.alike g.V.Kept.alike c.args.self.now in
-    let laws = lawful-by _ g.S.BuildHasher g.S.Hasher.Hasher _ _ _ g.met.K.Eq.laws g.met.K.Hash.respects_eq g.met.K.Kept.alike_laws g.met.V.Kept.alike_laws g.met.K.KeptKey.alike_equal c.args.self.now.hasher c.args.self.now.amount in
-    let plain = subst (λ (x : PlainState g.row.K.Denot g.row.V.Denot g.row.S.Denot). IsPlain g.K.PartialEq.eq (route_by g.S.BuildHasher g.S.Hasher.Hasher g.K.Hash.hash_input) x) c.self.view_is c.self.invariant in
+    let m = plain_rules (key_hash g.K.PartialEq.eq g.K.Hash.hash_input g.S.BuildHasher g.S.Hasher.Hasher) g.K.Kept.alike g.V.Kept.alike c.args.self.now in
+    let laws = lawful-by _ (lawful-of g.S.BuildHasher g.S.Hasher.Hasher g.met.K.Eq.laws g.met.K.Hash.respects_eq) _ _ g.met.K.Kept.alike_laws g.met.V.Kept.alike_laws g.met.K.KeptKey.alike_equal c.args.self.now.hasher c.args.self.now.amount in
+    let plain = subst (λ (x : PlainState g.row.K.Denot g.row.V.Denot g.row.S.Denot). IsPlain (key_hash g.K.PartialEq.eq g.K.Hash.hash_input g.S.BuildHasher g.S.Hasher.Hasher) x) c.self.view_is c.self.invariant in
     rw c.in-Insert.is (takes-exactly m laws c.args.self.now.pairs c.put.new.self.pairs (table.Insert c.in-Insert.key c.in-Insert.value) (Old c.in-Ok-put.old) (route_below _ _ (omega (arith, plain.amount.several)))
     (record { told = Old c.in-Ok-put.old; replies = c.in-Ok-put.ensures.old; alike = (reply_laws m laws).refl (Old c.in-Ok-put.old) }) c.in-Ok-put.ensures.pairs c.in-Ok-put.ensures.distinct)
 
 pub returns-in-Remove-clause-ok : goal.returns-in-Remove-clause-ok
 returns-in-Remove-clause-ok g c =
-    let m = plain_rules g.K.PartialEq.eq g.S.BuildHasher g.S.Hasher.Hasher g.K.Hash.hash_input g.K.Kept.alike g.V.Kept.alike c.args.self.now in
-    let laws = lawful-by _ g.S.BuildHasher g.S.Hasher.Hasher _ _ _ g.met.K.Eq.laws g.met.K.Hash.respects_eq g.met.K.Kept.alike_laws g.met.V.Kept.alike_laws g.met.K.KeptKey.alike_equal c.args.self.now.hasher c.args.self.now.amount in
-    let plain = subst (λ (x : PlainState g.row.K.Denot g.row.V.Denot g.row.S.Denot). IsPlain g.K.PartialEq.eq (route_by g.S.BuildHasher g.S.Hasher.Hasher g.K.Hash.hash_input) x) c.self.view_is c.self.invariant in
+    let m = plain_rules (key_hash g.K.PartialEq.eq g.K.Hash.hash_input g.S.BuildHasher g.S.Hasher.Hasher) g.K.Kept.alike g.V.Kept.alike c.args.self.now in
+    let laws = lawful-by _ (lawful-of g.S.BuildHasher g.S.Hasher.Hasher g.met.K.Eq.laws g.met.K.Hash.respects_eq) _ _ g.met.K.Kept.alike_laws g.met.V.Kept.alike_laws g.met.K.KeptKey.alike_equal c.args.self.now.hasher c.args.self.now.amount in
+    let plain = subst (λ (x : PlainState g.row.K.Denot g.row.V.Denot g.row.S.Denot). IsPlain (key_hash g.K.PartialEq.eq g.K.Hash.hash_input g.S.BuildHasher g.S.Hasher.Hasher) x) c.self.view_is c.self.invariant in
     rw c.in-Remove.is (takes-exactly m laws c.args.self.now.pairs c.remove.new.self.pairs (table.Remove c.in-Remove.key) (Pair c.remove.result) (route_below _ _ (omega (arith, plain.amount.several)))
     (record { told = Pair c.remove.result; replies = c.remove.ensures.pair; alike = (reply_laws m laws).refl (Pair c.remove.result) }) c.remove.ensures.pairs c.remove.ensures.distinct)
 
@@ -59,9 +60,9 @@ make_change-requires g c = subst (λ o. HasPair c.in-Ok-plan_remove_if.change o)
 
 pub returns-in-Ok-plan_remove_if-clause-ok : goal.returns-in-Ok-plan_remove_if-clause-ok
 returns-in-Ok-plan_remove_if-clause-ok g c =
-    let m = plain_rules g.K.PartialEq.eq g.S.BuildHasher g.S.Hasher.Hasher g.K.Hash.hash_input g.K.Kept.alike g.V.Kept.alike c.args.self.now in
-    let laws = lawful-by _ g.S.BuildHasher g.S.Hasher.Hasher _ _ _ g.met.K.Eq.laws g.met.K.Hash.respects_eq g.met.K.Kept.alike_laws g.met.V.Kept.alike_laws g.met.K.KeptKey.alike_equal c.args.self.now.hasher c.args.self.now.amount in
-    let plain = subst (λ (x : PlainState g.row.K.Denot g.row.V.Denot g.row.S.Denot). IsPlain g.K.PartialEq.eq (route_by g.S.BuildHasher g.S.Hasher.Hasher g.K.Hash.hash_input) x) c.self.view_is c.self.invariant in
+    let m = plain_rules (key_hash g.K.PartialEq.eq g.K.Hash.hash_input g.S.BuildHasher g.S.Hasher.Hasher) g.K.Kept.alike g.V.Kept.alike c.args.self.now in
+    let laws = lawful-by _ (lawful-of g.S.BuildHasher g.S.Hasher.Hasher g.met.K.Eq.laws g.met.K.Hash.respects_eq) _ _ g.met.K.Kept.alike_laws g.met.V.Kept.alike_laws g.met.K.KeptKey.alike_equal c.args.self.now.hasher c.args.self.now.amount in
+    let plain = subst (λ (x : PlainState g.row.K.Denot g.row.V.Denot g.row.S.Denot). IsPlain (key_hash g.K.PartialEq.eq g.K.Hash.hash_input g.S.BuildHasher g.S.Hasher.Hasher) x) c.self.view_is c.self.invariant in
     let p = c.in-Ok-plan_remove_if.ensures.plan c.in-RemoveIf.key in
     rw (c.in-RemoveIf.is, c.make_change.ensures.reply) (takes-planned m laws _ _ c.in-RemoveIf.key _ _ _ _ _ _ c.get-in-RemoveIf.ensures refl p.0 p.1 (route_below _ _ (omega (arith, plain.amount.several))) c.make_change.ensures.becomes c.make_change.ensures.distinct)
 
@@ -70,9 +71,9 @@ make_change-requires-in-Ok-plan_remove_if_mut g c = subst (λ o. HasPair c.in-Ok
 
 pub returns-in-Ok-plan_remove_if_mut-clause-ok : goal.returns-in-Ok-plan_remove_if_mut-clause-ok
 returns-in-Ok-plan_remove_if_mut-clause-ok g c =
-    let m = plain_rules g.K.PartialEq.eq g.S.BuildHasher g.S.Hasher.Hasher g.K.Hash.hash_input g.K.Kept.alike g.V.Kept.alike c.args.self.now in
-    let laws = lawful-by _ g.S.BuildHasher g.S.Hasher.Hasher _ _ _ g.met.K.Eq.laws g.met.K.Hash.respects_eq g.met.K.Kept.alike_laws g.met.V.Kept.alike_laws g.met.K.KeptKey.alike_equal c.args.self.now.hasher c.args.self.now.amount in
-    let plain = subst (λ (x : PlainState g.row.K.Denot g.row.V.Denot g.row.S.Denot). IsPlain g.K.PartialEq.eq (route_by g.S.BuildHasher g.S.Hasher.Hasher g.K.Hash.hash_input) x) c.self.view_is c.self.invariant in
+    let m = plain_rules (key_hash g.K.PartialEq.eq g.K.Hash.hash_input g.S.BuildHasher g.S.Hasher.Hasher) g.K.Kept.alike g.V.Kept.alike c.args.self.now in
+    let laws = lawful-by _ (lawful-of g.S.BuildHasher g.S.Hasher.Hasher g.met.K.Eq.laws g.met.K.Hash.respects_eq) _ _ g.met.K.Kept.alike_laws g.met.V.Kept.alike_laws g.met.K.KeptKey.alike_equal c.args.self.now.hasher c.args.self.now.amount in
+    let plain = subst (λ (x : PlainState g.row.K.Denot g.row.V.Denot g.row.S.Denot). IsPlain (key_hash g.K.PartialEq.eq g.K.Hash.hash_input g.S.BuildHasher g.S.Hasher.Hasher) x) c.self.view_is c.self.invariant in
     let p = c.in-Ok-plan_remove_if_mut.ensures.plan c.in-RemoveIfMut.key in
     rw (c.in-RemoveIfMut.is, c.make_change-in-Ok-plan_remove_if_mut.ensures.reply) (takes-planned m laws _ _ c.in-RemoveIfMut.key _ _ _ _ _ _ c.get-in-RemoveIfMut.ensures refl p.0 p.1 (route_below _ _ (omega (arith, plain.amount.several))) c.make_change-in-Ok-plan_remove_if_mut.ensures.becomes c.make_change-in-Ok-plan_remove_if_mut.ensures.distinct)
 
@@ -81,26 +82,26 @@ make_change-requires-in-Ok-plan_alter g c = subst (λ o. HasPair c.in-Ok-plan_al
 
 pub returns-in-Ok-plan_alter-clause-ok : goal.returns-in-Ok-plan_alter-clause-ok
 returns-in-Ok-plan_alter-clause-ok g c =
-    let m = plain_rules g.K.PartialEq.eq g.S.BuildHasher g.S.Hasher.Hasher g.K.Hash.hash_input g.K.Kept.alike g.V.Kept.alike c.args.self.now in
-    let laws = lawful-by _ g.S.BuildHasher g.S.Hasher.Hasher _ _ _ g.met.K.Eq.laws g.met.K.Hash.respects_eq g.met.K.Kept.alike_laws g.met.V.Kept.alike_laws g.met.K.KeptKey.alike_equal c.args.self.now.hasher c.args.self.now.amount in
-    let plain = subst (λ (x : PlainState g.row.K.Denot g.row.V.Denot g.row.S.Denot). IsPlain g.K.PartialEq.eq (route_by g.S.BuildHasher g.S.Hasher.Hasher g.K.Hash.hash_input) x) c.self.view_is c.self.invariant in
+    let m = plain_rules (key_hash g.K.PartialEq.eq g.K.Hash.hash_input g.S.BuildHasher g.S.Hasher.Hasher) g.K.Kept.alike g.V.Kept.alike c.args.self.now in
+    let laws = lawful-by _ (lawful-of g.S.BuildHasher g.S.Hasher.Hasher g.met.K.Eq.laws g.met.K.Hash.respects_eq) _ _ g.met.K.Kept.alike_laws g.met.V.Kept.alike_laws g.met.K.KeptKey.alike_equal c.args.self.now.hasher c.args.self.now.amount in
+    let plain = subst (λ (x : PlainState g.row.K.Denot g.row.V.Denot g.row.S.Denot). IsPlain (key_hash g.K.PartialEq.eq g.K.Hash.hash_input g.S.BuildHasher g.S.Hasher.Hasher) x) c.self.view_is c.self.invariant in
     let p = c.in-Ok-plan_alter.ensures.plan c.in-Alter.key in
     rw (c.in-Alter.is, c.make_change-in-Ok-plan_alter.ensures.reply) (takes-planned m laws _ _ c.in-Alter.key _ _ _ _ _ _ c.get-in-Alter.ensures refl p.0 p.1 (route_below _ _ (omega (arith, plain.amount.several))) c.make_change-in-Ok-plan_alter.ensures.becomes c.make_change-in-Ok-plan_alter.ensures.distinct)
 
 pub returns-in-Contains-clause-ok : goal.returns-in-Contains-clause-ok
 returns-in-Contains-clause-ok g c =
-    let m = plain_rules g.K.PartialEq.eq g.S.BuildHasher g.S.Hasher.Hasher g.K.Hash.hash_input g.K.Kept.alike g.V.Kept.alike c.args.self.now in
-    let laws = lawful-by _ g.S.BuildHasher g.S.Hasher.Hasher _ _ _ g.met.K.Eq.laws g.met.K.Hash.respects_eq g.met.K.Kept.alike_laws g.met.V.Kept.alike_laws g.met.K.KeptKey.alike_equal c.args.self.now.hasher c.args.self.now.amount in
-    let plain = subst (λ (x : PlainState g.row.K.Denot g.row.V.Denot g.row.S.Denot). IsPlain g.K.PartialEq.eq (route_by g.S.BuildHasher g.S.Hasher.Hasher g.K.Hash.hash_input) x) c.self.view_is c.self.invariant in
+    let m = plain_rules (key_hash g.K.PartialEq.eq g.K.Hash.hash_input g.S.BuildHasher g.S.Hasher.Hasher) g.K.Kept.alike g.V.Kept.alike c.args.self.now in
+    let laws = lawful-by _ (lawful-of g.S.BuildHasher g.S.Hasher.Hasher g.met.K.Eq.laws g.met.K.Hash.respects_eq) _ _ g.met.K.Kept.alike_laws g.met.V.Kept.alike_laws g.met.K.KeptKey.alike_equal c.args.self.now.hasher c.args.self.now.amount in
+    let plain = subst (λ (x : PlainState g.row.K.Denot g.row.V.Denot g.row.S.Denot). IsPlain (key_hash g.K.PartialEq.eq g.K.Hash.hash_input g.S.BuildHasher g.S.Hasher.Hasher) x) c.self.view_is c.self.invariant in
     let found : Found c.is_some.result ≡ Found (is_some (at m.keys c.args.self.now.pairs c.in-Contains.key)) = ap Found (c.is_some.ensures ∙ mapped deref_pair c.get-in-Contains.result ∙ ap is_some c.get-in-Contains.ensures) in
     rw c.in-Contains.is (takes-exactly m laws c.args.self.now.pairs c.args.self.now.pairs (table.Contains c.in-Contains.key) (Found c.is_some.result) (route_below _ _ (omega (arith, plain.amount.several)))
     (record { told = Found c.is_some.result; replies = found; alike = (reply_laws m laws).refl (Found c.is_some.result) }) (looked m.keys c.in-Contains.key c.args.self.now.pairs) plain.distinct)
 
 pub returns-in-Count-clause-ok : goal.returns-in-Count-clause-ok
 returns-in-Count-clause-ok g c =
-    let m = plain_rules g.K.PartialEq.eq g.S.BuildHasher g.S.Hasher.Hasher g.K.Hash.hash_input g.K.Kept.alike g.V.Kept.alike c.args.self.now in
-    let laws = lawful-by _ g.S.BuildHasher g.S.Hasher.Hasher _ _ _ g.met.K.Eq.laws g.met.K.Hash.respects_eq g.met.K.Kept.alike_laws g.met.V.Kept.alike_laws g.met.K.KeptKey.alike_equal c.args.self.now.hasher c.args.self.now.amount in
-    let plain = subst (λ (x : PlainState g.row.K.Denot g.row.V.Denot g.row.S.Denot). IsPlain g.K.PartialEq.eq (route_by g.S.BuildHasher g.S.Hasher.Hasher g.K.Hash.hash_input) x) c.self.view_is c.self.invariant in
+    let m = plain_rules (key_hash g.K.PartialEq.eq g.K.Hash.hash_input g.S.BuildHasher g.S.Hasher.Hasher) g.K.Kept.alike g.V.Kept.alike c.args.self.now in
+    let laws = lawful-by _ (lawful-of g.S.BuildHasher g.S.Hasher.Hasher g.met.K.Eq.laws g.met.K.Hash.respects_eq) _ _ g.met.K.Kept.alike_laws g.met.V.Kept.alike_laws g.met.K.KeptKey.alike_equal c.args.self.now.hasher c.args.self.now.amount in
+    let plain = subst (λ (x : PlainState g.row.K.Denot g.row.V.Denot g.row.S.Denot). IsPlain (key_hash g.K.PartialEq.eq g.K.Hash.hash_input g.S.BuildHasher g.S.Hasher.Hasher) x) c.self.view_is c.self.invariant in
     let P = c.args.self.now.pairs in
     rw c.in-Count.is (takes-exactly m laws P P (table.Count c.in-Count.shard) (Number c.count.result) (subst (λ (x : PlainState g.row.K.Denot g.row.V.Denot g.row.S.Denot). c.in-Count.shard < x.amount) c.self.view_is c.if-shard-self.true)
     (record { told = Number c.count.result; replies = (on m.keys c.in-Count.shard P, record { distinct = on-distinct m.keys g.met.K.Eq.laws c.in-Count.shard P plain.distinct; same = λ _. refl }, ap Number c.count.ensures); alike = (reply_laws m laws).refl (Number c.count.result) }) (λ j. shown (m.keys.route j == c.in-Count.shard) (at m.keys P j)) plain.distinct)
@@ -116,9 +117,9 @@ own m laws i P distinct = record { distinct = on-distinct m.keys laws i P distin
 
 pub returns-in-Read-clause-ok : goal.returns-in-Read-clause-ok
 returns-in-Read-clause-ok g c =
-    let m = plain_rules g.K.PartialEq.eq g.S.BuildHasher g.S.Hasher.Hasher g.K.Hash.hash_input g.K.Kept.alike g.V.Kept.alike c.args.self.now in
-    let plain = subst (λ (x : PlainState g.row.K.Denot g.row.V.Denot g.row.S.Denot). IsPlain g.K.PartialEq.eq (route_by g.S.BuildHasher g.S.Hasher.Hasher g.K.Hash.hash_input) x) c.self.view_is c.self.invariant in
-    let laws = lawful-by _ g.S.BuildHasher g.S.Hasher.Hasher _ _ _ g.met.K.Eq.laws g.met.K.Hash.respects_eq g.met.K.Kept.alike_laws g.met.V.Kept.alike_laws g.met.K.KeptKey.alike_equal c.args.self.now.hasher c.args.self.now.amount in
+    let m = plain_rules (key_hash g.K.PartialEq.eq g.K.Hash.hash_input g.S.BuildHasher g.S.Hasher.Hasher) g.K.Kept.alike g.V.Kept.alike c.args.self.now in
+    let plain = subst (λ (x : PlainState g.row.K.Denot g.row.V.Denot g.row.S.Denot). IsPlain (key_hash g.K.PartialEq.eq g.K.Hash.hash_input g.S.BuildHasher g.S.Hasher.Hasher) x) c.self.view_is c.self.invariant in
+    let laws = lawful-by _ (lawful-of g.S.BuildHasher g.S.Hasher.Hasher g.met.K.Eq.laws g.met.K.Hash.respects_eq) _ _ g.met.K.Kept.alike_laws g.met.V.Kept.alike_laws g.met.K.KeptKey.alike_equal c.args.self.now.hasher c.args.self.now.amount in
     let P = c.args.self.now.pairs in
     let i = c.in-Read.shard in
     rw c.in-Read.is (taken c.read.result _ _ _ _ c.ok_or.ensures.value c.read.ensures.pairs (λ reply is h. takes-exactly m laws P P (table.Read i) (reply_of reply) h.0
@@ -126,8 +127,8 @@ returns-in-Read-clause-ok g c =
 
 pub returns-in-AlterAll-clause-ok : goal.returns-in-AlterAll-clause-ok
 returns-in-AlterAll-clause-ok g c =
-    let m = plain_rules g.K.PartialEq.eq g.S.BuildHasher g.S.Hasher.Hasher g.K.Hash.hash_input g.K.Kept.alike g.V.Kept.alike c.args.self.now in
-    let plain = subst (λ (x : PlainState g.row.K.Denot g.row.V.Denot g.row.S.Denot). IsPlain g.K.PartialEq.eq (route_by g.S.BuildHasher g.S.Hasher.Hasher g.K.Hash.hash_input) x) c.self.view_is c.self.invariant in
+    let m = plain_rules (key_hash g.K.PartialEq.eq g.K.Hash.hash_input g.S.BuildHasher g.S.Hasher.Hasher) g.K.Kept.alike g.V.Kept.alike c.args.self.now in
+    let plain = subst (λ (x : PlainState g.row.K.Denot g.row.V.Denot g.row.S.Denot). IsPlain (key_hash g.K.PartialEq.eq g.K.Hash.hash_input g.S.BuildHasher g.S.Hasher.Hasher) x) c.self.view_is c.self.invariant in
     rw c.in-AlterAll.is (taken c.sweep.result _ _ _ _ c.ok_or-in-AlterAll.ensures.value c.sweep.ensures.done (λ reply is h. record {
       in_range = h.1;
       answers = record { told = Done; replies = (on m.keys c.in-AlterAll.shard c.args.self.now.pairs, own m g.met.K.Eq.laws c.in-AlterAll.shard c.args.self.now.pairs plain.distinct, refl); alike = rw h.0 refl };
@@ -137,8 +138,8 @@ returns-in-AlterAll-clause-ok g c =
 
 pub returns-in-Retain-clause-ok : goal.returns-in-Retain-clause-ok
 returns-in-Retain-clause-ok g c =
-    let m = plain_rules g.K.PartialEq.eq g.S.BuildHasher g.S.Hasher.Hasher g.K.Hash.hash_input g.K.Kept.alike g.V.Kept.alike c.args.self.now in
-    let plain = subst (λ (x : PlainState g.row.K.Denot g.row.V.Denot g.row.S.Denot). IsPlain g.K.PartialEq.eq (route_by g.S.BuildHasher g.S.Hasher.Hasher g.K.Hash.hash_input) x) c.self.view_is c.self.invariant in
+    let m = plain_rules (key_hash g.K.PartialEq.eq g.K.Hash.hash_input g.S.BuildHasher g.S.Hasher.Hasher) g.K.Kept.alike g.V.Kept.alike c.args.self.now in
+    let plain = subst (λ (x : PlainState g.row.K.Denot g.row.V.Denot g.row.S.Denot). IsPlain (key_hash g.K.PartialEq.eq g.K.Hash.hash_input g.S.BuildHasher g.S.Hasher.Hasher) x) c.self.view_is c.self.invariant in
     rw c.in-Retain.is (taken c.sweep-in-Retain.result _ _ _ _ c.ok_or-in-Retain.ensures.value c.sweep-in-Retain.ensures.done (λ reply is h. record {
       in_range = h.1;
       answers = record { told = Done; replies = (on m.keys c.in-Retain.shard c.args.self.now.pairs, own m g.met.K.Eq.laws c.in-Retain.shard c.args.self.now.pairs plain.distinct, refl); alike = rw h.0 refl };

@@ -2,6 +2,9 @@ use Rattle.std.proofs.Common.{◌≡◌, ◌<◌, ◌++◌, ◌∷◌, [], ap, s
 use Rattle.dash_history.specs.History.{RecState, Tells, place_of, kinds_of}
 use Rattle.dash_history.proofs.Recording.{taken, recorded}
 use Rattle.dash_history.proofs.record.RecShard.grow.Goals as goal
+use Rattle.dash_shard.proofs.Lawful.{lawful-of}
+use Rattle.dash_shard.specs.Hashing.{key_hash}
+use Rattle.dash_history.specs.Takes.{known_by}
 
 pub invariant_of-self : goal.invariant_of-self
 invariant_of-self g c = rw c.make_room.ensures.items c.self.invariant
@@ -43,16 +46,16 @@ pub invariant_of-self-in-Ok-carry_out : goal.invariant_of-self-in-Ok-carry_out
 invariant_of-self-in-Ok-carry_out g c =
     let At : Type 0 = RecState g.row.K.Denot g.row.V.Denot g.row.A.Denot g.row.S.Denot in
     let s : At = record { shard = c.self.inside.shard; callers = c.self.inside.callers; last = c.self.inside.last; history = c.self.inside.history.items } in
-    let P = λ (x : At). place_of (kinds_of g.K.PartialEq.eq g.S.BuildHasher g.S.Hasher.Hasher g.K.Hash.hash_input g.K.Kept.alike g.V.Kept.alike g.A.Kept.alike g.A.Action.acts x.shard) c.args.step ≡ x.shard.number in
+    let P = λ (x : At). place_of (kinds_of (known_by g.K.PartialEq.eq g.K.Hash.hash_input g.K.Kept.alike g.V.Kept.alike g.A.Kept.alike g.A.Action.acts g.S.BuildHasher g.S.Hasher.Hasher) x.shard) c.args.step ≡ x.shard.number in
     let here = subst P (sym c.self.view_is) c.requires.place in
     let below = subst (λ (x : At). c.args.caller < x.callers) (sym c.self.view_is) c.requires.caller in
     let above = subst (λ (x : At). x.last < c.args.stamp) (sym c.self.view_is) c.requires.above in
     let old = c.self.invariant in
     let new = c.in-Ok-carry_out.ensures.lawful old.shard in
     let tells = subst (λ n. Tells g.K.Kept.alike g.V.Kept.alike g.A.Kept.alike c.args.stamp c.args.caller n c.args.step c.in-Ok.reply c.in-Ok-copies.first) c.number-number.ensures.number c.in-Ok-copies.ensures.first in
-    let takes = taken _ _ _ _ _ _ g.met.K.Eq.laws g.met.K.Hash.respects_eq g.met.K.Kept.alike_laws g.met.V.Kept.alike_laws g.met.K.KeptKey.alike_equal _ _ g.met.A.KeptAction.alike_acts
+    let takes = taken _ (lawful-of g.S.BuildHasher g.S.Hasher.Hasher g.met.K.Eq.laws g.met.K.Hash.respects_eq) _ _ g.met.K.Kept.alike_laws g.met.V.Kept.alike_laws g.met.K.KeptKey.alike_equal _ _ g.met.A.KeptAction.alike_acts
     c.self.inside.shard c.carry_out.new.shard c.args.step c.in-Ok.reply old.shard here c.in-Ok.ensures.answers c.in-Ok-carry_out.ensures.ok c.in-Ok-carry_out.ensures.stays new in
-    recorded _ _ _ _ _ _ g.met.K.Eq.laws g.met.K.Hash.respects_eq g.met.K.Kept.alike_laws g.met.V.Kept.alike_laws g.met.K.KeptKey.alike_equal _ _ g.met.A.KeptAction.alike_acts
+    recorded _ (lawful-of g.S.BuildHasher g.S.Hasher.Hasher g.met.K.Eq.laws g.met.K.Hash.respects_eq) _ _ g.met.K.Kept.alike_laws g.met.V.Kept.alike_laws g.met.K.KeptKey.alike_equal _ _ g.met.A.KeptAction.alike_acts
     s c.carry_out.new.shard c.args.step c.in-Ok.reply c.args.stamp c.args.caller c.in-Ok-copies.first c.push_reserved.new.self.items
     old c.in-Ok-carry_out.ensures.stays new takes here below above tells
     (c.push_reserved.ensures.items ∙ ap (λ h. h ++ c.in-Ok-copies.first ∷ []) c.make_room.ensures.items)
@@ -60,12 +63,12 @@ invariant_of-self-in-Ok-carry_out g c =
 pub returns-in-Ok-carry_out-clause-ok : goal.returns-in-Ok-carry_out-clause-ok
 returns-in-Ok-carry_out-clause-ok g c =
     let At : Type 0 = RecState g.row.K.Denot g.row.V.Denot g.row.A.Denot g.row.S.Denot in
-    let P = λ (x : At). place_of (kinds_of g.K.PartialEq.eq g.S.BuildHasher g.S.Hasher.Hasher g.K.Hash.hash_input g.K.Kept.alike g.V.Kept.alike g.A.Kept.alike g.A.Action.acts x.shard) c.args.step ≡ x.shard.number in
+    let P = λ (x : At). place_of (kinds_of (known_by g.K.PartialEq.eq g.K.Hash.hash_input g.K.Kept.alike g.V.Kept.alike g.A.Kept.alike g.A.Action.acts g.S.BuildHasher g.S.Hasher.Hasher) x.shard) c.args.step ≡ x.shard.number in
     let here = subst P (sym c.self.view_is) c.requires.place in
     let old = c.self.invariant in
     let tells = subst (λ n. Tells g.K.Kept.alike g.V.Kept.alike g.A.Kept.alike c.args.stamp c.args.caller n c.args.step c.in-Ok.reply c.in-Ok-copies.first) c.number-number.ensures.number c.in-Ok-copies.ensures.first in
     rw (← c.self.view_is) (record {
-      takes = taken _ _ _ _ _ _ g.met.K.Eq.laws g.met.K.Hash.respects_eq g.met.K.Kept.alike_laws g.met.V.Kept.alike_laws g.met.K.KeptKey.alike_equal _ _ g.met.A.KeptAction.alike_acts
+      takes = taken _ (lawful-of g.S.BuildHasher g.S.Hasher.Hasher g.met.K.Eq.laws g.met.K.Hash.respects_eq) _ _ g.met.K.Kept.alike_laws g.met.V.Kept.alike_laws g.met.K.KeptKey.alike_equal _ _ g.met.A.KeptAction.alike_acts
           c.self.inside.shard c.carry_out.new.shard c.args.step c.in-Ok.reply old.shard here c.in-Ok.ensures.answers c.in-Ok-carry_out.ensures.ok c.in-Ok-carry_out.ensures.stays (c.in-Ok-carry_out.ensures.lawful old.shard);
       kept = c.in-Ok-copies.first;
       tells = tells;

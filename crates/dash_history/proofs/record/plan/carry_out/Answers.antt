@@ -3,17 +3,19 @@ use Rattle.dash_shard.specs.Contents.{at}
 use Rattle.dash_shard.specs.Steps.{Step, AlterAll, Retain, after}
 use Rattle.dash_shard.specs.Shard.{pairs}
 use Rattle.dash_history.specs.Sweep.{keeping}
-use Rattle.dash_history.specs.Takes.{AlikeAt}
+use Rattle.dash_history.specs.Takes.{known_by, AlikeAt}
 use Rattle.dash_history.specs.History.{kinds_of}
 use Rattle.dash_history.proofs.Recording.{lawful-by}
 use Rattle.dash_history.proofs.Planning.{decided}
 use Rattle.dash_history.proofs.record.plan.carry_out.Goals as goal
+use Rattle.dash_shard.specs.Hashing.{key_hash}
+use Rattle.dash_shard.proofs.Lawful.{lawful-of}
 
 pub returns-in-RemoveIf-clause-ok : goal.returns-in-RemoveIf-clause-ok
 returns-in-RemoveIf-clause-ok g c j =
     let s = c.args.shard.now in
-    let m = kinds_of g.K.PartialEq.eq g.S.BuildHasher g.S.Hasher.Hasher g.K.Hash.hash_input g.K.Kept.alike g.V.Kept.alike g.A.Kept.alike g.A.Action.acts s in
-    let laws = lawful-by _ g.S.BuildHasher g.S.Hasher.Hasher _ _ _ g.met.K.Eq.laws g.met.K.Hash.respects_eq g.met.K.Kept.alike_laws g.met.V.Kept.alike_laws g.met.K.KeptKey.alike_equal s.hasher s.amount in
+    let m = kinds_of (known_by g.K.PartialEq.eq g.K.Hash.hash_input g.K.Kept.alike g.V.Kept.alike g.A.Kept.alike g.A.Action.acts g.S.BuildHasher g.S.Hasher.Hasher) s in
+    let laws = lawful-by _ (lawful-of g.S.BuildHasher g.S.Hasher.Hasher g.met.K.Eq.laws g.met.K.Hash.respects_eq) _ _ g.met.K.Kept.alike_laws g.met.V.Kept.alike_laws g.met.K.KeptKey.alike_equal s.hasher s.amount in
     ⊎_elim (λ is. rw is (decided m.rules laws _ _ c.in-RemoveIf.key _ c.args.decided (rw is at c.requires.decides) c.make_change.ensures.becomes j))
     (⊎_elim (λ is. rw is (decided m.rules laws _ _ c.in-RemoveIf.key _ c.args.decided (rw is at c.requires.decides) c.make_change.ensures.becomes j))
     (λ is. rw is (decided m.rules laws _ _ c.in-RemoveIf.key _ c.args.decided (rw is at c.requires.decides) c.make_change.ensures.becomes j))) c.in-RemoveIf.is
@@ -21,7 +23,7 @@ returns-in-RemoveIf-clause-ok g c j =
 pub returns-clause-ok : goal.returns-clause-ok
 returns-clause-ok g c j =
     let s = c.args.shard.now in
-    let m = kinds_of g.K.PartialEq.eq g.S.BuildHasher g.S.Hasher.Hasher g.K.Hash.hash_input g.K.Kept.alike g.V.Kept.alike g.A.Kept.alike g.A.Action.acts s in
+    let m = kinds_of (known_by g.K.PartialEq.eq g.K.Hash.hash_input g.K.Kept.alike g.V.Kept.alike g.A.Kept.alike g.A.Action.acts g.S.BuildHasher g.S.Hasher.Hasher) s in
     let i = c.in-AlterAll._shard in
     let f = g.A.Action.acts c.in-AlterAll._action in
     let Left = λ (step : Step g.row.K.Denot g.row.V.Denot). AlikeAt m.rules (after m.rules.keys step j (at m.rules.keys (pairs s) j)) (at m.rules.keys (pairs c.change_each.new.shard) j) in

@@ -13,6 +13,7 @@ use Rattle.std.proofs.lemmas.Result.{IfOk-weaker}
 use Rattle.dash_history.specs.Plan.{FitsLine}
 use Rattle.dash_history.proofs.Planning.{each-own, answers-found, same_found}
 use Rattle.dash_history.proofs.record.plan.prepare.Goals as goal
+use Rattle.dash_shard.specs.Hashing.{key_hash}
 
 -- a copy of the pair at the key
 copied : {K V A : Type 0} (acts : A → Act K V) (m : Rules K V) (P : List (K × V)) (step : ShardStep K V A) (k : K) (o p : Option (K × V)) → (step ≡ Get k) ⊎ (step ≡ Remove k)
@@ -41,7 +42,7 @@ returns-in-None-clause-answers g c = rw c.in-Insert.is (record { told = Old None
 pub returns-in-Count-clause-answers : goal.returns-in-Count-clause-answers
 returns-in-Count-clause-answers g c =
     let s = c.args.shard.now in
-    let w = keys_of g.K.PartialEq.eq g.S.BuildHasher g.S.Hasher.Hasher g.K.Hash.hash_input s in
+    let w = keys_of (key_hash g.K.PartialEq.eq g.K.Hash.hash_input g.S.BuildHasher g.S.Hasher.Hasher) s in
     let here : c.in-Count.field-0 ≡ s.number = rw c.in-Count.is at c.requires in
     rw c.in-Count.is (record {
       told = Number c.len.result;
@@ -86,7 +87,7 @@ own w laws i n P here h = each-own w laws i P (subst (λ x. IsOnShard w x P) (sy
 pub returns-in_ok-copy_pairs-in-Read-clause-answers : goal.returns-in_ok-copy_pairs-in-Read-clause-answers
 returns-in_ok-copy_pairs-in-Read-clause-answers g c =
     let s = c.args.shard.now in
-    let w = keys_of g.K.PartialEq.eq g.S.BuildHasher g.S.Hasher.Hasher g.K.Hash.hash_input s in
+    let w = keys_of (key_hash g.K.PartialEq.eq g.K.Hash.hash_input g.S.BuildHasher g.S.Hasher.Hasher) s in
     let copies = c.in_ok-copy_pairs-in-Read.field-0.items in
     rw c.in-Read.is (record {
       told = Pairs (pairs s);
@@ -97,11 +98,11 @@ returns-in_ok-copy_pairs-in-Read-clause-answers g c =
 pub returns-in_ok-made-in-AlterAll-clause-answers : goal.returns-in_ok-made-in-AlterAll-clause-answers
 returns-in_ok-made-in-AlterAll-clause-answers g c =
     let s = c.args.shard.now in
-    let w = keys_of g.K.PartialEq.eq g.S.BuildHasher g.S.Hasher.Hasher g.K.Hash.hash_input s in
+    let w = keys_of (key_hash g.K.PartialEq.eq g.K.Hash.hash_input g.S.BuildHasher g.S.Hasher.Hasher) s in
     rw c.in-AlterAll.is (record { told = Done; replies = (pairs s, own w g.met.K.Eq.laws c.in-AlterAll.field-0 s.number (pairs s) (rw c.in-AlterAll.is at c.requires) c.iter-in-AlterAll.ensures.lawful.contents, refl); alike = refl })
 
 pub returns-in_ok-made-in-Retain-clause-answers : goal.returns-in_ok-made-in-Retain-clause-answers
 returns-in_ok-made-in-Retain-clause-answers g c =
     let s = c.args.shard.now in
-    let w = keys_of g.K.PartialEq.eq g.S.BuildHasher g.S.Hasher.Hasher g.K.Hash.hash_input s in
+    let w = keys_of (key_hash g.K.PartialEq.eq g.K.Hash.hash_input g.S.BuildHasher g.S.Hasher.Hasher) s in
     rw c.in-Retain.is (record { told = Done; replies = (pairs s, own w g.met.K.Eq.laws c.in-Retain.field-0 s.number (pairs s) (rw c.in-Retain.is at c.requires) c.iter-in-Retain.ensures.lawful.contents, refl); alike = refl })

@@ -5,10 +5,11 @@ use Rattle.dash_shard.specs.Each.{CalledOnPair, TakesOnPair, altered}
 use Rattle.dash_map.specs.Alone.{AloneState, IsAlone}
 use Rattle.dash_map.proofs.Sweeping.{sweeping-first, sweeping-ready, sweeping-next, alters-all-alone}
 use Rattle.dash_map.proofs.alone.Alone.alter_all.Goals as goal
+use Rattle.dash_shard.specs.Hashing.{key_hash}
 
 pub loop-place-init : goal.loop-place-init
 loop-place-init g c = record {
-  so_far = sweeping-first g.K.PartialEq.eq g.S.BuildHasher g.S.Hasher.Hasher g.K.Hash.hash_input (CalledOnPair g.F.FnMut) (TakesOnPair g.F.FnMut) altered c.args.f _ _ c.self.view_is c.self.invariant.0 c.requires;
+  so_far = sweeping-first (key_hash g.K.PartialEq.eq g.K.Hash.hash_input g.S.BuildHasher g.S.Hasher.Hasher) (CalledOnPair g.F.FnMut) (TakesOnPair g.F.FnMut) altered c.args.f _ _ c.self.view_is c.self.invariant.0 c.requires;
   end = c.len-place-end.ensures ∙ c.self.inside.row.ok.0;
   locks = c.self.invariant.1;
   room = c.self.invariant.2;
@@ -21,7 +22,7 @@ alter_all_by-requires g c =
     let s = c.index_mut.result.now in
     let within : i < length row = omega (arith, c.loop-place.invariant.end) in
     let here : slice_get row i ≡ Some s = slice_get-get_or row i s within ∙ ap Some (sym c.index_mut.ensures.value) in
-    sweeping-ready g.K.PartialEq.eq g.S.BuildHasher g.S.Hasher.Hasher g.K.Hash.hash_input (CalledOnPair g.F.FnMut) (TakesOnPair g.F.FnMut) altered c.args.f i c.args.self.now c.loop-place.self-inside.hasher row c.loop-place.f c.loop-place.invariant.so_far s here
+    sweeping-ready (key_hash g.K.PartialEq.eq g.K.Hash.hash_input g.S.BuildHasher g.S.Hasher.Hasher) (CalledOnPair g.F.FnMut) (TakesOnPair g.F.FnMut) altered c.args.f i c.args.self.now c.loop-place.self-inside.hasher row c.loop-place.f c.loop-place.invariant.so_far s here
 
 pub loop-place-preserved : goal.loop-place-preserved
 loop-place-preserved g c =
@@ -32,11 +33,11 @@ loop-place-preserved g c =
     let here : slice_get row i ≡ Some s = slice_get-get_or row i s within ∙ ap Some (sym c.index_mut.ensures.value) in
     let x = c.alter_all_by.ensures in
     record {
-      so_far = sweeping-next g.K.PartialEq.eq g.S.BuildHasher g.S.Hasher.Hasher g.K.Hash.hash_input (CalledOnPair g.F.FnMut) (TakesOnPair g.F.FnMut) altered c.args.f i c.args.self.now c.loop-place.self-inside.hasher row c.loop-place.f c.loop-place.invariant.so_far s here c.alter_all_by.new.self c.alter_all_by.new.f x;
+      so_far = sweeping-next (key_hash g.K.PartialEq.eq g.K.Hash.hash_input g.S.BuildHasher g.S.Hasher.Hasher) (CalledOnPair g.F.FnMut) (TakesOnPair g.F.FnMut) altered c.args.f i c.args.self.now c.loop-place.self-inside.hasher row c.loop-place.f c.loop-place.invariant.so_far s here c.alter_all_by.new.self c.alter_all_by.new.f x;
       end = c.loop-place.invariant.end ∙ sym (length-set row i c.alter_all_by.new.self);
       locks = c.loop-place.invariant.locks;
       room = c.loop-place.invariant.room;
     }
 
 pub returns : goal.returns
-returns g c = alters-all-alone g.K.PartialEq.eq g.S.BuildHasher g.S.Hasher.Hasher g.K.Hash.hash_input (CalledOnPair g.F.FnMut) (TakesOnPair g.F.FnMut) c.args.f g.met.K.Eq.laws c.loop-place.place c.args.self.now _ c.loop-place.f (subst (λ (a : AloneState g.row.K.Denot g.row.V.Denot g.row.S.Denot). IsAlone g.K.PartialEq.eq g.S.BuildHasher g.S.Hasher.Hasher g.K.Hash.hash_input a) c.self.view_is c.self.invariant.0) (omega (arith, c.loop-place.invariant.end)) c.loop-place.invariant.so_far
+returns g c = alters-all-alone (key_hash g.K.PartialEq.eq g.K.Hash.hash_input g.S.BuildHasher g.S.Hasher.Hasher) (CalledOnPair g.F.FnMut) (TakesOnPair g.F.FnMut) c.args.f g.met.K.Eq.laws c.loop-place.place c.args.self.now _ c.loop-place.f (subst (λ (a : AloneState g.row.K.Denot g.row.V.Denot g.row.S.Denot). IsAlone (key_hash g.K.PartialEq.eq g.K.Hash.hash_input g.S.BuildHasher g.S.Hasher.Hasher) a) c.self.view_is c.self.invariant.0) (omega (arith, c.loop-place.invariant.end)) c.loop-place.invariant.so_far

@@ -4,10 +4,11 @@ use Rattle.std.proofs.Math.ListN.{length-set}
 use Rattle.dash_shard.specs.Each.{Clears}
 use Rattle.dash_map.proofs.Turning.{turning-first, turned, clears-alone}
 use Rattle.dash_map.proofs.alone.Alone.clear.Goals as goal
+use Rattle.dash_shard.specs.Hashing.{key_hash}
 
 pub loop-place-init : goal.loop-place-init
 loop-place-init g c = record {
-  so_far = turning-first g.K.PartialEq.eq g.S.BuildHasher g.S.Hasher.Hasher g.K.Hash.hash_input (Clears g.K.PartialEq.eq g.S.BuildHasher g.S.Hasher.Hasher g.K.Hash.hash_input) _ _ c.self.view_is c.self.invariant.0;
+  so_far = turning-first (key_hash g.K.PartialEq.eq g.K.Hash.hash_input g.S.BuildHasher g.S.Hasher.Hasher) (Clears (key_hash g.K.PartialEq.eq g.K.Hash.hash_input g.S.BuildHasher g.S.Hasher.Hasher)) _ _ c.self.view_is c.self.invariant.0;
   end = c.len-place-end.ensures ∙ c.self.inside.row.ok.0;
   locks = c.self.invariant.1;
   room = c.self.invariant.2;
@@ -22,11 +23,11 @@ loop-place-preserved g c =
     let here : slice_get row i ≡ Some s = slice_get-get_or row i s within ∙ ap Some (sym c.index_mut.ensures.value) in
     let x = c.clear.ensures in
     record {
-      so_far = turned g.K.PartialEq.eq g.S.BuildHasher g.S.Hasher.Hasher g.K.Hash.hash_input (Clears g.K.PartialEq.eq g.S.BuildHasher g.S.Hasher.Hasher g.K.Hash.hash_input) i c.args.self.now c.loop-place.self-inside.hasher row c.loop-place.invariant.so_far s c.clear.new.self here x.taken.stays x.taken.lawful x;
+      so_far = turned (key_hash g.K.PartialEq.eq g.K.Hash.hash_input g.S.BuildHasher g.S.Hasher.Hasher) (Clears (key_hash g.K.PartialEq.eq g.K.Hash.hash_input g.S.BuildHasher g.S.Hasher.Hasher)) i c.args.self.now c.loop-place.self-inside.hasher row c.loop-place.invariant.so_far s c.clear.new.self here x.taken.stays x.taken.lawful x;
       end = c.loop-place.invariant.end ∙ sym (length-set row i c.clear.new.self);
       locks = c.loop-place.invariant.locks;
       room = c.loop-place.invariant.room;
     }
 
 pub returns : goal.returns
-returns g c = clears-alone g.K.PartialEq.eq g.S.BuildHasher g.S.Hasher.Hasher g.K.Hash.hash_input c.loop-place.place c.args.self.now _ c.loop-place.invariant.so_far (omega (arith, c.loop-place.invariant.end))
+returns g c = clears-alone (key_hash g.K.PartialEq.eq g.K.Hash.hash_input g.S.BuildHasher g.S.Hasher.Hasher) c.loop-place.place c.args.self.now _ c.loop-place.invariant.so_far (omega (arith, c.loop-place.invariant.end))

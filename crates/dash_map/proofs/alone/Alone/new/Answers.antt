@@ -1,5 +1,5 @@
 use Rattle.std.proofs.Common.{rules, ◌≤◌, ◌/◌, arith, subst, sym}
-use Rattle.dash_shard.specs.Hashing.{IsAmount}
+use Rattle.dash_shard.specs.Hashing.{key_hash, IsAmount}
 use Rattle.dash_map.specs.Alone.{IsPlaced}
 use Rattle.dash_map.proofs.alone.Alone.new.Goals as goal
 
@@ -9,7 +9,7 @@ invariant_of-result g c =
     let made = c.in_ok-row.ensures in (
       record {
         amount = subst IsAmount (sym made.len) lawful;
-        placed = λ i s e. subst (λ n. IsPlaced g.K.PartialEq.eq g.S.BuildHasher g.S.Hasher.Hasher g.K.Hash.hash_input c.args.hasher n i s) (sym made.len) (made.placed i s e);
+        placed = λ i s e. subst (λ n. IsPlaced (key_hash g.K.PartialEq.eq g.K.Hash.hash_input g.S.BuildHasher g.S.Hasher.Hasher) c.args.hasher n i s) (sym made.len) (made.placed i s e);
       },
       c.in-Ok.ensures.items,
       omega (arith, made.len, c.in_ok-row.row.ok, c.in-Ok.ensures.capacity),

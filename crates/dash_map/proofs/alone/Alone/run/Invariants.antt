@@ -3,15 +3,16 @@ use Rattle.dash_map.specs.Alone.{IsAlone, contents}
 use Rattle.dash_map.specs.Run.{rules_in}
 use Rattle.dash_map.proofs.Running.{Running}
 use Rattle.dash_map.proofs.alone.Alone.run.Given as goal
+use Rattle.dash_shard.specs.Hashing.{key_hash}
 
 abbrev pub invariant-loop-step : goal.invariant-loop-step
 invariant-loop-step g l =
-    let m = rules_in g.K.PartialEq.eq g.S.BuildHasher g.S.Hasher.Hasher g.K.Hash.hash_input g.K.Kept.alike g.V.Kept.alike l.fn.self in
+    let m = rules_in (key_hash g.K.PartialEq.eq g.K.Hash.hash_input g.S.BuildHasher g.S.Hasher.Hasher) g.K.Kept.alike g.V.Kept.alike l.fn.self in
     record {
       so_far : Running m g.A.Action.acts (contents l.fn.self) (contents l.self) l.fn.steps.items l.steps.items l.replies.items;
       hasher : l.self.hasher ≡ l.fn.self.hasher;
       amount : length l.self.row ≡ length l.fn.self.row;
-      lawful : IsAlone g.K.PartialEq.eq g.S.BuildHasher g.S.Hasher.Hasher g.K.Hash.hash_input l.self;
+      lawful : IsAlone (key_hash g.K.PartialEq.eq g.K.Hash.hash_input g.S.BuildHasher g.S.Hasher.Hasher) l.self;
       room : vec_len l.replies + vec_len l.steps ≤ vec_capacity l.replies;
     }
 

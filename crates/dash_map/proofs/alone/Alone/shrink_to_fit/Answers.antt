@@ -5,10 +5,11 @@ use Rattle.dash_shard.specs.Each.{Shrinks}
 use Rattle.dash_map.specs.Alone.{AloneState, IsAlone}
 use Rattle.dash_map.proofs.Turning.{turning-first, turned, shrinks-alone}
 use Rattle.dash_map.proofs.alone.Alone.shrink_to_fit.Goals as goal
+use Rattle.dash_shard.specs.Hashing.{key_hash}
 
 pub loop-place-init : goal.loop-place-init
 loop-place-init g c = record {
-  so_far = turning-first g.K.PartialEq.eq g.S.BuildHasher g.S.Hasher.Hasher g.K.Hash.hash_input (Shrinks g.K.PartialEq.eq g.S.BuildHasher g.S.Hasher.Hasher g.K.Hash.hash_input) _ _ c.self.view_is c.self.invariant.0;
+  so_far = turning-first (key_hash g.K.PartialEq.eq g.K.Hash.hash_input g.S.BuildHasher g.S.Hasher.Hasher) (Shrinks (key_hash g.K.PartialEq.eq g.K.Hash.hash_input g.S.BuildHasher g.S.Hasher.Hasher)) _ _ c.self.view_is c.self.invariant.0;
   end = c.len-place-end.ensures ∙ c.self.inside.row.ok.0;
   locks = c.self.invariant.1;
   room = c.self.invariant.2;
@@ -23,11 +24,11 @@ loop-place-preserved g c =
     let here : slice_get row i ≡ Some s = slice_get-get_or row i s within ∙ ap Some (sym c.index_mut.ensures.value) in
     let x = c.shrink_to_fit.ensures in
     record {
-      so_far = turned g.K.PartialEq.eq g.S.BuildHasher g.S.Hasher.Hasher g.K.Hash.hash_input (Shrinks g.K.PartialEq.eq g.S.BuildHasher g.S.Hasher.Hasher g.K.Hash.hash_input) i c.args.self.now c.loop-place.self-inside.hasher row c.loop-place.invariant.so_far s c.shrink_to_fit.new.self here x.stays x.lawful x;
+      so_far = turned (key_hash g.K.PartialEq.eq g.K.Hash.hash_input g.S.BuildHasher g.S.Hasher.Hasher) (Shrinks (key_hash g.K.PartialEq.eq g.K.Hash.hash_input g.S.BuildHasher g.S.Hasher.Hasher)) i c.args.self.now c.loop-place.self-inside.hasher row c.loop-place.invariant.so_far s c.shrink_to_fit.new.self here x.stays x.lawful x;
       end = c.loop-place.invariant.end ∙ sym (length-set row i c.shrink_to_fit.new.self);
       locks = c.loop-place.invariant.locks;
       room = c.loop-place.invariant.room;
     }
 
 pub returns : goal.returns
-returns g c = shrinks-alone g.K.PartialEq.eq g.S.BuildHasher g.S.Hasher.Hasher g.K.Hash.hash_input g.met.K.Eq.laws c.loop-place.place c.args.self.now _ (subst (λ (a : AloneState g.row.K.Denot g.row.V.Denot g.row.S.Denot). IsAlone g.K.PartialEq.eq g.S.BuildHasher g.S.Hasher.Hasher g.K.Hash.hash_input a) c.self.view_is c.self.invariant.0) c.loop-place.invariant.so_far (omega (arith, c.loop-place.invariant.end))
+returns g c = shrinks-alone (key_hash g.K.PartialEq.eq g.K.Hash.hash_input g.S.BuildHasher g.S.Hasher.Hasher) g.met.K.Eq.laws c.loop-place.place c.args.self.now _ (subst (λ (a : AloneState g.row.K.Denot g.row.V.Denot g.row.S.Denot). IsAlone (key_hash g.K.PartialEq.eq g.K.Hash.hash_input g.S.BuildHasher g.S.Hasher.Hasher) a) c.self.view_is c.self.invariant.0) c.loop-place.invariant.so_far (omega (arith, c.loop-place.invariant.end))

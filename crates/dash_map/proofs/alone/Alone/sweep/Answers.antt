@@ -9,6 +9,8 @@ use Rattle.dash_map.specs.Run.{rules_in}
 use Rattle.dash_map.proofs.Lifting.{alone-set}
 use Rattle.dash_map.proofs.Running.{takes-sweep}
 use Rattle.dash_map.proofs.alone.Alone.sweep.Goals as goal
+use Rattle.dash_shard.proofs.Lawful.{lawful-of}
+use Rattle.dash_shard.specs.Hashing.{key_hash}
 
 pub invariant_of-self : goal.invariant_of-self
 invariant_of-self g c =
@@ -16,7 +18,7 @@ invariant_of-self g c =
     let within : c.args.shard < length row.items = omega (arith, c.if-shard-len.false, c.len.ensures, row.ok.0) in
     let here = slice_get-get_or row.items c.args.shard c.index_mut.result.now within ∙ ap Some (sym c.index_mut.ensures.value) in
     let x = c.retain.ensures.taken in
-    (alone-set g.K.PartialEq.eq g.S.BuildHasher g.S.Hasher.Hasher g.K.Hash.hash_input _ c.args.shard row.items c.index_mut.result.now c.retain.new.self c.self.invariant.0 here x.stays x.lawful, c.self.invariant.1, c.self.invariant.2)
+    (alone-set (key_hash g.K.PartialEq.eq g.K.Hash.hash_input g.S.BuildHasher g.S.Hasher.Hasher) _ c.args.shard row.items c.index_mut.result.now c.retain.new.self c.self.invariant.0 here x.stays x.lawful, c.self.invariant.1, c.self.invariant.2)
 
 pub returns-clause-lawful : goal.returns-clause-lawful
 returns-clause-lawful g c =
@@ -24,7 +26,7 @@ returns-clause-lawful g c =
     let within : c.args.shard < length row.items = omega (arith, c.if-shard-len.false, c.len.ensures, row.ok.0) in
     let here = slice_get-get_or row.items c.args.shard c.index_mut.result.now within ∙ ap Some (sym c.index_mut.ensures.value) in
     let x = c.retain.ensures.taken in
-    alone-set g.K.PartialEq.eq g.S.BuildHasher g.S.Hasher.Hasher g.K.Hash.hash_input _ c.args.shard row.items c.index_mut.result.now c.retain.new.self c.self.invariant.0 here x.stays x.lawful
+    alone-set (key_hash g.K.PartialEq.eq g.K.Hash.hash_input g.S.BuildHasher g.S.Hasher.Hasher) _ c.args.shard row.items c.index_mut.result.now c.retain.new.self c.self.invariant.0 here x.stays x.lawful
 
 pub returns-clause-taken : goal.returns-clause-taken
 returns-clause-taken g c =
@@ -34,6 +36,6 @@ returns-clause-taken g c =
     let f = keeping c.args.all (g.A.Action.acts c.args.action.now) in
     let within : c.args.shard < length row.items = omega (arith, c.if-shard-len.false, c.len.ensures, row.ok.0) in
     let here = slice_get-get_or row.items c.args.shard c.index_mut.result.now within ∙ ap Some (sym c.index_mut.ensures.value) in
-    subst (λ (x : At). Takes (rules_in g.K.PartialEq.eq g.S.BuildHasher g.S.Hasher.Hasher g.K.Hash.hash_input g.K.Kept.alike g.V.Kept.alike x) (contents x) (Retain c.args.shard f) Done (flat_map pairs (slice_set row.items c.args.shard c.retain.new.self))) c.self.view_is
-    (takes-sweep _ _ _ _ _ _ g.met.K.Eq.laws g.met.K.Hash.respects_eq g.met.K.Kept.alike_laws g.met.V.Kept.alike_laws g.met.K.KeptKey.alike_equal a c.args.shard c.index_mut.result.now c.retain.new.self c.self.invariant.0 here c.retain.ensures f
+    subst (λ (x : At). Takes (rules_in (key_hash g.K.PartialEq.eq g.K.Hash.hash_input g.S.BuildHasher g.S.Hasher.Hasher) g.K.Kept.alike g.V.Kept.alike x) (contents x) (Retain c.args.shard f) Done (flat_map pairs (slice_set row.items c.args.shard c.retain.new.self))) c.self.view_is
+    (takes-sweep _ _ _ (lawful-of g.S.BuildHasher g.S.Hasher.Hasher g.met.K.Eq.laws g.met.K.Hash.respects_eq) g.met.K.Kept.alike_laws g.met.V.Kept.alike_laws g.met.K.KeptKey.alike_equal a c.args.shard c.index_mut.result.now c.retain.new.self c.self.invariant.0 here c.retain.ensures f
     (λ k v yes new y called. search rules))

@@ -3,14 +3,15 @@ use Rattle.std.specs.Map.Iter.{deref_pair}
 use Rattle.dash_shard.specs.Closures.{Viewed}
 use Rattle.dash_map.proofs.Seeing.{seen}
 use Rattle.dash_map.proofs.map.DashMap.view.Goals as goal
+use Rattle.dash_shard.specs.Hashing.{key_hash}
 
 pub find-requires : goal.find-requires
 find-requires g c =
     let row = c.self.inside.row.items in
     let i = c.place_of-hash.result.1 in
     let within : i < length row = omega (arith, c.place_of-hash.ensures.below, ap (λ m. m.amount) c.self.view_is) in
-    let placed = seen g.K.PartialEq.eq g.S.BuildHasher g.S.Hasher.Hasher g.K.Hash.hash_input _ _ c.self.view_is row c.self.invariant.0 i within c.index.result.now c.index.ensures _ c.deref.ensures c.read-guard.result.value c.read-guard.ensures.fits c.args.key.now c.place_of-hash.ensures.route c.deref-2.result.now c.deref-2.ensures.0 in
-    c.place_of-hash.ensures.hash ∙ sym (placed.hashes (g.K.Hash.hash_input c.args.key.now))
+    let placed = seen (key_hash g.K.PartialEq.eq g.K.Hash.hash_input g.S.BuildHasher g.S.Hasher.Hasher) _ _ c.self.view_is row c.self.invariant.0 i within c.index.result.now c.index.ensures _ c.deref.ensures c.read-guard.result.value c.read-guard.ensures.fits c.args.key.now c.place_of-hash.ensures.route c.deref-2.result.now c.deref-2.ensures.0 in
+    c.place_of-hash.ensures.hash ∙ sym (placed.hashes c.args.key.now)
 
 pub returns-in_err-key : goal.returns-in_err-key
 returns-in_err-key g c =
@@ -18,7 +19,7 @@ returns-in_err-key g c =
     let i = c.place_of-hash.result.1 in
     let within : i < length row = omega (arith, c.place_of-hash.ensures.below, ap (λ m. m.amount) c.self.view_is) in (
       c.deref-2.result.now,
-      seen g.K.PartialEq.eq g.S.BuildHasher g.S.Hasher.Hasher g.K.Hash.hash_input _ _ c.self.view_is row c.self.invariant.0 i within c.index.result.now c.index.ensures _ c.deref.ensures c.read-guard.result.value c.read-guard.ensures.fits c.args.key.now c.place_of-hash.ensures.route c.deref-2.result.now c.deref-2.ensures.0,
+      seen (key_hash g.K.PartialEq.eq g.K.Hash.hash_input g.S.BuildHasher g.S.Hasher.Hasher) _ _ c.self.view_is row c.self.invariant.0 i within c.index.result.now c.index.ensures _ c.deref.ensures c.read-guard.result.value c.read-guard.ensures.fits c.args.key.now c.place_of-hash.ensures.route c.deref-2.result.now c.deref-2.ensures.0,
       rw c.from_residual.ensures (subst (λ (o : Option (g.row.K.Denot × g.row.V.Denot)). Viewed g.F.FnOnce c.args.f o None) c.in_err-key.ensures.pair tt),
     )
 
@@ -28,7 +29,7 @@ returns g c =
     let i = c.place_of-hash.result.1 in
     let within : i < length row = omega (arith, c.place_of-hash.ensures.below, ap (λ m. m.amount) c.self.view_is) in (
       c.deref-2.result.now,
-      seen g.K.PartialEq.eq g.S.BuildHasher g.S.Hasher.Hasher g.K.Hash.hash_input _ _ c.self.view_is row c.self.invariant.0 i within c.index.result.now c.index.ensures _ c.deref.ensures c.read-guard.result.value c.read-guard.ensures.fits c.args.key.now c.place_of-hash.ensures.route c.deref-2.result.now c.deref-2.ensures.0,
+      seen (key_hash g.K.PartialEq.eq g.K.Hash.hash_input g.S.BuildHasher g.S.Hasher.Hasher) _ _ c.self.view_is row c.self.invariant.0 i within c.index.result.now c.index.ensures _ c.deref.ensures c.read-guard.result.value c.read-guard.ensures.fits c.args.key.now c.place_of-hash.ensures.route c.deref-2.result.now c.deref-2.ensures.0,
       subst (λ (o : Option (g.row.K.Denot × g.row.V.Denot)). Viewed g.F.FnOnce c.args.f o (Some c.f.result)) c.in_ok-key.ensures.pair (record { key = c.in_ok-key.key; value = c.in_ok-key.value; shows = (refl, refl); says = c.f.ensures }),
     )
 

@@ -2,47 +2,48 @@ use Rattle.std.proofs.Common.{ap, sym, subst, length, arith, ◌<◌, ◌∙◌}
 use Rattle.std.specs.Option.{option_map}
 use Rattle.dash_shard.specs.Shard.{shard_len}
 use Rattle.dash_shard.proofs.Shards.{hash-same, at-missing, replaced, pushed, inserts, refuses, grown-inside}
+use Rattle.dash_shard.proofs.Lawful.{lawful-of}
 use Rattle.dash_shard.proofs.shard.Shard.insert_hashed.Goals as goal
 
 pub invariant_of-self : goal.invariant_of-self
 invariant_of-self g c =
     let r = c.replace.ensures in
     let found = c.in-Some.ensures.found in
-    let i = replaced _ _ _ _ g.met.K.Eq.laws g.met.K.Hash.respects_eq _ _ _ c.self.inside.table c.self.invariant _ _ c.self.view_is c.requires.route c.args.value c.replace.new.self _ found r.pairs r.hashes r.len r.table in
+    let i = replaced _ (lawful-of g.S.BuildHasher g.S.Hasher.Hasher g.met.K.Eq.laws g.met.K.Hash.respects_eq) _ _ _ c.self.inside.table c.self.invariant _ _ c.self.view_is c.requires.route c.args.value c.replace.new.self _ found r.pairs r.hashes r.len r.table in
     i.inside
 
 pub returns-in-Some : goal.returns-in-Some
 returns-in-Some g c =
     let r = c.replace.ensures in
     let found = c.in-Some.ensures.found in
-    let i = replaced _ _ _ _ g.met.K.Eq.laws g.met.K.Hash.respects_eq _ _ _ c.self.inside.table c.self.invariant _ _ c.self.view_is c.requires.route c.args.value c.replace.new.self _ found r.pairs r.hashes r.len r.table in
+    let i = replaced _ (lawful-of g.S.BuildHasher g.S.Hasher.Hasher g.met.K.Eq.laws g.met.K.Hash.respects_eq) _ _ _ c.self.inside.table c.self.invariant _ _ c.self.view_is c.requires.route c.args.value c.replace.new.self _ found r.pairs r.hashes r.len r.table in
     rw (r.old ∙ ap (λ o. option_map (λ p. p.1) o) found.is)
-    (inserts _ _ _ _ g.met.K.Eq.laws g.met.K.Hash.respects_eq _ _ _ _ _ _ _ _ _ c.self.view_is i
+    (inserts _ (lawful-of g.S.BuildHasher g.S.Hasher.Hasher g.met.K.Eq.laws g.met.K.Hash.respects_eq) _ _ _ _ _ _ _ _ _ c.self.view_is i
     (λ _. r.places ∙ ap (λ s. s.capacity) c.self.view_is))
 
 pub invariant_of-self-2 : goal.invariant_of-self-2
 invariant_of-self-2 g c =
     let m = c.in-Ok.ensures in
     let p = c.push.ensures in
-    let i = pushed _ _ _ _ g.met.K.Eq.laws g.met.K.Hash.respects_eq _ _ _ c.self.inside.table c.make_room.new.self c.self.invariant m.grown m.len m.table
-    c.args.key _ c.self.view_is c.requires.route c.args.value c.push.new.self c.args.hash m.ok (hash-same g.S.BuildHasher g.S.Hasher.Hasher (g.K.Hash.hash_input c.args.key) _ _ c.self.view_is c.args.hash c.requires.hash) c.in_default.ensures.absent p.pairs p.hashes p.len p.table in
+    let i = pushed _ (lawful-of g.S.BuildHasher g.S.Hasher.Hasher g.met.K.Eq.laws g.met.K.Hash.respects_eq) _ _ _ c.self.inside.table c.make_room.new.self c.self.invariant m.grown m.len m.table
+    c.args.key _ c.self.view_is c.requires.route c.args.value c.push.new.self c.args.hash m.ok (hash-same (lawful-of g.S.BuildHasher g.S.Hasher.Hasher g.met.K.Eq.laws g.met.K.Hash.respects_eq) c.args.key _ _ c.self.view_is c.args.hash c.requires.hash) c.in_default.ensures.absent p.pairs p.hashes p.len p.table in
     i.inside
 
 pub invariant_of-self-in_default-make_room : goal.invariant_of-self-in_default-make_room
 invariant_of-self-in_default-make_room g c =
     let m = c.make_room.ensures in
-    grown-inside _ _ _ _ g.met.K.Eq.laws g.met.K.Hash.respects_eq _ _ _ c.self.inside.table c.make_room.new.self c.self.invariant m.grown m.len m.table
+    grown-inside _ (lawful-of g.S.BuildHasher g.S.Hasher.Hasher g.met.K.Eq.laws g.met.K.Hash.respects_eq) _ _ _ c.self.inside.table c.make_room.new.self c.self.invariant m.grown m.len m.table
 
 pub returns-in_default-make_room : goal.returns-in_default-make_room
 returns-in_default-make_room g c =
-    refuses _ _ _ _ g.met.K.Eq.laws g.met.K.Hash.respects_eq _ _ _ c.self.inside.table c.make_room.new.self c.args.key c.args.value _ c.self.view_is c.self.invariant c.in_default-make_room.ensures.err
-    (at-missing _ _ _ _ g.met.K.Eq.laws g.met.K.Hash.respects_eq _ _ _ _ c.self.invariant _ _ (hash-same g.S.BuildHasher g.S.Hasher.Hasher (g.K.Hash.hash_input c.args.key) _ _ c.self.view_is c.args.hash c.requires.hash) c.in_default.ensures.absent)
+    refuses _ (lawful-of g.S.BuildHasher g.S.Hasher.Hasher g.met.K.Eq.laws g.met.K.Hash.respects_eq) _ _ _ c.self.inside.table c.make_room.new.self c.args.key c.args.value _ c.self.view_is c.self.invariant c.in_default-make_room.ensures.err
+    (at-missing _ (lawful-of g.S.BuildHasher g.S.Hasher.Hasher g.met.K.Eq.laws g.met.K.Hash.respects_eq) _ _ _ _ c.self.invariant _ _ (hash-same (lawful-of g.S.BuildHasher g.S.Hasher.Hasher g.met.K.Eq.laws g.met.K.Hash.respects_eq) c.args.key _ _ c.self.view_is c.args.hash c.requires.hash) c.in_default.ensures.absent)
 
 pub returns : goal.returns
 returns g c =
     let m = c.in-Ok.ensures in
     let p = c.push.ensures in
-    let i = pushed _ _ _ _ g.met.K.Eq.laws g.met.K.Hash.respects_eq _ _ _ c.self.inside.table c.make_room.new.self c.self.invariant m.grown m.len m.table
-    c.args.key _ c.self.view_is c.requires.route c.args.value c.push.new.self c.args.hash m.ok (hash-same g.S.BuildHasher g.S.Hasher.Hasher (g.K.Hash.hash_input c.args.key) _ _ c.self.view_is c.args.hash c.requires.hash) c.in_default.ensures.absent p.pairs p.hashes p.len p.table in
-    inserts _ _ _ _ g.met.K.Eq.laws g.met.K.Hash.respects_eq _ _ _ _ _ _ _ _ _ c.self.view_is i
+    let i = pushed _ (lawful-of g.S.BuildHasher g.S.Hasher.Hasher g.met.K.Eq.laws g.met.K.Hash.respects_eq) _ _ _ c.self.inside.table c.make_room.new.self c.self.invariant m.grown m.len m.table
+    c.args.key _ c.self.view_is c.requires.route c.args.value c.push.new.self c.args.hash m.ok (hash-same (lawful-of g.S.BuildHasher g.S.Hasher.Hasher g.met.K.Eq.laws g.met.K.Hash.respects_eq) c.args.key _ _ c.self.view_is c.args.hash c.requires.hash) c.in_default.ensures.absent p.pairs p.hashes p.len p.table in
+    inserts _ (lawful-of g.S.BuildHasher g.S.Hasher.Hasher g.met.K.Eq.laws g.met.K.Hash.respects_eq) _ _ _ _ _ _ _ _ _ c.self.view_is i
     (λ room. p.places ∙ ap length (m.kept (omega (arith, c.self.invariant.counted, subst (λ x. shard_len x < x.capacity) (sym c.self.view_is) room))) ∙ ap (λ s. s.capacity) c.self.view_is)

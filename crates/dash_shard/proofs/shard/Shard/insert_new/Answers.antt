@@ -2,25 +2,26 @@ use Rattle.std.proofs.Common.{ap, ◌∙◌}
 use Rattle.dash_shard.specs.Shard.{place}
 use Rattle.dash_shard.specs.Table.{pairs_of}
 use Rattle.dash_shard.proofs.Shards.{filled-next, filled-place, hash-same, inserts}
+use Rattle.dash_shard.proofs.Lawful.{lawful-of}
 use Rattle.dash_shard.proofs.shard.Shard.insert_new.Goals as goal
 
 pub invariant_of-self : goal.invariant_of-self
 invariant_of-self g c =
     let p = c.push.ensures in
-    let hash = hash-same g.S.BuildHasher g.S.Hasher.Hasher (g.K.Hash.hash_input c.args.key) _ _ c.self.view_is _ c.hash_one-hash.ensures in
-    (filled-next _ _ _ _ g.met.K.Eq.laws g.met.K.Hash.respects_eq _ _ _ c.self.inside.table c.self.invariant _ _ c.self.view_is c.requires.route c.args.value c.push.new.self c.hash_one-hash.result c.requires.room c.push.ensures.pairs hash c.requires.absent p.hashes p.len p.table).inside
+    let hash = hash-same (lawful-of g.S.BuildHasher g.S.Hasher.Hasher g.met.K.Eq.laws g.met.K.Hash.respects_eq) c.args.key _ _ c.self.view_is _ c.hash_one-hash.ensures in
+    (filled-next _ (lawful-of g.S.BuildHasher g.S.Hasher.Hasher g.met.K.Eq.laws g.met.K.Hash.respects_eq) _ _ _ c.self.inside.table c.self.invariant _ _ c.self.view_is c.requires.route c.args.value c.push.new.self c.hash_one-hash.result c.requires.room c.push.ensures.pairs hash c.requires.absent p.hashes p.len p.table).inside
 
 pub returns : goal.returns
 returns g c =
     let p = c.push.ensures in
-    let hash = hash-same g.S.BuildHasher g.S.Hasher.Hasher (g.K.Hash.hash_input c.args.key) _ _ c.self.view_is _ c.hash_one-hash.ensures in
-    let i = filled-next _ _ _ _ g.met.K.Eq.laws g.met.K.Hash.respects_eq _ _ _ c.self.inside.table c.self.invariant _ _ c.self.view_is c.requires.route c.args.value c.push.new.self c.hash_one-hash.result c.requires.room c.push.ensures.pairs hash c.requires.absent p.hashes p.len p.table in
+    let hash = hash-same (lawful-of g.S.BuildHasher g.S.Hasher.Hasher g.met.K.Eq.laws g.met.K.Hash.respects_eq) c.args.key _ _ c.self.view_is _ c.hash_one-hash.ensures in
+    let i = filled-next _ (lawful-of g.S.BuildHasher g.S.Hasher.Hasher g.met.K.Eq.laws g.met.K.Hash.respects_eq) _ _ _ c.self.inside.table c.self.invariant _ _ c.self.view_is c.requires.route c.args.value c.push.new.self c.hash_one-hash.result c.requires.room c.push.ensures.pairs hash c.requires.absent p.hashes p.len p.table in
     let same = p.places ∙ ap (λ s. s.capacity) c.self.view_is in
-    let x = inserts _ _ _ _ g.met.K.Eq.laws g.met.K.Hash.respects_eq _ _ _ _ _ _ _ _ _ c.self.view_is i (λ _. same) in
+    let x = inserts _ (lawful-of g.S.BuildHasher g.S.Hasher.Hasher g.met.K.Eq.laws g.met.K.Hash.respects_eq) _ _ _ _ _ _ _ _ _ c.self.view_is i (λ _. same) in
     record {
       taken = x.taken;
       place = ap (λ n. place (pairs_of c.push.new.self.nodes.items) n) p.place
-          ∙ filled-place _ _ _ _ g.met.K.Eq.laws g.met.K.Hash.respects_eq _ _ _ c.self.inside.table c.self.invariant _ _ c.self.view_is c.requires.route c.args.value c.push.new.self c.hash_one-hash.result c.requires.room c.push.ensures.pairs;
+          ∙ filled-place _ (lawful-of g.S.BuildHasher g.S.Hasher.Hasher g.met.K.Eq.laws g.met.K.Hash.respects_eq) _ _ _ c.self.inside.table c.self.invariant _ _ c.self.view_is c.requires.route c.args.value c.push.new.self c.hash_one-hash.result c.requires.room c.push.ensures.pairs;
       len = x.len;
       room = same;
       places = x.places same;

@@ -1,24 +1,25 @@
 use Rattle.std.proofs.Common.{sym, ◌∙◌}
 use Rattle.dash_shard.proofs.Shards.{hash-same, some-found, removed, removes, unmoved}
+use Rattle.dash_shard.proofs.Lawful.{lawful-of}
 use Rattle.dash_shard.proofs.shard.Shard.remove_hashed.Goals as goal
 
 pub returns-in_err-position : goal.returns-in_err-position
 returns-in_err-position g c =
     rw c.from_residual.ensures
-    (unmoved _ _ _ _ g.met.K.Eq.laws g.met.K.Hash.respects_eq _ _ _ _ c.self.invariant _ _ (hash-same g.S.BuildHasher g.S.Hasher.Hasher (g.K.Hash.hash_input c.args.key.now) _ _ c.self.view_is c.args.hash c.requires.hash) c.in_err-position.ensures.absent _ c.self.view_is)
+    (unmoved _ (lawful-of g.S.BuildHasher g.S.Hasher.Hasher g.met.K.Eq.laws g.met.K.Hash.respects_eq) _ _ _ _ c.self.invariant _ _ (hash-same (lawful-of g.S.BuildHasher g.S.Hasher.Hasher g.met.K.Eq.laws g.met.K.Hash.respects_eq) c.args.key.now _ _ c.self.view_is c.args.hash c.requires.hash) c.in_err-position.ensures.absent _ c.self.view_is)
 
 pub take-requires-clause-some : goal.take-requires-clause-some
 take-requires-clause-some g c =
-    some-found _ _ _ _ g.met.K.Eq.laws g.met.K.Hash.respects_eq _ _ _ _ c.self.invariant _ _ c.in_ok-position.ensures.found
+    some-found _ (lawful-of g.S.BuildHasher g.S.Hasher.Hasher g.met.K.Eq.laws g.met.K.Hash.respects_eq) _ _ _ _ c.self.invariant _ _ c.in_ok-position.ensures.found
 
 pub invariant_of-self : goal.invariant_of-self
 invariant_of-self g c =
     let r = c.take.ensures in
-    (removed _ _ _ _ g.met.K.Eq.laws g.met.K.Hash.respects_eq _ _ _ _ c.self.invariant _ _ c.self.view_is c.requires.route _ _ c.in_ok-position.ensures.found r.pairs r.hashes r.len r.table).inside
+    (removed _ (lawful-of g.S.BuildHasher g.S.Hasher.Hasher g.met.K.Eq.laws g.met.K.Hash.respects_eq) _ _ _ _ c.self.invariant _ _ c.self.view_is c.requires.route _ _ c.in_ok-position.ensures.found r.pairs r.hashes r.len r.table).inside
 
 pub returns : goal.returns
 returns g c =
     let r = c.take.ensures in
     let found = c.in_ok-position.ensures.found in
     rw (sym r.old ∙ found.is)
-    (removes _ _ _ _ g.met.K.Eq.laws g.met.K.Hash.respects_eq _ _ _ _ c.self.invariant _ _ c.self.view_is c.requires.route _ _ found r.pairs r.hashes r.len r.table)
+    (removes _ (lawful-of g.S.BuildHasher g.S.Hasher.Hasher g.met.K.Eq.laws g.met.K.Hash.respects_eq) _ _ _ _ c.self.invariant _ _ c.self.view_is c.requires.route _ _ found r.pairs r.hashes r.len r.table)

@@ -5,13 +5,15 @@ use Rattle.dash_shard.specs.Closures.{ChangesOn}
 use Rattle.dash_shard.proofs.Altering.{idle, to, unremoved, altered-inside, gone-inside, gone-changed, stays-changed, stood}
 use Rattle.dash_shard.proofs.Rewriting.{holds-pair, valued-rewritten, valued-place}
 use Rattle.dash_shard.proofs.shard.Shard.remove_if_mut_hashed.Goals as goal
+use Rattle.dash_shard.proofs.Lawful.{lawful-of}
+use Rattle.dash_shard.specs.Hashing.{key_hash}
 
 pub returns-in_err-place : goal.returns-in_err-place
 returns-in_err-place g c =
     let none = c.in_err-place.ensures.absent.0 refl in
     rw c.from_residual.ensures (
       idle,
-      unremoved g.K.PartialEq.eq g.S.BuildHasher g.S.Hasher.Hasher g.K.Hash.hash_input c.args.self.now c.args.key.now c.in_err-place.ensures.lawful,
+      unremoved (key_hash g.K.PartialEq.eq g.K.Hash.hash_input g.S.BuildHasher g.S.Hasher.Hasher) c.args.self.now c.args.key.now c.in_err-place.ensures.lawful,
       subst (λ o. IfSome o (λ p. ChangesOn g.F.FnOnce c.args.f p (p.1, false))) (sym none) tt,
     )
 
@@ -29,7 +31,7 @@ invariant_of-self g c =
     let v = c.f.new.arg3 in
     let found = holds-pair g.K.PartialEq.eq t.nodes.items c.args.key.now i _ there (subst (λ s. HasKey g.K.PartialEq.eq s c.args.key.now i) (sym c.self.view_is) ((c.in_ok-place.ensures.position i).0 refl)) in
     let r = c.take.ensures in
-    gone-inside _ _ _ _ g.met.K.Eq.laws g.met.K.Hash.respects_eq _ _ _ _ _ c.self.invariant _ i found _ c.self.view_is c.requires.route v _ (valued-rewritten t i _ v c.self.invariant.table there) r.pairs r.hashes r.len r.table
+    gone-inside _ (lawful-of g.S.BuildHasher g.S.Hasher.Hasher g.met.K.Eq.laws g.met.K.Hash.respects_eq) _ _ _ _ _ c.self.invariant _ i found _ c.self.view_is c.requires.route v _ (valued-rewritten t i _ v c.self.invariant.table there) r.pairs r.hashes r.len r.table
 
 pub returns-then-f : goal.returns-then-f
 returns-then-f g c =
@@ -39,10 +41,10 @@ returns-then-f g c =
     let v = c.f.new.arg3 in
     let found = holds-pair g.K.PartialEq.eq t.nodes.items c.args.key.now i _ there (subst (λ s. HasKey g.K.PartialEq.eq s c.args.key.now i) (sym c.self.view_is) ((c.in_ok-place.ensures.position i).0 refl)) in
     let r = c.take.ensures in
-    let gone = gone-changed _ _ _ _ g.met.K.Eq.laws g.met.K.Hash.respects_eq _ _ _ _ _ c.self.invariant _ i found _ c.self.view_is c.requires.route v _ (valued-rewritten t i _ v c.self.invariant.table there) r.pairs r.hashes r.len r.table in (
+    let gone = gone-changed _ (lawful-of g.S.BuildHasher g.S.Hasher.Hasher g.met.K.Eq.laws g.met.K.Hash.respects_eq) _ _ _ _ _ c.self.invariant _ i found _ c.self.view_is c.requires.route v _ (valued-rewritten t i _ v c.self.invariant.table there) r.pairs r.hashes r.len r.table in (
       to v true,
       rw (sym r.old ∙ valued-place t i _ v c.self.invariant.table there) gone,
-      stood _ _ _ _ g.met.K.Eq.laws g.met.K.Hash.respects_eq _ _ _ _ t c.self.invariant _ i found _ c.self.view_is (λ p. ChangesOn g.F.FnOnce c.args.f p (v, true))
+      stood _ (lawful-of g.S.BuildHasher g.S.Hasher.Hasher g.met.K.Eq.laws g.met.K.Hash.respects_eq) _ _ _ _ t c.self.invariant _ i found _ c.self.view_is (λ p. ChangesOn g.F.FnOnce c.args.f p (v, true))
           (record { key = c.pair_mut-value.result.0; value = c.pair_mut-value.result.1; shows = (refl, refl); left = _; leaves = refl; says = c.if-f.ensures }),
     )
 
@@ -53,7 +55,7 @@ invariant_of-self-else-f g c =
     let there = c.pair_mut-value.ensures.pair in
     let v = c.f.new.arg3 in
     let found = holds-pair g.K.PartialEq.eq t.nodes.items c.args.key.now i _ there (subst (λ s. HasKey g.K.PartialEq.eq s c.args.key.now i) (sym c.self.view_is) ((c.in_ok-place.ensures.position i).0 refl)) in
-    altered-inside _ _ _ _ g.met.K.Eq.laws g.met.K.Hash.respects_eq _ _ _ _ _ c.self.invariant _ i found _ c.self.view_is v (valued-rewritten t i _ v c.self.invariant.table there)
+    altered-inside _ (lawful-of g.S.BuildHasher g.S.Hasher.Hasher g.met.K.Eq.laws g.met.K.Hash.respects_eq) _ _ _ _ _ c.self.invariant _ i found _ c.self.view_is v (valued-rewritten t i _ v c.self.invariant.table there)
 
 pub returns : goal.returns
 returns g c =
@@ -64,7 +66,7 @@ returns g c =
     let found = holds-pair g.K.PartialEq.eq t.nodes.items c.args.key.now i _ there (subst (λ s. HasKey g.K.PartialEq.eq s c.args.key.now i) (sym c.self.view_is) ((c.in_ok-place.ensures.position i).0 refl)) in
     let r = valued-rewritten t i _ v c.self.invariant.table there in (
       to v false,
-      stays-changed _ _ _ _ g.met.K.Eq.laws g.met.K.Hash.respects_eq _ _ _ _ _ c.self.invariant _ i found _ c.self.view_is v r,
-      stood _ _ _ _ g.met.K.Eq.laws g.met.K.Hash.respects_eq _ _ _ _ t c.self.invariant _ i found _ c.self.view_is (λ p. ChangesOn g.F.FnOnce c.args.f p (v, false))
+      stays-changed _ (lawful-of g.S.BuildHasher g.S.Hasher.Hasher g.met.K.Eq.laws g.met.K.Hash.respects_eq) _ _ _ _ _ c.self.invariant _ i found _ c.self.view_is v r,
+      stood _ (lawful-of g.S.BuildHasher g.S.Hasher.Hasher g.met.K.Eq.laws g.met.K.Hash.respects_eq) _ _ _ _ t c.self.invariant _ i found _ c.self.view_is (λ p. ChangesOn g.F.FnOnce c.args.f p (v, false))
           (record { key = c.pair_mut-value.result.0; value = c.pair_mut-value.result.1; shows = (refl, refl); left = _; leaves = refl; says = c.if-f.ensures }),
     )

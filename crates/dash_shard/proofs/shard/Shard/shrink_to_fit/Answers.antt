@@ -1,12 +1,13 @@
 use Rattle.dash_shard.proofs.Shrinking.{shrunk-inside, shrinks}
+use Rattle.dash_shard.proofs.Lawful.{lawful-of}
 use Rattle.dash_shard.proofs.shard.Shard.shrink_to_fit.Goals as goal
 
 pub invariant_of-self : goal.invariant_of-self
 invariant_of-self g c =
     let r = c.shrink.ensures in
-    shrunk-inside _ _ _ _ g.met.K.Eq.laws g.met.K.Hash.respects_eq _ _ _ c.self.inside.table c.shrink.new.self c.self.invariant r.once r.carried r.len r.counted r.table
+    shrunk-inside _ (lawful-of g.S.BuildHasher g.S.Hasher.Hasher g.met.K.Eq.laws g.met.K.Hash.respects_eq) _ _ _ c.self.inside.table c.shrink.new.self c.self.invariant r.once r.carried r.len r.counted r.table
 
 pub returns : goal.returns
 returns g c =
     let r = c.shrink.ensures in
-    shrinks _ _ _ _ g.met.K.Eq.laws g.met.K.Hash.respects_eq _ _ _ c.self.inside.table c.shrink.new.self c.self.invariant r.once r.carried r.len r.counted r.table r.places r.none _ c.self.view_is
+    shrinks _ (lawful-of g.S.BuildHasher g.S.Hasher.Hasher g.met.K.Eq.laws g.met.K.Hash.respects_eq) _ _ _ c.self.inside.table c.shrink.new.self c.self.invariant r.once r.carried r.len r.counted r.table r.places r.none _ c.self.view_is

@@ -3,6 +3,8 @@ use Rattle.dash_history.specs.History.{LogState, RecState, Grown, stamp_of, kind
 use Rattle.dash_history.proofs.Growing.{log-more}
 use Rattle.dash_history.proofs.Recording.{same-stamp, same-caller}
 use Rattle.dash_history.proofs.record.held.RecShardMut.record.Goals as goal
+use Rattle.dash_shard.specs.Hashing.{key_hash}
+use Rattle.dash_history.specs.Takes.{known_by}
 
 pub invariant_of-log-in-Ok : goal.invariant_of-log-in-Ok
 invariant_of-log-in-Ok g c =
@@ -16,7 +18,7 @@ pub returns-in-Ok-clause-ok : goal.returns-in-Ok-clause-ok
 returns-in-Ok-clause-ok g c =
     let Log : Type 0 = LogState g.row.K.Denot g.row.V.Denot g.row.A.Denot in
     let At : Type 0 = RecState g.row.K.Denot g.row.V.Denot g.row.A.Denot g.row.S.Denot in
-    let P = λ (n k : ℕ). Grown (kinds_of g.K.PartialEq.eq g.S.BuildHasher g.S.Hasher.Hasher g.K.Hash.hash_input g.K.Kept.alike g.V.Kept.alike g.A.Kept.alike g.A.Action.acts c.args.self.now.shard) c.args.self.now c.grow.new.self n k c.args.step c.in-Ok.reply c.in-Ok.record in
+    let P = λ (n k : ℕ). Grown (kinds_of (known_by g.K.PartialEq.eq g.K.Hash.hash_input g.K.Kept.alike g.V.Kept.alike g.A.Kept.alike g.A.Action.acts g.S.BuildHasher g.S.Hasher.Hasher) c.args.self.now.shard) c.args.self.now c.grow.new.self n k c.args.step c.in-Ok.reply c.in-Ok.record in
     let here : c.max-last.result + 1 ≡ max c.args.self.now.last c.log.inside.last + 1 = ap (λ n. n + 1) (c.max-last.ensures ∙ ap (λ n. max n c.log.inside.last) c.last_stamp.ensures) in
     let stamp : c.max-last.result + 1 ≡ stamp_of c.args.self.now c.args.log.now = subst (λ (l : Log). c.max-last.result + 1 ≡ max c.args.self.now.last l.last + 1) c.log.view_is here in
     let caller : c.log.inside.caller ≡ c.args.log.now.caller = ap (λ (l : Log). l.caller) c.log.view_is in

@@ -5,14 +5,16 @@ use Rattle.dash_history.specs.Map.{kinds_on}
 use Rattle.dash_history.proofs.Alones.{kinds-same}
 use Rattle.dash_history.proofs.Logging.{logged}
 use Rattle.dash_history.proofs.record.map.RecordedMap.apply.Goals as goal
+use Rattle.dash_shard.specs.Hashing.{key_hash}
+use Rattle.dash_history.specs.Takes.{known_by}
 
 pub returns-clause-ok : goal.returns-clause-ok
 returns-clause-ok g c =
     let map = c.args.self.now in
     let shard = c.held.result in
-    let m = kinds_of g.K.PartialEq.eq g.S.BuildHasher g.S.Hasher.Hasher g.K.Hash.hash_input g.K.Kept.alike g.V.Kept.alike g.A.Kept.alike g.A.Action.acts shard.shard in
-    let on = kinds_on g.S.BuildHasher g.S.Hasher.Hasher g.K.PartialEq.eq g.K.Hash.hash_input g.K.Kept.alike g.V.Kept.alike g.A.Kept.alike g.A.Action.acts map in
-    let same : m ≡ on = kinds-same g.S.BuildHasher g.S.Hasher.Hasher g.K.PartialEq.eq g.K.Hash.hash_input g.K.Kept.alike g.V.Kept.alike g.A.Kept.alike g.A.Action.acts map.hasher map.amount map.callers c.place-place.result shard c.held.ensures.placed in
+    let m = kinds_of (known_by g.K.PartialEq.eq g.K.Hash.hash_input g.K.Kept.alike g.V.Kept.alike g.A.Kept.alike g.A.Action.acts g.S.BuildHasher g.S.Hasher.Hasher) shard.shard in
+    let on = kinds_on (known_by g.K.PartialEq.eq g.K.Hash.hash_input g.K.Kept.alike g.V.Kept.alike g.A.Kept.alike g.A.Action.acts g.S.BuildHasher g.S.Hasher.Hasher) map in
+    let same : m ≡ on = kinds-same (known_by g.K.PartialEq.eq g.K.Hash.hash_input g.K.Kept.alike g.V.Kept.alike g.A.Kept.alike g.A.Action.acts g.S.BuildHasher g.S.Hasher.Hasher) map.hasher map.amount map.callers c.place-place.result shard c.held.ensures.placed in
     let here : place_of on c.args.step ≡ shard.shard.number = sym (c.held.ensures.placed.number ∙ c.place-place.ensures) in
     IfOk-weaker c.record.result
     (λ reply. Recorded m shard c.record.new.self c.args.log.now c.record.new.log c.args.step reply) _
