@@ -255,7 +255,7 @@ fn each_value_is_altered(rt: HostRuntime) -> Result<(), Fail> {
     map.alter(&rt, &"Goals", |_, goals| goals.wrapping_mul(2));
     for (key, value) in [("Wins", 5), ("Losses", 3), ("Goals", 8)] {
         let found = map.get(&rt, &key).ok_or("no pair")?;
-        assert_eq!(rt; *found.value(), value, "{key}");
+        assert_eq!(rt; *found.value(), value);
     }
     Ok(())
 }

@@ -144,6 +144,36 @@ fn four_threads_record_on_one_map(rt: HostRuntime) -> Result<(), Fail> {
     Ok(())
 }
 
+// The seven pairs that thirty rounds of inserts leave.
+fn assert_pairs(rt: &impl Abort, alone: &mut Alone, log: &mut Log) -> Result<(), Fail> {
+    for (key, value) in [
+        (0, 28),
+        (1, 29),
+        (2, 23),
+        (3, 24),
+        (4, 25),
+        (5, 26),
+        (6, 27),
+    ] {
+        let reply = apply_alone(rt, alone, log, ShardStep::Get(key))?;
+        let Reply::Pair(pair) = reply else {
+            return Err(Fail::from("no pair"));
+        };
+        assert_eq!(rt; pair, Some((key, value)));
+    }
+    Ok(())
+}
+
+// The stamps of the last steps of all shards.
+fn lasts_of(rt: &impl Abort, alone: &Alone) -> [u64; 4] {
+    [
+        last_of(rt, alone, 0),
+        last_of(rt, alone, 1),
+        last_of(rt, alone, 2),
+        last_of(rt, alone, 3),
+    ]
+}
+
 #[test]
 fn alone_and_end_carry_all_over(rt: HostRuntime) -> Result<(), Fail> {
     let (map, mut logs) = Map::new(rt.alloc(), PlaceState, 4, 2)?;
@@ -154,38 +184,13 @@ fn alone_and_end_carry_all_over(rt: HostRuntime) -> Result<(), Fail> {
     }
     let mut log = logs.pop().ok_or("no log")?;
     let mut alone = map.alone();
-    let mut lasts = [0, 0, 0, 0];
-    for turn in 0..2 {
-        for (key, value) in [
-            (0, 28),
-            (4, 25),
-            (1, 29),
-            (5, 26),
-            (2, 23),
-            (6, 27),
-            (3, 24),
-        ] {
-            let reply = apply_alone(&rt, &mut alone, &mut log, ShardStep::Get(key))?;
-            let Reply::Pair(pair) = reply else {
-                return Err(Fail::from("no pair"));
-            };
-            assert_eq!(rt; pair, Some((key, value)), "in turn {turn}");
-        }
-        for shard in 0..4 {
-            lasts[shard] = last_of(&rt, &alone, shard);
-        }
-        let map = alone.end();
-        assert_eq!(rt; map.shard_count(), 4);
-        alone = map.alone();
-        for shard in 0..4 {
-            assert_eq!(rt;
-                last_of(&rt, &alone, shard),
-                lasts[shard],
-                "of shard {shard}"
-            );
-        }
-    }
-    Ok(())
+    assert_pairs(&rt, &mut alone, &mut log)?;
+    let lasts = lasts_of(&rt, &alone);
+    let map = alone.end();
+    assert_eq!(rt; map.shard_count(), 4);
+    let mut alone = map.alone();
+    assert_eq!(rt; lasts_of(&rt, &alone), lasts);
+    assert_pairs(&rt, &mut alone, &mut log)
 }
 
 #[test]
