@@ -52,7 +52,7 @@ invariant_of-self g c =
 pub returns-then-shard-self-clause-distinct : goal.returns-then-shard-self-clause-distinct
 returns-then-shard-self-clause-distinct g c =
     let At : Type 0 = PlainState g.row.K.Denot g.row.V.Denot g.row.S.Denot in
-    let plain = subst (λ (x : At). IsPlain g.K.PartialEq.eq (route_by g.S.BuildHasher g.S.Hasher.Hasher g.K.Hash.hash_input) x) c.self.view_is c.self.invariant in
+    let plain = subst (λ (x : At). IsPlain (key_hash g.K.PartialEq.eq g.K.Hash.hash_input g.S.BuildHasher g.S.Hasher.Hasher) x) c.self.view_is c.self.invariant in
     plain.distinct
 
 pub returns-then-shard-self-clause-stays : goal.returns-then-shard-self-clause-stays
@@ -61,7 +61,7 @@ returns-then-shard-self-clause-stays g c = (refl, refl)
 pub returns-in_err-left-clause-distinct : goal.returns-in_err-left-clause-distinct
 returns-in_err-left-clause-distinct g c =
     let At : Type 0 = PlainState g.row.K.Denot g.row.V.Denot g.row.S.Denot in
-    let plain = subst (λ (x : At). IsPlain g.K.PartialEq.eq (route_by g.S.BuildHasher g.S.Hasher.Hasher g.K.Hash.hash_input) x) c.self.view_is c.self.invariant in
+    let plain = subst (λ (x : At). IsPlain (key_hash g.K.PartialEq.eq g.K.Hash.hash_input g.S.BuildHasher g.S.Hasher.Hasher) x) c.self.view_is c.self.invariant in
     plain.distinct
 
 pub returns-in_err-left-clause-stays : goal.returns-in_err-left-clause-stays
@@ -70,7 +70,7 @@ returns-in_err-left-clause-stays g c = (refl, refl)
 pub returns-in_err-ok-clause-distinct : goal.returns-in_err-ok-clause-distinct
 returns-in_err-ok-clause-distinct g c =
     let At : Type 0 = PlainState g.row.K.Denot g.row.V.Denot g.row.S.Denot in
-    let plain = subst (λ (x : At). IsPlain g.K.PartialEq.eq (route_by g.S.BuildHasher g.S.Hasher.Hasher g.K.Hash.hash_input) x) c.self.view_is c.self.invariant in
+    let plain = subst (λ (x : At). IsPlain (key_hash g.K.PartialEq.eq g.K.Hash.hash_input g.S.BuildHasher g.S.Hasher.Hasher) x) c.self.view_is c.self.invariant in
     plain.distinct
 
 pub returns-in_err-ok-clause-stays : goal.returns-in_err-ok-clause-stays

@@ -33,7 +33,7 @@ returns-in-Err-clause-refused g c = rw (c.make_room.ensures.items, c.in-Err.ensu
 pub carry_out-requires-clause-place : goal.carry_out-requires-clause-place
 carry_out-requires-clause-place g c =
     let At : Type 0 = RecState g.row.K.Denot g.row.V.Denot g.row.A.Denot g.row.S.Denot in
-    let P = λ (x : At). place_of (kinds_of g.K.PartialEq.eq g.S.BuildHasher g.S.Hasher.Hasher g.K.Hash.hash_input g.K.Kept.alike g.V.Kept.alike g.A.Kept.alike g.A.Action.acts x.shard) c.args.step ≡ x.shard.number in
+    let P = λ (x : At). place_of (kinds_of (known_by g.K.PartialEq.eq g.K.Hash.hash_input g.K.Kept.alike g.V.Kept.alike g.A.Kept.alike g.A.Action.acts g.S.BuildHasher g.S.Hasher.Hasher) x.shard) c.args.step ≡ x.shard.number in
     subst P (sym c.self.view_is) c.requires.place
 
 pub carry_out-requires-clause-decides : goal.carry_out-requires-clause-decides

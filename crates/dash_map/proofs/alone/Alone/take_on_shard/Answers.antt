@@ -6,6 +6,7 @@ use Rattle.dash_history.specs.Sweep.{keeping}
 use Rattle.dash_history.specs.Takes.{Rules, Takes}
 use Rattle.dash_map.specs.Run.{rules_in}
 use Rattle.dash_map.specs.Alone.{AloneState, IsAlone, contents}
+use Rattle.dash_shard.specs.Hashing.{key_hash}
 use Rattle.dash_map.proofs.alone.Alone.take_on_shard.Goals as goal
 
 -- where all pairs of a shard stay, their values are altered
@@ -26,7 +27,7 @@ returns-in-Read-clause-fault g c = rw c.in-Read.is c.read.ensures.fault
 pub returns-in-Read-clause-lawful : goal.returns-in-Read-clause-lawful
 returns-in-Read-clause-lawful g c =
     let At : Type 0 = AloneState g.row.K.Denot g.row.V.Denot g.row.S.Denot in
-    subst (λ (x : At). IsAlone g.K.PartialEq.eq g.S.BuildHasher g.S.Hasher.Hasher g.K.Hash.hash_input x) c.self.view_is c.self.invariant.0
+    subst (λ (x : At). IsAlone (key_hash g.K.PartialEq.eq g.K.Hash.hash_input g.S.BuildHasher g.S.Hasher.Hasher) x) c.self.view_is c.self.invariant.0
 
 pub returns-in-Count-clause-taken : goal.returns-in-Count-clause-taken
 returns-in-Count-clause-taken g c = rw c.in-Count.is c.count.ensures.taken
@@ -37,11 +38,11 @@ returns-in-Count-clause-fault g c = rw c.in-Count.is c.count.ensures.fault
 pub returns-in-Count-clause-lawful : goal.returns-in-Count-clause-lawful
 returns-in-Count-clause-lawful g c =
     let At : Type 0 = AloneState g.row.K.Denot g.row.V.Denot g.row.S.Denot in
-    subst (λ (x : At). IsAlone g.K.PartialEq.eq g.S.BuildHasher g.S.Hasher.Hasher g.K.Hash.hash_input x) c.self.view_is c.self.invariant.0
+    subst (λ (x : At). IsAlone (key_hash g.K.PartialEq.eq g.K.Hash.hash_input g.S.BuildHasher g.S.Hasher.Hasher) x) c.self.view_is c.self.invariant.0
 
 pub returns-in-AlterAll-clause-taken : goal.returns-in-AlterAll-clause-taken
 returns-in-AlterAll-clause-taken g c =
-    let m = rules_in g.K.PartialEq.eq g.S.BuildHasher g.S.Hasher.Hasher g.K.Hash.hash_input g.K.Kept.alike g.V.Kept.alike c.args.self.now in
+    let m = rules_in (key_hash g.K.PartialEq.eq g.K.Hash.hash_input g.S.BuildHasher g.S.Hasher.Hasher) g.K.Kept.alike g.V.Kept.alike c.args.self.now in
     let f = g.A.Action.acts c.in-AlterAll.action in
     rw c.in-AlterAll.is (IfOk-weaker c.sweep.result
     (λ reply. Takes m (contents c.args.self.now) (Retain c.in-AlterAll.shard (keeping true f)) (reply_of reply) (contents c.sweep.new.self)) _
