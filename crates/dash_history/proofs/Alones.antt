@@ -1,19 +1,16 @@
 -- The shards of a recorded map of one owner.
-use Rattle.std.proofs.Common.{◌≡◌, ℕ, ◌<◌, ◌≤◌, Bool, List, length, Some, arith, sym, ap, subst, ◌∙◌, inl, inr, get_or, slice_get, slice_set}
+use Rattle.std.proofs.Common.{◌≡◌, ℕ, ◌<◌, ◌≤◌, List, length, Some, arith, sym, ap, subst, ◌∙◌, inl, inr, get_or, slice_get, slice_set}
 use mathlib.Core.Path.{fun_ext}
-use Rattle.std.specs.Hash.{HashWrites}
 use Rattle.std.specs.Option.{option_map_or}
 use Rattle.std.proofs.lemmas.List.{set-get_or}
-use Rattle.std.specs.declared.hash.Hasher as hasher
-use Rattle.std.specs.declared.hash.BuildHasher as builder
 use Rattle.std.proofs.lemmas.Bool.{cases_eq}
 use Rattle.std.proofs.lemmas.Option.{slice_get-get_or, slice_get_within, same_Some}
 use Rattle.std.proofs.Math.ListN.{length-set}
 use Rattle.dash_shard.proofs.Rows.{slice_get-set_same, slice_get-set_other}
 use Rattle.dash_shard.specs.Contents.{keys}
-use Rattle.dash_shard.specs.Hashing.{KeyHash, IsAmount, HashAlike, hash_of, route_by, route_of_hash}
+use Rattle.dash_shard.specs.Hashing.{KeyHash, IsAmount, HashAlike, route_by, route_of_hash}
 use Rattle.dash_shard.specs.Shard.{SameShard}
-use Rattle.dash_shard.specs.Steps.{Act, place}
+use Rattle.dash_shard.specs.Steps.{place}
 use Rattle.dash_history.specs.declared.step.ShardStep.{ShardStep}
 use Rattle.dash_history.specs.declared.step.Reply as program
 use Rattle.dash_history.specs.Steps.{step_of}

@@ -2,10 +2,7 @@
 use Rattle.std.proofs.Common.{◌≡◌, ℕ, ◌<◌, Bool, true, List, [], ◌∷◌, ◌++◌, sym, ap, subst, ◌∙◌, arith, IsTrue, ◌==◌, ◌&&◌, eqb-true}
 use Rattle.std.proofs.lemmas.Bool.{and_parts}
 use Rattle.std.specs.Cmp.{IsEquivalence}
-use Rattle.std.specs.Hash.{HashWrites}
-use Rattle.std.specs.declared.hash.Hasher as hasher
-use Rattle.std.specs.declared.hash.BuildHasher as builder
-use Rattle.dash_shard.specs.Hashing.{IsLawful, KeyHash, hash_of, route_by, route_of_hash}
+use Rattle.dash_shard.specs.Hashing.{IsLawful, KeyHash, route_by, route_of_hash}
 use Rattle.dash_shard.specs.Contents.{keys}
 use Rattle.dash_shard.specs.Steps.{Act}
 use Rattle.dash_shard.specs.Shard.{ShardState, IsShard, SameShard, pairs}

@@ -4,9 +4,6 @@ use Rattle.std.specs.Option.{option_and_then}
 use Rattle.std.proofs.lemmas.Bool.{cases_Bool, and_from}
 use Rattle.dash_shard.specs.Contents.{at}
 use Rattle.dash_shard.specs.Steps.{Act, Retain, after, changed, if_yes}
-use Rattle.std.specs.Hash.{HashWrites}
-use Rattle.std.specs.declared.hash.Hasher as hasher
-use Rattle.std.specs.declared.hash.BuildHasher as builder
 use Rattle.dash_shard.specs.Shard.{ShardState, pairs, keys_of}
 use Rattle.dash_shard.specs.Each.{CalledAlong, Retains}
 use Rattle.dash_history.specs.Sweep.{GivesEach, PutsNext}

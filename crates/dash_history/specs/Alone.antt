@@ -1,14 +1,10 @@
 -- A recorded map of one owner: a row of recorded shards.
-use Rattle.std.specs.Prelude.{ℕ, zero, suc, ◌≡◌, ◌<◌, ◌≤◌, Bool, List, [], ◌∷◌, ◌++◌, length, Some, slice_get, slice_set}
-use Rattle.std.specs.Hash.{HashWrites}
+use Rattle.std.specs.Prelude.{ℕ, zero, suc, ◌≡◌, ◌<◌, ◌≤◌, List, [], ◌∷◌, ◌++◌, length, Some, slice_get, slice_set}
 use Rattle.std.specs.Option.{option_map_or}
-use Rattle.std.specs.declared.hash.Hasher as hasher
-use Rattle.std.specs.declared.hash.BuildHasher as builder
-use Rattle.dash_shard.specs.Hashing.{KeyHash, IsAmount, HashAlike, route_by}
+use Rattle.dash_shard.specs.Hashing.{KeyHash, IsAmount, HashAlike}
 use Rattle.dash_shard.specs.Contents.{keys}
 use Rattle.dash_shard.specs.Shard.{pairs}
-use Rattle.dash_shard.specs.Steps.{Act}
-use Rattle.dash_history.specs.Takes.{Known, kinds_at, Kinds, kinds, rules}
+use Rattle.dash_history.specs.Takes.{Known, kinds_at, Kinds}
 use Rattle.dash_history.specs.History.{LogState, RecState, Recorded, place_of}
 use Rattle.dash_history.specs.declared.step.ShardStep.{ShardStep}
 use Rattle.dash_history.specs.declared.step.Reply.{Reply}

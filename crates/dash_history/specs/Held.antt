@@ -1,7 +1,5 @@
 -- A recorded shard behind a lock: what its lock is made for, and what a step through a hold promises.
 use Rattle.std.specs.Prelude.{◌≡◌, ℕ, Result, IfOk, IfErr}
-use Rattle.std.specs.declared.hash.Hasher as hasher
-use Rattle.std.specs.declared.hash.BuildHasher as builder
 use Rattle.dash_shard.specs.Shard.{SameShard}
 use Rattle.dash_history.specs.declared.step.ShardStep.{ShardStep}
 use Rattle.dash_history.specs.declared.step.Reply.{Reply}

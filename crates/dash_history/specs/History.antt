@@ -1,17 +1,13 @@
 -- The history of a shard and the log of a caller, and how both grow.
 use Rattle.std.specs.Prelude.{ℕ, ◌≡◌, ◌+◌, ◌<◌, ◌≤◌, max, Bool, List, [], ◌∷◌, ◌++◌, map, All, ⊤, IsTrue}
-use Rattle.std.specs.Hash.{HashWrites}
-use Rattle.std.specs.declared.hash.Hasher as hasher
-use Rattle.std.specs.declared.hash.BuildHasher as builder
-use Rattle.dash_shard.specs.Steps.{Act, place}
-use Rattle.dash_shard.specs.Shard.{ShardState, IsShard, SameShard, pairs, keys_of}
+use Rattle.dash_shard.specs.Steps.{place}
+use Rattle.dash_shard.specs.Shard.{ShardState, IsShard, SameShard, pairs}
 use Rattle.dash_history.specs.Alike.{alike_reply}
 use Rattle.dash_history.specs.Steps.{step_of, reply_of, done, alike_step, alike_record}
-use Rattle.dash_history.specs.Takes.{Known, kinds_at, Kinds, kinds, rules, Takes, Runs}
+use Rattle.dash_history.specs.Takes.{Known, kinds_at, Kinds, rules, Takes, Runs}
 use Rattle.dash_history.specs.declared.step.ShardStep.{ShardStep}
 use Rattle.dash_history.specs.declared.step.Reply.{Reply}
 use Rattle.dash_history.specs.declared.step.Record.{Record}
-use Rattle.dash_shard.specs.Hashing.{KeyHash}
 
 -- the stamp of the last record, or the one given where there is none
 abbrev pub last_or : {K V A : Type 0} → ℕ → List (Record K V A) → ℕ

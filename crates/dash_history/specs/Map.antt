@@ -1,15 +1,11 @@
 -- A recorded map behind its locks, and what a step through them leaves in the caller's log.
-use Rattle.std.specs.Prelude.{ℕ, ◌≡◌, ◌<◌, Bool, List, [], ◌∷◌, ◌++◌, Some, slice_get}
-use Rattle.std.specs.Hash.{HashWrites}
-use Rattle.std.specs.declared.hash.Hasher as hasher
-use Rattle.std.specs.declared.hash.BuildHasher as builder
+use Rattle.std.specs.Prelude.{ℕ, ◌≡◌, ◌<◌, List, [], ◌∷◌, ◌++◌, Some, slice_get}
 use Rattle.crossbeam_utils.specs.declared.cache_padded.CachePadded.{CachePadded}
 use Rattle.crossbeam_utils.specs.Padded.{padded_value}
-use Rattle.dash_shard.specs.Hashing.{IsAmount, route_by}
+use Rattle.dash_shard.specs.Hashing.{IsAmount}
 use Rattle.dash_shard.specs.Contents.{keys}
-use Rattle.dash_shard.specs.Steps.{Act}
 use Rattle.dash_history.specs.Steps.{step_of, reply_of}
-use Rattle.dash_history.specs.Takes.{Known, kinds_at, Kinds, kinds, rules, Answers}
+use Rattle.dash_history.specs.Takes.{Known, kinds_at, Kinds, rules, Answers}
 use Rattle.dash_history.specs.History.{LogState, Tells, place_of}
 use Rattle.dash_history.specs.Alone.{IsCallers}
 use Rattle.dash_history.specs.declared.step.ShardStep.{ShardStep}

@@ -1,6 +1,6 @@
 //! Recorded shards and callers' logs, and the one call that lengthens both.
 ghost use Rattle.std.specs.Prelude.{◌≡◌, ◌+◌, ◌-◌, ◌<◌, ◌≤◌, ◌^◌, ◌↔◌, ◌⊎◌, max, [], IsTrue, IfOk, IfErr, OnOk, vec_len, vec_capacity};
-ghost use Rattle.dash_shard.specs.Hashing.{by, IsAmount};
+ghost use Rattle.dash_shard.specs.Hashing.{IsAmount};
 ghost use Rattle.dash_shard.specs.Steps.{Becomes};
 ghost use Rattle.dash_shard.specs.Shard.{pairs, keys_of, IsShard, SameShard};
 ghost use Rattle.dash_history.specs.Steps.{step_of, reply_of, alike_record};

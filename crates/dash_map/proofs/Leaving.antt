@@ -4,10 +4,7 @@ use Rattle.std.proofs.lemmas.Option.{none-some, slice_get_within}
 use Rattle.std.proofs.Math.ListN.{take}
 use Rattle.std.proofs.Math.Seq.{take-length}
 use Rattle.std.specs.Cmp.{IsEquivalence}
-use Rattle.std.specs.Hash.{HashWrites}
 use Rattle.std.specs.Map.Calls.{CallableOnEachPair}
-use Rattle.std.specs.declared.hash.Hasher as hasher
-use Rattle.std.specs.declared.hash.BuildHasher as builder
 use Rattle.dash_shard.specs.Hashing.{KeyHash, IsAmount}
 use Rattle.dash_shard.specs.Shard.{ShardState, SameShard, IsShard, taken}
 use Rattle.dash_shard.specs.Each.{Sweeps, SweepsShard, Clears, Shrinks, if_kept, altered}

@@ -1,16 +1,12 @@
 -- A step on the shard of its key is a step on the whole map.
-use Rattle.std.proofs.Common.{◌≡◌, ◌≢◌, ℕ, ◌<◌, cond, Bool, true, List, length, Option, Some, slice_get, slice_set, flat_map, get_or, Result, Ok, Err, refl, sym, ap, subst, ◌∙◌, inl, inr, arith}
+use Rattle.std.proofs.Common.{◌≡◌, ◌≢◌, ℕ, ◌<◌, cond, List, length, Option, Some, slice_get, slice_set, flat_map, get_or, Result, Ok, Err, refl, sym, ap, subst, ◌∙◌, inl, inr, arith}
 use mathlib.Core.Path.{fun_ext}
-use Rattle.std.specs.Cmp.{IsEquivalence}
-use Rattle.std.specs.Hash.{HashWrites}
-use Rattle.std.specs.declared.hash.Hasher as hasher
-use Rattle.std.specs.declared.hash.BuildHasher as builder
 use Rattle.std.proofs.lemmas.Bool.{cases_Bool, cases_eq}
 use Rattle.std.proofs.lemmas.Option.{slice_get-get_or, slice_get_within, same_Some}
 use Rattle.std.proofs.Math.ListN.{length-set}
 use Rattle.dash_shard.proofs.Rows.{slice_get-set_same, slice_get-set_other}
 use Rattle.dash_shard.proofs.Routing.{route_below}
-use Rattle.dash_shard.specs.Hashing.{IsLawful, KeyHash, IsAmount, HashAlike, hash_of, route_by, route_of_hash}
+use Rattle.dash_shard.specs.Hashing.{IsLawful, KeyHash, IsAmount, HashAlike, route_by, route_of_hash}
 use Rattle.dash_shard.specs.Contents.{Keys, keys, at, IsOnShard}
 use Rattle.std.proofs.lemmas.List.{set-get_or}
 use Rattle.dash_shard.specs.Steps.{Step, Reply, Insert, Old, Becomes, line, line_after, LineReplies, at_key}

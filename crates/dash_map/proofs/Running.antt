@@ -3,9 +3,6 @@ use Rattle.std.proofs.Common.{◌≡◌, ◌≢◌, ℕ, ◌<◌, ◌≤◌, ◌
 use Rattle.std.specs.Option.{option_and_then}
 use Rattle.std.specs.Prelude.{◌↔◌, reverse}
 use Rattle.std.specs.Cmp.{IsEquivalence}
-use Rattle.std.specs.Hash.{HashWrites}
-use Rattle.std.specs.declared.hash.Hasher as hasher
-use Rattle.std.specs.declared.hash.BuildHasher as builder
 use Rattle.std.proofs.lemmas.Bool.{cases_Bool, cases_eq, ne_eqb, and_from}
 use Rattle.std.proofs.lemmas.List.{map-append, reverse-append}
 use Rattle.std.proofs.lemmas.Option.{slice_get-get_or, slice_get_within}
@@ -13,7 +10,7 @@ use Rattle.std.proofs.Math.ListN.{length-set}
 use Rattle.dash_shard.proofs.Rows.{slice_get-set_same, slice_get-set_other}
 use Rattle.dash_shard.proofs.Routing.{route_below}
 use Rattle.dash_shard.specs.Each.{CalledAlong, Retains}
-use Rattle.dash_shard.specs.Hashing.{IsLawful, KeyHash, hash_of, route_by, route_of_hash}
+use Rattle.dash_shard.specs.Hashing.{IsLawful, KeyHash, route_by, route_of_hash}
 use Rattle.dash_shard.specs.Contents.{Keys, keys, at, on, Distinct, EachOnce, IsOnShard}
 use Rattle.dash_shard.specs.Steps as table
 use Rattle.dash_shard.specs.Shard.{ShardState, pairs}

@@ -1,8 +1,5 @@
 -- A map of one owner: a row of shards, and what its calls do to all of its pairs.
 use Rattle.std.specs.Prelude.{ℕ, ◌≡◌, ◌+◌, ◌≤◌, Bool, List, length, flat_map, Option, Some, IfSome, Result, OnOk, slice_get}
-use Rattle.std.specs.Hash.{HashWrites}
-use Rattle.std.specs.declared.hash.Hasher as hasher
-use Rattle.std.specs.declared.hash.BuildHasher as builder
 use Rattle.dash_shard.specs.Hashing.{KeyHash, IsAmount, HashAlike, route_by}
 use Rattle.dash_shard.specs.Contents.{Keys, keys, at}
 use Rattle.dash_shard.specs.Steps.{Act, Step, Reply, RemoveIf, RemoveIfMut, Alter, Pair, Done, Replies, Becomes}

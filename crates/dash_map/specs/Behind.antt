@@ -1,9 +1,6 @@
 -- What calls of a map promise where others may change it: what they answer is so of shards that may stand behind its locks.
 use Rattle.std.specs.Prelude.{ℕ, ◌≡◌, Bool, true, false, List, length, Option, None, Some, Result, if◌then◌else◌}
-use Rattle.std.specs.Hash.{HashWrites}
 use Rattle.std.specs.Map.Calls.{CallableOnEachPair}
-use Rattle.std.specs.declared.hash.Hasher as hasher
-use Rattle.std.specs.declared.hash.BuildHasher as builder
 use Rattle.dash_shard.specs.Hashing.{KeyHash, route_by}
 use Rattle.dash_shard.specs.Contents.{at}
 use Rattle.dash_shard.specs.Shard.{ShardState, keys_of, pairs}

@@ -1,9 +1,6 @@
 -- A run: a list of steps, taken one after the other on a map of one owner, up to the first that is refused.
 use Rattle.std.specs.Prelude.{◌≡◌, ◌≤◌, ◌↔◌, Bool, List, [], ◌∷◌, ◌++◌, map, IfSome, ⊤}
 use Rattle.std.specs.Option.{option_map_or}
-use Rattle.std.specs.Hash.{HashWrites}
-use Rattle.std.specs.declared.hash.Hasher as hasher
-use Rattle.std.specs.declared.hash.BuildHasher as builder
 use Rattle.dash_shard.specs.Steps as table
 use Rattle.dash_history.specs.Steps.{step_of, reply_of}
 use Rattle.dash_history.specs.Takes.{Rules, rules, Runs}

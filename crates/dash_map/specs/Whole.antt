@@ -1,8 +1,5 @@
 -- What calls on all pairs of a map of one owner do and promise.
 use Rattle.std.specs.Prelude.{ℕ, ◌≡◌, ◌≤◌, Bool, [], length, Some, slice_get, option_map, option_and_then}
-use Rattle.std.specs.Hash.{HashWrites}
-use Rattle.std.specs.declared.hash.Hasher as hasher
-use Rattle.std.specs.declared.hash.BuildHasher as builder
 use Rattle.dash_shard.specs.Contents.{at, EachOnce}
 use Rattle.dash_shard.specs.Steps.{Act, changed, if_yes}
 use Rattle.dash_shard.specs.Shard.{ShardState}

@@ -1,12 +1,8 @@
 -- A shard after a call on all its pairs: each was made another of the same key in its place, or none.
 use Rattle.std.proofs.Common.{◌≡◌, ℕ, ◌≤◌, Bool, true, false, cond, List, [], ◌∷◌, map, length, Option, Some, None, refl, sym, ap, subst, ◌∙◌, arith}
 use Rattle.std.specs.Prelude.{option_and_then}
-use Rattle.std.specs.Cmp.{IsEquivalence}
-use Rattle.std.specs.Hash.{HashWrites}
-use Rattle.std.specs.declared.hash.Hasher as hasher
-use Rattle.std.specs.declared.hash.BuildHasher as builder
 use Rattle.std.proofs.lemmas.Option.{none-some, same_Some}
-use Rattle.dash_shard.specs.Hashing.{IsLawful, KeyHash, hash_of}
+use Rattle.dash_shard.specs.Hashing.{IsLawful, KeyHash}
 use Rattle.dash_shard.specs.Contents.{Keys, at, IsOnShard}
 use Rattle.dash_shard.specs.Steps.{Act, Step, Retain, AlterAll, Done, on_shard, line, line_after, LineReplies}
 use Rattle.dash_shard.specs.Shard.{ShardState, place, taken, pairs, keys_of, IsShard, TakesExactly, StaysInPlace}

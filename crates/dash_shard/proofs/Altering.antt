@@ -1,11 +1,7 @@
 -- The calls that change one pair in its place, as the step table says them.
 use Rattle.std.proofs.Common.{◌≡◌, ℕ, ◌+◌, Bool, true, false, cond, set, Option, Some, None, refl, sym, ap, subst, ◌∙◌, add-zero, inl, inr, eq-eqb}
-use Rattle.std.specs.Cmp.{IsEquivalence}
 use Rattle.std.specs.Prelude.{option_and_then, IfSome, if◌then◌else◌}
-use Rattle.std.specs.Hash.{HashWrites}
 use Rattle.std.specs.Option.{option_map}
-use Rattle.std.specs.declared.hash.Hasher as hasher
-use Rattle.std.specs.declared.hash.BuildHasher as builder
 use Rattle.std.proofs.lemmas.Bool.{cases_Bool, ne_eqb}
 use Rattle.std.proofs.Math.Seq.{set-set}
 use Rattle.dash_shard.specs.declared.shard.table.Table.{Table}

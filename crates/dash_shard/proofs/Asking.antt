@@ -1,9 +1,6 @@
 -- A removal that was asked first: a removal where the answer was yes, and nothing where it was no.
-use Rattle.std.proofs.Common.{◌≡◌, Bool, true, false, cond, List, Option, Some, None, refl, sym, ap, ◌∙◌, add-zero, inl, inr}
+use Rattle.std.proofs.Common.{◌≡◌, true, false, cond, List, Option, Some, None, refl, sym, ap, ◌∙◌, add-zero, inl, inr}
 use Rattle.std.specs.Prelude.{option_and_then}
-use Rattle.std.specs.Hash.{HashWrites}
-use Rattle.std.specs.declared.hash.Hasher as hasher
-use Rattle.std.specs.declared.hash.BuildHasher as builder
 use Rattle.std.proofs.lemmas.Bool.{cases_Bool}
 use Rattle.dash_shard.specs.Contents.{Keys, at}
 use Rattle.dash_shard.specs.Steps.{Remove, RemoveIf, Pair, Replies, Becomes, after}

@@ -1,13 +1,9 @@
 -- What a look-up answers, by the shard's places.
-use Rattle.std.proofs.Common.{◌≡◌, ℕ, Bool, true, Option, Some, None, IfSome, IfNone, refl, sym, ap, subst, ◌∙◌, inl, inr}
-use Rattle.std.specs.Cmp.{IsEquivalence}
+use Rattle.std.proofs.Common.{◌≡◌, ℕ, true, Option, Some, None, IfSome, IfNone, refl, sym, ap, subst, ◌∙◌, inl, inr}
 use Rattle.std.specs.Option.{IsSomeAnd}
-use Rattle.std.specs.Hash.{HashWrites}
-use Rattle.std.specs.declared.hash.Hasher as hasher
-use Rattle.std.specs.declared.hash.BuildHasher as builder
 use Rattle.std.proofs.lemmas.Bool.{cases_eq, both_ways, true≢false}
 use Rattle.std.proofs.lemmas.Option.{none-some, same_Some}
-use Rattle.dash_shard.specs.Hashing.{IsLawful, KeyHash, hash_of}
+use Rattle.dash_shard.specs.Hashing.{IsLawful, KeyHash}
 use Rattle.dash_shard.specs.Shard.{ShardState, place, HasKey}
 use Rattle.dash_shard.specs.Held.{Finds}
 use Rattle.dash_shard.specs.declared.shard.table.Table.{Table}

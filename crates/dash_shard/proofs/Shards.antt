@@ -1,16 +1,12 @@
 -- A shard's state after each change of its table.
 use Rattle.std.proofs.Common.{◌≡◌, ◌⊎◌, ℕ, zero, suc, ◌+◌, ◌<◌, ◌≤◌, Bool, true, false, cond, List, [], ◌∷◌, ◌++◌, length, get_or, set, Option, Some, None, refl, sym, ap, subst, ◌∙◌, inl, inr, arith, add-zero, is_some, IsTrue, Ok, Err, get_or-set_same, get_or-set_other}
-use Rattle.std.specs.Cmp.{IsEquivalence}
 use Rattle.std.specs.Prelude.{Result, OnOk, OnErr}
-use Rattle.std.specs.Hash.{HashWrites}
 use Rattle.std.specs.Option.{option_map, IsSomeAnd}
-use Rattle.std.specs.declared.hash.Hasher as hasher
-use Rattle.std.specs.declared.hash.BuildHasher as builder
 use Rattle.std.proofs.lemmas.Bool.{cases_Bool, cases_eq}
 use Rattle.std.proofs.lemmas.List.{length-map}
 use Rattle.std.proofs.lemmas.Option.{none-some, same_Some}
 use Rattle.std.proofs.Math.ListN.{replicate, length-set}
-use Rattle.dash_shard.specs.Hashing.{IsLawful, KeyHash, IsAmount, hash_of, route_of_hash}
+use Rattle.dash_shard.specs.Hashing.{IsLawful, KeyHash, IsAmount, route_of_hash}
 use Rattle.dash_shard.specs.Contents.{Keys, at, IsOnShard}
 use Rattle.dash_shard.specs.Steps.{Insert, Remove, Old, Pair, after, key_or}
 use Rattle.dash_shard.specs.Shard.{ShardState, place, taken, pairs, shard_len, keys_of, Routes, IsShard, TakesExactly, StaysInPlace}

@@ -1,9 +1,6 @@
 -- What calls on all pairs of a shard do and promise.
 use Rattle.std.specs.Prelude.{◌≡◌, ◌≤◌, Bool, true, false, List, [], ◌∷◌, Option, Some, None, if◌then◌else◌}
 use Rattle.std.specs.Fn.{Mut, Takes, Called}
-use Rattle.std.specs.Hash.{HashWrites}
-use Rattle.std.specs.declared.hash.Hasher as hasher
-use Rattle.std.specs.declared.hash.BuildHasher as builder
 use Rattle.dash_shard.specs.Steps.{Act, AlterAll, Retain, Done}
 use Rattle.dash_shard.specs.Shard.{ShardState, pairs, shard_len, keys_of, IsShard, SameShard, TakesExactly, StaysInPlace}
 use Rattle.dash_shard.specs.Contents.{EachOnce}

@@ -1,13 +1,11 @@
 //! One shard's calls, as worked by hand.
 use crate::places::{here, new_shard, put, shard_one};
-use dash_shard::hash::{PlaceState, ZeroState};
+use dash_shard::hash::PlaceState;
 use dash_shard::shard::Shard;
-use std::hash::BuildHasher;
 use std::process::Abort;
 use std::test::Fail;
 
 mod held;
-mod whole;
 
 type Numbers = Shard<u64, u64, PlaceState>;
 
@@ -26,69 +24,6 @@ fn one_key_after_another(rt: HostRuntime) -> Result<(), Fail> {
         assert_eq!(rt; shard.get(&key), pair, "{key}");
     }
     assert_eq!(rt; shard.len(), 2);
-    let position = shard.position_of(&5).ok_or("no place")?;
-    assert_eq!(rt; shard.at(position), (&5, &50));
-    assert_eq!(rt; shard.position_of(&9), None);
-    Ok(())
-}
-
-#[test]
-fn views_the_pair_of_a_key(rt: HostRuntime) -> Result<(), Fail> {
-    let shard = shard_one(&rt, rt.alloc(), [(5, 50u64)])?;
-    let sum = shard.view(&5, |key: &u64, value: &u64| key.wrapping_add(*value));
-    assert_eq!(rt; sum, Some(55));
-    assert_eq!(rt; shard.view(&9, |key: &u64, _: &u64| *key), None);
-    Ok(())
-}
-
-#[test]
-fn a_pair_goes_if_the_answer_is_yes(rt: HostRuntime) -> Result<(), Fail> {
-    let mut shard = shard_one(&rt, rt.alloc(), [(5, 50)])?;
-    let gone = shard.remove_if(&here(&rt, &shard, 5), |_, value| *value < 50);
-    assert_eq!(rt; gone, None);
-    assert_eq!(rt; shard.get(&5), Some((&5, &50)));
-    let gone = shard.remove_if(&here(&rt, &shard, 5), |key, value| *key < *value);
-    assert_eq!(rt; gone, Some((5, 50)));
-    assert_eq!(rt; shard.get(&5), None);
-    let gone = shard.remove_if(&here(&rt, &shard, 5), |_, _| true);
-    assert_eq!(rt; gone, None);
-    Ok(())
-}
-
-#[test]
-fn a_value_is_written_in_its_place(rt: HostRuntime) -> Result<(), Fail> {
-    let mut shard = shard_one(&rt, rt.alloc(), [(1, 10u64)])?;
-    shard.alter(&here(&rt, &shard, 1), |key, value| value.wrapping_add(*key));
-    assert_eq!(rt; shard.get(&1), Some((&1, &11)));
-    shard.alter(&here(&rt, &shard, 5), |_, value| value);
-    assert_eq!(rt; shard.len(), 1);
-
-    let gone = shard.remove_if_mut(&here(&rt, &shard, 1), |_, value| {
-        *value = value.wrapping_add(7);
-        false
-    });
-    assert_eq!(rt; gone, None);
-    assert_eq!(rt; shard.get(&1), Some((&1, &18)));
-    let gone = shard.remove_if_mut(&here(&rt, &shard, 1), |key, value| {
-        *value = value.wrapping_add(2);
-        *key == 1
-    });
-    assert_eq!(rt; gone, Some((1, 20)));
-    assert_eq!(rt; shard.len(), 0);
-    Ok(())
-}
-
-#[test]
-fn a_value_is_lent_to_be_written(rt: HostRuntime) -> Result<(), Fail> {
-    let mut shard = shard_one(&rt, rt.alloc(), [(1, 10u64)])?;
-    let position = shard.position_of(&1).ok_or("no place")?;
-    let (key, value) = shard.at_mut(position);
-    *value = value.wrapping_add(*key);
-    assert_eq!(rt; shard.get(&1), Some((&1, &11)));
-    let value = shard.get_mut(&1).ok_or("no pair")?;
-    *value = value.wrapping_mul(2);
-    assert_eq!(rt; shard.get(&1), Some((&1, &22)));
-    assert!(rt; shard.get_mut(&5).is_none());
     Ok(())
 }
 
@@ -111,45 +46,6 @@ fn a_walk_by_places_passes_over_what_is_free(rt: HostRuntime) -> Result<(), Fail
     assert_eq!(rt; shard.next_taken(0), Some(second));
     assert_eq!(rt; shard.next_taken(second), Some(second));
     assert_eq!(rt; shard.next_taken(shard.capacity()), None);
-    Ok(())
-}
-
-#[test]
-#[tactic(auto, unfolding(dash_shard::specs::Hashing::hash_of))]
-fn takes_a_hash_from_its_caller(rt: HostRuntime) -> Result<(), Fail> {
-    let mut shard: Numbers = shard_one(&rt, rt.alloc(), [])?;
-    let hash = PlaceState.hash_one(&5u64);
-    let old = shard.insert_hashed(hash, here(&rt, &shard, 5), 50)?;
-    assert_eq!(rt; old, None);
-    assert_eq!(rt; shard.get(&5), Some((&5, &50)));
-    let position = shard.position_of_hashed(hash, &5).ok_or("no place")?;
-    assert_eq!(rt; shard.at(position), (&5, &50));
-    let gone = shard.remove_hashed(hash, &here(&rt, &shard, 5));
-    assert_eq!(rt; gone, Some((5, 50)));
-    assert_eq!(rt; shard.len(), 0);
-    Ok(())
-}
-
-#[test]
-#[tactic(auto, unfolding(dash_shard::specs::Hashing::hash_of))]
-fn asks_by_a_hash_from_its_caller(rt: HostRuntime) -> Result<(), Fail> {
-    let mut shard = shard_one(&rt, rt.alloc(), [(5, 50u64)])?;
-    let hash = PlaceState.hash_one(&5u64);
-    shard.alter_hashed(
-        hash,
-        &here(&rt, &shard, 5),
-        |_, value| value.wrapping_add(1),
-    );
-    let gone = shard.remove_if_hashed(hash, &here(&rt, &shard, 5), |_, value| *value < 51);
-    assert_eq!(rt; gone, None);
-    let gone = shard.remove_if_mut_hashed(hash, &here(&rt, &shard, 5), |_, value| {
-        *value = value.wrapping_add(1);
-        false
-    });
-    assert_eq!(rt; gone, None);
-    let value = shard.get_mut_hashed(hash, &5).ok_or("no pair")?;
-    *value = value.wrapping_mul(2);
-    assert_eq!(rt; shard.get(&5), Some((&5, &104)));
     Ok(())
 }
 
@@ -209,40 +105,6 @@ fn the_stored_key_stays(rt: HostRuntime) -> Result<(), Fail> {
 }
 
 #[test]
-fn the_new_key_takes_the_place(rt: HostRuntime) -> Result<(), Fail> {
-    let mut shard = new_shard(&rt, rt.alloc(), PlaceState, 1, 4, 0)?;
-    put(&rt, &mut shard, Noted { name: 5, note: 1 }, 100)?;
-    let key = Noted { name: 5, note: 2 };
-    let position = shard.position_of(&key).ok_or("no place")?;
-    let (old, value) = shard.replace_at(position, key, 200);
-    assert_eq!(rt; (old.note, value), (1, 100));
-    let (key, value) = shard.at(position);
-    assert_eq!(rt; (key.note, *value), (2, 200));
-    assert_eq!(rt; shard.len(), 1);
-    Ok(())
-}
-
-#[test]
-fn one_chain_loses_every_second_pair(rt: HostRuntime) -> Result<(), Fail> {
-    let mut shard = new_shard(&rt, rt.alloc(), ZeroState, 0, 4, 0)?;
-    for key in 0..200u64 {
-        assert_eq!(rt; put(&rt, &mut shard, key, 10 * key)?, None, "{key}");
-    }
-    for i in 0..100u64 {
-        let key = 2 * i;
-        let gone = shard.remove(&here(&rt, &shard, key));
-        assert_eq!(rt; gone, Some((key, 10 * key)), "{key}");
-    }
-    assert_eq!(rt; shard.len(), 100);
-    for i in 0..100u64 {
-        assert_eq!(rt; shard.get(&(2 * i)), None);
-        let key = 2 * i + 1;
-        assert_eq!(rt; shard.get(&key), Some((&key, &(10 * key))), "{key}");
-    }
-    Ok(())
-}
-
-#[test]
 fn a_place_is_taken_again(rt: HostRuntime) -> Result<(), Fail> {
     let mut shard = new_shard(&rt, rt.alloc(), PlaceState, 1, 4, 4)?;
     let room = shard.capacity();
@@ -260,5 +122,27 @@ fn a_place_is_taken_again(rt: HostRuntime) -> Result<(), Fail> {
     }
     assert_eq!(rt; shard.len(), 3);
     assert_eq!(rt; shard.capacity(), room);
+    Ok(())
+}
+
+#[test]
+fn shrink_to_fit_gives_places_back(rt: HostRuntime) -> Result<(), Fail> {
+    let mut shard = shard_one(
+        &rt,
+        rt.alloc(),
+        [(1, 15u64), (5, 22), (9, 27), (13, 30), (17, 36)],
+    )?;
+    assert_eq!(rt; shard.capacity(), 8);
+    shard.retain(|_, value| *value % 3 == 0);
+    shard.shrink_to_fit();
+    assert_eq!(rt; shard.len(), 4);
+    assert_eq!(rt; shard.capacity(), 4);
+    assert_eq!(rt; shard.get(&5), None);
+    for (key, value) in [(1, 15), (9, 27), (13, 30), (17, 36)] {
+        assert_eq!(rt; shard.get(&key), Some((&key, &value)));
+    }
+    shard.clear();
+    shard.shrink_to_fit();
+    assert_eq!(rt; shard.capacity(), 0);
     Ok(())
 }

@@ -1,21 +1,18 @@
 -- What a recorded map answers.
-use Rattle.std.proofs.Common.{◌≡◌, ℕ, ◌<◌, ◌≤◌, Ok, Err, refl, sym, ap, subst, ◌∙◌, inl, inr, arith}
-use Rattle.std.specs.Prelude.{◌↔◌, ◌⊎◌, Result, IfOk, IfErr, IsErrAnd, IsErrOf, MatchResult, nat_eq}
+use Rattle.std.proofs.Common.{◌≡◌, ℕ, ◌<◌, ◌≤◌, Ok, Err, refl, ap, subst, ◌∙◌, inl, inr, arith}
+use Rattle.std.specs.Prelude.{◌↔◌, ◌⊎◌, Result, IfErr, IsErrAnd, IsErrOf, nat_eq}
 use Rattle.dash_shard.specs.Contents.{keys}
 use Rattle.dash_shard.specs.Hashing.{IsAmount}
 use Rattle.dash_shard.specs.declared.error.ConstructError.{ConstructError}
 use Rattle.dash_shard.specs.declared.error.ConstructError.TheVariants.{ShardAmount, Memory, Callers}
 use Rattle.dash_history.specs.Alone.{IsCallers}
-use Rattle.dash_history.specs.Map.{Logged}
-use Rattle.dash_history.specs.History.{LogState, place_of}
+use Rattle.dash_history.specs.History.{place_of}
 use Rattle.dash_history.specs.Takes.{kinds, rules}
 use Rattle.dashcheck.specs.Change.{acts, alike_change}
-use Rattle.dashcheck.specs.declared.change.Change.{Change}
-use Rattle.dash_history.specs.declared.step.Reply.{Reply}
 use Rattle.dash_history.specs.declared.step.ShardStep.TheVariants.{Get, Contains, Insert, Remove, RemoveIf, RemoveIfMut, Alter, Read, Count, AlterAll, Retain}
 use Rattle.dash_history.specs.declared.record.RecordFault.{RecordFault}
 use Rattle.dash_history.specs.declared.record.RecordFault.TheVariants.{NoSuchShard}
-use Rattle.dashcheck.specs.Script.{ScriptStep, IsReplyTo, NamesMissing, IsFaultOf}
+use Rattle.dashcheck.specs.Script.{ScriptStep, NamesMissing, IsFaultOf}
 
 -- the step goes outside a map of four shards exactly where it names a missing one
 module _ (route : ℕ → ℕ) (below : (k : ℕ) → route k < 4) where

@@ -3,7 +3,6 @@ use crate::places::{here_held, lock_of_one, put_held};
 use dash_shard::hash::PlaceState;
 use dash_shard::lock::RwLock;
 use dash_shard::shard::Shard;
-use std::hash::BuildHasher;
 use std::mem;
 use std::test::Fail;
 
@@ -20,42 +19,11 @@ fn a_held_shard_is_changed_in_place(rt: HostRuntime) -> Result<(), Fail> {
         assert_eq!(rt; put_held(&rt, &mut held, key, value)?, old, "{key}");
     }
     assert_eq!(rt; held.get(&1), Some((&1, &11)));
-    let position = held.position_of(&1).ok_or("no place")?;
-    assert_eq!(rt; held.at(position), (&1, &11));
     assert_eq!(rt; held.remove(&here_held(&rt, &held, 5)), Some((5, 50)));
     assert_eq!(rt; held.len(), 1);
     assert!(rt; lock.try_read().is_none(), "a writer has the shard");
     drop(held);
-    assert_eq!(rt; lock.read(&rt).get(&1), Some((&1, &11)));
-    let shard = lock.into_inner();
-    assert_eq!(rt; shard.get(&1), Some((&1, &11)));
-    assert_eq!(rt; shard.len(), 1);
-    Ok(())
-}
-
-#[test]
-fn a_held_value_is_written_in_its_place(rt: HostRuntime) -> Result<(), Fail> {
-    let lock = lock_of_one(&rt, rt.alloc(), [(1, 10u64)])?;
-    let mut held = lock.write(&rt).shard();
-    held.alter(
-        &here_held(&rt, &held, 1),
-        |key, value| value.wrapping_add(*key),
-    );
-    assert_eq!(rt; held.get(&1), Some((&1, &11)));
-    let position = held.position_of(&1).ok_or("no place")?;
-    assert_eq!(rt; held.replace_at(position, 1, 30), (1, 11));
-    let gone = held.remove_if_mut(&here_held(&rt, &held, 1), |_, value| {
-        *value = value.wrapping_add(7);
-        false
-    });
-    assert_eq!(rt; gone, None);
-    assert_eq!(rt; held.get(&1), Some((&1, &37)));
-    let gone = held.remove_if_mut(&here_held(&rt, &held, 1), |key, value| {
-        *value = value.wrapping_add(2);
-        *key == 1
-    });
-    assert_eq!(rt; gone, Some((1, 39)));
-    assert_eq!(rt; held.len(), 0);
+    assert_eq!(rt; lock.into_inner().get(&1), Some((&1, &11)));
     Ok(())
 }
 
@@ -86,44 +54,6 @@ fn a_held_value_is_lent(rt: HostRuntime) -> Result<(), Fail> {
 }
 
 #[test]
-#[tactic(auto, unfolding(dash_shard::specs::Hashing::hash_of))]
-fn a_held_shard_takes_a_hash_from_its_caller(rt: HostRuntime) -> Result<(), Fail> {
-    let lock: Locked = lock_of_one(&rt, rt.alloc(), [])?;
-    let mut held = lock.write(&rt).shard();
-    let hash = PlaceState.hash_one(&5u64);
-    let old = held.insert_hashed(hash, here_held(&rt, &held, 5), 50)?;
-    assert_eq!(rt; old, None);
-    let position = held.position_of_hashed(hash, &5).ok_or("no place")?;
-    assert_eq!(rt; held.at(position), (&5, &50));
-    *held.get_mut_hashed(hash, &5).ok_or("no pair")? = 51;
-    let gone = held.remove_hashed(hash, &here_held(&rt, &held, 5));
-    assert_eq!(rt; gone, Some((5, 51)));
-    assert_eq!(rt; held.len(), 0);
-    Ok(())
-}
-
-#[test]
-#[tactic(auto, unfolding(dash_shard::specs::Hashing::hash_of))]
-fn a_held_shard_asks_by_a_hash_from_its_caller(rt: HostRuntime) -> Result<(), Fail> {
-    let lock = lock_of_one(&rt, rt.alloc(), [(5, 50u64)])?;
-    let mut held = lock.write(&rt).shard();
-    let hash = PlaceState.hash_one(&5u64);
-    held.alter_hashed(
-        hash,
-        &here_held(&rt, &held, 5),
-        |_, value| value.wrapping_add(1),
-    );
-    let gone = held.remove_if_hashed(hash, &here_held(&rt, &held, 5), |_, value| *value < 51);
-    assert_eq!(rt; gone, None);
-    let gone = held.remove_if_mut_hashed(hash, &here_held(&rt, &held, 5), |_, value| {
-        *value = value.wrapping_add(1);
-        true
-    });
-    assert_eq!(rt; gone, Some((5, 52)));
-    Ok(())
-}
-
-#[test]
 fn a_leaked_hold_leaves_a_shard(rt: HostRuntime) -> Result<(), Fail> {
     let lock = lock_of_one(&rt, rt.alloc(), [(1, 10u64)])?;
     let mut held = lock.write(&rt).shard();
@@ -142,44 +72,5 @@ fn a_leaked_hold_leaves_a_shard(rt: HostRuntime) -> Result<(), Fail> {
     let lock = lock_of_one(&rt, rt.alloc(), [(5, 50u64)])?;
     mem::forget(lock.write(&rt));
     assert_eq!(rt; lock.into_inner().number(), 1);
-    Ok(())
-}
-
-#[test]
-fn each_pair_of_a_held_shard_is_asked(rt: HostRuntime) -> Result<(), Fail> {
-    let lock = lock_of_one(&rt, rt.alloc(), [(1, 15u64), (5, 22), (9, 27)])?;
-    let mut held = lock.write(&rt).shard();
-    let mut asked = 0u64;
-    held.retain(|_, value| {
-        asked = asked.wrapping_add(1);
-        *value > 20
-    });
-    assert_eq!(rt; asked, 3);
-    assert_eq!(rt; held.len(), 2);
-    held.alter_all(|key, value| value.wrapping_add(*key));
-    for (key, pair) in [(1, None), (5, Some((&5, &27))), (9, Some((&9, &36)))] {
-        assert_eq!(rt; held.get(&key), pair, "{key}");
-    }
-    let mut values = 0u64;
-    for (_, value) in held.iter() {
-        values = values.wrapping_add(*value);
-    }
-    assert_eq!(rt; values, 63);
-    held.clear();
-    assert_eq!(rt; held.len(), 0);
-    assert_eq!(rt; held.capacity(), 4);
-    held.shrink_to_fit();
-    assert_eq!(rt; held.capacity(), 0);
-    Ok(())
-}
-
-#[test]
-fn a_closure_comes_back_from_a_held_shard(rt: HostRuntime) -> Result<(), Fail> {
-    let lock = lock_of_one(&rt, rt.alloc(), [(1, 15u64), (5, 22)])?;
-    let mut held = lock.write(&rt).shard();
-    drop(held.alter_all_by(|key: &u64, value: u64| value.wrapping_add(*key)));
-    drop(held.retain_by(|_: &u64, value: &mut u64| *value > 20));
-    assert_eq!(rt; held.get(&1), None);
-    assert_eq!(rt; held.get(&5), Some((&5, &27)));
     Ok(())
 }

@@ -1,7 +1,7 @@
 use Rattle.std.proofs.Common.{◌≡◌, ◌+◌, ◌++◌, ◌∷◌, [], Some, true, is_some, take, inl, inr, length, arith, refl, sym, ap, subst, ◌∙◌, append-nil}
 use Rattle.std.proofs.lemmas.List.{take_more, take_all}
 use Rattle.std.specs.Result.{is_ok}
-use Rattle.dash_shard.specs.Hashing.{key_hash, route_by}
+use Rattle.dash_shard.specs.Hashing.{key_hash}
 use Rattle.dash_shard.specs.Contents.{Distinct}
 use Rattle.dash_history.specs.Plain.{PlainState, IsPlain, plain_rules}
 use Rattle.dash_shard.specs.Steps.{Retain, after}

@@ -6,7 +6,7 @@ use Rattle.std.specs.Cmp.{IsEquivalence}
 use Rattle.std.specs.Option.{option_map, option_and_then, ok_or}
 use Rattle.std.specs.Map.Iter.{deref_pair}
 use Rattle.dash_history.specs.Alike.{alike_option, alike_pair}
-use Rattle.dash_shard.specs.Hashing.{key_hash, route_by}
+use Rattle.dash_shard.specs.Hashing.{key_hash}
 use Rattle.dash_shard.specs.Steps.{Pair, Found, Old, Pairs, Number, Done}
 use Rattle.dash_history.specs.Plan.{HasPair}
 use Rattle.dash_history.proofs.Planning.{takes-planned, on-distinct}

@@ -3,7 +3,6 @@ use Rattle.dash_history.specs.History.{RecState, Tells, place_of, kinds_of}
 use Rattle.dash_history.proofs.Recording.{taken, recorded}
 use Rattle.dash_history.proofs.record.RecShard.grow.Goals as goal
 use Rattle.dash_shard.proofs.Lawful.{lawful-of}
-use Rattle.dash_shard.specs.Hashing.{key_hash}
 use Rattle.dash_history.specs.Takes.{known_by}
 
 pub invariant_of-self : goal.invariant_of-self

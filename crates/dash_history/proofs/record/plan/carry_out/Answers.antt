@@ -8,7 +8,6 @@ use Rattle.dash_history.specs.History.{kinds_of}
 use Rattle.dash_history.proofs.Recording.{lawful-by}
 use Rattle.dash_history.proofs.Planning.{decided}
 use Rattle.dash_history.proofs.record.plan.carry_out.Goals as goal
-use Rattle.dash_shard.specs.Hashing.{key_hash}
 use Rattle.dash_shard.proofs.Lawful.{lawful-of}
 
 pub returns-in-RemoveIf-clause-ok : goal.returns-in-RemoveIf-clause-ok

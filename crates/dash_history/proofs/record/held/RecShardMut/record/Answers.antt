@@ -3,7 +3,6 @@ use Rattle.dash_history.specs.History.{LogState, RecState, Grown, stamp_of, kind
 use Rattle.dash_history.proofs.Growing.{log-more}
 use Rattle.dash_history.proofs.Recording.{same-stamp, same-caller}
 use Rattle.dash_history.proofs.record.held.RecShardMut.record.Goals as goal
-use Rattle.dash_shard.specs.Hashing.{key_hash}
 use Rattle.dash_history.specs.Takes.{known_by}
 
 pub invariant_of-log-in-Ok : goal.invariant_of-log-in-Ok

@@ -5,7 +5,6 @@ use Rattle.dash_history.specs.Map.{kinds_on}
 use Rattle.dash_history.proofs.Alones.{kinds-same}
 use Rattle.dash_history.proofs.Logging.{logged}
 use Rattle.dash_history.proofs.record.map.RecordedMap.apply.Goals as goal
-use Rattle.dash_shard.specs.Hashing.{key_hash}
 use Rattle.dash_history.specs.Takes.{known_by}
 
 pub returns-clause-ok : goal.returns-clause-ok
