@@ -17,6 +17,7 @@ use crate::change::{Change, ask, copy_found, plan_alter, plan_remove_if, plan_re
 use crate::kept::{Kept, KeptKey};
 use crate::step::{Reply, ShardStep};
 use dash_shard::hash::determine_shard;
+use dash_shard::keyed::Keyed;
 use std::alloc::{AllocError, Global};
 use std::hash::BuildHasher;
 use std::marker::Model;
@@ -41,6 +42,14 @@ impl<K: KeptKey, V: Kept, S: BuildHasher> Model for Plain<K, V, S> {
     ghost invariant = { λ m. IsPlain (key_hash K.eq K.hash_input S.BuildHasher S.Hasher.Hasher) (record { hasher = m.hasher; amount = m.amount; pairs = m.pairs.items }) };
 }
 
+impl<K: KeptKey, V: Kept, S: BuildHasher> Keyed for Plain<K, V, S> {
+    type Key = K;
+
+    type State = S;
+
+    ghost by = { by K.Hash S.BuildHasher S.Hasher.Hasher };
+}
+
 // The place of the pair whose key equals `key`.
 fn find<K: Eq, V>(pairs: &[(K, V)], key: &K) -> Option<usize>
     ensures { result ≡ position (λ p. K.eq p.0 key.now) pairs.now }
@@ -63,7 +72,7 @@ impl<K: KeptKey + Drop, V: Kept + Drop, S: BuildHasher> Plain<K, V, S> {
 
     // The pair whose key equals `key`.
     fn get(&self, key: &K) -> Option<(&K, &V)>
-        ensures { option_map deref_pair result ≡ at (plain_rules (by K.Hash S.BuildHasher S.Hasher.Hasher) K.alike V.alike self.now).keys self.now.pairs key.now }
+        ensures { option_map deref_pair result ≡ at (plain_rules ⟦<Self as Keyed>⟧.by K.alike V.alike self.now).keys self.now.pairs key.now }
     {
         let i = find(&self.pairs, key)?;
         let pair = &self.pairs[i];
@@ -72,14 +81,14 @@ impl<K: KeptKey + Drop, V: Kept + Drop, S: BuildHasher> Plain<K, V, S> {
 
     // Whether a key goes to a shard.
     fn goes_to(&self, key: &K, shard: usize) -> bool
-        ensures { result ≡ ((plain_rules (by K.Hash S.BuildHasher S.Hasher.Hasher) K.alike V.alike self.now).keys.route key.now == shard) }
+        ensures { result ≡ ((plain_rules ⟦<Self as Keyed>⟧.by K.alike V.alike self.now).keys.route key.now == shard) }
     {
         determine_shard(self.hasher.hash_one(key), self.amount) == shard
     }
 
     // How many pairs go to a shard.
     fn count(&self, shard: usize) -> u64
-        ensures { result ≡ min (length (on (plain_rules (by K.Hash S.BuildHasher S.Hasher.Hasher) K.alike V.alike self.now).keys shard self.now.pairs)) (2 ^ 64 - 1) }
+        ensures { result ≡ min (length (on (plain_rules ⟦<Self as Keyed>⟧.by K.alike V.alike self.now).keys shard self.now.pairs)) (2 ^ 64 - 1) }
     {
         let mut count: u64 = 0;
         for pair in &self.pairs {
@@ -92,12 +101,12 @@ impl<K: KeptKey + Drop, V: Kept + Drop, S: BuildHasher> Plain<K, V, S> {
 
     // Puts the pair, or the value under the stored key where an equal key is there.
     fn put(&mut self, key: K, value: V) -> Result<Option<V>, (K, V)>
-        ensures old { IfOk result (λ old. Replies (plain_rules (by K.Hash S.BuildHasher S.Hasher.Hasher) K.alike V.alike self.old).keys (Insert key value) self.old.pairs (Old old)) }
-        ensures pairs { OnOk result (Becomes (plain_rules (by K.Hash S.BuildHasher S.Hasher.Hasher) K.alike V.alike self.old).keys (Insert key value) self.old.pairs self.new.pairs) }
-        ensures distinct { OnOk result (Distinct (plain_rules (by K.Hash S.BuildHasher S.Hasher.Hasher) K.alike V.alike self.old).keys self.new.pairs) }
+        ensures old { IfOk result (λ old. Replies (plain_rules ⟦<Self as Keyed>⟧.by K.alike V.alike self.old).keys (Insert key value) self.old.pairs (Old old)) }
+        ensures pairs { OnOk result (Becomes (plain_rules ⟦<Self as Keyed>⟧.by K.alike V.alike self.old).keys (Insert key value) self.old.pairs self.new.pairs) }
+        ensures distinct { OnOk result (Distinct (plain_rules ⟦<Self as Keyed>⟧.by K.alike V.alike self.old).keys self.new.pairs) }
         ensures stays { (self.new.hasher ≡ self.old.hasher) × (self.new.amount ≡ self.old.amount) }
         ensures refused { IfErr result (λ back. (back ≡ (key, value)) × (self.new ≡ self.old)) }
-        ensures absent { OnErr result (at (plain_rules (by K.Hash S.BuildHasher S.Hasher.Hasher) K.alike V.alike self.old).keys self.old.pairs key ≡ None) }
+        ensures absent { OnErr result (at (plain_rules ⟦<Self as Keyed>⟧.by K.alike V.alike self.old).keys self.old.pairs key ≡ None) }
     {
         if let Some(i) = find(&self.pairs, &key) {
             let old = mem::replace(&mut self.pairs[i].1, value);
@@ -111,9 +120,9 @@ impl<K: KeptKey + Drop, V: Kept + Drop, S: BuildHasher> Plain<K, V, S> {
 
     // Takes the pair whose key equals `key` out.
     fn remove(&mut self, key: &K) -> Option<(K, V)>
-        ensures pair { Replies (plain_rules (by K.Hash S.BuildHasher S.Hasher.Hasher) K.alike V.alike self.old).keys (Remove key.now) self.old.pairs (Pair result) }
-        ensures pairs { Becomes (plain_rules (by K.Hash S.BuildHasher S.Hasher.Hasher) K.alike V.alike self.old).keys (Remove key.now) self.old.pairs self.new.pairs }
-        ensures distinct { Distinct (plain_rules (by K.Hash S.BuildHasher S.Hasher.Hasher) K.alike V.alike self.old).keys self.new.pairs }
+        ensures pair { Replies (plain_rules ⟦<Self as Keyed>⟧.by K.alike V.alike self.old).keys (Remove key.now) self.old.pairs (Pair result) }
+        ensures pairs { Becomes (plain_rules ⟦<Self as Keyed>⟧.by K.alike V.alike self.old).keys (Remove key.now) self.old.pairs self.new.pairs }
+        ensures distinct { Distinct (plain_rules ⟦<Self as Keyed>⟧.by K.alike V.alike self.old).keys self.new.pairs }
         ensures stays { (self.new.hasher ≡ self.old.hasher) × (self.new.amount ≡ self.old.amount) }
     {
         let i = find(&self.pairs, key)?;
@@ -122,7 +131,7 @@ impl<K: KeptKey + Drop, V: Kept + Drop, S: BuildHasher> Plain<K, V, S> {
 
     // Copies of the pairs that go to a shard, if there is such a shard and memory.
     fn read(&self, shard: usize) -> Option<Reply<K, V>>
-        ensures pairs { IfSome result (λ reply. (shard < self.now.amount) × IsTrue (alike_reply K.alike V.alike (Pairs (on (plain_rules (by K.Hash S.BuildHasher S.Hasher.Hasher) K.alike V.alike self.now).keys shard self.now.pairs)) (reply_of reply))) }
+        ensures pairs { IfSome result (λ reply. (shard < self.now.amount) × IsTrue (alike_reply K.alike V.alike (Pairs (on (plain_rules ⟦<Self as Keyed>⟧.by K.alike V.alike self.now).keys shard self.now.pairs)) (reply_of reply))) }
         ensures refused { IsNone result → (self.now.amount ≤ shard) ⊎ (0 < length self.now.pairs) }
     {
         if shard >= self.amount {
@@ -145,7 +154,7 @@ impl<K: KeptKey + Drop, V: Kept + Drop, S: BuildHasher> Plain<K, V, S> {
         action: &A,
         all: bool,
     ) -> Result<Option<(K, V)>, AllocError>
-        ensures { IfOk result (λ left. AlikeAt (plain_rules (by K.Hash S.BuildHasher S.Hasher.Hasher) K.alike V.alike self.now) (after (plain_rules (by K.Hash S.BuildHasher S.Hasher.Hasher) K.alike V.alike self.now).keys (Retain shard (keeping all (A.acts action.now))) pair.now.0 (Some pair.now)) left) }
+        ensures { IfOk result (λ left. AlikeAt (plain_rules ⟦<Self as Keyed>⟧.by K.alike V.alike self.now) (after (plain_rules ⟦<Self as Keyed>⟧.by K.alike V.alike self.now).keys (Retain shard (keeping all (A.acts action.now))) pair.now.0 (Some pair.now)) left) }
     {
         let key = pair.0.copy()?;
         if !self.goes_to(&pair.0, shard) {
@@ -161,8 +170,8 @@ impl<K: KeptKey + Drop, V: Kept + Drop, S: BuildHasher> Plain<K, V, S> {
     // Lets the action change the values of a shard, if there is such a shard and memory. Where not all stay, the pairs with no go.
     fn sweep<A: Action<K, V>>(&mut self, shard: usize, action: &A, all: bool) -> Option<Reply<K, V>>
         ensures done { IfSome result (λ reply. (reply ≡ Reply.Done) × (shard < self.old.amount)) }
-        ensures leaves { IsSome result → (j : K) → AlikeAt (plain_rules (by K.Hash S.BuildHasher S.Hasher.Hasher) K.alike V.alike self.old) (after (plain_rules (by K.Hash S.BuildHasher S.Hasher.Hasher) K.alike V.alike self.old).keys (Retain shard (keeping all (A.acts action.now))) j (at (plain_rules (by K.Hash S.BuildHasher S.Hasher.Hasher) K.alike V.alike self.old).keys self.old.pairs j)) (at (plain_rules (by K.Hash S.BuildHasher S.Hasher.Hasher) K.alike V.alike self.old).keys self.new.pairs j) }
-        ensures distinct { Distinct (plain_rules (by K.Hash S.BuildHasher S.Hasher.Hasher) K.alike V.alike self.old).keys self.new.pairs }
+        ensures leaves { IsSome result → (j : K) → AlikeAt (plain_rules ⟦<Self as Keyed>⟧.by K.alike V.alike self.old) (after (plain_rules ⟦<Self as Keyed>⟧.by K.alike V.alike self.old).keys (Retain shard (keeping all (A.acts action.now))) j (at (plain_rules ⟦<Self as Keyed>⟧.by K.alike V.alike self.old).keys self.old.pairs j)) (at (plain_rules ⟦<Self as Keyed>⟧.by K.alike V.alike self.old).keys self.new.pairs j) }
+        ensures distinct { Distinct (plain_rules ⟦<Self as Keyed>⟧.by K.alike V.alike self.old).keys self.new.pairs }
         ensures stays { (self.new.hasher ≡ self.old.hasher) × (self.new.amount ≡ self.old.amount) }
         ensures refused { IsNone result → (self.new ≡ self.old) × ((self.old.amount ≤ shard) ⊎ (0 < length self.old.pairs)) }
     {
@@ -181,9 +190,9 @@ impl<K: KeptKey + Drop, V: Kept + Drop, S: BuildHasher> Plain<K, V, S> {
 
     // Makes of the pair at a key what was decided, and answers the reply.
     fn make_change(&mut self, key: K, change: Change<V>, reply: Reply<K, V>) -> Reply<K, V>
-        requires { HasPair change (at (plain_rules (by K.Hash S.BuildHasher S.Hasher.Hasher) K.alike V.alike self.old).keys self.old.pairs key) }
-        ensures becomes { Becomes (plain_rules (by K.Hash S.BuildHasher S.Hasher.Hasher) K.alike V.alike self.old).keys (change_step key change) self.old.pairs self.new.pairs }
-        ensures distinct { Distinct (plain_rules (by K.Hash S.BuildHasher S.Hasher.Hasher) K.alike V.alike self.old).keys self.new.pairs }
+        requires { HasPair change (at (plain_rules ⟦<Self as Keyed>⟧.by K.alike V.alike self.old).keys self.old.pairs key) }
+        ensures becomes { Becomes (plain_rules ⟦<Self as Keyed>⟧.by K.alike V.alike self.old).keys (change_step key change) self.old.pairs self.new.pairs }
+        ensures distinct { Distinct (plain_rules ⟦<Self as Keyed>⟧.by K.alike V.alike self.old).keys self.new.pairs }
         ensures stays { (self.new.hasher ≡ self.old.hasher) × (self.new.amount ≡ self.old.amount) }
         ensures reply { result ≡ reply }
     {
@@ -201,10 +210,10 @@ impl<K: KeptKey + Drop, V: Kept + Drop, S: BuildHasher> Plain<K, V, S> {
         &mut self,
         step: ShardStep<K, V, A>,
     ) -> Result<Reply<K, V>, ShardStep<K, V, A>>
-        ensures ok { IfOk result (λ reply. Takes (plain_rules (by K.Hash S.BuildHasher S.Hasher.Hasher) K.alike V.alike self.old) self.old.pairs (step_of A.acts step) (reply_of reply) self.new.pairs) }
+        ensures ok { IfOk result (λ reply. Takes (plain_rules ⟦<Self as Keyed>⟧.by K.alike V.alike self.old) self.old.pairs (step_of A.acts step) (reply_of reply) self.new.pairs) }
         ensures stays { (self.new.hasher ≡ self.old.hasher) × (self.new.amount ≡ self.old.amount) }
         ensures refused { IfErr result (λ back. (back ≡ step) × (self.new ≡ self.old)) }
-        ensures may_refuse { OnErr result (MayRefuse (plain_rules (by K.Hash S.BuildHasher S.Hasher.Hasher) K.alike V.alike self.old) self.old.pairs step) }
+        ensures may_refuse { OnErr result (MayRefuse (plain_rules ⟦<Self as Keyed>⟧.by K.alike V.alike self.old) self.old.pairs step) }
     {
         let _ = &self.amount;
         match step {

@@ -17,6 +17,7 @@ use crate::map::{DashMap, Locked};
 use crossbeam_utils::CachePadded;
 use dash_shard::error::{ConstructError, TryReserveError};
 use dash_shard::hash::{determine_shard, is_shard_amount};
+use dash_shard::keyed::Keyed;
 use dash_shard::lock::RwLock;
 use dash_shard::row::move_all;
 use dash_shard::shard::held::ShardTag;
@@ -52,6 +53,14 @@ impl<K: Eq + Hash, V, S: BuildHasher> Model for Alone<K, V, S> {
     ghost invariant = { λ a. IsAlone (key_hash K.eq K.hash_input S.BuildHasher S.Hasher.Hasher) (record { hasher = a.hasher; row = a.row.items }) × (a.locks.items ≡ []) × (vec_len a.row ≤ vec_capacity a.locks) };
 }
 
+impl<K: Eq + Hash, V, S: BuildHasher> Keyed for Alone<K, V, S> {
+    type Key = K;
+
+    type State = S;
+
+    ghost by = { by K.Hash S.BuildHasher S.Hasher.Hasher };
+}
+
 // The row of a map with no pairs, each shard with room for `capacity`.
 fn fresh_row<K: Eq + Hash + Drop, V: Drop, S: BuildHasher + Clone + Drop>(
     alloc: Global,
@@ -60,9 +69,9 @@ fn fresh_row<K: Eq + Hash + Drop, V: Drop, S: BuildHasher + Clone + Drop>(
     capacity: usize,
 ) -> Result<Vec<Shard<K, V, S>>, ConstructError>
     requires amount { IsAmount amount }
-    requires alike { (s t : S) → S.is_clone s t → HashAlike (by K.Hash S.BuildHasher S.Hasher.Hasher) s t }
+    requires alike { (s t : S) → S.is_clone s t → HashAlike ⟦<Alone<K, V, S> as Keyed>⟧.by s t }
     ensures len { IfOk result (λ row. length row.items ≡ amount) }
-    ensures placed { IfOk result (λ row. (i : ℕ) (s : _) → slice_get row.items i ≡ Some s → IsPlaced (by K.Hash S.BuildHasher S.Hasher.Hasher) hasher.now amount i s) }
+    ensures placed { IfOk result (λ row. (i : ℕ) (s : _) → slice_get row.items i ≡ Some s → IsPlaced ⟦<Alone<K, V, S> as Keyed>⟧.by hasher.now amount i s) }
     ensures fresh { IfOk result (λ row. (i : ℕ) (s : _) → slice_get row.items i ≡ Some s → (shard_len s ≡ 0) × (capacity ≤ s.capacity)) }
     ensures memory { IfErr result (λ e. e ≡ ConstructError.Memory) }
 {
@@ -88,7 +97,7 @@ impl<K: Eq + Hash + Drop, V: Drop, S: BuildHasher> Alone<K, V, S> {
     ) -> Result<Alone<K, V, S>, ConstructError>
     where
         S: Clone + Drop,
-        requires { (s t : S) → S.is_clone s t → HashAlike (by K.Hash S.BuildHasher S.Hasher.Hasher) s t }
+        requires { (s t : S) → S.is_clone s t → HashAlike ⟦<Self as Keyed>⟧.by s t }
         ensures hasher { IfOk result (λ a. a.hasher ≡ hasher) }
         ensures amount { IfOk result (λ a. length a.row ≡ amount) }
         ensures fresh { IfOk result (λ a. (i : ℕ) (s : _) → slice_get a.row i ≡ Some s → (shard_len s ≡ 0) × (share capacity amount ≤ s.capacity)) }
@@ -113,7 +122,7 @@ impl<K: Eq + Hash + Drop, V: Drop, S: BuildHasher> Alone<K, V, S> {
     #[inline]
     pub fn shard_count(&self) -> usize
         ensures count { result ≡ length self.now.row }
-        ensures lawful { IsAlone (by K.Hash S.BuildHasher S.Hasher.Hasher) self.now }
+        ensures lawful { IsAlone ⟦<Self as Keyed>⟧.by self.now }
     {
         let _ = &self.hasher;
         self.row.len()
@@ -122,8 +131,8 @@ impl<K: Eq + Hash + Drop, V: Drop, S: BuildHasher> Alone<K, V, S> {
     // The key's hash, and the number of the shard that it goes to.
     #[inline]
     fn place_of(&self, key: &K) -> (u64, usize)
-        ensures hash { result.0 ≡ (by K.Hash S.BuildHasher S.Hasher.Hasher).hash self.now.hasher key.now }
-        ensures place { result.1 ≡ (keys_in (by K.Hash S.BuildHasher S.Hasher.Hasher) self.now).route key.now }
+        ensures hash { result.0 ≡ ⟦<Self as Keyed>⟧.by.hash self.now.hasher key.now }
+        ensures place { result.1 ≡ (keys_in ⟦<Self as Keyed>⟧.by self.now).route key.now }
         ensures below { result.1 < length self.now.row }
     {
         let hash = self.hasher.hash_one(key);
@@ -135,10 +144,10 @@ impl<K: Eq + Hash + Drop, V: Drop, S: BuildHasher> Alone<K, V, S> {
     /// Takes memory for a new key where its shard is full, and is refused (1) only then. It waits for nobody.
     #[inline]
     pub fn insert(&mut self, key: K, value: V) -> Result<Option<V>, InsertRefused<K, V>>
-        ensures taken { IfOk result (λ old. TakesAlone (by K.Hash S.BuildHasher S.Hasher.Hasher) self.old self.new (Insert key value) (Old old)) }
+        ensures taken { IfOk result (λ old. TakesAlone ⟦<Self as Keyed>⟧.by self.old self.new (Insert key value) (Old old)) }
         ensures refused { IfErr result (λ e. (e.key ≡ key) × (e.value ≡ value) × (self.new ≡ self.old)) }
-        ensures absent { OnErr result (at (keys_in (by K.Hash S.BuildHasher S.Hasher.Hasher) self.old) (contents self.old) key ≡ None) }
-        ensures full { OnErr result (IsSomeAnd (slice_get self.old.row ((keys_in (by K.Hash S.BuildHasher S.Hasher.Hasher) self.old).route key)) (λ s. shard_len s ≡ s.capacity)) }
+        ensures absent { OnErr result (at (keys_in ⟦<Self as Keyed>⟧.by self.old) (contents self.old) key ≡ None) }
+        ensures full { OnErr result (IsSomeAnd (slice_get self.old.row ((keys_in ⟦<Self as Keyed>⟧.by self.old).route key)) (λ s. shard_len s ≡ s.capacity)) }
     {
         let (hash, place) = self.place_of(&key);
         self.row[place].insert_hashed(hash, key, value)
@@ -147,7 +156,7 @@ impl<K: Eq + Hash + Drop, V: Drop, S: BuildHasher> Alone<K, V, S> {
     /// Takes the pair whose key equals `key` out, and answers it. It takes no memory, and can't be refused.
     #[inline]
     pub fn remove(&mut self, key: &K) -> Option<(K, V)>
-        ensures { TakesAlone (by K.Hash S.BuildHasher S.Hasher.Hasher) self.old self.new (Remove key.now) (Pair result) }
+        ensures { TakesAlone ⟦<Self as Keyed>⟧.by self.old self.new (Remove key.now) (Pair result) }
     {
         let (hash, place) = self.place_of(key);
         self.remove_hashed(hash, place, key)
@@ -156,10 +165,10 @@ impl<K: Eq + Hash + Drop, V: Drop, S: BuildHasher> Alone<K, V, S> {
     // As `remove`, by the key's hash and place.
     #[inline]
     fn remove_hashed(&mut self, hash: u64, place: usize, key: &K) -> Option<(K, V)>
-        requires hash { hash ≡ (by K.Hash S.BuildHasher S.Hasher.Hasher).hash self.old.hasher key.now }
-        requires place { place ≡ (keys_in (by K.Hash S.BuildHasher S.Hasher.Hasher) self.old).route key.now }
+        requires hash { hash ≡ ⟦<Self as Keyed>⟧.by.hash self.old.hasher key.now }
+        requires place { place ≡ (keys_in ⟦<Self as Keyed>⟧.by self.old).route key.now }
         requires below { place < length self.old.row }
-        ensures { TakesAlone (by K.Hash S.BuildHasher S.Hasher.Hasher) self.old self.new (Remove key.now) (Pair result) }
+        ensures { TakesAlone ⟦<Self as Keyed>⟧.by self.old self.new (Remove key.now) (Pair result) }
     {
         let _ = &self.hasher;
         self.row[place].remove_hashed(hash, key)
@@ -168,8 +177,8 @@ impl<K: Eq + Hash + Drop, V: Drop, S: BuildHasher> Alone<K, V, S> {
     /// Takes the pair whose key equals `key` out if `f` answers yes on it, and answers it. It takes no memory, and can't be refused.
     #[inline]
     pub fn remove_if<F: FnOnce(&K, &V) -> bool>(&mut self, key: &K, f: F) -> Option<(K, V)>
-        requires { IfSome (at (keys_in (by K.Hash S.BuildHasher S.Hasher.Hasher) self.old) (contents self.old) key.now) (MayAsk F.FnOnce f) }
-        ensures { TakesAsked (by K.Hash S.BuildHasher S.Hasher.Hasher) (AnswersOn F.FnOnce f) self.old self.new key.now result }
+        requires { IfSome (at (keys_in ⟦<Self as Keyed>⟧.by self.old) (contents self.old) key.now) (MayAsk F.FnOnce f) }
+        ensures { TakesAsked ⟦<Self as Keyed>⟧.by (AnswersOn F.FnOnce f) self.old self.new key.now result }
     {
         let (hash, place) = self.place_of(key);
         self.row[place].remove_if_hashed(hash, key, f)
@@ -178,8 +187,8 @@ impl<K: Eq + Hash + Drop, V: Drop, S: BuildHasher> Alone<K, V, S> {
     /// The pair whose key equals `key`.
     #[inline]
     pub fn get(&self, key: &K) -> Option<(&K, &V)>
-        ensures pair { Replies (keys_in (by K.Hash S.BuildHasher S.Hasher.Hasher) self.now) (Get key.now) (contents self.now) (Pair (option_map deref_pair result)) }
-        ensures lawful { IsAlone (by K.Hash S.BuildHasher S.Hasher.Hasher) self.now }
+        ensures pair { Replies (keys_in ⟦<Self as Keyed>⟧.by self.now) (Get key.now) (contents self.now) (Pair (option_map deref_pair result)) }
+        ensures lawful { IsAlone ⟦<Self as Keyed>⟧.by self.now }
     {
         let (hash, place) = self.place_of(key);
         self.get_hashed(hash, place, key)
@@ -188,11 +197,11 @@ impl<K: Eq + Hash + Drop, V: Drop, S: BuildHasher> Alone<K, V, S> {
     // As `get`, by the key's hash and place.
     #[inline]
     fn get_hashed(&self, hash: u64, place: usize, key: &K) -> Option<(&K, &V)>
-        requires hash { hash ≡ (by K.Hash S.BuildHasher S.Hasher.Hasher).hash self.now.hasher key.now }
-        requires place { place ≡ (keys_in (by K.Hash S.BuildHasher S.Hasher.Hasher) self.now).route key.now }
+        requires hash { hash ≡ ⟦<Self as Keyed>⟧.by.hash self.now.hasher key.now }
+        requires place { place ≡ (keys_in ⟦<Self as Keyed>⟧.by self.now).route key.now }
         requires below { place < length self.now.row }
-        ensures pair { Replies (keys_in (by K.Hash S.BuildHasher S.Hasher.Hasher) self.now) (Get key.now) (contents self.now) (Pair (option_map deref_pair result)) }
-        ensures lawful { IsAlone (by K.Hash S.BuildHasher S.Hasher.Hasher) self.now }
+        ensures pair { Replies (keys_in ⟦<Self as Keyed>⟧.by self.now) (Get key.now) (contents self.now) (Pair (option_map deref_pair result)) }
+        ensures lawful { IsAlone ⟦<Self as Keyed>⟧.by self.now }
     {
         let _ = &self.hasher;
         let shard = &self.row[place];
@@ -203,8 +212,8 @@ impl<K: Eq + Hash + Drop, V: Drop, S: BuildHasher> Alone<K, V, S> {
     /// Whether there is a pair whose key equals `key`.
     #[inline]
     pub fn contains_key(&self, key: &K) -> bool
-        ensures found { Replies (keys_in (by K.Hash S.BuildHasher S.Hasher.Hasher) self.now) (Contains key.now) (contents self.now) (Found result) }
-        ensures lawful { IsAlone (by K.Hash S.BuildHasher S.Hasher.Hasher) self.now }
+        ensures found { Replies (keys_in ⟦<Self as Keyed>⟧.by self.now) (Contains key.now) (contents self.now) (Found result) }
+        ensures lawful { IsAlone ⟦<Self as Keyed>⟧.by self.now }
     {
         self.get(key).is_some()
     }
@@ -212,9 +221,9 @@ impl<K: Eq + Hash + Drop, V: Drop, S: BuildHasher> Alone<K, V, S> {
     /// What `f` answers on the pair whose key equals `key`.
     #[inline]
     pub fn view<R, F: FnOnce(&K, &V) -> R>(&self, key: &K, f: F) -> Option<R>
-        requires { IfSome (at (keys_in (by K.Hash S.BuildHasher S.Hasher.Hasher) self.now) (contents self.now) key.now) (MayAsk F.FnOnce f) }
-        ensures viewed { Viewed F.FnOnce f (at (keys_in (by K.Hash S.BuildHasher S.Hasher.Hasher) self.now) (contents self.now) key.now) result }
-        ensures lawful { IsAlone (by K.Hash S.BuildHasher S.Hasher.Hasher) self.now }
+        requires { IfSome (at (keys_in ⟦<Self as Keyed>⟧.by self.now) (contents self.now) key.now) (MayAsk F.FnOnce f) }
+        ensures viewed { Viewed F.FnOnce f (at (keys_in ⟦<Self as Keyed>⟧.by self.now) (contents self.now) key.now) result }
+        ensures lawful { IsAlone ⟦<Self as Keyed>⟧.by self.now }
     {
         let (key, value) = self.get(key)?;
         Some(f(key, value))
@@ -223,7 +232,7 @@ impl<K: Eq + Hash + Drop, V: Drop, S: BuildHasher> Alone<K, V, S> {
     /// How many pairs there are, held at 2^64 - 1. It asks each shard once. The original's `len` locks shard after shard for this.
     pub fn len(&self) -> usize
         ensures len { result ≡ min (length (contents self.now)) (2 ^ 64 - 1) }
-        ensures lawful { IsAlone (by K.Hash S.BuildHasher S.Hasher.Hasher) self.now }
+        ensures lawful { IsAlone ⟦<Self as Keyed>⟧.by self.now }
     {
         let mut len: usize = 0;
         for shard in &self.row {
@@ -235,7 +244,7 @@ impl<K: Eq + Hash + Drop, V: Drop, S: BuildHasher> Alone<K, V, S> {
     /// Whether there are no pairs.
     pub fn is_empty(&self) -> bool
         ensures empty { result ≡ (length (contents self.now) == 0) }
-        ensures lawful { IsAlone (by K.Hash S.BuildHasher S.Hasher.Hasher) self.now }
+        ensures lawful { IsAlone ⟦<Self as Keyed>⟧.by self.now }
     {
         self.len() == 0
     }
@@ -245,7 +254,7 @@ impl<K: Eq + Hash + Drop, V: Drop, S: BuildHasher> Alone<K, V, S> {
     pub fn capacity(&self) -> usize
         ensures capacity { result ≡ min (sum_by (λ s. s.capacity) self.now.row) (2 ^ 64 - 1) }
         ensures holds { min (length (contents self.now)) (2 ^ 64 - 1) ≤ result }
-        ensures lawful { IsAlone (by K.Hash S.BuildHasher S.Hasher.Hasher) self.now }
+        ensures lawful { IsAlone ⟦<Self as Keyed>⟧.by self.now }
     {
         let mut capacity: usize = 0;
         for shard in &self.row {
@@ -259,7 +268,7 @@ impl<K: Eq + Hash + Drop, V: Drop, S: BuildHasher> Alone<K, V, S> {
     ///
     /// It asks the shards in their order, and is refused (11) at the first that finds no memory: those before it keep their room.
     pub fn try_reserve(&mut self, additional: usize) -> Result<(), TryReserveError>
-        ensures { ReservesAlone (by K.Hash S.BuildHasher S.Hasher.Hasher) additional self.old self.new result }
+        ensures { ReservesAlone ⟦<Self as Keyed>⟧.by additional self.old self.new result }
     {
         let _ = &self.hasher;
         for place in 0..self.row.len() {
@@ -306,7 +315,7 @@ impl<K: Eq + Hash, V, S: BuildHasher> DashMap<K, V, S> {
     pub fn alone(self) -> Alone<K, V, S>
         ensures hasher { result.hasher ≡ self.hasher }
         ensures amount { length result.row ≡ self.amount }
-        ensures lawful { IsAlone (by K.Hash S.BuildHasher S.Hasher.Hasher) result }
+        ensures lawful { IsAlone ⟦<Self as Keyed>⟧.by result }
     {
         let DashMap {
             hasher,

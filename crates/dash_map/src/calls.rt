@@ -7,7 +7,7 @@ ghost use Rattle.dash_shard.specs.Contents.{at};
 ghost use Rattle.dash_shard.specs.Shard.{keys_of, pairs, IsShard};
 ghost use Rattle.dash_shard.specs.Held.{Alters};
 ghost use Rattle.dash_map.specs.Behind.{Asked, Changed, ReservesBehind, SawPair, SawShards, LeavesShard};
-ghost use Rattle.dash_shard.specs.Hashing.{by, route_by};
+ghost use Rattle.dash_shard.specs.Hashing.{route_by};
 ghost use Rattle.dash_map.specs.Alone.{AloneState, IsPlaced, contents};
 ghost use Rattle.dash_ref.specs.Ref.{Stands};
 
@@ -15,6 +15,7 @@ use crate::map::DashMap;
 use core::mem::replace_with;
 use dash_ref::mapref::one::Ref;
 use dash_shard::error::TryReserveError;
+use dash_shard::keyed::Keyed;
 use dash_shard::shard::held::ShardMut;
 use dash_shard::shard::{InsertRefused, Shard};
 use std::hash::{BuildHasher, Hash};
@@ -30,10 +31,10 @@ fn find<'s, K: Eq + Hash, V, S: BuildHasher>(
     hash: u64,
     key: &K,
 ) -> Option<(&'s K, &'s V)>
-    requires { hash ≡ (by K.Hash S.BuildHasher S.Hasher.Hasher).hash shard.now.hasher key.now }
-    ensures pair { option_map deref_pair result ≡ at (keys_of (by K.Hash S.BuildHasher S.Hasher.Hasher) shard.now) (pairs shard.now) key.now }
+    requires { hash ≡ ⟦<DashMap<K, V, S> as Keyed>⟧.by.hash shard.now.hasher key.now }
+    ensures pair { option_map deref_pair result ≡ at (keys_of ⟦<DashMap<K, V, S> as Keyed>⟧.by shard.now) (pairs shard.now) key.now }
     ensures equal { IfSome result (λ p. IsTrue (K.eq p.0.now key.now)) }
-    ensures lawful { IsShard (by K.Hash S.BuildHasher S.Hasher.Hasher) shard.now }
+    ensures lawful { IsShard ⟦<DashMap<K, V, S> as Keyed>⟧.by shard.now }
 {
     let position = shard.position_of_hashed(hash, key)?;
     Some(shard.at(position))
@@ -43,8 +44,8 @@ impl<K: Eq + Hash, V, S: BuildHasher> DashMap<K, V, S> {
     // The key's hash, and the number of the shard that it goes to.
     #[inline]
     fn place_of(&self, key: &K) -> (u64, usize)
-        ensures hash { result.0 ≡ (by K.Hash S.BuildHasher S.Hasher.Hasher).hash self.now.hasher key.now }
-        ensures route { result.1 ≡ route_by (by K.Hash S.BuildHasher S.Hasher.Hasher) self.now.hasher self.now.amount key.now }
+        ensures hash { result.0 ≡ ⟦<Self as Keyed>⟧.by.hash self.now.hasher key.now }
+        ensures route { result.1 ≡ route_by ⟦<Self as Keyed>⟧.by self.now.hasher self.now.amount key.now }
         ensures below { result.1 < self.now.amount }
     {
         let hash = self.hash_usize(key);
@@ -55,7 +56,7 @@ impl<K: Eq + Hash, V, S: BuildHasher> DashMap<K, V, S> {
     #[inline]
     pub fn shards_mut<R: Wait + Clock>(&self, rt: &R, shard: usize) -> ShardMut<'_, K, V, S>
         requires { shard < self.now.amount }
-        ensures placed { IsPlaced (by K.Hash S.BuildHasher S.Hasher.Hasher) self.now.hasher self.now.amount shard result }
+        ensures placed { IsPlaced ⟦<Self as Keyed>⟧.by self.now.hasher self.now.amount shard result }
     {
         self.row[shard].write(rt).shard()
     }
@@ -95,7 +96,7 @@ impl<K: Eq + Hash, V, S: BuildHasher> DashMap<K, V, S> {
     pub fn get<R: Wait + Clock>(&self, rt: &R, key: &K) -> Option<Ref<'_, K, V, S>>
         ensures equal { IfSome result (λ found. IsTrue (K.eq found.key key.now)) }
         ensures stands { IfSome result Stands }
-        ensures placed { IfSome result (λ found. IsPlaced (by K.Hash S.BuildHasher S.Hasher.Hasher) self.now.hasher self.now.amount (route_by (by K.Hash S.BuildHasher S.Hasher.Hasher) self.now.hasher self.now.amount key.now) found.shard) }
+        ensures placed { IfSome result (λ found. IsPlaced ⟦<Self as Keyed>⟧.by self.now.hasher self.now.amount (route_by ⟦<Self as Keyed>⟧.by self.now.hasher self.now.amount key.now) found.shard) }
     {
         let (hash, place) = self.place_of(key);
         Ref::find(self.row[place].read(rt), hash, key)
@@ -112,7 +113,7 @@ impl<K: Eq + Hash, V, S: BuildHasher> DashMap<K, V, S> {
         f: F,
     ) -> Option<(K, V)>
         requires { (p : K × V) → IsTrue (K.eq p.0 key.now) → MayAsk F.FnOnce f p }
-        ensures { SawPair (by K.Hash S.BuildHasher S.Hasher.Hasher) self.now key.now (λ p. Asked (AnswersOn F.FnOnce f) p result) }
+        ensures { SawPair ⟦<Self as Keyed>⟧.by self.now key.now (λ p. Asked (AnswersOn F.FnOnce f) p result) }
     {
         let (hash, place) = self.place_of(key);
         self.shards_mut(rt, place).remove_if_hashed(hash, key, f)
@@ -130,7 +131,7 @@ impl<K: Eq + Hash, V, S: BuildHasher> DashMap<K, V, S> {
         f: F,
     ) -> Option<(K, V)>
         requires { (p : K × V) → IsTrue (K.eq p.0 key.now) → MayChange F.FnOnce f p }
-        ensures { SawPair (by K.Hash S.BuildHasher S.Hasher.Hasher) self.now key.now (λ p. Changed (ChangesOn F.FnOnce f) p result) }
+        ensures { SawPair ⟦<Self as Keyed>⟧.by self.now key.now (λ p. Changed (ChangesOn F.FnOnce f) p result) }
     {
         let (hash, place) = self.place_of(key);
         self.shards_mut(rt, place)
@@ -148,7 +149,7 @@ impl<K: Eq + Hash, V, S: BuildHasher> DashMap<K, V, S> {
         f: F,
     ) -> Option<T>
         requires { (p : K × V) → IsTrue (K.eq p.0 key.now) → MayAsk F.FnOnce f p }
-        ensures { SawPair (by K.Hash S.BuildHasher S.Hasher.Hasher) self.now key.now (λ p. Viewed F.FnOnce f p result) }
+        ensures { SawPair ⟦<Self as Keyed>⟧.by self.now key.now (λ p. Viewed F.FnOnce f p result) }
     {
         let (hash, place) = self.place_of(key);
         let guard = self.row[place].read(rt);
@@ -163,7 +164,7 @@ impl<K: Eq + Hash, V, S: BuildHasher> DashMap<K, V, S> {
     #[inline]
     pub fn alter<R: Wait + Clock, F: FnOnce(&K, V) -> V>(&self, rt: &R, key: &K, f: F)
         requires { (p : K × V) → IsTrue (K.eq p.0 key.now) → MayGive F.FnOnce f p }
-        ensures { LeavesShard (by K.Hash S.BuildHasher S.Hasher.Hasher) self.now key.now (λ s t. Alters (by K.Hash S.BuildHasher S.Hasher.Hasher) (GivesOn F.FnOnce f) s t key.now) }
+        ensures { LeavesShard ⟦<Self as Keyed>⟧.by self.now key.now (λ s t. Alters ⟦<Self as Keyed>⟧.by (GivesOn F.FnOnce f) s t key.now) }
     {
         let (hash, place) = self.place_of(key);
         self.shards_mut(rt, place).alter_hashed(hash, key, f);
@@ -172,7 +173,7 @@ impl<K: Eq + Hash, V, S: BuildHasher> DashMap<K, V, S> {
     /// Whether there is a pair whose key equals `key`. Waits until no writer has the key's shard. It takes no memory.
     #[inline]
     pub fn contains_key<R: Wait + Clock>(&self, rt: &R, key: &K) -> bool
-        ensures { SawPair (by K.Hash S.BuildHasher S.Hasher.Hasher) self.now key.now (λ (p : Option (K × V)). result ≡ is_some p) }
+        ensures { SawPair ⟦<Self as Keyed>⟧.by self.now key.now (λ (p : Option (K × V)). result ≡ is_some p) }
     {
         let (hash, place) = self.place_of(key);
         let guard = self.row[place].read(rt);
@@ -182,7 +183,7 @@ impl<K: Eq + Hash, V, S: BuildHasher> DashMap<K, V, S> {
     /// How many pairs there are, held at 2^64 - 1. Waits until no writer has a shard, for one shard after the other: others may change
     /// those that it asked before. It takes no memory.
     pub fn len<R: Wait + Clock>(&self, rt: &R) -> usize
-        ensures { SawShards (by K.Hash S.BuildHasher S.Hasher.Hasher) self.now (λ (a : AloneState K V S). result ≡ min (length (contents a)) (2 ^ 64 - 1)) }
+        ensures { SawShards ⟦<Self as Keyed>⟧.by self.now (λ (a : AloneState K V S). result ≡ min (length (contents a)) (2 ^ 64 - 1)) }
     {
         let mut len: usize = 0;
         for lock in &self.row {
@@ -194,7 +195,7 @@ impl<K: Eq + Hash, V, S: BuildHasher> DashMap<K, V, S> {
 
     /// Whether there are no pairs. It waits as `len` does.
     pub fn is_empty<R: Wait + Clock>(&self, rt: &R) -> bool
-        ensures { SawShards (by K.Hash S.BuildHasher S.Hasher.Hasher) self.now (λ (a : AloneState K V S). result ≡ (length (contents a) == 0)) }
+        ensures { SawShards ⟦<Self as Keyed>⟧.by self.now (λ (a : AloneState K V S). result ≡ (length (contents a) == 0)) }
     {
         self.len(rt) == 0
     }
@@ -202,7 +203,7 @@ impl<K: Eq + Hash, V, S: BuildHasher> DashMap<K, V, S> {
     /// How many pairs there may be before some shard takes memory, if they spread as the shards' room does, held at 2^64 - 1. It waits as
     /// `len` does.
     pub fn capacity<R: Wait + Clock>(&self, rt: &R) -> usize
-        ensures { SawShards (by K.Hash S.BuildHasher S.Hasher.Hasher) self.now (λ (a : AloneState K V S). result ≡ min (sum_by (λ s. s.capacity) a.row) (2 ^ 64 - 1)) }
+        ensures { SawShards ⟦<Self as Keyed>⟧.by self.now (λ (a : AloneState K V S). result ≡ min (sum_by (λ s. s.capacity) a.row) (2 ^ 64 - 1)) }
     {
         let mut capacity: usize = 0;
         for lock in &self.row {
@@ -220,7 +221,7 @@ impl<K: Eq + Hash, V, S: BuildHasher> DashMap<K, V, S> {
     where
         K: Drop,
         V: Drop,
-        ensures reserves { ReservesBehind V (by K.Hash S.BuildHasher S.Hasher.Hasher) self.old additional result }
+        ensures reserves { ReservesBehind V ⟦<Self as Keyed>⟧.by self.old additional result }
         ensures same { self.new ≡ self.old }
     {
         replace_with(self, additional, Self::try_reserve_alone)
@@ -231,7 +232,7 @@ impl<K: Eq + Hash, V, S: BuildHasher> DashMap<K, V, S> {
     where
         K: Drop,
         V: Drop,
-        ensures reserves { ReservesBehind V (by K.Hash S.BuildHasher S.Hasher.Hasher) self additional result.1 }
+        ensures reserves { ReservesBehind V ⟦<Self as Keyed>⟧.by self additional result.1 }
         ensures same { result.0 ≡ self }
     {
         let mut alone = self.alone();

@@ -7,6 +7,7 @@ use crate::alone::Alone;
 use crossbeam_utils::CachePadded;
 use dash_shard::error::ConstructError;
 use dash_shard::hash::{FixedState, determine_shard};
+use dash_shard::keyed::Keyed;
 use dash_shard::lock::RwLock;
 use dash_shard::shard::Shard;
 use std::alloc::Global;
@@ -36,6 +37,14 @@ impl<K: Eq + Hash, V, S: BuildHasher> Model for DashMap<K, V, S> {
     ghost view = { λ m. record { hasher = m.hasher; amount = length m.row.items } };
 
     ghost invariant = { λ m. IsMap (record { hasher = m.hasher; amount = length m.row.items }) m.row.items × (m.shards.items ≡ []) × (vec_len m.row ≤ vec_capacity m.shards) };
+}
+
+impl<K: Eq + Hash, V, S: BuildHasher> Keyed for DashMap<K, V, S> {
+    type Key = K;
+
+    type State = S;
+
+    ghost by = { by K.Hash S.BuildHasher S.Hasher.Hasher };
 }
 
 /// The number of shards for so many processors: four for each, rounded up to a power of two.
@@ -121,7 +130,7 @@ impl<K: Eq + Hash + Drop, V: Drop, S: BuildHasher + Clone + Drop> DashMap<K, V, 
     /// It is refused where the parallelism is 0 or above 2^61 (6), then where the capacity can't be rounded up (7), then where there is no
     /// memory (8). The original reads the parallelism from the system.
     pub fn with_hasher(alloc: Global, hasher: S, parallelism: usize) -> Result<Self, ConstructError>
-        requires { (s t : S) → S.is_clone s t → HashAlike (by K.Hash S.BuildHasher S.Hasher.Hasher) s t }
+        requires { (s t : S) → S.is_clone s t → HashAlike ⟦<Self as Keyed>⟧.by s t }
         ensures hasher { IfOk result (λ m. m.hasher ≡ hasher) }
         ensures amount { IfOk result (λ m. IsDefault parallelism m.amount) }
         ensures bad_parallelism { IsErrOf result ConstructError.Parallelism ↔ (IsParallelism parallelism → ⊥) }
@@ -137,7 +146,7 @@ impl<K: Eq + Hash + Drop, V: Drop, S: BuildHasher + Clone + Drop> DashMap<K, V, 
         hasher: S,
         parallelism: usize,
     ) -> Result<Self, ConstructError>
-        requires { (s t : S) → S.is_clone s t → HashAlike (by K.Hash S.BuildHasher S.Hasher.Hasher) s t }
+        requires { (s t : S) → S.is_clone s t → HashAlike ⟦<Self as Keyed>⟧.by s t }
         ensures hasher { IfOk result (λ m. m.hasher ≡ hasher) }
         ensures amount { IfOk result (λ m. IsDefault parallelism m.amount) }
         ensures bad_parallelism { IsErrOf result ConstructError.Parallelism ↔ (IsParallelism parallelism → ⊥) }
@@ -156,7 +165,7 @@ impl<K: Eq + Hash + Drop, V: Drop, S: BuildHasher + Clone + Drop> DashMap<K, V, 
         hasher: S,
         amount: usize,
     ) -> Result<Self, ConstructError>
-        requires { (s t : S) → S.is_clone s t → HashAlike (by K.Hash S.BuildHasher S.Hasher.Hasher) s t }
+        requires { (s t : S) → S.is_clone s t → HashAlike ⟦<Self as Keyed>⟧.by s t }
         ensures made { IfOk result (λ m. m ≡ record { hasher = hasher; amount = amount }) }
         ensures bad_amount { IsErrOf result ConstructError.ShardAmount ↔ (IsAmount amount → ⊥) }
         ensures kinds { IfErr result (λ e. (e ≡ ConstructError.ShardAmount) ⊎ (e ≡ ConstructError.Memory)) }
@@ -174,7 +183,7 @@ impl<K: Eq + Hash + Drop, V: Drop, S: BuildHasher + Clone + Drop> DashMap<K, V, 
         hasher: S,
         amount: usize,
     ) -> Result<Self, ConstructError>
-        requires { (s t : S) → S.is_clone s t → HashAlike (by K.Hash S.BuildHasher S.Hasher.Hasher) s t }
+        requires { (s t : S) → S.is_clone s t → HashAlike ⟦<Self as Keyed>⟧.by s t }
         ensures made { IfOk result (λ m. m ≡ record { hasher = hasher; amount = amount }) }
         ensures bad_amount { IsErrOf result ConstructError.ShardAmount ↔ (IsAmount amount → ⊥) }
         ensures overflow { IsErrOf result ConstructError.CapacityOverflow ↔ (IsAmount amount × Overflows capacity amount) }
@@ -196,7 +205,7 @@ impl<K: Eq + Hash, V, S: BuildHasher> DashMap<K, V, S> {
     /// The number of the shard that a key goes to.
     #[inline]
     pub fn determine_map(&self, key: &K) -> usize
-        ensures route { result ≡ route_by (by K.Hash S.BuildHasher S.Hasher.Hasher) self.now.hasher self.now.amount key.now }
+        ensures route { result ≡ route_by ⟦<Self as Keyed>⟧.by self.now.hasher self.now.amount key.now }
         ensures below { result < self.now.amount }
     {
         self.determine_shard(self.hash_usize(key))

@@ -1,6 +1,5 @@
 //! Runs: lists of steps that one owner takes, with their replies.
 ghost use Rattle.std.specs.Prelude.{◌≡◌, ◌<◌, ◌≤◌, ◌↔◌, IsTrue, IfOk, IfErr, length};
-ghost use Rattle.dash_shard.specs.Hashing.{by};
 ghost use Rattle.dash_shard.specs.Contents.{at};
 ghost use Rattle.dash_shard.specs.Steps as table;
 ghost use Rattle.dash_shard.specs.Steps.{Becomes, place};
@@ -18,6 +17,7 @@ use dash_history::change::{Change, copy_found, plan_alter, plan_remove_if, plan_
 use dash_history::kept::{Kept, KeptKey};
 use dash_history::step::{Reply, ShardStep};
 use dash_history::sweep::copy_pairs;
+use dash_shard::keyed::Keyed;
 use std::hash::BuildHasher;
 use thiserror::Error;
 
@@ -45,11 +45,11 @@ impl<K: KeptKey + Drop, V: Kept + Drop, S: BuildHasher> Alone<K, V, S> {
 
     // Makes of the pair at a key what was decided.
     fn make_change(&mut self, key: K, change: Change<V>)
-        requires { HasPair change (at (keys_in (by K.Hash S.BuildHasher S.Hasher.Hasher) self.old) (contents self.old) key) }
-        ensures becomes { Becomes (keys_in (by K.Hash S.BuildHasher S.Hasher.Hasher) self.old) (change_step key change) (contents self.old) (contents self.new) }
+        requires { HasPair change (at (keys_in ⟦<Self as Keyed>⟧.by self.old) (contents self.old) key) }
+        ensures becomes { Becomes (keys_in ⟦<Self as Keyed>⟧.by self.old) (change_step key change) (contents self.old) (contents self.new) }
         ensures hasher { self.new.hasher ≡ self.old.hasher }
         ensures amount { length self.new.row ≡ length self.old.row }
-        ensures lawful { IsAlone (by K.Hash S.BuildHasher S.Hasher.Hasher) self.new }
+        ensures lawful { IsAlone ⟦<Self as Keyed>⟧.by self.new }
     {
         let _ = &self.hasher;
         match change {
@@ -62,7 +62,7 @@ impl<K: KeptKey + Drop, V: Kept + Drop, S: BuildHasher> Alone<K, V, S> {
     // Why the first of these steps is refused where there is no memory.
     fn first_fault<A: Action<K, V>>(&self, steps: &[ShardStep<K, V, A>]) -> Fault
         requires { 0 < length steps.now }
-        ensures { IsRefused (rules_in (by K.Hash S.BuildHasher S.Hasher.Hasher) K.alike V.alike self.now) A.acts steps.now result }
+        ensures { IsRefused (rules_in ⟦<Self as Keyed>⟧.by K.alike V.alike self.now) A.acts steps.now result }
     {
         let amount = self.row.len();
         if steps[0].place(&self.hasher, amount) < amount {
@@ -74,7 +74,7 @@ impl<K: KeptKey + Drop, V: Kept + Drop, S: BuildHasher> Alone<K, V, S> {
 
     // The pairs of a shard, as a reply.
     fn read(&self, shard: usize) -> Result<Reply<K, V>, Fault>
-        ensures taken { IfOk result (λ reply. Takes (rules_in (by K.Hash S.BuildHasher S.Hasher.Hasher) K.alike V.alike self.now) (contents self.now) (table.Read shard) (reply_of reply) (contents self.now)) }
+        ensures taken { IfOk result (λ reply. Takes (rules_in ⟦<Self as Keyed>⟧.by K.alike V.alike self.now) (contents self.now) (table.Read shard) (reply_of reply) (contents self.now)) }
         ensures fault { IfErr result (λ fault. (fault ≡ Fault.NoSuchShard) ↔ (length self.now.row ≤ shard)) }
     {
         let _ = &self.hasher;
@@ -89,7 +89,7 @@ impl<K: KeptKey + Drop, V: Kept + Drop, S: BuildHasher> Alone<K, V, S> {
 
     // How many pairs a shard has, as a reply.
     fn count(&self, shard: usize) -> Result<Reply<K, V>, Fault>
-        ensures taken { IfOk result (λ reply. Takes (rules_in (by K.Hash S.BuildHasher S.Hasher.Hasher) K.alike V.alike self.now) (contents self.now) (table.Count shard) (reply_of reply) (contents self.now)) }
+        ensures taken { IfOk result (λ reply. Takes (rules_in ⟦<Self as Keyed>⟧.by K.alike V.alike self.now) (contents self.now) (table.Count shard) (reply_of reply) (contents self.now)) }
         ensures fault { IfErr result (λ fault. (fault ≡ Fault.NoSuchShard) ↔ (length self.now.row ≤ shard)) }
     {
         let _ = &self.hasher;
@@ -106,11 +106,11 @@ impl<K: KeptKey + Drop, V: Kept + Drop, S: BuildHasher> Alone<K, V, S> {
         action: &A,
         all: bool,
     ) -> Result<Reply<K, V>, Fault>
-        ensures taken { IfOk result (λ reply. Takes (rules_in (by K.Hash S.BuildHasher S.Hasher.Hasher) K.alike V.alike self.old) (contents self.old) (table.Retain shard (keeping all (A.acts action.now))) (reply_of reply) (contents self.new)) }
+        ensures taken { IfOk result (λ reply. Takes (rules_in ⟦<Self as Keyed>⟧.by K.alike V.alike self.old) (contents self.old) (table.Retain shard (keeping all (A.acts action.now))) (reply_of reply) (contents self.new)) }
         ensures refused { IfErr result (λ fault. (fault ≡ Fault.NoSuchShard) × (length self.old.row ≤ shard) × (self.new ≡ self.old)) }
         ensures hasher { self.new.hasher ≡ self.old.hasher }
         ensures amount { length self.new.row ≡ length self.old.row }
-        ensures lawful { IsAlone (by K.Hash S.BuildHasher S.Hasher.Hasher) self.new }
+        ensures lawful { IsAlone ⟦<Self as Keyed>⟧.by self.new }
     {
         let _ = &self.hasher;
         if shard >= self.row.len() {
@@ -134,12 +134,12 @@ impl<K: KeptKey + Drop, V: Kept + Drop, S: BuildHasher> Alone<K, V, S> {
         step: ShardStep<K, V, A>,
     ) -> Result<Reply<K, V>, (ShardStep<K, V, A>, Fault)>
         requires { IsPlain step → ⊥ }
-        ensures taken { IfOk result (λ reply. Takes (rules_in (by K.Hash S.BuildHasher S.Hasher.Hasher) K.alike V.alike self.old) (contents self.old) (step_of A.acts step) (reply_of reply) (contents self.new)) }
+        ensures taken { IfOk result (λ reply. Takes (rules_in ⟦<Self as Keyed>⟧.by K.alike V.alike self.old) (contents self.old) (step_of A.acts step) (reply_of reply) (contents self.new)) }
         ensures refused { IfErr result (λ e. (e.0 ≡ step) × (self.new ≡ self.old)) }
-        ensures fault { IfErr result (λ e. (e.1 ≡ Fault.NoSuchShard) ↔ (length self.old.row ≤ place (keys_in (by K.Hash S.BuildHasher S.Hasher.Hasher) self.old) (step_of A.acts step))) }
+        ensures fault { IfErr result (λ e. (e.1 ≡ Fault.NoSuchShard) ↔ (length self.old.row ≤ place (keys_in ⟦<Self as Keyed>⟧.by self.old) (step_of A.acts step))) }
         ensures hasher { self.new.hasher ≡ self.old.hasher }
         ensures amount { length self.new.row ≡ length self.old.row }
-        ensures lawful { IsAlone (by K.Hash S.BuildHasher S.Hasher.Hasher) self.new }
+        ensures lawful { IsAlone ⟦<Self as Keyed>⟧.by self.new }
     {
         let _ = &self.hasher;
         match step {
@@ -179,12 +179,12 @@ impl<K: KeptKey + Drop, V: Kept + Drop, S: BuildHasher> Alone<K, V, S> {
         step: &ShardStep<K, V, A>,
     ) -> Result<Reply<K, V>, Fault>
         requires { NamesShard step.now }
-        ensures taken { IfOk result (λ reply. Takes (rules_in (by K.Hash S.BuildHasher S.Hasher.Hasher) K.alike V.alike self.old) (contents self.old) (step_of A.acts step.now) (reply_of reply) (contents self.new)) }
+        ensures taken { IfOk result (λ reply. Takes (rules_in ⟦<Self as Keyed>⟧.by K.alike V.alike self.old) (contents self.old) (step_of A.acts step.now) (reply_of reply) (contents self.new)) }
         ensures refused { IfErr result (λ fault. self.new ≡ self.old) }
-        ensures fault { IfErr result (λ fault. (fault ≡ Fault.NoSuchShard) ↔ (length self.old.row ≤ place (keys_in (by K.Hash S.BuildHasher S.Hasher.Hasher) self.old) (step_of A.acts step.now))) }
+        ensures fault { IfErr result (λ fault. (fault ≡ Fault.NoSuchShard) ↔ (length self.old.row ≤ place (keys_in ⟦<Self as Keyed>⟧.by self.old) (step_of A.acts step.now))) }
         ensures hasher { self.new.hasher ≡ self.old.hasher }
         ensures amount { length self.new.row ≡ length self.old.row }
-        ensures lawful { IsAlone (by K.Hash S.BuildHasher S.Hasher.Hasher) self.new }
+        ensures lawful { IsAlone ⟦<Self as Keyed>⟧.by self.new }
     {
         let _ = &self.hasher;
         match step {
@@ -201,12 +201,12 @@ impl<K: KeptKey + Drop, V: Kept + Drop, S: BuildHasher> Alone<K, V, S> {
         &mut self,
         step: ShardStep<K, V, A>,
     ) -> Result<Reply<K, V>, (ShardStep<K, V, A>, Fault)>
-        ensures taken { IfOk result (λ reply. Takes (rules_in (by K.Hash S.BuildHasher S.Hasher.Hasher) K.alike V.alike self.old) (contents self.old) (step_of A.acts step) (reply_of reply) (contents self.new)) }
+        ensures taken { IfOk result (λ reply. Takes (rules_in ⟦<Self as Keyed>⟧.by K.alike V.alike self.old) (contents self.old) (step_of A.acts step) (reply_of reply) (contents self.new)) }
         ensures refused { IfErr result (λ e. (e.0 ≡ step) × (self.new ≡ self.old)) }
-        ensures fault { IfErr result (λ e. (e.1 ≡ Fault.NoSuchShard) ↔ (length self.old.row ≤ place (keys_in (by K.Hash S.BuildHasher S.Hasher.Hasher) self.old) (step_of A.acts step))) }
+        ensures fault { IfErr result (λ e. (e.1 ≡ Fault.NoSuchShard) ↔ (length self.old.row ≤ place (keys_in ⟦<Self as Keyed>⟧.by self.old) (step_of A.acts step))) }
         ensures hasher { self.new.hasher ≡ self.old.hasher }
         ensures amount { length self.new.row ≡ length self.old.row }
-        ensures lawful { IsAlone (by K.Hash S.BuildHasher S.Hasher.Hasher) self.new }
+        ensures lawful { IsAlone ⟦<Self as Keyed>⟧.by self.new }
     {
         let _ = &self.hasher;
         match step {
@@ -234,10 +234,10 @@ impl<K: KeptKey + Drop, V: Kept + Drop, S: BuildHasher> Alone<K, V, S> {
         &mut self,
         mut steps: Vec<ShardStep<K, V, A>>,
     ) -> RunOutcome<K, V, A>
-        ensures ran { Ran (rules_in (by K.Hash S.BuildHasher S.Hasher.Hasher) K.alike V.alike self.old) A.acts (contents self.old) (contents self.new) steps.items result }
+        ensures ran { Ran (rules_in ⟦<Self as Keyed>⟧.by K.alike V.alike self.old) A.acts (contents self.old) (contents self.new) steps.items result }
         ensures hasher { self.new.hasher ≡ self.old.hasher }
         ensures amount { length self.new.row ≡ length self.old.row }
-        ensures lawful { IsAlone (by K.Hash S.BuildHasher S.Hasher.Hasher) self.new }
+        ensures lawful { IsAlone ⟦<Self as Keyed>⟧.by self.new }
     {
         let _ = &self.hasher;
         let alloc = *steps.allocator();
@@ -280,7 +280,7 @@ impl<K: KeptKey + Drop, V: Kept + Drop, S: BuildHasher> DashMap<K, V, S> {
         &mut self,
         steps: Vec<ShardStep<K, V, A>>,
     ) -> RunOutcome<K, V, A>
-        ensures ran { RanBehind (by K.Hash S.BuildHasher S.Hasher.Hasher) K.alike V.alike A.acts self.old steps.items result }
+        ensures ran { RanBehind ⟦<Self as Keyed>⟧.by K.alike V.alike A.acts self.old steps.items result }
         ensures same { self.new ≡ self.old }
     {
         replace_with(self, steps, Self::run_alone::<A>)
@@ -291,7 +291,7 @@ impl<K: KeptKey + Drop, V: Kept + Drop, S: BuildHasher> DashMap<K, V, S> {
         self,
         steps: Vec<ShardStep<K, V, A>>,
     ) -> (Self, RunOutcome<K, V, A>)
-        ensures ran { RanBehind (by K.Hash S.BuildHasher S.Hasher.Hasher) K.alike V.alike A.acts self steps.items result.1 }
+        ensures ran { RanBehind ⟦<Self as Keyed>⟧.by K.alike V.alike A.acts self steps.items result.1 }
         ensures same { result.0 ≡ self }
     {
         let mut alone = self.alone();

@@ -3,6 +3,7 @@
 
 pub mod error;
 pub mod hash;
+pub mod keyed;
 pub mod lock;
 pub mod row;
 pub mod shard;

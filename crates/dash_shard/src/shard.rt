@@ -13,6 +13,7 @@ ghost use Rattle.dash_shard.specs.declared.error.ConstructError.TheVariants.{Mem
 
 use crate::error::{ConstructError, TryReserveError};
 use crate::hash::determine_shard;
+use crate::keyed::Keyed;
 use std::alloc::Global;
 use std::hash::{BuildHasher, Hash};
 use std::marker::Model;
@@ -50,6 +51,14 @@ impl<K: Eq + Hash, V, S: BuildHasher> Model for Shard<K, V, S> {
     ghost invariant = { λ s. IsInside (key_hash K.eq K.hash_input S.BuildHasher S.Hasher.Hasher) s.table (record { places = pairs_of s.table.nodes.items; number = s.number; amount = s.amount; hasher = s.hasher; capacity = length s.table.nodes.items }) };
 }
 
+impl<K: Eq + Hash, V, S: BuildHasher> Keyed for Shard<K, V, S> {
+    type Key = K;
+
+    type State = S;
+
+    ghost by = { by K.Hash S.BuildHasher S.Hasher.Hasher };
+}
+
 /// No memory for a new key (1). The pair comes back, and the shard or map is as it was.
 #[derive(Debug, Drop)]
 pub struct InsertRefused<K, V> {
@@ -81,7 +90,7 @@ impl<K: Eq + Hash, V, S: BuildHasher> Shard<K, V, S> {
         ensures amount { IfOk result (λ s. s.amount ≡ amount) }
         ensures hasher { IfOk result (λ s. s.hasher ≡ hasher) }
         ensures capacity { IfOk result (λ s. capacity ≤ s.capacity) }
-        ensures lawful { IfOk result (IsShard (by K.Hash S.BuildHasher S.Hasher.Hasher)) }
+        ensures lawful { IfOk result (IsShard ⟦<Self as Keyed>⟧.by) }
         ensures refused { IfErr result (λ e. e ≡ Memory) }
         ensures free { capacity ≡ 0 → IsOk result }
     {
@@ -100,7 +109,7 @@ impl<K: Eq + Hash, V, S: BuildHasher> Shard<K, V, S> {
     #[inline]
     pub fn number(&self) -> usize
         ensures number { result ≡ self.now.number }
-        ensures lawful { IsShard (by K.Hash S.BuildHasher S.Hasher.Hasher) self.now }
+        ensures lawful { IsShard ⟦<Self as Keyed>⟧.by self.now }
     {
         self.number
     }
@@ -109,7 +118,7 @@ impl<K: Eq + Hash, V, S: BuildHasher> Shard<K, V, S> {
     #[inline]
     pub fn amount(&self) -> usize
         ensures amount { result ≡ self.now.amount }
-        ensures lawful { IsShard (by K.Hash S.BuildHasher S.Hasher.Hasher) self.now }
+        ensures lawful { IsShard ⟦<Self as Keyed>⟧.by self.now }
     {
         self.amount
     }
@@ -117,7 +126,7 @@ impl<K: Eq + Hash, V, S: BuildHasher> Shard<K, V, S> {
     /// Whether the key goes to this shard, which the keyed calls ask.
     #[inline]
     pub fn routes(&self, key: &K) -> bool
-        ensures { IsTrue result ↔ Routes (by K.Hash S.BuildHasher S.Hasher.Hasher) self.now key.now }
+        ensures { IsTrue result ↔ Routes ⟦<Self as Keyed>⟧.by self.now key.now }
     {
         determine_shard(self.hasher.hash_one(key), self.amount) == self.number
     }
@@ -125,7 +134,7 @@ impl<K: Eq + Hash, V, S: BuildHasher> Shard<K, V, S> {
     // The hash of a key, by the shard's hasher.
     #[inline(always)]
     fn hash_one(&self, key: &K) -> u64
-        ensures { result ≡ (by K.Hash S.BuildHasher S.Hasher.Hasher).hash self.now.hasher key.now }
+        ensures { result ≡ ⟦<Self as Keyed>⟧.by.hash self.now.hasher key.now }
     {
         self.hasher.hash_one(key)
     }
@@ -138,15 +147,15 @@ impl<K: Eq + Hash, V, S: BuildHasher> Shard<K, V, S> {
     where
         K: Drop,
         V: Drop,
-        requires { Routes (by K.Hash S.BuildHasher S.Hasher.Hasher) self.old key }
-        ensures taken { IfOk result (λ old. TakesExactly (by K.Hash S.BuildHasher S.Hasher.Hasher) self.old self.new (Insert key value) (Old old)) }
+        requires { Routes ⟦<Self as Keyed>⟧.by self.old key }
+        ensures taken { IfOk result (λ old. TakesExactly ⟦<Self as Keyed>⟧.by self.old self.new (Insert key value) (Old old)) }
         ensures len { IfOk result (λ old. shard_len self.new ≡ shard_len self.old + (if is_some old then 0 else 1)) }
         ensures room { shard_len self.old < self.old.capacity → self.new.capacity ≡ self.old.capacity }
-        ensures places { OnOk result (self.new.capacity ≡ self.old.capacity → StaysInPlace (by K.Hash S.BuildHasher S.Hasher.Hasher) self.old self.new (Insert key value)) }
+        ensures places { OnOk result (self.new.capacity ≡ self.old.capacity → StaysInPlace ⟦<Self as Keyed>⟧.by self.old self.new (Insert key value)) }
 
         // A refusal hands the pair back, and comes only for a new key in a full shard.
         ensures refused { IfErr result (λ e. (e.key ≡ key) × (e.value ≡ value) × (self.new ≡ self.old)) }
-        ensures absent { OnErr result (at (keys_of (by K.Hash S.BuildHasher S.Hasher.Hasher) self.old) (pairs self.old) key ≡ None) }
+        ensures absent { OnErr result (at (keys_of ⟦<Self as Keyed>⟧.by self.old) (pairs self.old) key ≡ None) }
         ensures full { OnErr result (shard_len self.old ≡ self.old.capacity) }
     {
         let hash = self.hash_one(&key);
@@ -164,9 +173,9 @@ impl<K: Eq + Hash, V, S: BuildHasher> Shard<K, V, S> {
     where
         K: Drop,
         V: Drop,
-        requires hash { hash ≡ (by K.Hash S.BuildHasher S.Hasher.Hasher).hash self.old.hasher key }
-        requires route { Routes (by K.Hash S.BuildHasher S.Hasher.Hasher) self.old key }
-        ensures { Inserts (by K.Hash S.BuildHasher S.Hasher.Hasher) self.old self.new key value result }
+        requires hash { hash ≡ ⟦<Self as Keyed>⟧.by.hash self.old.hasher key }
+        requires route { Routes ⟦<Self as Keyed>⟧.by self.old key }
+        ensures { Inserts ⟦<Self as Keyed>⟧.by self.old self.new key value result }
     {
         if let Some(place) = self.table.find(hash, &key) {
             return Ok(Some(self.table.replace(place, value)));
@@ -183,11 +192,11 @@ impl<K: Eq + Hash, V, S: BuildHasher> Shard<K, V, S> {
     /// The room stays, for pairs that come later.
     #[inline]
     pub fn remove(&mut self, key: &K) -> Option<(K, V)>
-        requires { Routes (by K.Hash S.BuildHasher S.Hasher.Hasher) self.old key.now }
-        ensures taken { TakesExactly (by K.Hash S.BuildHasher S.Hasher.Hasher) self.old self.new (Remove key.now) (Pair result) }
+        requires { Routes ⟦<Self as Keyed>⟧.by self.old key.now }
+        ensures taken { TakesExactly ⟦<Self as Keyed>⟧.by self.old self.new (Remove key.now) (Pair result) }
         ensures len { shard_len self.old ≡ shard_len self.new + (if is_some result then 1 else 0) }
         ensures room { self.new.capacity ≡ self.old.capacity }
-        ensures places { StaysInPlace (by K.Hash S.BuildHasher S.Hasher.Hasher) self.old self.new (Remove key.now) }
+        ensures places { StaysInPlace ⟦<Self as Keyed>⟧.by self.old self.new (Remove key.now) }
     {
         let hash = self.hash_one(key);
         self.remove_hashed(hash, key)
@@ -196,9 +205,9 @@ impl<K: Eq + Hash, V, S: BuildHasher> Shard<K, V, S> {
     /// As `remove`, for a caller who has the key's hash.
     #[inline]
     pub fn remove_hashed(&mut self, hash: u64, key: &K) -> Option<(K, V)>
-        requires hash { hash ≡ (by K.Hash S.BuildHasher S.Hasher.Hasher).hash self.old.hasher key.now }
-        requires route { Routes (by K.Hash S.BuildHasher S.Hasher.Hasher) self.old key.now }
-        ensures { Removes (by K.Hash S.BuildHasher S.Hasher.Hasher) self.old self.new key.now result }
+        requires hash { hash ≡ ⟦<Self as Keyed>⟧.by.hash self.old.hasher key.now }
+        requires route { Routes ⟦<Self as Keyed>⟧.by self.old key.now }
+        ensures { Removes ⟦<Self as Keyed>⟧.by self.old self.new key.now result }
     {
         let position = self.table.find(hash, key)?;
         Some(self.table.take(position))
@@ -207,9 +216,9 @@ impl<K: Eq + Hash, V, S: BuildHasher> Shard<K, V, S> {
     /// Takes the pair whose key equals `key` out if `f` answers yes on it, and answers it. It takes no memory, and can't be refused.
     #[inline]
     pub fn remove_if<F: FnOnce(&K, &V) -> bool>(&mut self, key: &K, f: F) -> Option<(K, V)>
-        requires route { Routes (by K.Hash S.BuildHasher S.Hasher.Hasher) self.old key.now }
-        requires callable { IfSome (at (keys_of (by K.Hash S.BuildHasher S.Hasher.Hasher) self.old) (pairs self.old) key.now) (MayAsk F.FnOnce f) }
-        ensures { RemovesAsked (by K.Hash S.BuildHasher S.Hasher.Hasher) (AnswersOn F.FnOnce f) self.old self.new key.now result }
+        requires route { Routes ⟦<Self as Keyed>⟧.by self.old key.now }
+        requires callable { IfSome (at (keys_of ⟦<Self as Keyed>⟧.by self.old) (pairs self.old) key.now) (MayAsk F.FnOnce f) }
+        ensures { RemovesAsked ⟦<Self as Keyed>⟧.by (AnswersOn F.FnOnce f) self.old self.new key.now result }
     {
         let hash = self.hash_one(key);
         self.remove_if_hashed(hash, key, f)
@@ -223,10 +232,10 @@ impl<K: Eq + Hash, V, S: BuildHasher> Shard<K, V, S> {
         key: &K,
         f: F,
     ) -> Option<(K, V)>
-        requires hash { hash ≡ (by K.Hash S.BuildHasher S.Hasher.Hasher).hash self.old.hasher key.now }
-        requires route { Routes (by K.Hash S.BuildHasher S.Hasher.Hasher) self.old key.now }
-        requires callable { IfSome (at (keys_of (by K.Hash S.BuildHasher S.Hasher.Hasher) self.old) (pairs self.old) key.now) (MayAsk F.FnOnce f) }
-        ensures { RemovesAsked (by K.Hash S.BuildHasher S.Hasher.Hasher) (AnswersOn F.FnOnce f) self.old self.new key.now result }
+        requires hash { hash ≡ ⟦<Self as Keyed>⟧.by.hash self.old.hasher key.now }
+        requires route { Routes ⟦<Self as Keyed>⟧.by self.old key.now }
+        requires callable { IfSome (at (keys_of ⟦<Self as Keyed>⟧.by self.old) (pairs self.old) key.now) (MayAsk F.FnOnce f) }
+        ensures { RemovesAsked ⟦<Self as Keyed>⟧.by (AnswersOn F.FnOnce f) self.old self.new key.now result }
     {
         let place = self.position_of_hashed(hash, key)?;
         let (stored, value) = self.at(place);
@@ -239,9 +248,9 @@ impl<K: Eq + Hash, V, S: BuildHasher> Shard<K, V, S> {
     /// As `remove_if`, where `f` may write the value. On yes the pair is answered as `f` left it, and on no it stays so.
     #[inline]
     pub fn remove_if_mut<F: FnOnce(&K, &mut V) -> bool>(&mut self, key: &K, f: F) -> Option<(K, V)>
-        requires route { Routes (by K.Hash S.BuildHasher S.Hasher.Hasher) self.old key.now }
-        requires callable { IfSome (at (keys_of (by K.Hash S.BuildHasher S.Hasher.Hasher) self.old) (pairs self.old) key.now) (MayChange F.FnOnce f) }
-        ensures { RemovesChanged (by K.Hash S.BuildHasher S.Hasher.Hasher) (ChangesOn F.FnOnce f) self.old self.new key.now result }
+        requires route { Routes ⟦<Self as Keyed>⟧.by self.old key.now }
+        requires callable { IfSome (at (keys_of ⟦<Self as Keyed>⟧.by self.old) (pairs self.old) key.now) (MayChange F.FnOnce f) }
+        ensures { RemovesChanged ⟦<Self as Keyed>⟧.by (ChangesOn F.FnOnce f) self.old self.new key.now result }
     {
         let hash = self.hash_one(key);
         self.remove_if_mut_hashed(hash, key, f)
@@ -255,10 +264,10 @@ impl<K: Eq + Hash, V, S: BuildHasher> Shard<K, V, S> {
         key: &K,
         f: F,
     ) -> Option<(K, V)>
-        requires hash { hash ≡ (by K.Hash S.BuildHasher S.Hasher.Hasher).hash self.old.hasher key.now }
-        requires route { Routes (by K.Hash S.BuildHasher S.Hasher.Hasher) self.old key.now }
-        requires callable { IfSome (at (keys_of (by K.Hash S.BuildHasher S.Hasher.Hasher) self.old) (pairs self.old) key.now) (MayChange F.FnOnce f) }
-        ensures { RemovesChanged (by K.Hash S.BuildHasher S.Hasher.Hasher) (ChangesOn F.FnOnce f) self.old self.new key.now result }
+        requires hash { hash ≡ ⟦<Self as Keyed>⟧.by.hash self.old.hasher key.now }
+        requires route { Routes ⟦<Self as Keyed>⟧.by self.old key.now }
+        requires callable { IfSome (at (keys_of ⟦<Self as Keyed>⟧.by self.old) (pairs self.old) key.now) (MayChange F.FnOnce f) }
+        ensures { RemovesChanged ⟦<Self as Keyed>⟧.by (ChangesOn F.FnOnce f) self.old self.new key.now result }
     {
         let place = self.position_of_hashed(hash, key)?;
         let (key, value) = self.table.pair_mut(place);
@@ -272,9 +281,9 @@ impl<K: Eq + Hash, V, S: BuildHasher> Shard<K, V, S> {
     /// no memory, and can't be refused.
     #[inline]
     pub fn alter<F: FnOnce(&K, V) -> V>(&mut self, key: &K, f: F)
-        requires route { Routes (by K.Hash S.BuildHasher S.Hasher.Hasher) self.old key.now }
-        requires callable { IfSome (at (keys_of (by K.Hash S.BuildHasher S.Hasher.Hasher) self.old) (pairs self.old) key.now) (MayGive F.FnOnce f) }
-        ensures { Alters (by K.Hash S.BuildHasher S.Hasher.Hasher) (GivesOn F.FnOnce f) self.old self.new key.now }
+        requires route { Routes ⟦<Self as Keyed>⟧.by self.old key.now }
+        requires callable { IfSome (at (keys_of ⟦<Self as Keyed>⟧.by self.old) (pairs self.old) key.now) (MayGive F.FnOnce f) }
+        ensures { Alters ⟦<Self as Keyed>⟧.by (GivesOn F.FnOnce f) self.old self.new key.now }
     {
         let hash = self.hash_one(key);
         self.alter_hashed(hash, key, f);
@@ -283,10 +292,10 @@ impl<K: Eq + Hash, V, S: BuildHasher> Shard<K, V, S> {
     /// As `alter`, for a caller who has the key's hash.
     #[inline]
     pub fn alter_hashed<F: FnOnce(&K, V) -> V>(&mut self, hash: u64, key: &K, f: F)
-        requires hash { hash ≡ (by K.Hash S.BuildHasher S.Hasher.Hasher).hash self.old.hasher key.now }
-        requires route { Routes (by K.Hash S.BuildHasher S.Hasher.Hasher) self.old key.now }
-        requires callable { IfSome (at (keys_of (by K.Hash S.BuildHasher S.Hasher.Hasher) self.old) (pairs self.old) key.now) (MayGive F.FnOnce f) }
-        ensures { Alters (by K.Hash S.BuildHasher S.Hasher.Hasher) (GivesOn F.FnOnce f) self.old self.new key.now }
+        requires hash { hash ≡ ⟦<Self as Keyed>⟧.by.hash self.old.hasher key.now }
+        requires route { Routes ⟦<Self as Keyed>⟧.by self.old key.now }
+        requires callable { IfSome (at (keys_of ⟦<Self as Keyed>⟧.by self.old) (pairs self.old) key.now) (MayGive F.FnOnce f) }
+        ensures { Alters ⟦<Self as Keyed>⟧.by (GivesOn F.FnOnce f) self.old self.new key.now }
     {
         if let Some(place) = self.position_of_hashed(hash, key) {
             self.table.alter(place, f);
@@ -296,8 +305,8 @@ impl<K: Eq + Hash, V, S: BuildHasher> Shard<K, V, S> {
     /// The pair whose key equals `key`.
     #[inline]
     pub fn get(&self, key: &K) -> Option<(&K, &V)>
-        ensures pair { Replies (keys_of (by K.Hash S.BuildHasher S.Hasher.Hasher) self.now) (Get key.now) (pairs self.now) (Pair (option_map deref_pair result)) }
-        ensures lawful { IsShard (by K.Hash S.BuildHasher S.Hasher.Hasher) self.now }
+        ensures pair { Replies (keys_of ⟦<Self as Keyed>⟧.by self.now) (Get key.now) (pairs self.now) (Pair (option_map deref_pair result)) }
+        ensures lawful { IsShard ⟦<Self as Keyed>⟧.by self.now }
     {
         let position = self.position_of(key)?;
         Some(self.at(position))
@@ -307,8 +316,8 @@ impl<K: Eq + Hash, V, S: BuildHasher> Shard<K, V, S> {
     #[inline]
     pub fn get_mut(&mut self, key: &K) -> Option<&mut V>
         ensures* writes_back { sem 𝓛 (lends_get K.row V.row S.row S.Hasher.row K.Hash S.BuildHasher S.Hasher.Hasher self.entry key.now result) }
-        ensures value { option_copied_mut result ≡ option_map (λ p. p.1) (at (keys_of (by K.Hash S.BuildHasher S.Hasher.Hasher) self.old) (pairs self.old) key.now) }
-        ensures lawful { IsShard (by K.Hash S.BuildHasher S.Hasher.Hasher) self.old }
+        ensures value { option_copied_mut result ≡ option_map (λ p. p.1) (at (keys_of ⟦<Self as Keyed>⟧.by self.old) (pairs self.old) key.now) }
+        ensures lawful { IsShard ⟦<Self as Keyed>⟧.by self.old }
     {
         let hash = self.hash_one(key);
         self.get_mut_hashed(hash, key)
@@ -317,10 +326,10 @@ impl<K: Eq + Hash, V, S: BuildHasher> Shard<K, V, S> {
     /// As `get_mut`, for a caller who has the key's hash.
     #[inline]
     pub fn get_mut_hashed(&mut self, hash: u64, key: &K) -> Option<&mut V>
-        requires { hash ≡ (by K.Hash S.BuildHasher S.Hasher.Hasher).hash self.old.hasher key.now }
+        requires { hash ≡ ⟦<Self as Keyed>⟧.by.hash self.old.hasher key.now }
         ensures* writes_back { sem 𝓛 (lends_get K.row V.row S.row S.Hasher.row K.Hash S.BuildHasher S.Hasher.Hasher self.entry key.now result) }
-        ensures value { option_copied_mut result ≡ option_map (λ p. p.1) (at (keys_of (by K.Hash S.BuildHasher S.Hasher.Hasher) self.old) (pairs self.old) key.now) }
-        ensures lawful { IsShard (by K.Hash S.BuildHasher S.Hasher.Hasher) self.old }
+        ensures value { option_copied_mut result ≡ option_map (λ p. p.1) (at (keys_of ⟦<Self as Keyed>⟧.by self.old) (pairs self.old) key.now) }
+        ensures lawful { IsShard ⟦<Self as Keyed>⟧.by self.old }
     {
         match self.position_of_hashed(hash, key) {
             Some(position) => Some(self.at_mut(position).1),
@@ -331,8 +340,8 @@ impl<K: Eq + Hash, V, S: BuildHasher> Shard<K, V, S> {
     /// Whether there is a pair whose key equals `key`.
     #[inline]
     pub fn contains_key(&self, key: &K) -> bool
-        ensures found { Replies (keys_of (by K.Hash S.BuildHasher S.Hasher.Hasher) self.now) (Contains key.now) (pairs self.now) (Found result) }
-        ensures lawful { IsShard (by K.Hash S.BuildHasher S.Hasher.Hasher) self.now }
+        ensures found { Replies (keys_of ⟦<Self as Keyed>⟧.by self.now) (Contains key.now) (pairs self.now) (Found result) }
+        ensures lawful { IsShard ⟦<Self as Keyed>⟧.by self.now }
     {
         self.get(key).is_some()
     }
@@ -340,9 +349,9 @@ impl<K: Eq + Hash, V, S: BuildHasher> Shard<K, V, S> {
     /// What `f` answers on the pair whose key equals `key`.
     #[inline]
     pub fn view<R, F: FnOnce(&K, &V) -> R>(&self, key: &K, f: F) -> Option<R>
-        requires { IfSome (at (keys_of (by K.Hash S.BuildHasher S.Hasher.Hasher) self.now) (pairs self.now) key.now) (MayAsk F.FnOnce f) }
-        ensures viewed { Viewed F.FnOnce f (at (keys_of (by K.Hash S.BuildHasher S.Hasher.Hasher) self.now) (pairs self.now) key.now) result }
-        ensures lawful { IsShard (by K.Hash S.BuildHasher S.Hasher.Hasher) self.now }
+        requires { IfSome (at (keys_of ⟦<Self as Keyed>⟧.by self.now) (pairs self.now) key.now) (MayAsk F.FnOnce f) }
+        ensures viewed { Viewed F.FnOnce f (at (keys_of ⟦<Self as Keyed>⟧.by self.now) (pairs self.now) key.now) result }
+        ensures lawful { IsShard ⟦<Self as Keyed>⟧.by self.now }
     {
         let place = self.position_of(key)?;
         let (key, value) = self.at(place);
@@ -354,7 +363,7 @@ impl<K: Eq + Hash, V, S: BuildHasher> Shard<K, V, S> {
     pub fn len(&self) -> usize
         ensures len { result ≡ shard_len self.now }
         ensures within { result ≤ self.now.capacity }
-        ensures lawful { IsShard (by K.Hash S.BuildHasher S.Hasher.Hasher) self.now }
+        ensures lawful { IsShard ⟦<Self as Keyed>⟧.by self.now }
     {
         self.table.len()
     }
@@ -370,7 +379,7 @@ impl<K: Eq + Hash, V, S: BuildHasher> Shard<K, V, S> {
     /// Makes room for so many pairs more, where there is less. It is refused (11) only where there is no memory for it; the pairs stay, and
     /// so do their places.
     pub fn try_reserve(&mut self, additional: usize) -> Result<(), TryReserveError>
-        ensures { Reserves (by K.Hash S.BuildHasher S.Hasher.Hasher) additional self.old self.new result }
+        ensures { Reserves ⟦<Self as Keyed>⟧.by additional self.old self.new result }
     {
         match self.table.reserve(additional) {
             Ok(()) => Ok(()),

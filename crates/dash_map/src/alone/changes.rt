@@ -1,6 +1,5 @@
 //! Calls of a map of one owner that change the pair of a key.
 ghost use Rattle.std.specs.Prelude.{◌≡◌, IfSome};
-ghost use Rattle.dash_shard.specs.Hashing.{by};
 ghost use Rattle.std.specs.Borrow.{sem};
 ghost use Rattle.std.specs.Option.{option_map, option_copied_mut};
 ghost use Rattle.dash_shard.specs.Contents.{at};
@@ -8,6 +7,7 @@ ghost use Rattle.dash_shard.specs.Closures.{MayChange, ChangesOn, MayGive, Gives
 ghost use Rattle.dash_map.specs.Alone.{IsAlone, TakesChanged, TakesAltered, contents, keys_in};
 
 use super::Alone;
+use dash_shard::keyed::Keyed;
 use std::hash::{BuildHasher, Hash};
 
 impl<K: Eq + Hash + Drop, V: Drop, S: BuildHasher> Alone<K, V, S> {
@@ -17,8 +17,8 @@ impl<K: Eq + Hash + Drop, V: Drop, S: BuildHasher> Alone<K, V, S> {
     /// can't be refused, and waits for nobody.
     #[inline]
     pub fn remove_if_mut<F: FnOnce(&K, &mut V) -> bool>(&mut self, key: &K, f: F) -> Option<(K, V)>
-        requires { IfSome (at (keys_in (by K.Hash S.BuildHasher S.Hasher.Hasher) self.old) (contents self.old) key.now) (MayChange F.FnOnce f) }
-        ensures { TakesChanged (by K.Hash S.BuildHasher S.Hasher.Hasher) (ChangesOn F.FnOnce f) self.old self.new key.now result }
+        requires { IfSome (at (keys_in ⟦<Self as Keyed>⟧.by self.old) (contents self.old) key.now) (MayChange F.FnOnce f) }
+        ensures { TakesChanged ⟦<Self as Keyed>⟧.by (ChangesOn F.FnOnce f) self.old self.new key.now result }
     {
         let (hash, place) = self.place_of(key);
         self.row[place].remove_if_mut_hashed(hash, key, f)
@@ -28,8 +28,8 @@ impl<K: Eq + Hash + Drop, V: Drop, S: BuildHasher> Alone<K, V, S> {
     /// can't be refused, and waits for nobody.
     #[inline]
     pub fn alter<F: FnOnce(&K, V) -> V>(&mut self, key: &K, f: F)
-        requires { IfSome (at (keys_in (by K.Hash S.BuildHasher S.Hasher.Hasher) self.old) (contents self.old) key.now) (MayGive F.FnOnce f) }
-        ensures { TakesAltered (by K.Hash S.BuildHasher S.Hasher.Hasher) (GivesOn F.FnOnce f) self.old self.new key.now }
+        requires { IfSome (at (keys_in ⟦<Self as Keyed>⟧.by self.old) (contents self.old) key.now) (MayGive F.FnOnce f) }
+        ensures { TakesAltered ⟦<Self as Keyed>⟧.by (GivesOn F.FnOnce f) self.old self.new key.now }
     {
         let (hash, place) = self.place_of(key);
         self.row[place].alter_hashed(hash, key, f);
@@ -39,8 +39,8 @@ impl<K: Eq + Hash + Drop, V: Drop, S: BuildHasher> Alone<K, V, S> {
     #[inline]
     pub fn get_mut(&mut self, key: &K) -> Option<&mut V>
         ensures* writes_back { sem 𝓛 (lends_value K.row V.row S.row S.Hasher.row K.Hash S.BuildHasher S.Hasher.Hasher self.entry key.now result) }
-        ensures value { option_copied_mut result ≡ option_map (λ p. p.1) (at (keys_in (by K.Hash S.BuildHasher S.Hasher.Hasher) self.old) (contents self.old) key.now) }
-        ensures lawful { IsAlone (by K.Hash S.BuildHasher S.Hasher.Hasher) self.old }
+        ensures value { option_copied_mut result ≡ option_map (λ p. p.1) (at (keys_in ⟦<Self as Keyed>⟧.by self.old) (contents self.old) key.now) }
+        ensures lawful { IsAlone ⟦<Self as Keyed>⟧.by self.old }
     {
         let (hash, place) = self.place_of(key);
         self.row[place].get_mut_hashed(hash, key)

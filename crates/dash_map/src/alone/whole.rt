@@ -1,12 +1,12 @@
 //! The calls on all pairs of a map of one owner: shard after shard, in rising order.
 ghost use Rattle.std.specs.Prelude.{◌≡◌};
-ghost use Rattle.dash_shard.specs.Hashing.{by};
 ghost use Rattle.std.specs.Map.Calls.{CalledAtPair, TakesPair, CallableOnEachPair};
 ghost use Rattle.dash_shard.specs.Each.{CalledOnPair, TakesOnPair};
 ghost use Rattle.dash_map.specs.Alone.{contents};
 ghost use Rattle.dash_map.specs.Whole.{ClearsAlone, ShrinksAlone, RetainsAlone, AltersAllAlone};
 
 use super::Alone;
+use dash_shard::keyed::Keyed;
 use std::hash::{BuildHasher, Hash};
 
 impl<K: Eq + Hash + Drop, V: Drop, S: BuildHasher> Alone<K, V, S> {
@@ -15,7 +15,7 @@ impl<K: Eq + Hash + Drop, V: Drop, S: BuildHasher> Alone<K, V, S> {
     /// `f` is called once at each pair, shard after shard. The room stays. It takes no memory, can't be refused, and waits for nobody.
     pub fn retain<F: FnMut(&K, &mut V) -> bool>(&mut self, mut f: F)
         requires { CallableOnEachPair (CalledAtPair F.FnMut) (TakesPair F.FnMut) f (contents self.old) }
-        ensures { RetainsAlone (by K.Hash S.BuildHasher S.Hasher.Hasher) (CalledAtPair F.FnMut) f self.old self.new }
+        ensures { RetainsAlone ⟦<Self as Keyed>⟧.by (CalledAtPair F.FnMut) f self.old self.new }
     {
         let _ = &self.hasher;
         for place in 0..self.row.len() {
@@ -25,7 +25,7 @@ impl<K: Eq + Hash + Drop, V: Drop, S: BuildHasher> Alone<K, V, S> {
 
     /// Lets all pairs go. The room stays, for pairs that come later. It takes no memory, and waits for nobody.
     pub fn clear(&mut self)
-        ensures { ClearsAlone (by K.Hash S.BuildHasher S.Hasher.Hasher) self.old self.new }
+        ensures { ClearsAlone ⟦<Self as Keyed>⟧.by self.old self.new }
     {
         let _ = &self.hasher;
         for place in 0..self.row.len() {
@@ -38,7 +38,7 @@ impl<K: Eq + Hash + Drop, V: Drop, S: BuildHasher> Alone<K, V, S> {
     /// `f` is called once at each pair, shard after shard. It takes no memory, can't be refused, and waits for nobody.
     pub fn alter_all<F: FnMut(&K, V) -> V>(&mut self, mut f: F)
         requires { CallableOnEachPair (CalledOnPair F.FnMut) (TakesOnPair F.FnMut) f (contents self.old) }
-        ensures { AltersAllAlone (by K.Hash S.BuildHasher S.Hasher.Hasher) (CalledOnPair F.FnMut) f self.old self.new }
+        ensures { AltersAllAlone ⟦<Self as Keyed>⟧.by (CalledOnPair F.FnMut) f self.old self.new }
     {
         let _ = &self.hasher;
         for place in 0..self.row.len() {
@@ -50,7 +50,7 @@ impl<K: Eq + Hash + Drop, V: Drop, S: BuildHasher> Alone<K, V, S> {
     ///
     /// A shard takes memory for its new places, and keeps the old ones where there is none. It waits for nobody.
     pub fn shrink_to_fit(&mut self)
-        ensures { ShrinksAlone (by K.Hash S.BuildHasher S.Hasher.Hasher) self.old self.new }
+        ensures { ShrinksAlone ⟦<Self as Keyed>⟧.by self.old self.new }
     {
         let _ = &self.hasher;
         for place in 0..self.row.len() {

@@ -1,11 +1,11 @@
 //! Calls of threads on all pairs of a map that they share: shard after shard, each in its turn held for writing.
 ghost use Rattle.std.specs.Map.Calls.{CalledAtPair, TakesPair};
-ghost use Rattle.dash_shard.specs.Hashing.{by};
 ghost use Rattle.dash_shard.specs.Each.{CalledOnPair, TakesOnPair};
 ghost use Rattle.dash_map.specs.Behind.{CallableOnPairs, LeavesShards};
 ghost use Rattle.dash_map.specs.Whole.{ClearsAlone, ShrinksAlone, RetainsAlone, AltersAllAlone};
 
 use crate::map::DashMap;
+use dash_shard::keyed::Keyed;
 use std::hash::{BuildHasher, Hash};
 use std::rt::Clock;
 use std::sync::Wait;
@@ -21,7 +21,7 @@ impl<K: Eq + Hash, V, S: BuildHasher> DashMap<K, V, S> {
         K: Drop,
         V: Drop,
         requires { CallableOnPairs (CalledAtPair F.FnMut) (TakesPair F.FnMut) f }
-        ensures { LeavesShards (by K.Hash S.BuildHasher S.Hasher.Hasher) self.now (RetainsAlone (by K.Hash S.BuildHasher S.Hasher.Hasher) (CalledAtPair F.FnMut) f) }
+        ensures { LeavesShards ⟦<Self as Keyed>⟧.by self.now (RetainsAlone ⟦<Self as Keyed>⟧.by (CalledAtPair F.FnMut) f) }
     {
         for place in 0..self.row.len() {
             f = self.shards_mut(rt, place).retain_by(f);
@@ -34,7 +34,7 @@ impl<K: Eq + Hash, V, S: BuildHasher> DashMap<K, V, S> {
     where
         K: Drop,
         V: Drop,
-        ensures { LeavesShards (by K.Hash S.BuildHasher S.Hasher.Hasher) self.now (ClearsAlone {V = V} (by K.Hash S.BuildHasher S.Hasher.Hasher)) }
+        ensures { LeavesShards ⟦<Self as Keyed>⟧.by self.now (ClearsAlone {V = V} ⟦<Self as Keyed>⟧.by) }
     {
         for place in 0..self.row.len() {
             self.shards_mut(rt, place).clear();
@@ -45,7 +45,7 @@ impl<K: Eq + Hash, V, S: BuildHasher> DashMap<K, V, S> {
     /// no memory, and can't be refused.
     pub fn alter_all<R: Wait + Clock, F: FnMut(&K, V) -> V>(&self, rt: &R, mut f: F)
         requires { CallableOnPairs (CalledOnPair F.FnMut) (TakesOnPair F.FnMut) f }
-        ensures { LeavesShards (by K.Hash S.BuildHasher S.Hasher.Hasher) self.now (AltersAllAlone (by K.Hash S.BuildHasher S.Hasher.Hasher) (CalledOnPair F.FnMut) f) }
+        ensures { LeavesShards ⟦<Self as Keyed>⟧.by self.now (AltersAllAlone ⟦<Self as Keyed>⟧.by (CalledOnPair F.FnMut) f) }
     {
         for place in 0..self.row.len() {
             f = self.shards_mut(rt, place).alter_all_by(f);
@@ -59,7 +59,7 @@ impl<K: Eq + Hash, V, S: BuildHasher> DashMap<K, V, S> {
     where
         K: Drop,
         V: Drop,
-        ensures { LeavesShards (by K.Hash S.BuildHasher S.Hasher.Hasher) self.now (ShrinksAlone {V = V} (by K.Hash S.BuildHasher S.Hasher.Hasher)) }
+        ensures { LeavesShards ⟦<Self as Keyed>⟧.by self.now (ShrinksAlone {V = V} ⟦<Self as Keyed>⟧.by) }
     {
         for place in 0..self.row.len() {
             self.shards_mut(rt, place).shrink_to_fit();

@@ -8,6 +8,7 @@ ghost use Rattle.dash_shard.specs.Steps.{Get, Pair, Replies};
 ghost use Rattle.dash_shard.specs.Shard.{place, pairs, keys_of, IsShard};
 ghost use Rattle.dash_ref.specs.Ref.{Stands, pair_of};
 
+use dash_shard::keyed::Keyed;
 use dash_shard::lock::RwLockReadGuard;
 use dash_shard::shard::Shard;
 use std::fmt;
@@ -42,6 +43,14 @@ impl<'a, K: Eq + Hash, V, S: BuildHasher> Model for Ref<'a, K, V, S> {
     ghost view = { λ s. record { shard = s.guard.value; position = s.position; key = s.key.value; value = s.value.value } };
 
     ghost invariant = { λ s. place s.guard.value.places s.position ≡ Some (s.key.value, s.value.value) };
+}
+
+impl<K: Eq + Hash, V, S: BuildHasher> Keyed for Ref<'_, K, V, S> {
+    type Key = K;
+
+    type State = S;
+
+    ghost by = { by K.Hash S.BuildHasher S.Hasher.Hasher };
 }
 
 impl<K: Eq + Hash, V, S: BuildHasher> Drop for Ref<'_, K, V, S> {
@@ -85,9 +94,9 @@ impl<'a, K: Eq + Hash, V, S: BuildHasher> Ref<'a, K, V, S> {
         hash: u64,
         key: &K,
     ) -> Option<Ref<'a, K, V, S>>
-        requires { hash ≡ (by K.Hash S.BuildHasher S.Hasher.Hasher).hash guard.value.hasher key.now }
-        ensures pair { Replies (keys_of (by K.Hash S.BuildHasher S.Hasher.Hasher) guard.entry.value) (Get key.now) (pairs guard.entry.value) (Pair (option_map pair_of result)) }
-        ensures absent { IsNone result ↔ (at (keys_of (by K.Hash S.BuildHasher S.Hasher.Hasher) guard.entry.value) (pairs guard.entry.value) key.now ≡ None) }
+        requires { hash ≡ ⟦<Self as Keyed>⟧.by.hash guard.value.hasher key.now }
+        ensures pair { Replies (keys_of ⟦<Self as Keyed>⟧.by guard.entry.value) (Get key.now) (pairs guard.entry.value) (Pair (option_map pair_of result)) }
+        ensures absent { IsNone result ↔ (at (keys_of ⟦<Self as Keyed>⟧.by guard.entry.value) (pairs guard.entry.value) key.now ≡ None) }
         ensures equal { IfSome result (λ found. IsTrue (K.eq found.key key.now)) }
         ensures shard { IfSome result (λ found. found.shard ≡ guard.entry.value) }
         ensures stands { IfSome result Stands }
@@ -101,7 +110,7 @@ impl<'a, K: Eq + Hash, V, S: BuildHasher> Ref<'a, K, V, S> {
     pub fn key(&self) -> &K
         ensures key { result.now ≡ self.now.key }
         ensures stands { Stands self.now }
-        ensures lawful { IsShard (by K.Hash S.BuildHasher S.Hasher.Hasher) self.now.shard }
+        ensures lawful { IsShard ⟦<Self as Keyed>⟧.by self.now.shard }
     {
         self.pair().0
     }
@@ -111,7 +120,7 @@ impl<'a, K: Eq + Hash, V, S: BuildHasher> Ref<'a, K, V, S> {
     pub fn value(&self) -> &V
         ensures value { result.now ≡ self.now.value }
         ensures stands { Stands self.now }
-        ensures lawful { IsShard (by K.Hash S.BuildHasher S.Hasher.Hasher) self.now.shard }
+        ensures lawful { IsShard ⟦<Self as Keyed>⟧.by self.now.shard }
     {
         self.pair().1
     }
@@ -121,7 +130,7 @@ impl<'a, K: Eq + Hash, V, S: BuildHasher> Ref<'a, K, V, S> {
     pub fn pair(&self) -> (&K, &V)
         ensures pair { deref_pair result ≡ pair_of self.now }
         ensures stands { Stands self.now }
-        ensures lawful { IsShard (by K.Hash S.BuildHasher S.Hasher.Hasher) self.now.shard }
+        ensures lawful { IsShard ⟦<Self as Keyed>⟧.by self.now.shard }
     {
         self.guard.at(self.position)
     }

@@ -11,6 +11,7 @@ ghost use Rattle.dash_shard.specs.Held.{FitsPlace, Inserts, Removes, RemovesAske
 ghost use Rattle.dash_shard.specs.Table.{IsInside, with_table};
 
 use crate::error::TryReserveError;
+use crate::keyed::Keyed;
 use crate::lock::{RwLockWriteGuard, Tagged};
 use crate::shard::table::Table;
 use crate::shard::{InsertRefused, Shard};
@@ -37,7 +38,7 @@ impl<S: BuildHasher> ShardTag<S> {
         ensures number { result.number ≡ shard.now.number }
         ensures amount { result.amount ≡ shard.now.amount }
         ensures hasher { result.hasher.value ≡ shard.now.hasher }
-        ensures fits { FitsPlace (by K.Hash S.BuildHasher S.Hasher.Hasher) result shard.now }
+        ensures fits { FitsPlace ⟦<Shard<K, V, S> as Keyed>⟧.by result shard.now }
     {
         ShardTag {
             number: shard.number,
@@ -80,6 +81,14 @@ impl<'a, K: Eq + Hash, V, S: BuildHasher> Model for ShardMut<'a, K, V, S> {
     ghost invariant = { λ s. IsHeld (key_hash K.eq K.hash_input S.BuildHasher S.Hasher.Hasher) s.guard.value s.table s.is_lent };
 }
 
+impl<K: Eq + Hash, V, S: BuildHasher> Keyed for ShardMut<'_, K, V, S> {
+    type Key = K;
+
+    type State = S;
+
+    ghost by = { by K.Hash S.BuildHasher S.Hasher.Hasher };
+}
+
 impl<K: Eq + Hash, V, S: BuildHasher> Drop for ShardMut<'_, K, V, S> {
     #[inline]
     fn drop(self) {
@@ -100,7 +109,7 @@ impl<'a, K: Eq + Hash, V, S: BuildHasher> RwLockWriteGuard<'a, Shard<K, V, S>> {
     #[inline]
     pub fn shard(self) -> ShardMut<'a, K, V, S>
         ensures value { result ≡ self.entry.value }
-        ensures fits { FitsPlace (by K.Hash S.BuildHasher S.Hasher.Hasher) self.entry.tag result }
+        ensures fits { FitsPlace ⟦<Shard<K, V, S> as Keyed>⟧.by self.entry.tag result }
     {
         let table = Table::new(self.table.allocator());
         ShardMut {
@@ -116,7 +125,7 @@ impl<K: Eq + Hash, V, S: BuildHasher> ShardMut<'_, K, V, S> {
     // The table that has the pairs.
     #[inline]
     fn table(&self) -> &Table<K, V>
-        ensures inside { IsInside (by K.Hash S.BuildHasher S.Hasher.Hasher) result.now self.now }
+        ensures inside { IsInside ⟦<Self as Keyed>⟧.by result.now self.now }
         ensures table { with_table self.now result.now ≡ self.now }
     {
         if self.is_lent {
@@ -130,7 +139,7 @@ impl<K: Eq + Hash, V, S: BuildHasher> ShardMut<'_, K, V, S> {
     #[inline]
     pub fn number(&self) -> usize
         ensures number { result ≡ self.now.number }
-        ensures lawful { IsShard (by K.Hash S.BuildHasher S.Hasher.Hasher) self.now }
+        ensures lawful { IsShard ⟦<Self as Keyed>⟧.by self.now }
     {
         self.guard.number()
     }
@@ -139,7 +148,7 @@ impl<K: Eq + Hash, V, S: BuildHasher> ShardMut<'_, K, V, S> {
     #[inline]
     pub fn amount(&self) -> usize
         ensures amount { result ≡ self.now.amount }
-        ensures lawful { IsShard (by K.Hash S.BuildHasher S.Hasher.Hasher) self.now }
+        ensures lawful { IsShard ⟦<Self as Keyed>⟧.by self.now }
     {
         self.guard.amount()
     }
@@ -147,7 +156,7 @@ impl<K: Eq + Hash, V, S: BuildHasher> ShardMut<'_, K, V, S> {
     /// Whether the key goes to this shard, which the keyed calls ask.
     #[inline]
     pub fn routes(&self, key: &K) -> bool
-        ensures { IsTrue result ↔ Routes (by K.Hash S.BuildHasher S.Hasher.Hasher) self.now key.now }
+        ensures { IsTrue result ↔ Routes ⟦<Self as Keyed>⟧.by self.now key.now }
     {
         self.guard.routes(key)
     }
@@ -160,8 +169,8 @@ impl<K: Eq + Hash, V, S: BuildHasher> ShardMut<'_, K, V, S> {
     where
         K: Drop,
         V: Drop,
-        requires { Routes (by K.Hash S.BuildHasher S.Hasher.Hasher) self.old key }
-        ensures { Inserts (by K.Hash S.BuildHasher S.Hasher.Hasher) self.old self.new key value result }
+        requires { Routes ⟦<Self as Keyed>⟧.by self.old key }
+        ensures { Inserts ⟦<Self as Keyed>⟧.by self.old self.new key value result }
     {
         let hash = self.guard.hash_one(&key);
         self.insert_hashed(hash, key, value)
@@ -178,9 +187,9 @@ impl<K: Eq + Hash, V, S: BuildHasher> ShardMut<'_, K, V, S> {
     where
         K: Drop,
         V: Drop,
-        requires hash { hash ≡ (by K.Hash S.BuildHasher S.Hasher.Hasher).hash self.old.hasher key }
-        requires route { Routes (by K.Hash S.BuildHasher S.Hasher.Hasher) self.old key }
-        ensures { Inserts (by K.Hash S.BuildHasher S.Hasher.Hasher) self.old self.new key value result }
+        requires hash { hash ≡ ⟦<Self as Keyed>⟧.by.hash self.old.hasher key }
+        requires route { Routes ⟦<Self as Keyed>⟧.by self.old key }
+        ensures { Inserts ⟦<Self as Keyed>⟧.by self.old self.new key value result }
     {
         put_back(&mut self.guard, &mut self.table, self.is_lent);
         self.is_lent = false;
@@ -198,8 +207,8 @@ impl<K: Eq + Hash, V, S: BuildHasher> ShardMut<'_, K, V, S> {
     /// The room stays, for pairs that come later.
     #[inline]
     pub fn remove(&mut self, key: &K) -> Option<(K, V)>
-        requires { Routes (by K.Hash S.BuildHasher S.Hasher.Hasher) self.old key.now }
-        ensures { Removes (by K.Hash S.BuildHasher S.Hasher.Hasher) self.old self.new key.now result }
+        requires { Routes ⟦<Self as Keyed>⟧.by self.old key.now }
+        ensures { Removes ⟦<Self as Keyed>⟧.by self.old self.new key.now result }
     {
         let hash = self.guard.hash_one(key);
         self.remove_hashed(hash, key)
@@ -208,9 +217,9 @@ impl<K: Eq + Hash, V, S: BuildHasher> ShardMut<'_, K, V, S> {
     /// As `remove`, for a caller who has the key's hash.
     #[inline]
     pub fn remove_hashed(&mut self, hash: u64, key: &K) -> Option<(K, V)>
-        requires hash { hash ≡ (by K.Hash S.BuildHasher S.Hasher.Hasher).hash self.old.hasher key.now }
-        requires route { Routes (by K.Hash S.BuildHasher S.Hasher.Hasher) self.old key.now }
-        ensures { Removes (by K.Hash S.BuildHasher S.Hasher.Hasher) self.old self.new key.now result }
+        requires hash { hash ≡ ⟦<Self as Keyed>⟧.by.hash self.old.hasher key.now }
+        requires route { Routes ⟦<Self as Keyed>⟧.by self.old key.now }
+        ensures { Removes ⟦<Self as Keyed>⟧.by self.old self.new key.now result }
     {
         put_back(&mut self.guard, &mut self.table, self.is_lent);
         self.is_lent = false;
@@ -226,9 +235,9 @@ impl<K: Eq + Hash, V, S: BuildHasher> ShardMut<'_, K, V, S> {
     /// Takes the pair whose key equals `key` out if `f` answers yes on it, and answers it. It takes no memory, and can't be refused.
     #[inline]
     pub fn remove_if<F: FnOnce(&K, &V) -> bool>(&mut self, key: &K, f: F) -> Option<(K, V)>
-        requires route { Routes (by K.Hash S.BuildHasher S.Hasher.Hasher) self.old key.now }
-        requires callable { IfSome (at (keys_of (by K.Hash S.BuildHasher S.Hasher.Hasher) self.old) (pairs self.old) key.now) (MayAsk F.FnOnce f) }
-        ensures { RemovesAsked (by K.Hash S.BuildHasher S.Hasher.Hasher) (AnswersOn F.FnOnce f) self.old self.new key.now result }
+        requires route { Routes ⟦<Self as Keyed>⟧.by self.old key.now }
+        requires callable { IfSome (at (keys_of ⟦<Self as Keyed>⟧.by self.old) (pairs self.old) key.now) (MayAsk F.FnOnce f) }
+        ensures { RemovesAsked ⟦<Self as Keyed>⟧.by (AnswersOn F.FnOnce f) self.old self.new key.now result }
     {
         let hash = self.guard.hash_one(key);
         self.remove_if_hashed(hash, key, f)
@@ -242,10 +251,10 @@ impl<K: Eq + Hash, V, S: BuildHasher> ShardMut<'_, K, V, S> {
         key: &K,
         f: F,
     ) -> Option<(K, V)>
-        requires hash { hash ≡ (by K.Hash S.BuildHasher S.Hasher.Hasher).hash self.old.hasher key.now }
-        requires route { Routes (by K.Hash S.BuildHasher S.Hasher.Hasher) self.old key.now }
-        requires callable { IfSome (at (keys_of (by K.Hash S.BuildHasher S.Hasher.Hasher) self.old) (pairs self.old) key.now) (MayAsk F.FnOnce f) }
-        ensures { RemovesAsked (by K.Hash S.BuildHasher S.Hasher.Hasher) (AnswersOn F.FnOnce f) self.old self.new key.now result }
+        requires hash { hash ≡ ⟦<Self as Keyed>⟧.by.hash self.old.hasher key.now }
+        requires route { Routes ⟦<Self as Keyed>⟧.by self.old key.now }
+        requires callable { IfSome (at (keys_of ⟦<Self as Keyed>⟧.by self.old) (pairs self.old) key.now) (MayAsk F.FnOnce f) }
+        ensures { RemovesAsked ⟦<Self as Keyed>⟧.by (AnswersOn F.FnOnce f) self.old self.new key.now result }
     {
         put_back(&mut self.guard, &mut self.table, self.is_lent);
         self.is_lent = false;
@@ -262,9 +271,9 @@ impl<K: Eq + Hash, V, S: BuildHasher> ShardMut<'_, K, V, S> {
     /// As `remove_if`, where `f` may write the value. On yes the pair is answered as `f` left it, and on no it stays so.
     #[inline]
     pub fn remove_if_mut<F: FnOnce(&K, &mut V) -> bool>(&mut self, key: &K, f: F) -> Option<(K, V)>
-        requires route { Routes (by K.Hash S.BuildHasher S.Hasher.Hasher) self.old key.now }
-        requires callable { IfSome (at (keys_of (by K.Hash S.BuildHasher S.Hasher.Hasher) self.old) (pairs self.old) key.now) (MayChange F.FnOnce f) }
-        ensures { RemovesChanged (by K.Hash S.BuildHasher S.Hasher.Hasher) (ChangesOn F.FnOnce f) self.old self.new key.now result }
+        requires route { Routes ⟦<Self as Keyed>⟧.by self.old key.now }
+        requires callable { IfSome (at (keys_of ⟦<Self as Keyed>⟧.by self.old) (pairs self.old) key.now) (MayChange F.FnOnce f) }
+        ensures { RemovesChanged ⟦<Self as Keyed>⟧.by (ChangesOn F.FnOnce f) self.old self.new key.now result }
     {
         let hash = self.guard.hash_one(key);
         self.remove_if_mut_hashed(hash, key, f)
@@ -278,10 +287,10 @@ impl<K: Eq + Hash, V, S: BuildHasher> ShardMut<'_, K, V, S> {
         key: &K,
         f: F,
     ) -> Option<(K, V)>
-        requires hash { hash ≡ (by K.Hash S.BuildHasher S.Hasher.Hasher).hash self.old.hasher key.now }
-        requires route { Routes (by K.Hash S.BuildHasher S.Hasher.Hasher) self.old key.now }
-        requires callable { IfSome (at (keys_of (by K.Hash S.BuildHasher S.Hasher.Hasher) self.old) (pairs self.old) key.now) (MayChange F.FnOnce f) }
-        ensures { RemovesChanged (by K.Hash S.BuildHasher S.Hasher.Hasher) (ChangesOn F.FnOnce f) self.old self.new key.now result }
+        requires hash { hash ≡ ⟦<Self as Keyed>⟧.by.hash self.old.hasher key.now }
+        requires route { Routes ⟦<Self as Keyed>⟧.by self.old key.now }
+        requires callable { IfSome (at (keys_of ⟦<Self as Keyed>⟧.by self.old) (pairs self.old) key.now) (MayChange F.FnOnce f) }
+        ensures { RemovesChanged ⟦<Self as Keyed>⟧.by (ChangesOn F.FnOnce f) self.old self.new key.now result }
     {
         put_back(&mut self.guard, &mut self.table, self.is_lent);
         self.is_lent = false;
@@ -299,9 +308,9 @@ impl<K: Eq + Hash, V, S: BuildHasher> ShardMut<'_, K, V, S> {
     /// no memory, and can't be refused.
     #[inline]
     pub fn alter<F: FnOnce(&K, V) -> V>(&mut self, key: &K, f: F)
-        requires route { Routes (by K.Hash S.BuildHasher S.Hasher.Hasher) self.old key.now }
-        requires callable { IfSome (at (keys_of (by K.Hash S.BuildHasher S.Hasher.Hasher) self.old) (pairs self.old) key.now) (MayGive F.FnOnce f) }
-        ensures { Alters (by K.Hash S.BuildHasher S.Hasher.Hasher) (GivesOn F.FnOnce f) self.old self.new key.now }
+        requires route { Routes ⟦<Self as Keyed>⟧.by self.old key.now }
+        requires callable { IfSome (at (keys_of ⟦<Self as Keyed>⟧.by self.old) (pairs self.old) key.now) (MayGive F.FnOnce f) }
+        ensures { Alters ⟦<Self as Keyed>⟧.by (GivesOn F.FnOnce f) self.old self.new key.now }
     {
         let hash = self.guard.hash_one(key);
         self.alter_hashed(hash, key, f);
@@ -310,10 +319,10 @@ impl<K: Eq + Hash, V, S: BuildHasher> ShardMut<'_, K, V, S> {
     /// As `alter`, for a caller who has the key's hash.
     #[inline]
     pub fn alter_hashed<F: FnOnce(&K, V) -> V>(&mut self, hash: u64, key: &K, f: F)
-        requires hash { hash ≡ (by K.Hash S.BuildHasher S.Hasher.Hasher).hash self.old.hasher key.now }
-        requires route { Routes (by K.Hash S.BuildHasher S.Hasher.Hasher) self.old key.now }
-        requires callable { IfSome (at (keys_of (by K.Hash S.BuildHasher S.Hasher.Hasher) self.old) (pairs self.old) key.now) (MayGive F.FnOnce f) }
-        ensures { Alters (by K.Hash S.BuildHasher S.Hasher.Hasher) (GivesOn F.FnOnce f) self.old self.new key.now }
+        requires hash { hash ≡ ⟦<Self as Keyed>⟧.by.hash self.old.hasher key.now }
+        requires route { Routes ⟦<Self as Keyed>⟧.by self.old key.now }
+        requires callable { IfSome (at (keys_of ⟦<Self as Keyed>⟧.by self.old) (pairs self.old) key.now) (MayGive F.FnOnce f) }
+        ensures { Alters ⟦<Self as Keyed>⟧.by (GivesOn F.FnOnce f) self.old self.new key.now }
     {
         put_back(&mut self.guard, &mut self.table, self.is_lent);
         self.is_lent = false;
@@ -330,8 +339,8 @@ impl<K: Eq + Hash, V, S: BuildHasher> ShardMut<'_, K, V, S> {
     /// The pair whose key equals `key`.
     #[inline]
     pub fn get(&self, key: &K) -> Option<(&K, &V)>
-        ensures pair { Replies (keys_of (by K.Hash S.BuildHasher S.Hasher.Hasher) self.now) (Get key.now) (pairs self.now) (Pair (option_map deref_pair result)) }
-        ensures lawful { IsShard (by K.Hash S.BuildHasher S.Hasher.Hasher) self.now }
+        ensures pair { Replies (keys_of ⟦<Self as Keyed>⟧.by self.now) (Get key.now) (pairs self.now) (Pair (option_map deref_pair result)) }
+        ensures lawful { IsShard ⟦<Self as Keyed>⟧.by self.now }
     {
         let position = self.position_of(key)?;
         Some(self.at(position))
@@ -340,8 +349,8 @@ impl<K: Eq + Hash, V, S: BuildHasher> ShardMut<'_, K, V, S> {
     /// Whether there is a pair whose key equals `key`.
     #[inline]
     pub fn contains_key(&self, key: &K) -> bool
-        ensures found { Replies (keys_of (by K.Hash S.BuildHasher S.Hasher.Hasher) self.now) (Contains key.now) (pairs self.now) (Found result) }
-        ensures lawful { IsShard (by K.Hash S.BuildHasher S.Hasher.Hasher) self.now }
+        ensures found { Replies (keys_of ⟦<Self as Keyed>⟧.by self.now) (Contains key.now) (pairs self.now) (Found result) }
+        ensures lawful { IsShard ⟦<Self as Keyed>⟧.by self.now }
     {
         self.get(key).is_some()
     }
@@ -349,9 +358,9 @@ impl<K: Eq + Hash, V, S: BuildHasher> ShardMut<'_, K, V, S> {
     /// What `f` answers on the pair whose key equals `key`.
     #[inline]
     pub fn view<R, F: FnOnce(&K, &V) -> R>(&self, key: &K, f: F) -> Option<R>
-        requires { IfSome (at (keys_of (by K.Hash S.BuildHasher S.Hasher.Hasher) self.now) (pairs self.now) key.now) (MayAsk F.FnOnce f) }
-        ensures viewed { Viewed F.FnOnce f (at (keys_of (by K.Hash S.BuildHasher S.Hasher.Hasher) self.now) (pairs self.now) key.now) result }
-        ensures lawful { IsShard (by K.Hash S.BuildHasher S.Hasher.Hasher) self.now }
+        requires { IfSome (at (keys_of ⟦<Self as Keyed>⟧.by self.now) (pairs self.now) key.now) (MayAsk F.FnOnce f) }
+        ensures viewed { Viewed F.FnOnce f (at (keys_of ⟦<Self as Keyed>⟧.by self.now) (pairs self.now) key.now) result }
+        ensures lawful { IsShard ⟦<Self as Keyed>⟧.by self.now }
     {
         let place = self.position_of(key)?;
         let (key, value) = self.at(place);
@@ -363,7 +372,7 @@ impl<K: Eq + Hash, V, S: BuildHasher> ShardMut<'_, K, V, S> {
     pub fn len(&self) -> usize
         ensures len { result ≡ shard_len self.now }
         ensures within { result ≤ self.now.capacity }
-        ensures lawful { IsShard (by K.Hash S.BuildHasher S.Hasher.Hasher) self.now }
+        ensures lawful { IsShard ⟦<Self as Keyed>⟧.by self.now }
     {
         self.table().len()
     }
@@ -379,7 +388,7 @@ impl<K: Eq + Hash, V, S: BuildHasher> ShardMut<'_, K, V, S> {
     /// Makes room for so many pairs more, where there is less. It is refused (11) only where there is no memory for it; the pairs stay, and
     /// so do their places.
     pub fn try_reserve(&mut self, additional: usize) -> Result<(), TryReserveError>
-        ensures { Reserves (by K.Hash S.BuildHasher S.Hasher.Hasher) additional self.old self.new result }
+        ensures { Reserves ⟦<Self as Keyed>⟧.by additional self.old self.new result }
     {
         put_back(&mut self.guard, &mut self.table, self.is_lent);
         self.is_lent = false;

@@ -2,12 +2,12 @@
 ghost use Rattle.std.specs.Prelude.{◌≡◌, ℕ, ◌<◌, ◌↔◌, IsSome, IfSome, IsNone, Some, None};
 ghost use Rattle.std.specs.Map.Iter.{deref_pair, deref_pair_mut};
 ghost use Rattle.std.specs.Borrow.{sem};
-ghost use Rattle.dash_shard.specs.Hashing.{by};
 ghost use Rattle.dash_shard.specs.Contents.{at};
 ghost use Rattle.dash_shard.specs.Shard.{place, pairs, shard_len, HasKey, IsNextTaken, keys_of, Routes, IsShard};
 ghost use Rattle.dash_shard.specs.Held.{InsertsNew, Finds, Replaces};
 
 use super::Shard;
+use crate::keyed::Keyed;
 use std::hash::{BuildHasher, Hash};
 
 impl<K: Eq + Hash, V, S: BuildHasher> Shard<K, V, S> {
@@ -17,9 +17,9 @@ impl<K: Eq + Hash, V, S: BuildHasher> Shard<K, V, S> {
     #[inline(always)]
     pub fn position_of(&self, key: &K) -> Option<usize>
         ensures position { (i : ℕ) → (result ≡ Some i) ↔ HasKey K.eq self.now key.now i }
-        ensures pair { IfSome result (λ i. place self.now.places i ≡ at (keys_of (by K.Hash S.BuildHasher S.Hasher.Hasher) self.now) (pairs self.now) key.now) }
-        ensures absent { IsNone result ↔ (at (keys_of (by K.Hash S.BuildHasher S.Hasher.Hasher) self.now) (pairs self.now) key.now ≡ None) }
-        ensures lawful { IsShard (by K.Hash S.BuildHasher S.Hasher.Hasher) self.now }
+        ensures pair { IfSome result (λ i. place self.now.places i ≡ at (keys_of ⟦<Self as Keyed>⟧.by self.now) (pairs self.now) key.now) }
+        ensures absent { IsNone result ↔ (at (keys_of ⟦<Self as Keyed>⟧.by self.now) (pairs self.now) key.now ≡ None) }
+        ensures lawful { IsShard ⟦<Self as Keyed>⟧.by self.now }
     {
         self.position_of_hashed(self.hash_one(key), key)
     }
@@ -27,8 +27,8 @@ impl<K: Eq + Hash, V, S: BuildHasher> Shard<K, V, S> {
     /// As `position_of`, for a caller who has the key's hash.
     #[inline(always)]
     pub fn position_of_hashed(&self, hash: u64, key: &K) -> Option<usize>
-        requires { hash ≡ (by K.Hash S.BuildHasher S.Hasher.Hasher).hash self.now.hasher key.now }
-        ensures { Finds (by K.Hash S.BuildHasher S.Hasher.Hasher) self.now key.now result }
+        requires { hash ≡ ⟦<Self as Keyed>⟧.by.hash self.now.hasher key.now }
+        ensures { Finds ⟦<Self as Keyed>⟧.by self.now key.now result }
     {
         self.table.find(hash, key)
     }
@@ -38,7 +38,7 @@ impl<K: Eq + Hash, V, S: BuildHasher> Shard<K, V, S> {
     pub fn at(&self, position: usize) -> (&K, &V)
         requires { IsSome (place self.now.places position) }
         ensures pair { place self.now.places position ≡ Some (deref_pair result) }
-        ensures lawful { IsShard (by K.Hash S.BuildHasher S.Hasher.Hasher) self.now }
+        ensures lawful { IsShard ⟦<Self as Keyed>⟧.by self.now }
     {
         self.table.at(position)
     }
@@ -49,7 +49,7 @@ impl<K: Eq + Hash, V, S: BuildHasher> Shard<K, V, S> {
         requires { IsSome (place self.old.places position) }
         ensures* writes_back { sem 𝓛 (lends_at K.row V.row S.row S.Hasher.row K.Hash S.BuildHasher S.Hasher.Hasher self.entry position result.1) }
         ensures pair { place self.old.places position ≡ Some (deref_pair_mut result) }
-        ensures lawful { IsShard (by K.Hash S.BuildHasher S.Hasher.Hasher) self.old }
+        ensures lawful { IsShard ⟦<Self as Keyed>⟧.by self.old }
     {
         self.table.pair_mut(position)
     }
@@ -60,10 +60,10 @@ impl<K: Eq + Hash, V, S: BuildHasher> Shard<K, V, S> {
     where
         K: Drop,
         V: Drop,
-        requires route { Routes (by K.Hash S.BuildHasher S.Hasher.Hasher) self.old key }
-        requires absent { at (keys_of (by K.Hash S.BuildHasher S.Hasher.Hasher) self.old) (pairs self.old) key ≡ None }
+        requires route { Routes ⟦<Self as Keyed>⟧.by self.old key }
+        requires absent { at (keys_of ⟦<Self as Keyed>⟧.by self.old) (pairs self.old) key ≡ None }
         requires room { shard_len self.old < self.old.capacity }
-        ensures { InsertsNew (by K.Hash S.BuildHasher S.Hasher.Hasher) self.old self.new key value result }
+        ensures { InsertsNew ⟦<Self as Keyed>⟧.by self.old self.new key value result }
     {
         let hash = self.hash_one(&key);
         self.table.push(hash, key, value)
@@ -74,7 +74,7 @@ impl<K: Eq + Hash, V, S: BuildHasher> Shard<K, V, S> {
     #[inline]
     pub fn replace_at(&mut self, position: usize, key: K, value: V) -> (K, V)
         requires { HasKey K.eq self.old key position }
-        ensures { Replaces (by K.Hash S.BuildHasher S.Hasher.Hasher) self.old self.new position key value result }
+        ensures { Replaces ⟦<Self as Keyed>⟧.by self.old self.new position key value result }
     {
         self.table.exchange(position, key, value)
     }
@@ -83,7 +83,7 @@ impl<K: Eq + Hash, V, S: BuildHasher> Shard<K, V, S> {
     #[inline]
     pub fn next_taken(&self, position: usize) -> Option<usize>
         ensures next { IsNextTaken self.now.places position result }
-        ensures lawful { IsShard (by K.Hash S.BuildHasher S.Hasher.Hasher) self.now }
+        ensures lawful { IsShard ⟦<Self as Keyed>⟧.by self.now }
     {
         self.table.next_taken(position)
     }

@@ -1,12 +1,12 @@
 //! The calls on all pairs of a shard.
 ghost use Rattle.std.specs.Prelude.{◌≡◌};
-ghost use Rattle.dash_shard.specs.Hashing.{by};
 ghost use Rattle.std.specs.Map.Calls.{CalledAtPair, TakesPair, CallableOnEachPair};
 ghost use Rattle.dash_shard.specs.Shard.{pairs, IsShard};
 ghost use Rattle.dash_shard.specs.Each.{CalledOnPair, TakesOnPair, if_kept, altered, Retains, AltersAll, SweepsShard, Clears, Shrinks};
 
 use super::Shard;
 use super::table::walk::Iter;
+use crate::keyed::Keyed;
 use std::hash::{BuildHasher, Hash};
 
 impl<K: Eq + Hash, V, S: BuildHasher> Shard<K, V, S> {
@@ -19,7 +19,7 @@ impl<K: Eq + Hash, V, S: BuildHasher> Shard<K, V, S> {
         K: Drop,
         V: Drop,
         requires { CallableOnEachPair (CalledAtPair F.FnMut) (TakesPair F.FnMut) f (pairs self.old) }
-        ensures { Retains (by K.Hash S.BuildHasher S.Hasher.Hasher) (CalledAtPair F.FnMut) f self.old self.new }
+        ensures { Retains ⟦<Self as Keyed>⟧.by (CalledAtPair F.FnMut) f self.old self.new }
     {
         self.table.retain(&mut f);
     }
@@ -30,7 +30,7 @@ impl<K: Eq + Hash, V, S: BuildHasher> Shard<K, V, S> {
         K: Drop,
         V: Drop,
         requires { CallableOnEachPair (CalledAtPair F.FnMut) (TakesPair F.FnMut) f.old (pairs self.old) }
-        ensures { SweepsShard (by K.Hash S.BuildHasher S.Hasher.Hasher) (CalledAtPair F.FnMut) if_kept f.old f.new self.old self.new }
+        ensures { SweepsShard ⟦<Self as Keyed>⟧.by (CalledAtPair F.FnMut) if_kept f.old f.new self.old self.new }
     {
         self.table.retain(f);
     }
@@ -40,7 +40,7 @@ impl<K: Eq + Hash, V, S: BuildHasher> Shard<K, V, S> {
     /// `f` is called once at each pair, in rising order of places. The pairs keep their places. It takes no memory, and can't be refused.
     pub fn alter_all<F: FnMut(&K, V) -> V>(&mut self, mut f: F)
         requires { CallableOnEachPair (CalledOnPair F.FnMut) (TakesOnPair F.FnMut) f (pairs self.old) }
-        ensures { AltersAll (by K.Hash S.BuildHasher S.Hasher.Hasher) (CalledOnPair F.FnMut) f self.old self.new }
+        ensures { AltersAll ⟦<Self as Keyed>⟧.by (CalledOnPair F.FnMut) f self.old self.new }
     {
         self.table.alter_all(&mut f);
     }
@@ -48,7 +48,7 @@ impl<K: Eq + Hash, V, S: BuildHasher> Shard<K, V, S> {
     /// As `alter_all`, with an `f` that is lent: the caller may go on with it.
     pub fn alter_all_by<F: FnMut(&K, V) -> V>(&mut self, f: &mut F)
         requires { CallableOnEachPair (CalledOnPair F.FnMut) (TakesOnPair F.FnMut) f.old (pairs self.old) }
-        ensures { SweepsShard (by K.Hash S.BuildHasher S.Hasher.Hasher) (CalledOnPair F.FnMut) altered f.old f.new self.old self.new }
+        ensures { SweepsShard ⟦<Self as Keyed>⟧.by (CalledOnPair F.FnMut) altered f.old f.new self.old self.new }
     {
         self.table.alter_all(f);
     }
@@ -58,7 +58,7 @@ impl<K: Eq + Hash, V, S: BuildHasher> Shard<K, V, S> {
     where
         K: Drop,
         V: Drop,
-        ensures { Clears (by K.Hash S.BuildHasher S.Hasher.Hasher) self.old self.new }
+        ensures { Clears ⟦<Self as Keyed>⟧.by self.old self.new }
     {
         self.table.clear();
     }
@@ -71,7 +71,7 @@ impl<K: Eq + Hash, V, S: BuildHasher> Shard<K, V, S> {
     where
         K: Drop,
         V: Drop,
-        ensures { Shrinks (by K.Hash S.BuildHasher S.Hasher.Hasher) self.old self.new }
+        ensures { Shrinks ⟦<Self as Keyed>⟧.by self.old self.new }
     {
         self.table.shrink();
     }
@@ -80,7 +80,7 @@ impl<K: Eq + Hash, V, S: BuildHasher> Shard<K, V, S> {
     #[inline]
     pub fn iter(&self) -> Iter<'_, K, V>
         ensures pairs { result ≡ pairs self.now }
-        ensures lawful { IsShard (by K.Hash S.BuildHasher S.Hasher.Hasher) self.now }
+        ensures lawful { IsShard ⟦<Self as Keyed>⟧.by self.now }
     {
         self.table.iter()
     }

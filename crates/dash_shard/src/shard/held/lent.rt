@@ -10,6 +10,7 @@ ghost use Rattle.dash_shard.specs.Shard.{place, pairs, keys_of, IsShard};
 ghost use Rattle.dash_shard.specs.Table.{IsInside, IsHeld, SwapsTable, with_table, held_state};
 
 use super::ShardMut;
+use crate::keyed::Keyed;
 use crate::lock::RwLockWriteGuard;
 use crate::shard::Shard;
 use crate::shard::table::Table;
@@ -19,8 +20,8 @@ use std::mem::{self, ManuallyDrop};
 impl<K: Eq + Hash, V, S: BuildHasher> Shard<K, V, S> {
     // Puts `table` in place, and answers the one that was there.
     fn swap_table(&mut self, table: Table<K, V>) -> Table<K, V>
-        requires { IsShard (by K.Hash S.BuildHasher S.Hasher.Hasher) self.old → IsInside (by K.Hash S.BuildHasher S.Hasher.Hasher) table (with_table self.old table) }
-        ensures { SwapsTable (by K.Hash S.BuildHasher S.Hasher.Hasher) self.old self.new table result }
+        requires { IsShard ⟦<Self as Keyed>⟧.by self.old → IsInside ⟦<Self as Keyed>⟧.by table (with_table self.old table) }
+        ensures { SwapsTable ⟦<Self as Keyed>⟧.by self.old self.new table result }
     {
         mem::replace(&mut self.table, table)
     }
@@ -31,9 +32,9 @@ pub(super) fn swap_tables<K: Eq + Hash, V, S: BuildHasher>(
     guard: &mut RwLockWriteGuard<'_, Shard<K, V, S>>,
     table: &mut Table<K, V>,
 )
-    requires { IsShard (by K.Hash S.BuildHasher S.Hasher.Hasher) guard.old.value → IsInside (by K.Hash S.BuildHasher S.Hasher.Hasher) table.old (with_table guard.old.value table.old) }
+    requires { IsShard ⟦<Shard<K, V, S> as Keyed>⟧.by guard.old.value → IsInside ⟦<Shard<K, V, S> as Keyed>⟧.by table.old (with_table guard.old.value table.old) }
     ensures tag { guard.new.tag ≡ guard.old.tag }
-    ensures swapped { SwapsTable (by K.Hash S.BuildHasher S.Hasher.Hasher) guard.old.value guard.new.value table.old table.new }
+    ensures swapped { SwapsTable ⟦<Shard<K, V, S> as Keyed>⟧.by guard.old.value guard.new.value table.old table.new }
 {
     let blank = Table::new(table.allocator());
     // The closure takes it out again, so nothing is leaked.
@@ -54,10 +55,10 @@ fn take_out<K: Eq + Hash, V, S: BuildHasher>(
     table: &mut Table<K, V>,
     is_lent: bool,
 )
-    requires { IsHeld (by K.Hash S.BuildHasher S.Hasher.Hasher) guard.old.value table.old is_lent }
+    requires { IsHeld ⟦<Shard<K, V, S> as Keyed>⟧.by guard.old.value table.old is_lent }
     ensures tag { guard.new.tag ≡ guard.old.tag }
     ensures value { with_table guard.new.value table.new ≡ held_state guard.old.value table.old is_lent }
-    ensures held { IsHeld (by K.Hash S.BuildHasher S.Hasher.Hasher) guard.new.value table.new true }
+    ensures held { IsHeld ⟦<Shard<K, V, S> as Keyed>⟧.by guard.new.value table.new true }
 {
     if !is_lent {
         swap_tables(guard, table);
@@ -71,10 +72,10 @@ pub(super) fn put_back<K: Eq + Hash, V, S: BuildHasher>(
     table: &mut Table<K, V>,
     is_lent: bool,
 )
-    requires { IsHeld (by K.Hash S.BuildHasher S.Hasher.Hasher) guard.old.value table.old is_lent }
+    requires { IsHeld ⟦<Shard<K, V, S> as Keyed>⟧.by guard.old.value table.old is_lent }
     ensures tag { guard.new.tag ≡ guard.old.tag }
     ensures value { guard.new.value ≡ held_state guard.old.value table.old is_lent }
-    ensures held { IsHeld (by K.Hash S.BuildHasher S.Hasher.Hasher) guard.new.value table.new false }
+    ensures held { IsHeld ⟦<Shard<K, V, S> as Keyed>⟧.by guard.new.value table.new false }
 {
     if is_lent {
         swap_tables(guard, table);
@@ -91,8 +92,8 @@ impl<K: Eq + Hash, V, S: BuildHasher> ShardMut<'_, K, V, S> {
     #[inline]
     pub fn get_mut(&mut self, key: &K) -> Option<&mut V>
         ensures* writes_back { sem 𝓛 (held_lends_get K.row V.row S.row S.Hasher.row K.Hash S.BuildHasher S.Hasher.Hasher self.entry key.now result) }
-        ensures value { option_copied_mut result ≡ option_map (λ p. p.1) (at (keys_of (by K.Hash S.BuildHasher S.Hasher.Hasher) self.old) (pairs self.old) key.now) }
-        ensures lawful { IsShard (by K.Hash S.BuildHasher S.Hasher.Hasher) self.old }
+        ensures value { option_copied_mut result ≡ option_map (λ p. p.1) (at (keys_of ⟦<Self as Keyed>⟧.by self.old) (pairs self.old) key.now) }
+        ensures lawful { IsShard ⟦<Self as Keyed>⟧.by self.old }
     {
         let hash = self.guard.hash_one(key);
         self.get_mut_hashed(hash, key)
@@ -101,10 +102,10 @@ impl<K: Eq + Hash, V, S: BuildHasher> ShardMut<'_, K, V, S> {
     /// As `get_mut`, for a caller who has the key's hash.
     #[inline]
     pub fn get_mut_hashed(&mut self, hash: u64, key: &K) -> Option<&mut V>
-        requires { hash ≡ (by K.Hash S.BuildHasher S.Hasher.Hasher).hash self.old.hasher key.now }
+        requires { hash ≡ ⟦<Self as Keyed>⟧.by.hash self.old.hasher key.now }
         ensures* writes_back { sem 𝓛 (held_lends_get K.row V.row S.row S.Hasher.row K.Hash S.BuildHasher S.Hasher.Hasher self.entry key.now result) }
-        ensures value { option_copied_mut result ≡ option_map (λ p. p.1) (at (keys_of (by K.Hash S.BuildHasher S.Hasher.Hasher) self.old) (pairs self.old) key.now) }
-        ensures lawful { IsShard (by K.Hash S.BuildHasher S.Hasher.Hasher) self.old }
+        ensures value { option_copied_mut result ≡ option_map (λ p. p.1) (at (keys_of ⟦<Self as Keyed>⟧.by self.old) (pairs self.old) key.now) }
+        ensures lawful { IsShard ⟦<Self as Keyed>⟧.by self.old }
     {
         match self.position_of_hashed(hash, key) {
             Some(position) => Some(self.at_mut(position).1),
@@ -118,7 +119,7 @@ impl<K: Eq + Hash, V, S: BuildHasher> ShardMut<'_, K, V, S> {
         requires { IsSome (place self.old.places position) }
         ensures* writes_back { sem 𝓛 (held_lends_at K.row V.row S.row S.Hasher.row K.Hash S.BuildHasher S.Hasher.Hasher self.entry position result.1) }
         ensures pair { place self.old.places position ≡ Some (deref_pair_mut result) }
-        ensures lawful { IsShard (by K.Hash S.BuildHasher S.Hasher.Hasher) self.old }
+        ensures lawful { IsShard ⟦<Self as Keyed>⟧.by self.old }
     {
         take_out(&mut self.guard, &mut self.table, self.is_lent);
         self.is_lent = true;

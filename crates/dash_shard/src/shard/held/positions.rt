@@ -8,6 +8,7 @@ ghost use Rattle.dash_shard.specs.Held.{InsertsNew, Finds, Replaces};
 
 use super::ShardMut;
 use super::lent::put_back;
+use crate::keyed::Keyed;
 use crate::shard::Shard;
 use std::hash::{BuildHasher, Hash};
 
@@ -15,7 +16,7 @@ impl<K: Eq + Hash, V, S: BuildHasher> ShardMut<'_, K, V, S> {
     /// The place of the pair whose key equals `key`, for `at`. It is good while the shard isn't changed.
     #[inline]
     pub fn position_of(&self, key: &K) -> Option<usize>
-        ensures { Finds (by K.Hash S.BuildHasher S.Hasher.Hasher) self.now key.now result }
+        ensures { Finds ⟦<Self as Keyed>⟧.by self.now key.now result }
     {
         self.position_of_hashed(self.guard.hash_one(key), key)
     }
@@ -23,8 +24,8 @@ impl<K: Eq + Hash, V, S: BuildHasher> ShardMut<'_, K, V, S> {
     /// As `position_of`, for a caller who has the key's hash.
     #[inline]
     pub fn position_of_hashed(&self, hash: u64, key: &K) -> Option<usize>
-        requires { hash ≡ (by K.Hash S.BuildHasher S.Hasher.Hasher).hash self.now.hasher key.now }
-        ensures { Finds (by K.Hash S.BuildHasher S.Hasher.Hasher) self.now key.now result }
+        requires { hash ≡ ⟦<Self as Keyed>⟧.by.hash self.now.hasher key.now }
+        ensures { Finds ⟦<Self as Keyed>⟧.by self.now key.now result }
     {
         self.table().find(hash, key)
     }
@@ -34,7 +35,7 @@ impl<K: Eq + Hash, V, S: BuildHasher> ShardMut<'_, K, V, S> {
     pub fn at(&self, position: usize) -> (&K, &V)
         requires { IsSome (place self.now.places position) }
         ensures pair { place self.now.places position ≡ Some (deref_pair result) }
-        ensures lawful { IsShard (by K.Hash S.BuildHasher S.Hasher.Hasher) self.now }
+        ensures lawful { IsShard ⟦<Self as Keyed>⟧.by self.now }
     {
         self.table().at(position)
     }
@@ -45,10 +46,10 @@ impl<K: Eq + Hash, V, S: BuildHasher> ShardMut<'_, K, V, S> {
     where
         K: Drop,
         V: Drop,
-        requires route { Routes (by K.Hash S.BuildHasher S.Hasher.Hasher) self.old key }
-        requires absent { at (keys_of (by K.Hash S.BuildHasher S.Hasher.Hasher) self.old) (pairs self.old) key ≡ None }
+        requires route { Routes ⟦<Self as Keyed>⟧.by self.old key }
+        requires absent { at (keys_of ⟦<Self as Keyed>⟧.by self.old) (pairs self.old) key ≡ None }
         requires room { shard_len self.old < self.old.capacity }
-        ensures { InsertsNew (by K.Hash S.BuildHasher S.Hasher.Hasher) self.old self.new key value result }
+        ensures { InsertsNew ⟦<Self as Keyed>⟧.by self.old self.new key value result }
     {
         put_back(&mut self.guard, &mut self.table, self.is_lent);
         self.is_lent = false;
@@ -70,7 +71,7 @@ impl<K: Eq + Hash, V, S: BuildHasher> ShardMut<'_, K, V, S> {
         K: Drop,
         V: Drop,
         requires { HasKey K.eq self.old key position }
-        ensures { Replaces (by K.Hash S.BuildHasher S.Hasher.Hasher) self.old self.new position key value result }
+        ensures { Replaces ⟦<Self as Keyed>⟧.by self.old self.new position key value result }
     {
         put_back(&mut self.guard, &mut self.table, self.is_lent);
         self.is_lent = false;
@@ -86,7 +87,7 @@ impl<K: Eq + Hash, V, S: BuildHasher> ShardMut<'_, K, V, S> {
     #[inline]
     pub fn next_taken(&self, position: usize) -> Option<usize>
         ensures next { IsNextTaken self.now.places position result }
-        ensures lawful { IsShard (by K.Hash S.BuildHasher S.Hasher.Hasher) self.now }
+        ensures lawful { IsShard ⟦<Self as Keyed>⟧.by self.now }
     {
         self.table().next_taken(position)
     }

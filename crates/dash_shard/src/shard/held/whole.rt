@@ -7,6 +7,7 @@ ghost use Rattle.dash_shard.specs.Each.{CalledOnPair, TakesOnPair, if_kept, alte
 
 use super::ShardMut;
 use super::lent::put_back;
+use crate::keyed::Keyed;
 use crate::shard::{Iter, Shard};
 use std::hash::{BuildHasher, Hash};
 
@@ -20,7 +21,7 @@ impl<K: Eq + Hash, V, S: BuildHasher> ShardMut<'_, K, V, S> {
         K: Drop,
         V: Drop,
         requires { CallableOnEachPair (CalledAtPair F.FnMut) (TakesPair F.FnMut) f (pairs self.old) }
-        ensures { Retains (by K.Hash S.BuildHasher S.Hasher.Hasher) (CalledAtPair F.FnMut) f self.old self.new }
+        ensures { Retains ⟦<Self as Keyed>⟧.by (CalledAtPair F.FnMut) f self.old self.new }
     {
         put_back(&mut self.guard, &mut self.table, self.is_lent);
         self.is_lent = false;
@@ -38,7 +39,7 @@ impl<K: Eq + Hash, V, S: BuildHasher> ShardMut<'_, K, V, S> {
         K: Drop,
         V: Drop,
         requires { CallableOnEachPair (CalledAtPair F.FnMut) (TakesPair F.FnMut) f (pairs self.old) }
-        ensures { SweepsShard (by K.Hash S.BuildHasher S.Hasher.Hasher) (CalledAtPair F.FnMut) if_kept f result self.old self.new }
+        ensures { SweepsShard ⟦<Self as Keyed>⟧.by (CalledAtPair F.FnMut) if_kept f result self.old self.new }
     {
         put_back(&mut self.guard, &mut self.table, self.is_lent);
         self.is_lent = false;
@@ -59,7 +60,7 @@ impl<K: Eq + Hash, V, S: BuildHasher> ShardMut<'_, K, V, S> {
     /// `f` is called once at each pair, in rising order of places. The pairs keep their places. It takes no memory, and can't be refused.
     pub fn alter_all<F: FnMut(&K, V) -> V>(&mut self, f: F)
         requires { CallableOnEachPair (CalledOnPair F.FnMut) (TakesOnPair F.FnMut) f (pairs self.old) }
-        ensures { AltersAll (by K.Hash S.BuildHasher S.Hasher.Hasher) (CalledOnPair F.FnMut) f self.old self.new }
+        ensures { AltersAll ⟦<Self as Keyed>⟧.by (CalledOnPair F.FnMut) f self.old self.new }
     {
         put_back(&mut self.guard, &mut self.table, self.is_lent);
         self.is_lent = false;
@@ -74,7 +75,7 @@ impl<K: Eq + Hash, V, S: BuildHasher> ShardMut<'_, K, V, S> {
     /// As `alter_all`, and hands `f` back, so that the caller may go on with it.
     pub fn alter_all_by<F: FnMut(&K, V) -> V>(&mut self, f: F) -> F
         requires { CallableOnEachPair (CalledOnPair F.FnMut) (TakesOnPair F.FnMut) f (pairs self.old) }
-        ensures { SweepsShard (by K.Hash S.BuildHasher S.Hasher.Hasher) (CalledOnPair F.FnMut) altered f result self.old self.new }
+        ensures { SweepsShard ⟦<Self as Keyed>⟧.by (CalledOnPair F.FnMut) altered f result self.old self.new }
     {
         put_back(&mut self.guard, &mut self.table, self.is_lent);
         self.is_lent = false;
@@ -95,7 +96,7 @@ impl<K: Eq + Hash, V, S: BuildHasher> ShardMut<'_, K, V, S> {
     where
         K: Drop,
         V: Drop,
-        ensures { Clears (by K.Hash S.BuildHasher S.Hasher.Hasher) self.old self.new }
+        ensures { Clears ⟦<Self as Keyed>⟧.by self.old self.new }
     {
         put_back(&mut self.guard, &mut self.table, self.is_lent);
         self.is_lent = false;
@@ -114,7 +115,7 @@ impl<K: Eq + Hash, V, S: BuildHasher> ShardMut<'_, K, V, S> {
     where
         K: Drop,
         V: Drop,
-        ensures { Shrinks (by K.Hash S.BuildHasher S.Hasher.Hasher) self.old self.new }
+        ensures { Shrinks ⟦<Self as Keyed>⟧.by self.old self.new }
     {
         put_back(&mut self.guard, &mut self.table, self.is_lent);
         self.is_lent = false;
@@ -129,7 +130,7 @@ impl<K: Eq + Hash, V, S: BuildHasher> ShardMut<'_, K, V, S> {
     #[inline]
     pub fn iter(&self) -> Iter<'_, K, V>
         ensures pairs { result ≡ pairs self.now }
-        ensures lawful { IsShard (by K.Hash S.BuildHasher S.Hasher.Hasher) self.now }
+        ensures lawful { IsShard ⟦<Self as Keyed>⟧.by self.now }
     {
         self.table().iter()
     }
