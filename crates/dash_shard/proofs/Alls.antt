@@ -5,8 +5,8 @@ use Rattle.std.proofs.lemmas.Option.{none-some, same_Some}
 use Rattle.dash_shard.specs.Hashing.{IsLawful, KeyHash}
 use Rattle.dash_shard.specs.Contents.{Keys, at, IsOnShard}
 use Rattle.dash_shard.specs.Steps.{Act, Step, Retain, AlterAll, Done, on_shard, line, line_after, LineReplies}
-use Rattle.dash_shard.specs.Shard.{ShardState, place, taken, pairs, keys_of, IsShard, TakesExactly, StaysInPlace}
-use Rattle.dash_shard.specs.Each.{Sweeps, if_kept, altered, Retains, AltersAll, SweepsShard, Clears}
+use Rattle.dash_shard.specs.Shard.{ShardState, place, taken, pairs, keys_of, own_keys, IsShard, TakesStep, StaysPut}
+use Rattle.dash_shard.specs.Each.{Sweeps, if_kept, altered, SweepsBy, SweepsShard, Clears}
 use Rattle.dash_shard.specs.declared.shard.table.Table.{Table}
 use Rattle.dash_shard.specs.Table.{pairs_of, hashes_of, IsHashed, IsTable}
 use Rattle.dash_shard.proofs.Remade.{KeepsKey, remade, fewer-remade, hashed-remade, on_shard-remade, becomes-remade, stays-remade, each-once, Acts, acts, makes}
@@ -56,20 +56,28 @@ module _ {K V S : Type 0} (h : KeyHash K S)
       counted = counted;
     }
 
+    -- by the keys of the shard alone, which all go to it
+    abbrev o : Keys K
+    o = own_keys h.eq (of t)
+
+    all-own : IsOnShard o number (pairs (of t))
+    all-own = record { distinct = inside.shard.contents.distinct; routed = λ k away. absurd (away refl) }
+
     -- a step on this shard that makes just this of each pair
     module _ (step : Step K V) (is : line step ≡ on_shard number becomes (λ _. Done)) where
-      pub remade-takes : TakesExactly h (of t) (of new) step Done
+      pub remade-takes : TakesStep h.eq (of t) (of new) step Done
       remade-takes = record {
-        replies = subst (λ l. LineReplies w l (pairs (of t)) Done) (sym is) (pairs (of t), each-once w law.laws number (pairs (of t)) inside.shard.contents, refl);
-        becomes = λ j. ap (λ xs. at w (taken xs) j) places ∙ becomes-remade becomes keeps w law.laws number (pairs_of t.nodes.items) inside.shard.contents j
-            ∙ ap (λ l. line_after w l j (at w (pairs (of t)) j)) (sym is);
+        table = record {
+          replies = subst (λ l. LineReplies o l (pairs (of t)) Done) (sym is) (pairs (of t), each-once o law.laws number (pairs (of t)) all-own, refl);
+          becomes = λ j. ap (λ xs. at h.eq (taken xs) j) places ∙ becomes-remade becomes keeps o law.laws number (pairs_of t.nodes.items) all-own j
+              ∙ ap (λ l. line_after o l j (at h.eq (pairs (of t)) j)) (sym is);
+        };
         stays = record { number = refl; amount = refl; hasher = refl };
-        lawful = remade-shard;
       }
 
-      pub remade-stays : StaysInPlace h (of t) (of new) step
-      remade-stays i p e = ap (λ xs. place xs i) places ∙ stays-remade becomes keeps w law.laws number (pairs_of t.nodes.items) inside.shard.contents i p e
-          ∙ ap (λ l. line_after w l p.0 (Some p)) (sym is)
+      pub remade-stays : StaysPut h.eq (of t) (of new) step
+      remade-stays i p e = ap (λ xs. place xs i) places ∙ stays-remade becomes keeps o law.laws number (pairs_of t.nodes.items) all-own i p e
+          ∙ ap (λ l. line_after o l p.0 (Some p)) (sym is)
 
   module _ (t new : Table K V) (inside : Inside h law s number amount t) {F : Type 0} (T : F → K → V → Bool → V → F → Type 0) (f : F) where
     -- the pairs that were kept
@@ -80,23 +88,29 @@ module _ {K V S : Type 0} (h : KeyHash K S)
       pub retained-inside : hashes_of new.nodes.items ≡ hashes_of t.nodes.items → new.len ≡ length (taken (pairs_of new.nodes.items)) → IsTable new → Inside h law s number amount new
       retained-inside = remade-inside t new inside _ (kept-key did.act) did.made
 
-      pub retains : length new.nodes.items ≡ length t.nodes.items → (z : ShardState K V S) → of t ≡ z → Retains h T f z (of new)
-      retains room z view = subst (λ x. Retains h T f x (of new)) view (record {
+      pub retained-shard : IsShard h (of new)
+      retained-shard = remade-shard t new inside _ (kept-key did.act) did.made
+
+      pub retains : length new.nodes.items ≡ length t.nodes.items → (z : ShardState K V S) → of t ≡ z → SweepsBy T h.eq f z (of new) (Retain z.number)
+      retains room z view = subst (λ x. SweepsBy T h.eq f x (of new) (Retain x.number)) view (record {
         act = did.act;
         last = swept.0;
         called = did.called;
-        taken = remade-takes t new inside _ (kept-key did.act) did.made (Retain number did.act) refl;
-        places = remade-stays t new inside _ (kept-key did.act) did.made (Retain number did.act) refl;
-        room = room;
-        len = subst (λ xs. length (taken xs) ≤ length (taken (pairs_of t.nodes.items))) (sym did.made) (fewer-remade (makes T if_kept (keys_of h (of t)) law.laws did.act) (pairs_of t.nodes.items));
+        does = record {
+          taken = remade-takes t new inside _ (kept-key did.act) did.made (Retain number did.act) refl;
+          places = remade-stays t new inside _ (kept-key did.act) did.made (Retain number did.act) refl;
+          room = room;
+        };
       })
 
-      pub sweeps-kept : length new.nodes.items ≡ length t.nodes.items → (z : ShardState K V S) → of t ≡ z → SweepsShard h T if_kept f swept.0 z (of new)
-      sweeps-kept room z view = subst (λ x. SweepsShard h T if_kept f swept.0 x (of new)) view (record {
+      pub fewer : (z : ShardState K V S) → of t ≡ z → length (pairs (of new)) ≤ length (pairs z)
+      fewer z view = subst (λ x. length (pairs (of new)) ≤ length (pairs x)) view (subst (λ xs. length (taken xs) ≤ length (taken (pairs_of t.nodes.items))) (sym did.made) (fewer-remade (makes T if_kept (keys_of h (of t)) law.laws did.act) (pairs_of t.nodes.items)))
+
+      pub sweeps-kept : length new.nodes.items ≡ length t.nodes.items → (z : ShardState K V S) → of t ≡ z → SweepsShard T if_kept f swept.0 z (of new)
+      sweeps-kept room z view = subst (λ x. SweepsShard T if_kept f swept.0 x (of new)) view (record {
         swept = swept.1;
         room = room;
         stays = record { number = refl; amount = refl; hasher = refl };
-        lawful = remade-shard t new inside _ (kept-key did.act) did.made;
       })
 
     -- the pairs whose values were altered
@@ -110,23 +124,29 @@ module _ {K V S : Type 0} (h : KeyHash K S)
       pub altered-inside : hashes_of new.nodes.items ≡ hashes_of t.nodes.items → new.len ≡ t.len → IsTable new → Inside h law s number amount new
       altered-inside hashes len table = remade-inside t new inside _ (altered-key made.act) made.made hashes (len ∙ inside.counted ∙ sym same-length) table
 
-      pub alters : length new.nodes.items ≡ length t.nodes.items → (z : ShardState K V S) → of t ≡ z → AltersAll h T f z (of new)
-      alters room z view = subst (λ x. AltersAll h T f x (of new)) view (record {
+      pub altered-shard : IsShard h (of new)
+      altered-shard = remade-shard t new inside _ (altered-key made.act) made.made
+
+      pub alters : length new.nodes.items ≡ length t.nodes.items → (z : ShardState K V S) → of t ≡ z → SweepsBy T h.eq f z (of new) (AlterAll z.number)
+      alters room z view = subst (λ x. SweepsBy T h.eq f x (of new) (AlterAll x.number)) view (record {
         act = made.act;
         last = swept.0;
         called = made.called;
-        taken = remade-takes t new inside _ (altered-key made.act) made.made (AlterAll number made.act) refl;
-        places = remade-stays t new inside _ (altered-key made.act) made.made (AlterAll number made.act) refl;
-        room = room;
-        len = same-length;
+        does = record {
+          taken = remade-takes t new inside _ (altered-key made.act) made.made (AlterAll number made.act) refl;
+          places = remade-stays t new inside _ (altered-key made.act) made.made (AlterAll number made.act) refl;
+          room = room;
+        };
       })
 
-      pub sweeps-altered : length new.nodes.items ≡ length t.nodes.items → (z : ShardState K V S) → of t ≡ z → SweepsShard h T altered f swept.0 z (of new)
-      sweeps-altered room z view = subst (λ x. SweepsShard h T altered f swept.0 x (of new)) view (record {
+      pub as-many : (z : ShardState K V S) → of t ≡ z → length (pairs (of new)) ≡ length (pairs z)
+      as-many z view = subst (λ x. length (pairs (of new)) ≡ length (pairs x)) view same-length
+
+      pub sweeps-altered : length new.nodes.items ≡ length t.nodes.items → (z : ShardState K V S) → of t ≡ z → SweepsShard T altered f swept.0 z (of new)
+      sweeps-altered room z view = subst (λ x. SweepsShard T altered f swept.0 x (of new)) view (record {
         swept = swept.1;
         room = room;
         stays = record { number = refl; amount = refl; hasher = refl };
-        lawful = remade-shard t new inside _ (altered-key made.act) made.made;
       })
 
   -- no pair is left
@@ -148,9 +168,12 @@ module _ {K V S : Type 0} (h : KeyHash K S)
     pub cleared-inside : hashes_of new.nodes.items ≡ hashes_of t.nodes.items → new.len ≡ 0 → IsTable new → Inside h law s number amount new
     cleared-inside hashes len table = remade-inside t new inside (λ _. None) none-key (places ∙ none-made (pairs_of t.nodes.items)) hashes (len ∙ ap length (sym none-left)) table
 
-    pub clears : length new.nodes.items ≡ length t.nodes.items → (z : ShardState K V S) → of t ≡ z → Clears h z (of new)
-    clears room z view = subst (λ x. Clears h x (of new)) view (record {
-      taken = remade-takes t new inside (λ _. None) none-key (places ∙ none-made (pairs_of t.nodes.items)) (Retain number (λ _ v. (v, false))) refl;
+    pub cleared-shard : IsShard h (of new)
+    cleared-shard = remade-shard t new inside (λ _. None) none-key (places ∙ none-made (pairs_of t.nodes.items))
+
+    pub clears : length new.nodes.items ≡ length t.nodes.items → (z : ShardState K V S) → of t ≡ z → Clears z (of new)
+    clears room z view = subst (λ x. Clears x (of new)) view (record {
       empty = none-left;
       room = room;
+      stays = record { number = refl; amount = refl; hasher = refl };
     })

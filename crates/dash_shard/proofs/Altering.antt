@@ -1,16 +1,16 @@
 -- The calls that change one pair in its place, as the step table says them.
-use Rattle.std.proofs.Common.{◌≡◌, ℕ, ◌+◌, Bool, true, false, cond, set, Option, Some, None, refl, sym, ap, subst, ◌∙◌, add-zero, inl, inr, eq-eqb}
+use Rattle.std.proofs.Common.{◌≡◌, ℕ, ◌+◌, Bool, true, false, cond, length, set, Option, Some, None, refl, sym, ap, subst, ◌∙◌, add-zero, inl, inr, eq-eqb}
 use Rattle.std.specs.Prelude.{option_and_then, IfSome, if◌then◌else◌}
 use Rattle.std.specs.Option.{option_map}
 use Rattle.std.proofs.lemmas.Bool.{cases_Bool, ne_eqb}
 use Rattle.std.proofs.Math.Seq.{set-set}
 use Rattle.dash_shard.specs.declared.shard.table.Table.{Table}
 use Rattle.dash_shard.specs.Contents.{Keys, at}
-use Rattle.dash_shard.specs.Steps.{Act, Pair, changed, if_no, if_yes}
-use Rattle.dash_shard.specs.Shard.{ShardState, place, pairs, keys_of, Routes, IsShard}
-use Rattle.dash_shard.specs.Held.{Removes, RemovesIfMut, AltersBy, Alters, Replaces}
+use Rattle.dash_shard.specs.Steps.{Act, Remove, RemoveIfMut, Alter, Pair, Done, changed, if_no, if_yes}
+use Rattle.dash_shard.specs.Shard.{ShardState, place, pairs, own_keys, Routes, TakesInPlace, TakesBy}
+use Rattle.dash_shard.specs.Held.{Loses, Replaces}
 use Rattle.dash_shard.specs.Table.{Holds, IsTable, IsRewritten, pairs_of, hashes_of}
-use Rattle.dash_shard.proofs.Shards.{state, Inside, at-found, removed, removes}
+use Rattle.dash_shard.proofs.Shards.{state, Inside, at-found, removed, removes, lost}
 use Rattle.dash_shard.proofs.Rewriting.{found-at, rewritten-len, rewritten-inside, rewritten-place, rewritten-at, rewritten-becomes, rewritten-stays}
 use Rattle.dash_shard.specs.Hashing.{IsLawful, KeyHash}
 
@@ -50,56 +50,57 @@ module _ {K V : Type 0} (w : Keys K) (f : Option (K × V) → Option (K × V)) (
 written-gone : {K V : Type 0} (t mid new : Table K V) (i : ℕ) (q : K × V) → IsRewritten i q t mid → pairs_of new.nodes.items ≡ set (pairs_of mid.nodes.items) i None → pairs_of new.nodes.items ≡ set (pairs_of t.nodes.items) i None
 written-gone t mid new i q r e = e ∙ ap (λ xs. set xs i None) r.pairs ∙ set-set (pairs_of t.nodes.items) i (Some q) None
 
-module _ {K V S : Type 0} (h : KeyHash K S) where
+module _ {K V S : Type 0} (eq : K → K → Bool) where
   -- nothing is altered where there is nothing
-  pub unaltered : (z : ShardState K V S) (k : K) → IsShard h z → AltersBy h idle z z k
-  unaltered z k shard =
-      let w = keys_of h z in
+  pub unaltered : (z : ShardState K V S) (k : K) → TakesInPlace eq z z (Alter k idle) Done
+  unaltered z k =
+      let w = own_keys eq z in
       record {
         taken = record {
-          replies = refl;
-          becomes = λ j. kept w (option_map (changed idle)) idle-alters k j (at w (pairs z) j);
+          table = record {
+            replies = refl;
+            becomes = λ j. kept w (option_map (changed idle)) idle-alters k j (at w.eq (pairs z) j);
+          };
           stays = record { number = refl; amount = refl; hasher = refl };
-          lawful = shard;
         };
-        len = refl;
         room = refl;
         places = λ i p e. e ∙ kept w (option_map (changed idle)) idle-alters k p.0 (Some p);
       }
 
   -- nothing goes where there is nothing
-  pub unremoved : (z : ShardState K V S) (k : K) → IsShard h z → RemovesIfMut h idle z z k None
-  unremoved z k shard =
-      let w = keys_of h z in
+  pub unremoved : (z : ShardState K V S) (k : K) → TakesInPlace eq z z (RemoveIfMut k idle) (Pair None)
+  unremoved z k =
+      let w = own_keys eq z in
       let f : Option (K × V) → Option (K × V) = option_and_then (λ p. if_no idle p (changed idle p)) in
       record {
         taken = record {
-          replies = ap Pair (idle-answers (at w (pairs z) k));
-          becomes = λ j. kept w f idle-keeps k j (at w (pairs z) j);
+          table = record {
+            replies = ap Pair (idle-answers (at w.eq (pairs z) k));
+            becomes = λ j. kept w f idle-keeps k j (at w.eq (pairs z) j);
+          };
           stays = record { number = refl; amount = refl; hasher = refl };
-          lawful = shard;
         };
-        len = sym (add-zero _);
         room = refl;
         places = λ i p e. e ∙ kept w f idle-keeps k p.0 (Some p);
       }
 
   -- a removal takes a pair that stood there, and answers it with the value v
-  pub removed-changed : (z n : ShardState K V S) (k : K) (p : K × V) (v : V) → at (keys_of h z) (pairs z) k ≡ Some p → Removes h z n k (Some p) → RemovesIfMut h (to v true) z n k (Some (p.0, v))
+  pub removed-changed : (z n : ShardState K V S) (k : K) (p : K × V) (v : V) → at eq (pairs z) k ≡ Some p → TakesInPlace eq z n (Remove k) (Pair (Some p)) → TakesInPlace eq z n (RemoveIfMut k (to v true)) (Pair (Some (p.0, v)))
   removed-changed z n k p v there x =
-      let w = keys_of h z in
+      let w = own_keys eq z in
       record {
         taken = record {
-          replies = ap (λ o. Pair (option_and_then (λ q. if_yes (to v true) q (changed (to v true) q)) o)) (sym there);
-          becomes = λ j. x.taken.becomes j ∙ ap (λ o. cond (w.eq k j) o (at w (pairs z) j)) (goes v (at w (pairs z) j));
+          table = record {
+            replies = ap (λ o. Pair (option_and_then (λ q. if_yes (to v true) q (changed (to v true) q)) o)) (sym there);
+            becomes = λ j. x.taken.table.becomes j ∙ ap (λ o. cond (w.eq k j) o (at w.eq (pairs z) j)) (goes v (at w.eq (pairs z) j));
+          };
           stays = x.taken.stays;
-          lawful = x.taken.lawful;
         };
-        len = x.len;
         room = x.room;
         places = x.places;
       }
 
+module _ {K V S : Type 0} (h : KeyHash K S) where
   module _ (law : IsLawful h) (s : S) (number amount : ℕ)
       (t new : Table K V) (inside : Inside h law s number amount t) (k : K) (i : ℕ) (found : Holds h.eq t.nodes.items k i) (z : ShardState K V S) (view : state h law s number amount t ≡ z) where
     abbrev pub now : ShardState K V S
@@ -114,37 +115,40 @@ module _ {K V S : Type 0} (h : KeyHash K S) where
       pub altered-inside : Inside h law s number amount new
       altered-inside = rewritten-inside h law s number amount t new inside k i found (valued v) found.equal r
 
-      pub alters : (c : Bool) → AltersBy h (to v c) z now k
-      alters c = subst (λ x. AltersBy h (to v c) x now k) view (record {
+      pub as-many : length (pairs now) ≡ length (pairs z)
+      as-many = subst (λ x. length (pairs now) ≡ length (pairs x)) view (rewritten-len h law s number amount t new inside k i found (valued v) found.equal r)
+
+      pub alters : (c : Bool) → TakesInPlace h.eq z now (Alter k (to v c)) Done
+      alters c = subst (λ x. TakesInPlace h.eq x now (Alter k (to v c)) Done) view (record {
         taken = record {
-          replies = refl;
-          becomes = rewritten-becomes h law s number amount t new inside k i found (valued v) found.equal r (option_map (changed (to v c))) refl;
+          table = record {
+            replies = refl;
+            becomes = rewritten-becomes h law s number amount t new inside k i found (valued v) found.equal r (option_map (changed (to v c))) refl;
+          };
           stays = record { number = refl; amount = refl; hasher = refl };
-          lawful = altered-inside.shard;
         };
-        len = rewritten-len h law s number amount t new inside k i found (valued v) found.equal r;
         room = r.places;
         places = rewritten-stays h law s number amount t new inside k i found (valued v) found.equal r (option_map (changed (to v c))) refl;
       })
 
-      pub stays-changed : RemovesIfMut h (to v false) z now k None
+      pub stays-changed : TakesInPlace h.eq z now (RemoveIfMut k (to v false)) (Pair None)
       stays-changed =
           let f : Option (K × V) → Option (K × V) = option_and_then (λ p. if_no (to v false) p (changed (to v false) p)) in
-          subst (λ x. RemovesIfMut h (to v false) x now k None) view (record {
+          subst (λ x. TakesInPlace h.eq x now (RemoveIfMut k (to v false)) (Pair None)) view (record {
             taken = record {
-              replies = ap (λ o. Pair (option_and_then (λ q. if_yes (to v false) q (changed (to v false) q)) o)) (sym (found-at h law s number amount t new inside k i found (valued v) found.equal r));
-              becomes = rewritten-becomes h law s number amount t new inside k i found (valued v) found.equal r f refl;
+              table = record {
+                replies = ap (λ o. Pair (option_and_then (λ q. if_yes (to v false) q (changed (to v false) q)) o)) (sym (found-at h law s number amount t new inside k i found (valued v) found.equal r));
+                becomes = rewritten-becomes h law s number amount t new inside k i found (valued v) found.equal r f refl;
+              };
               stays = record { number = refl; amount = refl; hasher = refl };
-              lawful = altered-inside.shard;
             };
-            len = sym (rewritten-len h law s number amount t new inside k i found (valued v) found.equal r) ∙ sym (add-zero _);
             room = r.places;
             places = rewritten-stays h law s number amount t new inside k i found (valued v) found.equal r f refl;
           })
 
     -- what is found at the key
-    pub stood : (P : K × V → Type 0) → P found.pair → IfSome (at (keys_of h z) (pairs z) k) P
-    stood P holds = subst (λ x. IfSome (at (keys_of h x) (pairs x) k) P) view (rw (at-found h law s number amount t inside k i found) holds)
+    pub stood : (P : K × V → Type 0) → P found.pair → IfSome (at h.eq (pairs z) k) P
+    stood P holds = subst (λ x. IfSome (at h.eq (pairs x) k) P) view (rw (at-found h law s number amount t inside k i found) holds)
 
     -- where a call gave the pair a value, of which G says what the call says
     module _ (G : K × V → V → Type 0) (gave : IfSome (place (pairs_of t.nodes.items) i) (λ p. (v : V) × IsRewritten i (p.0, v) t new × G p v)) where
@@ -154,8 +158,11 @@ module _ {K V S : Type 0} (h : KeyHash K S) where
       pub given-inside : Inside h law s number amount new
       given-inside = altered-inside given.0 given.1
 
-      pub given-alters : Alters h G z now k
+      pub given-alters : TakesBy h.eq z now Alter k Done (λ p d. G p d.0)
       given-alters = (to given.0 true, alters given.0 given.1 true, stood (λ p. G p given.0) given.2)
+
+      pub given-len : length (pairs now) ≡ length (pairs z)
+      given-len = as-many given.0 given.1
 
     -- it stood there with the value v, and then went
     module _ (here : Routes h z k) (v : V) (mid : Table K V) (r : IsRewritten i (valued v) t mid) (places : pairs_of new.nodes.items ≡ set (pairs_of mid.nodes.items) i None)
@@ -163,19 +170,21 @@ module _ {K V S : Type 0} (h : KeyHash K S) where
       pub gone-inside : Inside h law s number amount new
       gone-inside = (removed h law s number amount t inside k z view here new i found (written-gone t mid new i (valued v) r places) (hashes ∙ r.hashes) (len ∙ r.len) table).inside
 
-      pub gone-changed : RemovesIfMut h (to v true) z now k (Some (valued v))
-      gone-changed = removed-changed z now k found.pair v (subst (λ x. at (keys_of h x) (pairs x) k ≡ Some found.pair) view (at-found h law s number amount t inside k i found))
+      pub gone-len : Loses z now (Some (valued v))
+      gone-len = lost h law s number amount t inside k z view here new i found (written-gone t mid new i (valued v) r places) (hashes ∙ r.hashes) (len ∙ r.len) table
+
+      pub gone-changed : TakesInPlace h.eq z now (RemoveIfMut k (to v true)) (Pair (Some (valued v)))
+      gone-changed = removed-changed h.eq z now k found.pair v (subst (λ x. at h.eq (pairs x) k ≡ Some found.pair) view (at-found h law s number amount t inside k i found))
           (removes h law s number amount t inside k z view here new i found (written-gone t mid new i (valued v) r places) (hashes ∙ r.hashes) (len ∙ r.len) table)
 
     -- a new pair with an equal key stands there
-    pub replaces : (q : K × V) (equal : h.eq q.0 k ≡ true) → IsRewritten i q t new → (old : K × V) → place (pairs_of t.nodes.items) i ≡ Some old → k ≡ q.0 → Replaces h z now i q.0 q.1 old
-    replaces q equal r old there same = subst (λ x. Replaces h x now i q.0 q.1 old) view (record {
+    pub replaces : (q : K × V) (equal : h.eq q.0 k ≡ true) → IsRewritten i q t new → (old : K × V) → place (pairs_of t.nodes.items) i ≡ Some old → k ≡ q.0 → Replaces h.eq z now i q.0 q.1 old
+    replaces q equal r old there same = subst (λ x. Replaces h.eq x now i q.0 q.1 old) view (record {
       answers = there;
       here = rewritten-place h law s number amount t new inside k i found q equal r i ∙ rw (eq-eqb i i refl) refl;
       others = λ j other. rewritten-place h law s number amount t new inside k i found q equal r j ∙ rw (ne_eqb j i other) refl;
-      contents = λ j. rewritten-at h law s number amount t new inside k i found q equal r j ∙ ap (λ x. cond (h.eq x j) (Some q) (at (keys_of h (state h law s number amount t)) (pairs (state h law s number amount t)) j)) same;
+      contents = λ j. rewritten-at h law s number amount t new inside k i found q equal r j ∙ ap (λ x. cond (h.eq x j) (Some q) (at h.eq (pairs (state h law s number amount t)) j)) same;
       len = rewritten-len h law s number amount t new inside k i found q equal r;
       room = r.places;
       stays = record { number = refl; amount = refl; hasher = refl };
-      lawful = (rewritten-inside h law s number amount t new inside k i found q equal r).shard;
     })

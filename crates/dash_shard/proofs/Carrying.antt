@@ -23,7 +23,7 @@ module _ {K V : Type 0} where
   pub record Carrying (old now : List (Node K V)) (t : Table K V) : Type 0 where
     pub rest : List (Node K V)
     pub is : old ≡ now ++ rest
-    pub once : (w : Keys K) → IsEquivalence w.eq → Distinct w (taken (pairs_of rest)) → EachOnce w (taken (pairs_of rest)) (taken (pairs_of t.nodes.items))
+    pub once : (w : Keys K) → IsEquivalence w.eq → Distinct w.eq (taken (pairs_of rest)) → EachOnce w.eq (taken (pairs_of rest)) (taken (pairs_of t.nodes.items))
     pub carried : IsCarried rest t.nodes.items
     pub len : t.len ≡ length (taken (pairs_of rest))
     pub counted : t.len ≡ length (taken (pairs_of t.nodes.items))
@@ -33,7 +33,7 @@ module _ {K V : Type 0} where
   carrying-first old t table empty len = record {
     rest = [];
     is = sym (append-nil old);
-    once = λ w laws d. record { distinct = subst (Distinct w) (sym empty) tt; same = λ k. ap (λ ps. at w ps k) empty };
+    once = λ w laws d. record { distinct = subst (Distinct w.eq) (sym empty) tt; same = λ k. ap (λ ps. at w.eq ps k) empty };
     carried = λ i p e. absurd (let some : 0 < length (taken (pairs_of t.nodes.items)) = taken-some (pairs_of t.nodes.items) i (ap is_some e) in omega (arith, some, ap length empty));
     len = len;
     counted = len ∙ sym (ap length empty);
@@ -51,7 +51,7 @@ module _ {K V : Type 0} where
         record {
           rest = n ∷ c.rest;
           is = behind;
-          once = λ w laws d. subst (λ ps. EachOnce w ps (taken (pairs_of t.nodes.items))) (sym same) (c.once w laws (subst (Distinct w) same d));
+          once = λ w laws d. subst (λ ps. EachOnce w.eq ps (taken (pairs_of t.nodes.items))) (sym same) (c.once w laws (subst (Distinct w.eq) same d));
           carried = λ i p e. let at_j = c.carried i p e in (suc at_j.0, at_j.1, at_j.2);
           len = c.len ∙ ap length (sym same);
           counted = c.counted;
@@ -80,8 +80,8 @@ module _ {K V : Type 0} where
         within-hashes : next_place t < length (hashes_of t.nodes.items)
         within-hashes = omega (arith, free.0, length-map t.nodes.items (λ x. x.hash))
 
-        module _ (w : Keys K) (laws : IsEquivalence w.eq) (d : Distinct w ((k, v) ∷ taken (pairs_of c.rest))) where
-          before : EachOnce w (taken (pairs_of c.rest)) (taken (pairs_of t.nodes.items))
+        module _ (w : Keys K) (laws : IsEquivalence w.eq) (d : Distinct w.eq ((k, v) ∷ taken (pairs_of c.rest))) where
+          before : EachOnce w.eq (taken (pairs_of c.rest)) (taken (pairs_of t.nodes.items))
           before = c.once w laws d.1
 
           was-empty : Equal w k (place (pairs_of t.nodes.items) (next_place t))
@@ -93,10 +93,10 @@ module _ {K V : Type 0} where
           no-other : NoOther w (pairs_of t.nodes.items) k (next_place t)
           no-other m q _ e = absent-at w (pairs_of t.nodes.items) k (before.same k ∙ d.0) m q e
 
-          once-more : EachOnce w ((k, v) ∷ taken (pairs_of c.rest)) (taken (pairs_of new.nodes.items))
+          once-more : EachOnce w.eq ((k, v) ∷ taken (pairs_of c.rest)) (taken (pairs_of new.nodes.items))
           once-more = record {
-            distinct = subst (λ xs. Distinct w (taken xs)) (sym places) (distinct-written w laws (pairs_of t.nodes.items) k (next_place t) (Some (k, v)) within was-empty is-equal no-other before.distinct);
-            same = λ j. ap (λ xs. at w (taken xs) j) places ∙ at-written w laws (pairs_of t.nodes.items) k (next_place t) (Some (k, v)) within was-empty is-equal no-other j
+            distinct = subst (λ xs. Distinct w.eq (taken xs)) (sym places) (distinct-written w laws (pairs_of t.nodes.items) k (next_place t) (Some (k, v)) within was-empty is-equal no-other before.distinct);
+            same = λ j. ap (λ xs. at w.eq (taken xs) j) places ∙ at-written w laws (pairs_of t.nodes.items) k (next_place t) (Some (k, v)) within was-empty is-equal no-other j
                 ∙ ap (λ o. cond (w.eq k j) (Some (k, v)) o) (before.same j);
           }
 
@@ -114,7 +114,7 @@ module _ {K V : Type 0} where
         carrying-more = record {
           rest = n ∷ c.rest;
           is = behind;
-          once = λ w laws d. subst (λ ps. EachOnce w ps (taken (pairs_of new.nodes.items))) (sym same) (once-more w laws (subst (Distinct w) same d));
+          once = λ w laws d. subst (λ ps. EachOnce w.eq ps (taken (pairs_of new.nodes.items))) (sym same) (once-more w laws (subst (Distinct w.eq) same d));
           carried = carried-more;
           len = longer ∙ omega (arith, c.len, ap length same);
           counted = longer ∙ ap (λ m. m + 1) c.counted ∙ sym (ap (λ xs. length (taken xs)) places ∙ length-taken-fill (pairs_of t.nodes.items) (next_place t) (k, v) within free.1);
@@ -125,5 +125,5 @@ module _ {K V : Type 0} where
   pub carried-all : (old now : List (Node K V)) (t : Table K V) (c : Carrying old now t) → now ≡ [] → c.rest ≡ old
   carried-all old now t c none = sym (c.is ∙ ap (λ xs. xs ++ c.rest) none)
 
-  pub once-self : (ps : List (K × V)) (w : Keys K) → Distinct w ps → EachOnce w ps ps
+  pub once-self : (ps : List (K × V)) (w : Keys K) → Distinct w.eq ps → EachOnce w.eq ps ps
   once-self ps w d = record { distinct = d; same = λ k. refl }

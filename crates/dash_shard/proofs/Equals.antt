@@ -12,6 +12,6 @@ module _ {K : Type 0} {eq : K → K → Bool} (laws : IsEquivalence eq) where
   apart p k j e f = laws.congr p k j e ∙ f
 
 -- equal keys find the same pair
-pub at-equal : {K V : Type 0} (w : Keys K) → IsEquivalence w.eq → (ps : List (K × V)) (j k : K) → w.eq j k ≡ true → at w ps j ≡ at w ps k
+pub at-equal : {K V : Type 0} (w : Keys K) → IsEquivalence w.eq → (ps : List (K × V)) (j k : K) → w.eq j k ≡ true → at w.eq ps j ≡ at w.eq ps k
 at-equal w laws [] j k e = refl
-at-equal w laws (p ∷ ps) j k e = ap (λ b. cond b (Some p) (at w ps j)) (along laws p.0 j k e) ∙ ap (λ o. cond (w.eq p.0 k) (Some p) o) (at-equal w laws ps j k e)
+at-equal w laws (p ∷ ps) j k e = ap (λ b. cond b (Some p) (at w.eq ps j)) (along laws p.0 j k e) ∙ ap (λ o. cond (w.eq p.0 k) (Some p) o) (at-equal w laws ps j k e)

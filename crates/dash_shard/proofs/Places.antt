@@ -52,12 +52,12 @@ module _ {K V : Type 0} (w : Keys K) where
   abbrev pub Equal : K → Option (K × V) → Type 0
   Equal k o = (p : K × V) → o ≡ Some p → w.eq p.0 k ≡ true
 
-  pub at-absent : (xs : List (Option (K × V))) (k : K) → NoPlace xs k → at w (taken xs) k ≡ None
+  pub at-absent : (xs : List (Option (K × V))) (k : K) → NoPlace xs k → at w.eq (taken xs) k ≡ None
   at-absent [] k h = refl
   at-absent (None ∷ xs) k h = at-absent xs k (λ i p e. h (suc i) p e)
   at-absent (Some q ∷ xs) k h = rw (h 0 q refl) (at-absent xs k (λ i p e. h (suc i) p e))
 
-  pub absent-at : (xs : List (Option (K × V))) (k : K) → at w (taken xs) k ≡ None → NoPlace xs k
+  pub absent-at : (xs : List (Option (K × V))) (k : K) → at w.eq (taken xs) k ≡ None → NoPlace xs k
   absent-at [] k none i p e = absurd (none-some p e)
   absent-at (None ∷ xs) k none zero p e = absurd (none-some p e)
   absent-at (None ∷ xs) k none (suc i) p e = absent-at xs k none i p e
@@ -72,7 +72,7 @@ module _ {K V : Type 0} (w : Keys K) where
       here (suc i) fails rest e = rest i e
 
   -- the one place with a key equal to k is what is found
-  pub at-sole : (xs : List (Option (K × V))) (k : K) (i : ℕ) → Equal k (place xs i) → NoOther xs k i → at w (taken xs) k ≡ place xs i
+  pub at-sole : (xs : List (Option (K × V))) (k : K) (i : ℕ) → Equal k (place xs i) → NoOther xs k i → at w.eq (taken xs) k ≡ place xs i
   at-sole [] k i pass others = refl
   at-sole (None ∷ xs) k zero pass others = at-absent xs k (λ j r e. others (suc j) r (λ z. omega arith) e)
   at-sole (None ∷ xs) k (suc i) pass others = at-sole xs k i pass (λ j r ne e. others (suc j) r (λ z. ne (omega arith)) e)
@@ -82,7 +82,7 @@ module _ {K V : Type 0} (w : Keys K) where
 
   -- a write that neither takes nor puts a key equal to k
   at-past : (xs : List (Option (K × V))) (k : K) (i : ℕ) (o : Option (K × V)) → ((p : K × V) → place xs i ≡ Some p → w.eq p.0 k ≡ false) → ((p : K × V) → o ≡ Some p → w.eq p.0 k ≡ false)
-      → at w (taken (set xs i o)) k ≡ at w (taken xs) k
+      → at w.eq (taken (set xs i o)) k ≡ at w.eq (taken xs) k
   at-past [] k i o f g = refl
   at-past (None ∷ xs) k zero None f g = refl
   at-past (None ∷ xs) k zero (Some r) f g = rw (g r refl) refl
@@ -93,7 +93,7 @@ module _ {K V : Type 0} (w : Keys K) where
 
   module _ (laws : IsEquivalence w.eq) where
     -- where one place has a key equal to k, no other has
-    pub others-fail : (xs : List (Option (K × V))) (k : K) (i : ℕ) (p : K × V) → Distinct w (taken xs) → place xs i ≡ Some p → w.eq p.0 k ≡ true → NoOther xs k i
+    pub others-fail : (xs : List (Option (K × V))) (k : K) (i : ℕ) (p : K × V) → Distinct w.eq (taken xs) → place xs i ≡ Some p → w.eq p.0 k ≡ true → NoOther xs k i
     others-fail [] k i p d e equal j r ne there = absurd (none-some r there)
     others-fail (None ∷ xs) k zero p d e equal j r ne there = absurd (none-some p e)
     others-fail (None ∷ xs) k (suc i) p d e equal zero r ne there = absurd (none-some r there)
@@ -113,10 +113,10 @@ module _ {K V : Type 0} (w : Keys K) where
 
     -- after a write at i of what is equal to k, where no other place is
     pub at-written : (xs : List (Option (K × V))) (k : K) (i : ℕ) (o : Option (K × V)) → i < length xs → Equal k (place xs i) → Equal k o → NoOther xs k i
-        → (j : K) → at w (taken (set xs i o)) j ≡ cond (w.eq k j) o (at w (taken xs) j)
+        → (j : K) → at w.eq (taken (set xs i o)) j ≡ cond (w.eq k j) o (at w.eq (taken xs) j)
     at-written xs k i o within before here others j =
         let now : place (set xs i o) i ≡ o = get_or-set_same xs i o None within in
-        elim (cases_Bool (w.eq k j)) as (λ _. at w (taken (set xs i o)) j ≡ cond (w.eq k j) o (at w (taken xs) j)) [
+        elim (cases_Bool (w.eq k j)) as (λ _. at w.eq (taken (set xs i o)) j ≡ cond (w.eq k j) o (at w.eq (taken xs) j)) [
           | inl holds ↦ rw holds
               (at-sole (set xs i o) j i
               (λ r e. sym (along laws r.0 k j holds) ∙ here r (sym now ∙ e))
@@ -126,7 +126,7 @@ module _ {K V : Type 0} (w : Keys K) where
         ]
 
     pub distinct-written : (xs : List (Option (K × V))) (k : K) (i : ℕ) (o : Option (K × V)) → i < length xs → Equal k (place xs i) → Equal k o → NoOther xs k i
-        → Distinct w (taken xs) → Distinct w (taken (set xs i o))
+        → Distinct w.eq (taken xs) → Distinct w.eq (taken (set xs i o))
     distinct-written [] k i o lt before here others d = d
     distinct-written (None ∷ xs) k zero None lt before here others d = d
     distinct-written (None ∷ xs) k zero (Some r) lt before here others d = (at-absent xs r.0 (λ j p e. laws.symm p.0 r.0 ∙ laws.congr r.0 k p.0 (here r refl) ∙ laws.symm k p.0 ∙ others (suc j) p (λ z. omega arith) e), d)
@@ -136,7 +136,7 @@ module _ {K V : Type 0} (w : Keys K) where
     distinct-written (Some q ∷ xs) k (suc i) o lt before here others d =
         let rest : NoOther xs k i = λ j p ne e. others (suc j) p (λ z. ne (omega arith)) e in
         let fails : w.eq k q.0 ≡ false = laws.symm k q.0 ∙ others 0 q (λ z. omega arith) refl in (
-          at-written xs k i o (omega arith) before here rest q.0 ∙ ap (λ b. cond b o (at w (taken xs) q.0)) fails ∙ d.0,
+          at-written xs k i o (omega arith) before here rest q.0 ∙ ap (λ b. cond b o (at w.eq (taken xs) q.0)) fails ∙ d.0,
           distinct-written xs k i o (omega arith) before here rest d.1,
         )
 
@@ -145,7 +145,7 @@ module _ {K V : Type 0} (w : Keys K) where
         → i < length xs → Equal k (place xs i) → Equal k o → NoOther xs k i → IsOnShard w n (taken xs) → IsOnShard w n (taken (set xs i o))
     on_shard-written n xs k i o routes lt before here others h = record {
       distinct = distinct-written xs k i o lt before here others h.distinct;
-      routed = λ j away. at-written xs k i o lt before here others j ∙ elim (cases_Bool (w.eq k j)) as (λ _. cond (w.eq k j) o (at w (taken xs) j) ≡ None) [
+      routed = λ j away. at-written xs k i o lt before here others j ∙ elim (cases_Bool (w.eq k j)) as (λ _. cond (w.eq k j) o (at w.eq (taken xs) j) ≡ None) [
         | inl holds ↦ absurd (away (routes j holds))
         | inr fails ↦ rw fails (h.routed j away)
       ];

@@ -18,7 +18,7 @@ held (Some p) h = (p, refl, h)
 module _ {K V S : Type 0} (h : KeyHash K S) where
   module _ (law : IsLawful h) (s : S) (number amount : ℕ)
       (t : Table K V) (inside : Inside h law s number amount t) (k : K) (hash : ℕ) (is : hash ≡ h.hash s k) where
-    finds : (m : ℕ) → Holds h.eq t.nodes.items k m → Finds h (state h law s number amount t) k (Some m)
+    finds : (m : ℕ) → Holds h.eq t.nodes.items k m → Finds h.eq (state h law s number amount t) k (Some m)
     finds m found = record {
       position = λ i. (
         λ e. subst (λ j. HasKey h.eq (state h law s number amount t) k j) (same_Some m i e) (rw found.is found.equal),
@@ -29,10 +29,9 @@ module _ {K V S : Type 0} (h : KeyHash K S) where
       );
       pair = found.is ∙ sym (at-found h law s number amount t inside k m found);
       absent = (λ none. absurd (true≢false none), λ none. absurd (none-some found.pair (sym none ∙ at-found h law s number amount t inside k m found)));
-      lawful = inside.shard;
     }
 
-    misses : IsAbsent h.eq t.nodes.items hash k → Finds h (state h law s number amount t) k None
+    misses : IsAbsent h.eq t.nodes.items hash k → Finds h.eq (state h law s number amount t) k None
     misses absent = record {
       position = λ i. (
         λ e. absurd (none-some i e),
@@ -41,9 +40,8 @@ module _ {K V S : Type 0} (h : KeyHash K S) where
       );
       pair = tt;
       absent = (λ _. at-missing h law s number amount t inside k hash is absent, λ _. refl);
-      lawful = inside.shard;
     }
 
-    pub located : (z : ShardState K V S) → state h law s number amount t ≡ z → (r : Option ℕ) → IfSome r (Holds h.eq t.nodes.items k) → IfNone r (IsAbsent h.eq t.nodes.items hash k) → Finds h z k r
-    located z view None some none = subst (λ x. Finds h x k None) view (misses none)
-    located z view (Some m) some none = subst (λ x. Finds h x k (Some m)) view (finds m some)
+    pub located : (z : ShardState K V S) → state h law s number amount t ≡ z → (r : Option ℕ) → IfSome r (Holds h.eq t.nodes.items k) → IfNone r (IsAbsent h.eq t.nodes.items hash k) → Finds h.eq z k r
+    located z view None some none = subst (λ x. Finds h.eq x k None) view (misses none)
+    located z view (Some m) some none = subst (λ x. Finds h.eq x k (Some m)) view (finds m some)

@@ -42,25 +42,25 @@ module _ {K V : Type 0} (becomes : K × V → Option (K × V)) where
         from (Some p) there e = h i p there ∙ ap hash (sym (keeps p q e))
 
     module _ (w : Keys K) (laws : IsEquivalence w.eq) where
-      pub at-remade : (xs : List (Option (K × V))) → Distinct w (taken xs) → (k : K) → at w (taken (remade xs)) k ≡ option_and_then becomes (at w (taken xs) k)
+      pub at-remade : (xs : List (Option (K × V))) → Distinct w.eq (taken xs) → (k : K) → at w.eq (taken (remade xs)) k ≡ option_and_then becomes (at w.eq (taken xs) k)
       at-remade [] d k = refl
       at-remade (None ∷ xs) d k = at-remade xs d k
       at-remade (Some p ∷ xs) d k = from (becomes p) refl (at-remade xs d.1 k) (cases_Bool (w.eq p.0 k))
         where
-          from : (o : Option (K × V)) → becomes p ≡ o → at w (taken (remade xs)) k ≡ option_and_then becomes (at w (taken xs) k) → (w.eq p.0 k ≡ true) ⊎ (w.eq p.0 k ≡ false) → at w (taken (o ∷ remade xs)) k ≡ option_and_then becomes (cond (w.eq p.0 k) (Some p) (at w (taken xs) k))
+          from : (o : Option (K × V)) → becomes p ≡ o → at w.eq (taken (remade xs)) k ≡ option_and_then becomes (at w.eq (taken xs) k) → (w.eq p.0 k ≡ true) ⊎ (w.eq p.0 k ≡ false) → at w.eq (taken (o ∷ remade xs)) k ≡ option_and_then becomes (cond (w.eq p.0 k) (Some p) (at w.eq (taken xs) k))
           from None e rest (inl holds) = rw holds (rest ∙ ap (option_and_then becomes) (sym (at-equal w laws (taken xs) p.0 k holds) ∙ d.0) ∙ sym e)
           from None e rest (inr fails) = rw fails rest
           from (Some q) e rest (inl holds) = let same : w.eq q.0 k ≡ true = ap (λ x. w.eq x k) (keeps p q e) ∙ holds in rw (same, holds) (sym e)
           from (Some q) e rest (inr fails) = rw (keeps p q e, fails) rest
 
-      distinct-remade : (xs : List (Option (K × V))) → Distinct w (taken xs) → Distinct w (taken (remade xs))
+      distinct-remade : (xs : List (Option (K × V))) → Distinct w.eq (taken xs) → Distinct w.eq (taken (remade xs))
       distinct-remade [] d = d
       distinct-remade (None ∷ xs) d = distinct-remade xs d
       distinct-remade (Some p ∷ xs) d = from (becomes p) refl (distinct-remade xs d.1)
         where
-          from : (o : Option (K × V)) → becomes p ≡ o → Distinct w (taken (remade xs)) → Distinct w (taken (o ∷ remade xs))
+          from : (o : Option (K × V)) → becomes p ≡ o → Distinct w.eq (taken (remade xs)) → Distinct w.eq (taken (o ∷ remade xs))
           from None e rest = rest
-          from (Some q) e rest = (at-remade xs d.1 q.0 ∙ ap (option_and_then becomes) (ap (at w (taken xs)) (keeps p q e) ∙ d.0), rest)
+          from (Some q) e rest = (at-remade xs d.1 q.0 ∙ ap (option_and_then becomes) (ap (at w.eq (taken xs)) (keeps p q e) ∙ d.0), rest)
 
       module _ (n : ℕ) (xs : List (Option (K × V))) (h : IsOnShard w n (taken xs)) where
         pub on_shard-remade : IsOnShard w n (taken (remade xs))
@@ -70,8 +70,8 @@ module _ {K V : Type 0} (becomes : K × V → Option (K × V)) where
         }
 
         -- what stands at each key, as the step table says it of a step on a shard
-        pub becomes-remade : (j : K) → at w (taken (remade xs)) j ≡ cond (w.route j == n) (option_and_then becomes (at w (taken xs) j)) (at w (taken xs) j)
-        becomes-remade j = at-remade xs h.distinct j ∙ elim (cases_eq (w.route j) n) as (λ _. option_and_then becomes (at w (taken xs) j) ≡ cond (w.route j == n) (option_and_then becomes (at w (taken xs) j)) (at w (taken xs) j)) [
+        pub becomes-remade : (j : K) → at w.eq (taken (remade xs)) j ≡ cond (w.route j == n) (option_and_then becomes (at w.eq (taken xs) j)) (at w.eq (taken xs) j)
+        becomes-remade j = at-remade xs h.distinct j ∙ elim (cases_eq (w.route j) n) as (λ _. option_and_then becomes (at w.eq (taken xs) j) ≡ cond (w.route j == n) (option_and_then becomes (at w.eq (taken xs) j)) (at w.eq (taken xs) j)) [
           | inl here ↦ rw (eq-eqb (w.route j) n here) refl
           | inr away ↦ rw (ne_eqb (w.route j) n away, h.routed j away) refl
         ]
@@ -84,18 +84,18 @@ module _ {K V : Type 0} (becomes : K × V → Option (K × V)) where
         ]
 
 -- all pairs of a shard go to it
-pub on-all : {K V : Type 0} (w : Keys K) → IsEquivalence w.eq → (n : ℕ) (ps : List (K × V)) → ((k : K) → w.route k ≢ n → at w ps k ≡ None) → on w n ps ≡ ps
+pub on-all : {K V : Type 0} (w : Keys K) → IsEquivalence w.eq → (n : ℕ) (ps : List (K × V)) → ((k : K) → w.route k ≢ n → at w.eq ps k ≡ None) → on w n ps ≡ ps
 on-all w laws n [] routed = refl
 on-all w laws n (p ∷ ps) routed = elim (cases_eq (w.route p.0) n) as (λ _. on w n (p ∷ ps) ≡ p ∷ ps) [
-  | inl here ↦ rw (eq-eqb (w.route p.0) n here) (ap (λ qs. p ∷ qs) (on-all w laws n ps (λ k away. elim (cases_Bool (w.eq p.0 k)) as (λ _. at w ps k ≡ None) [
+  | inl here ↦ rw (eq-eqb (w.route p.0) n here) (ap (λ qs. p ∷ qs) (on-all w laws n ps (λ k away. elim (cases_Bool (w.eq p.0 k)) as (λ _. at w.eq ps k ≡ None) [
     | inl holds ↦ absurd (none-some p (sym (rw holds at (routed k away))))
     | inr fails ↦ rw fails at (routed k away)
   ])))
   | inr away ↦ absurd (none-some p (sym (rw (laws.refl p.0) at (routed p.0 away))))
 ]
 
-pub each-once : {K V : Type 0} (w : Keys K) → IsEquivalence w.eq → (n : ℕ) (ps : List (K × V)) → IsOnShard w n ps → EachOnce w (on w n ps) ps
-each-once w laws n ps h = record { distinct = h.distinct; same = λ k. ap (λ qs. at w qs k) (sym (on-all w laws n ps h.routed)) }
+pub each-once : {K V : Type 0} (w : Keys K) → IsEquivalence w.eq → (n : ℕ) (ps : List (K × V)) → IsOnShard w n ps → EachOnce w.eq (on w n ps) ps
+each-once w laws n ps h = record { distinct = h.distinct; same = λ k. ap (λ qs. at w.eq qs k) (sym (on-all w laws n ps h.routed)) }
 
 -- What a closure did along the pairs, as one action: it says of the key of each what was done there.
 module _ {F K V : Type 0} (T : F → K → V → Bool → V → F → Type 0) (leaves : K → V × Bool → Option (K × V)) (w : Keys K) (laws : IsEquivalence w.eq) where
@@ -113,7 +113,7 @@ module _ {F K V : Type 0} (T : F → K → V → Bool → V → F → Type 0) (l
   with_key k d act = λ j v. cond (w.eq k j) d (act j v)
 
   module _ (k : K) (d : V × Bool) (act : Act K V) where
-    called-past : (f : F) (ps : List (K × V)) (last : F) → at w ps k ≡ None → CalledAlong T act f ps last → CalledAlong T (with_key k d act) f ps last
+    called-past : (f : F) (ps : List (K × V)) (last : F) → at w.eq ps k ≡ None → CalledAlong T act f ps last → CalledAlong T (with_key k d act) f ps last
     unfolding with_key
     called-past f [] last none c = c
     called-past f (q ∷ ps) last none c = elim (cases_Bool (w.eq q.0 k)) as (λ _. CalledAlong T (with_key k d act) f (q ∷ ps) last) [
@@ -123,7 +123,7 @@ module _ {F K V : Type 0} (T : F → K → V → Bool → V → F → Type 0) (l
           (c.0, rw other c.1, called-past c.0 ps last (rw fails at none) c.2)
     ]
 
-    made-past : (olds : List (Option (K × V))) → at w (taken olds) k ≡ None → remade (makes act) olds ≡ remade (makes (with_key k d act)) olds
+    made-past : (olds : List (Option (K × V))) → at w.eq (taken olds) k ≡ None → remade (makes act) olds ≡ remade (makes (with_key k d act)) olds
     unfolding with_key
     made-past [] none = refl
     made-past (None ∷ olds) none = ap (λ xs. None ∷ xs) (made-past olds none)
@@ -134,7 +134,7 @@ module _ {F K V : Type 0} (T : F → K → V → Bool → V → F → Type 0) (l
           rw other (ap (λ xs. makes act q ∷ xs) (made-past olds (rw fails at none)))
     ]
 
-  pub acts : (f : F) (olds news : List (Option (K × V))) (last : F) → Distinct w (taken olds) → Sweeps T leaves f olds news last → Acts f olds news last
+  pub acts : (f : F) (olds news : List (Option (K × V))) (last : F) → Distinct w.eq (taken olds) → Sweeps T leaves f olds news last → Acts f olds news last
   unfolding with_key
   acts f [] news last d s = record { act = λ _ v. (v, false); called = s.1; made = s.0 }
   acts f (None ∷ olds) news last d s =

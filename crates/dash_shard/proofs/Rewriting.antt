@@ -104,7 +104,7 @@ module _ {K V S : Type 0} (h : KeyHash K S)
   within : i < length spots
   within = omega (arith, found.within, length-map t.nodes.items (λ n. n.pair))
 
-  pub found-at : at w (pairs before) k ≡ Some found.pair
+  pub found-at : at w.eq (pairs before) k ≡ Some found.pair
   found-at = at-found h law s number amount t inside k i found
 
   -- a key that is there goes there
@@ -150,13 +150,13 @@ module _ {K V S : Type 0} (h : KeyHash K S)
     | inr other ↦ rw (ne_eqb j i other) (get_or-set_other spots i j (Some q) None other)
   ]
 
-  pub rewritten-at : (j : K) → at w (pairs after_it) j ≡ (if h.eq k j then Some q else at w (pairs before) j)
-  rewritten-at j = ap (λ xs. at w (taken xs) j) r.pairs ∙ at-written w law.laws spots k i (Some q) within was-equal now-equal alone j
+  pub rewritten-at : (j : K) → at w.eq (pairs after_it) j ≡ (if h.eq k j then Some q else at w.eq (pairs before) j)
+  rewritten-at j = ap (λ xs. at w.eq (taken xs) j) r.pairs ∙ at-written w law.laws spots k i (Some q) within was-equal now-equal alone j
 
   -- where f makes the new pair of the old one
   module _ (f : Option (K × V) → Option (K × V)) (makes : f (Some found.pair) ≡ Some q) where
-    pub rewritten-becomes : (j : K) → at w (pairs after_it) j ≡ (if h.eq k j then f (at w (pairs before) j) else at w (pairs before) j)
-    rewritten-becomes j = rewritten-at j ∙ elim (cases_Bool (h.eq k j)) as (λ _. (if h.eq k j then Some q else at w (pairs before) j) ≡ (if h.eq k j then f (at w (pairs before) j) else at w (pairs before) j)) [
+    pub rewritten-becomes : (j : K) → at w.eq (pairs after_it) j ≡ (if h.eq k j then f (at w.eq (pairs before) j) else at w.eq (pairs before) j)
+    rewritten-becomes j = rewritten-at j ∙ elim (cases_Bool (h.eq k j)) as (λ _. (if h.eq k j then Some q else at w.eq (pairs before) j) ≡ (if h.eq k j then f (at w.eq (pairs before) j) else at w.eq (pairs before) j)) [
       | inl same ↦ rw same (sym makes ∙ ap f (sym found-at ∙ at-equal w law.laws (pairs before) k j same))
       | inr other ↦ rw other refl
     ]

@@ -9,8 +9,8 @@ use Rattle.std.proofs.Math.ListN.{replicate, length-set}
 use Rattle.dash_shard.specs.Hashing.{IsLawful, KeyHash, IsAmount, route_of_hash}
 use Rattle.dash_shard.specs.Contents.{Keys, at, IsOnShard}
 use Rattle.dash_shard.specs.Steps.{Insert, Remove, Old, Pair, after, key_or}
-use Rattle.dash_shard.specs.Shard.{ShardState, place, taken, pairs, shard_len, keys_of, Routes, IsShard, TakesExactly, StaysInPlace}
-use Rattle.dash_shard.specs.Held.{Inserts, Removes, Reserves}
+use Rattle.dash_shard.specs.Shard.{ShardState, place, taken, pairs, shard_len, keys_of, own_keys, Routes, IsShard, TakesStep, TakesInPlace, StaysPut}
+use Rattle.dash_shard.specs.Held.{Inserts, Loses, Reserves}
 use Rattle.dash_shard.specs.declared.shard.table.Node.{Node}
 use Rattle.dash_shard.specs.declared.shard.table.Table.{Table}
 use Rattle.dash_shard.specs.Table.{pairs_of, hashes_of, next_place, Holds, IsAbsent, IsHashed, IsGrown, IsTable, IsInside}
@@ -103,33 +103,33 @@ module _ {K V S : Type 0} (h : KeyHash K S)
   -- what an insert leaves, where o is the old value
   pub record Inserted (old new : Table K V) (k : K) (v : V) (o : Option V) : Type 0 where
     pub inside : Inside new
-    pub takes : TakesExactly h (state old) (state new) (Insert k v) (Old o)
+    pub takes : TakesStep h.eq (state old) (state new) (Insert k v) (Old o)
     pub len : length (pairs (state new)) ≡ length (pairs (state old)) + cond (is_some o) 0 1
-    pub stays : StaysInPlace h (state old) (state new) (Insert k v)
+    pub stays : StaysPut h.eq (state old) (state new) (Insert k v)
 
   -- what a removal leaves, where o is the pair that it answers
   pub record Removed (old new : Table K V) (k : K) (o : Option (K × V)) : Type 0 where
     pub inside : Inside new
-    pub takes : TakesExactly h (state old) (state new) (Remove k) (Pair o)
+    pub takes : TakesStep h.eq (state old) (state new) (Remove k) (Pair o)
     pub len : length (pairs (state old)) ≡ length (pairs (state new)) + cond (is_some o) 1 0
-    pub stays : StaysInPlace h (state old) (state new) (Remove k)
+    pub stays : StaysPut h.eq (state old) (state new) (Remove k)
 
   -- the same as contracts see it, where the state before is written z
   module _ (old new : Table K V) (k : K) (v : V) (o : Option V) (z : ShardState K V S) (view : state old ≡ z) (i : Inserted old new k v o) where
-    pub inserts : (shard_len z < z.capacity → length new.nodes.items ≡ z.capacity) → Inserts h z (state new) k v (Ok o)
+    pub inserts : (shard_len z < z.capacity → length new.nodes.items ≡ z.capacity) → Inserts h.eq z (state new) k v (Ok o)
     inserts room = record {
-      taken = subst (λ x. TakesExactly h x (state new) (Insert k v) (Old o)) view i.takes;
+      taken = subst (λ x. TakesStep h.eq x (state new) (Insert k v) (Old o)) view i.takes;
       len = subst (λ x. shard_len (state new) ≡ shard_len x + cond (is_some o) 0 1) view i.len;
       room = room;
-      places = λ _. subst (λ x. StaysInPlace h x (state new) (Insert k v)) view i.stays;
+      places = λ _. subst (λ x. StaysPut h.eq x (state new) (Insert k v)) view i.stays;
       refused = tt;
       absent = tt;
       full = tt;
     }
 
   -- what an insert that finds no memory leaves
-  pub refuses : (old new : Table K V) (k : K) (v : V) (z : ShardState K V S) → state old ≡ z → Inside old → (new.nodes.items ≡ old.nodes.items) × (old.len ≡ length old.nodes.items) → at (keys_of h (state old)) (pairs (state old)) k ≡ None
-      → Inserts h z (state new) k v (Err (record { key = k; value = v }))
+  pub refuses : (old new : Table K V) (k : K) (v : V) (z : ShardState K V S) → state old ≡ z → Inside old → (new.nodes.items ≡ old.nodes.items) × (old.len ≡ length old.nodes.items) → at h.eq (pairs (state old)) k ≡ None
+      → Inserts h.eq z (state new) k v (Err (record { key = k; value = v }))
   refuses old new k v z view inside same none =
       let of : List (Node K V) → ShardState K V S = λ ns. record { places = pairs_of ns; number = number; amount = amount; hasher = s; capacity = length ns } in
       let back : state new ≡ z = ap of same.0 ∙ view in
@@ -139,7 +139,7 @@ module _ {K V S : Type 0} (h : KeyHash K S)
         room = λ _. ap (λ x. x.capacity) back;
         places = tt;
         refused = (refl, refl, back);
-        absent = subst (λ x. at (keys_of h x) (pairs x) k ≡ None) view none;
+        absent = subst (λ x. at h.eq (pairs x) k ≡ None) view none;
         full = subst (λ x. shard_len x ≡ x.capacity) view (sym inside.counted ∙ same.1);
       }
 
@@ -158,7 +158,7 @@ module _ {K V S : Type 0} (h : KeyHash K S)
     pub others-found : (i : ℕ) → Holds h.eq t.nodes.items k i → NoOther w (pairs_of t.nodes.items) k i
     others-found i found = others-fail w law.laws (pairs_of t.nodes.items) k i found.pair inside.shard.contents.distinct found.is found.equal
 
-    pub at-found : (i : ℕ) (found : Holds h.eq t.nodes.items k i) → at w (pairs (state t)) k ≡ Some found.pair
+    pub at-found : (i : ℕ) (found : Holds h.eq t.nodes.items k i) → at w.eq (pairs (state t)) k ≡ Some found.pair
     at-found i found = at-sole w (pairs_of t.nodes.items) k i (equal-found i found) (others-found i found) ∙ found.is
 
     -- what a look-up didn't find isn't there
@@ -168,7 +168,7 @@ module _ {K V S : Type 0} (h : KeyHash K S)
       | inr fails ↦ fails
     ]
 
-    pub at-missing : (hash : ℕ) → hash ≡ h.hash s k → IsAbsent h.eq t.nodes.items hash k → at w (pairs (state t)) k ≡ None
+    pub at-missing : (hash : ℕ) → hash ≡ h.hash s k → IsAbsent h.eq t.nodes.items hash k → at w.eq (pairs (state t)) k ≡ None
     at-missing hash is absent = at-absent w (pairs_of t.nodes.items) k (missing hash is absent)
 
     module _ (z : ShardState K V S) (view : state t ≡ z) (here : Routes h z k) (v : V) (new : Table K V) where
@@ -206,17 +206,18 @@ module _ {K V S : Type 0} (h : KeyHash K S)
           counted = len ∙ inside.counted ∙ sym (ap (λ xs. length (taken xs)) now ∙ length-taken-replace _ i _ found.pair found.is);
         }
 
-        replaced-takes : TakesExactly h (state t) (state new) (Insert k v) (Old (Some found.pair.1))
+        replaced-takes : TakesStep h.eq (state t) (state new) (Insert k v) (Old (Some found.pair.1))
         replaced-takes = record {
-          replies = ap (λ o. Old (option_map (λ p. p.1) o)) (sym (at-found i found));
-          becomes = λ j. ap (λ xs. at w (taken xs) j) now
-              ∙ at-written w law.laws (pairs_of t.nodes.items) k i _ within (equal-found i found) equal-now (others-found i found) j
-              ∙ stored j (cases_Bool (h.eq k j));
+          table = record {
+            replies = ap (λ o. Old (option_map (λ p. p.1) o)) (sym (at-found i found));
+            becomes = λ j. ap (λ xs. at w.eq (taken xs) j) now
+                ∙ at-written w law.laws (pairs_of t.nodes.items) k i _ within (equal-found i found) equal-now (others-found i found) j
+                ∙ stored j (cases_Bool (h.eq k j));
+          };
           stays = record { number = refl; amount = refl; hasher = refl };
-          lawful = replaced-shard;
         }
           where
-            stored : (j : K) → (h.eq k j ≡ true) ⊎ (h.eq k j ≡ false) → cond (h.eq k j) (Some (found.pair.0, v)) (at w (pairs (state t)) j) ≡ after w (Insert k v) j (at w (pairs (state t)) j)
+            stored : (j : K) → (h.eq k j ≡ true) ⊎ (h.eq k j ≡ false) → cond (h.eq k j) (Some (found.pair.0, v)) (at w.eq (pairs (state t)) j) ≡ after (own_keys h.eq (state t)) (Insert k v) j (at w.eq (pairs (state t)) j)
             stored j (inl same) = rw same (ap (λ o. Some (key_or k o, v)) (sym (at-found i found) ∙ at-equal w law.laws (pairs (state t)) k j same))
             stored j (inr other) = rw other refl
 
@@ -232,7 +233,7 @@ module _ {K V S : Type 0} (h : KeyHash K S)
 
       -- a new pair on a free place
       module _ (i hash : ℕ) (free : i < length t.nodes.items) (empty : place (pairs_of t.nodes.items) i ≡ None)
-          (is : hash ≡ h.hash s k) (none : at w (pairs (state t)) k ≡ None)
+          (is : hash ≡ h.hash s k) (none : at w.eq (pairs (state t)) k ≡ None)
           (places : pairs_of new.nodes.items ≡ set (pairs_of t.nodes.items) i (Some (k, v)))
           (hashes : hashes_of new.nodes.items ≡ set (hashes_of t.nodes.items) i hash) (len : new.len ≡ t.len + 1) (table : IsTable new) where
         room : i < length (pairs_of t.nodes.items)
@@ -268,17 +269,18 @@ module _ {K V S : Type 0} (h : KeyHash K S)
           counted = len ∙ ap (λ n. n + 1) inside.counted ∙ sym filled-len;
         }
 
-        filled-takes : TakesExactly h (state t) (state new) (Insert k v) (Old None)
+        filled-takes : TakesStep h.eq (state t) (state new) (Insert k v) (Old None)
         filled-takes = record {
-          replies = ap (λ o. Old (option_map (λ p. p.1) o)) (sym none);
-          becomes = λ j. ap (λ xs. at w (taken xs) j) places
-              ∙ at-written w law.laws (pairs_of t.nodes.items) k i _ room equal-before equal-filled no-other j
-              ∙ put j (cases_Bool (h.eq k j));
+          table = record {
+            replies = ap (λ o. Old (option_map (λ p. p.1) o)) (sym none);
+            becomes = λ j. ap (λ xs. at w.eq (taken xs) j) places
+                ∙ at-written w law.laws (pairs_of t.nodes.items) k i _ room equal-before equal-filled no-other j
+                ∙ put j (cases_Bool (h.eq k j));
+          };
           stays = record { number = refl; amount = refl; hasher = refl };
-          lawful = filled-shard;
         }
           where
-            put : (j : K) → (h.eq k j ≡ true) ⊎ (h.eq k j ≡ false) → cond (h.eq k j) (Some (k, v)) (at w (pairs (state t)) j) ≡ after w (Insert k v) j (at w (pairs (state t)) j)
+            put : (j : K) → (h.eq k j ≡ true) ⊎ (h.eq k j ≡ false) → cond (h.eq k j) (Some (k, v)) (at w.eq (pairs (state t)) j) ≡ after (own_keys h.eq (state t)) (Insert k v) j (at w.eq (pairs (state t)) j)
             put j (inl same) = rw same (ap (λ o. Some (key_or k o, v)) (sym none ∙ at-equal w law.laws (pairs (state t)) k j same))
             put j (inr other) = rw other refl
 
@@ -296,9 +298,9 @@ module _ {K V S : Type 0} (h : KeyHash K S)
         next : (next_place t < length t.nodes.items) × (place (pairs_of t.nodes.items) (next_place t) ≡ None)
         next = next_free t inside.table (omega (arith, inside.counted, subst (λ x. shard_len x < x.capacity) (sym view) room))
 
-        pub filled-next : hash ≡ h.hash s k → at (keys_of h z) (pairs z) k ≡ None → hashes_of new.nodes.items ≡ set (hashes_of t.nodes.items) (next_place t) hash → new.len ≡ t.len + 1
+        pub filled-next : hash ≡ h.hash s k → at h.eq (pairs z) k ≡ None → hashes_of new.nodes.items ≡ set (hashes_of t.nodes.items) (next_place t) hash → new.len ≡ t.len + 1
             → IsTable new → Inserted t new k v None
-        filled-next is none hashes len table = filled (next_place t) hash next.0 next.1 is (subst (λ x. at (keys_of h x) (pairs x) k ≡ None) (sym view) none) places hashes len table
+        filled-next is none hashes len table = filled (next_place t) hash next.0 next.1 is (subst (λ x. at h.eq (pairs x) k ≡ None) (sym view) none) places hashes len table
 
         pub filled-place : place (pairs_of new.nodes.items) (next_place t) ≡ Some (k, v)
         filled-place = ap (λ xs. place xs (next_place t)) places ∙ get_or-set_same (pairs_of t.nodes.items) (next_place t) (Some (k, v)) None (omega (arith, next.0, length-map t.nodes.items (λ n. n.pair)))
@@ -336,21 +338,24 @@ module _ {K V S : Type 0} (h : KeyHash K S)
             counted = omega (arith, len, inside.counted, removed-len);
           };
           takes = record {
-            replies = ap Pair (sym (at-found i found));
-            becomes = λ j. ap (λ xs. at w (taken xs) j) places
-                ∙ at-written w law.laws (pairs_of t.nodes.items) k i None spot (equal-found i found) equal-none (others-found i found) j;
+            table = record {
+              replies = ap Pair (sym (at-found i found));
+              becomes = λ j. ap (λ xs. at w.eq (taken xs) j) places
+                  ∙ at-written w law.laws (pairs_of t.nodes.items) k i None spot (equal-found i found) equal-none (others-found i found) j;
+            };
             stays = record { number = refl; amount = refl; hasher = refl };
-            lawful = removed-shard;
           };
           len = removed-len;
           stays = λ j p e. ap (λ xs. place xs j) places
               ∙ stays-written w law.laws (pairs_of t.nodes.items) k i None (λ _. None) spot (equal-found i found) (others-found i found) (λ _ _. refl) j p e;
         }
 
-        pub removes : Removes h z (state new) k (Some found.pair)
-        removes = subst (λ x. Removes h x (state new) k (Some found.pair)) view (record {
+        pub lost : Loses z (state new) (Some found.pair)
+        lost = subst (λ x. Loses x (state new) (Some found.pair)) view removed-len
+
+        pub removes : TakesInPlace h.eq z (state new) (Remove k) (Pair (Some found.pair))
+        removes = subst (λ x. TakesInPlace h.eq x (state new) (Remove k) (Pair (Some found.pair))) view (record {
           taken = removed.takes;
-          len = removed-len;
           room = sym (length-map new.nodes.items (λ n. n.pair)) ∙ ap length places ∙ length-set (pairs_of t.nodes.items) i None ∙ length-map t.nodes.items (λ n. n.pair);
           places = removed.stays;
         })
@@ -361,25 +366,25 @@ module _ {K V S : Type 0} (h : KeyHash K S)
 
     -- nothing goes where no key is equal
     module _ (hash : ℕ) (is : hash ≡ h.hash s k) (absent : IsAbsent h.eq t.nodes.items hash k) where
-      unmoved-takes : TakesExactly h (state t) (state t) (Remove k) (Pair None)
+      unmoved-takes : TakesStep h.eq (state t) (state t) (Remove k) (Pair None)
       unmoved-takes = record {
-        replies = ap Pair (sym (at-missing hash is absent));
-        becomes = λ j. gone j (cases_Bool (h.eq k j));
+        table = record {
+          replies = ap Pair (sym (at-missing hash is absent));
+          becomes = λ j. gone j (cases_Bool (h.eq k j));
+        };
         stays = record { number = refl; amount = refl; hasher = refl };
-        lawful = inside.shard;
       }
         where
-          gone : (j : K) → (h.eq k j ≡ true) ⊎ (h.eq k j ≡ false) → at w (pairs (state t)) j ≡ after w (Remove k) j (at w (pairs (state t)) j)
+          gone : (j : K) → (h.eq k j ≡ true) ⊎ (h.eq k j ≡ false) → at w.eq (pairs (state t)) j ≡ after (own_keys h.eq (state t)) (Remove k) j (at w.eq (pairs (state t)) j)
           gone j (inl same) = rw same (sym (at-equal w law.laws (pairs (state t)) k j same) ∙ at-missing hash is absent)
           gone j (inr other) = rw other refl
 
-      unmoved-stays : StaysInPlace h (state t) (state t) (Remove k)
+      unmoved-stays : StaysPut h.eq (state t) (state t) (Remove k)
       unmoved-stays i p e = e ∙ sym (rw (law.laws.symm k p.0 ∙ missing hash is absent i p e) refl)
 
-      pub unmoved : (z : ShardState K V S) → state t ≡ z → Removes h z z k None
-      unmoved z view = subst (λ x. Removes h x x k None) view (record {
+      pub unmoved : (z : ShardState K V S) → state t ≡ z → TakesInPlace h.eq z z (Remove k) (Pair None)
+      unmoved z view = subst (λ x. TakesInPlace h.eq x x (Remove k) (Pair None)) view (record {
         taken = unmoved-takes;
-        len = sym (add-zero _);
         room = refl;
         places = unmoved-stays;
       })
@@ -422,13 +427,12 @@ module _ {K V S : Type 0} (h : KeyHash K S)
 
     -- what making room leaves, where the state before is written z
     pub reserved : (z : ShardState K V S) → state t ≡ z → {E : Type 0} → (additional : ℕ) (r : Result (Unit {0}) E) → OnOk r (new.len + additional ≤ length new.nodes.items) → OnErr r (new.nodes.items ≡ t.nodes.items)
-        → Reserves h additional z (state new) r
-    reserved z view additional r ok err = subst (λ x. Reserves h additional x (state new) r) view (record {
+        → Reserves additional z (state new) r
+    reserved z view additional r ok err = subst (λ x. Reserves additional x (state new) r) view (record {
       room = on-ok r ok;
       pairs = grown-pairs;
       places = λ i p e. ap (λ xs. place xs i) grown.pairs ∙ place-empties (pairs_of t.nodes.items) grown.more i ∙ e;
       stays = record { number = refl; amount = refl; hasher = refl };
-      lawful = grown-inside.shard;
       refused = on-err r err;
     })
       where
@@ -448,10 +452,11 @@ module _ {K V S : Type 0} (h : KeyHash K S)
     inserted-grown last k v o i = record {
       inside = i.inside;
       takes = record {
-        replies = i.takes.replies ∙ ap (λ ps. Old (option_map (λ p. p.1) (at (keys_of h (state t)) ps k))) grown-pairs;
-        becomes = λ j. i.takes.becomes j ∙ ap (λ ps. after (keys_of h (state t)) (Insert k v) j (at (keys_of h (state t)) ps j)) grown-pairs;
+        table = record {
+          replies = i.takes.table.replies ∙ ap (λ ps. Old (option_map (λ p. p.1) (at h.eq ps k))) grown-pairs;
+          becomes = λ j. i.takes.table.becomes j ∙ ap (λ ps. after (own_keys h.eq (state t)) (Insert k v) j (at h.eq ps j)) grown-pairs;
+        };
         stays = record { number = refl; amount = refl; hasher = refl };
-        lawful = i.takes.lawful;
       };
       len = i.len ∙ ap (λ ps. length ps + cond (is_some o) 0 1) grown-pairs;
       stays = λ j p e. i.stays j p (ap (λ xs. place xs j) grown.pairs ∙ place-empties (pairs_of t.nodes.items) grown.more j ∙ e);
@@ -467,5 +472,5 @@ module _ {K V S : Type 0} (h : KeyHash K S)
           inserted-grown last k v None
           (filled new grown-inside k (state new) refl (subst (λ x. Routes h x k) (sym view) here) v last (next_place new) hash free.0 free.1
           is
-          (ap (λ ps. at (keys_of h (state t)) ps k) grown-pairs ∙ at-missing t inside k hash is absent)
+          (ap (λ ps. at h.eq ps k) grown-pairs ∙ at-missing t inside k hash is absent)
           places hashes longer lawful)

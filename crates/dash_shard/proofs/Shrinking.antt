@@ -12,12 +12,12 @@ use Rattle.dash_shard.specs.Hashing.{IsLawful, KeyHash}
 module _ {K V S : Type 0} (h : KeyHash K S)
     (law : IsLawful h) (s : S) (number amount : ℕ)
     (t new : Table K V) (inside : Inside h law s number amount t)
-    (once : (w : Keys K) → IsEquivalence w.eq → Distinct w (taken (pairs_of t.nodes.items)) → EachOnce w (taken (pairs_of t.nodes.items)) (taken (pairs_of new.nodes.items)))
+    (once : (w : Keys K) → IsEquivalence w.eq → Distinct w.eq (taken (pairs_of t.nodes.items)) → EachOnce w.eq (taken (pairs_of t.nodes.items)) (taken (pairs_of new.nodes.items)))
     (carried : IsCarried t.nodes.items new.nodes.items) (len : new.len ≡ t.len) (counted : new.len ≡ length (taken (pairs_of new.nodes.items))) (table : IsTable new) where
   abbrev of : Table K V → ShardState K V S
   of u = state h law s number amount u
 
-  each : EachOnce (keys_of h (of t)) (pairs (of t)) (pairs (of new))
+  each : EachOnce h.eq (pairs (of t)) (pairs (of new))
   each = once (keys_of h (of t)) law.laws inside.shard.contents.distinct
 
   shrunk-shard : IsShard h (of new)
@@ -35,12 +35,11 @@ module _ {K V S : Type 0} (h : KeyHash K S)
     counted = counted;
   }
 
-  pub shrinks : length new.nodes.items ≤ length t.nodes.items → (t.len ≡ 0 → length new.nodes.items ≡ 0) → (z : ShardState K V S) → of t ≡ z → Shrinks h z (of new)
-  shrinks room none z view = subst (λ x. Shrinks h x (of new)) view (record {
+  pub shrinks : length new.nodes.items ≤ length t.nodes.items → (t.len ≡ 0 → length new.nodes.items ≡ 0) → (z : ShardState K V S) → of t ≡ z → Shrinks h.eq z (of new)
+  shrinks room none z view = subst (λ x. Shrinks h.eq x (of new)) view (record {
     pairs = each;
     len = sym counted ∙ len ∙ inside.counted;
     room = room;
     none = λ e. none (inside.counted ∙ e);
     stays = record { number = refl; amount = refl; hasher = refl };
-    lawful = shrunk-shard;
   })

@@ -21,6 +21,10 @@ module _ {F K V R : Type 0} (g : Once F (Bor K × (Bor V × Unit {0})) R) (f : F
   Viewed (Some p) (Some r) = AnswersOn p r
   Viewed _ _ = ⊥
 
+-- f may give the action's answer on the pair
+abbrev pub Answered : {F K V : Type 0} → Once F (Bor K × (Bor V × Unit {0})) Bool → F → K × V → V × Bool → Type 0
+Answered g f p d = AnswersOn g f p d.1
+
 module _ {F K V : Type 0} (g : Once F (Bor K × (MutBor V × Unit {0})) (Bool × (MutBor V × Unit {0}))) (f : F) where
   -- f may be called at the pair, and may write its value
   abbrev pub MayChange : K × V → Type 0
@@ -45,3 +49,7 @@ module _ {F K V : Type 0} (g : Once F (Bor K × (V × Unit {0})) V) (f : F) wher
     pub key : Bor K
     pub shows : key.now ≡ p.0
     pub says : g.post f (key, (p.1, tt)) v
+
+-- f may give the action's value for the pair's
+abbrev pub Given : {F K V : Type 0} → Once F (Bor K × (V × Unit {0})) V → F → K × V → V × Bool → Type 0
+Given g f p d = GivesOn g f p d.0

@@ -12,15 +12,11 @@ pub record Keys (K : Type 0) : Type 0 where
 abbrev pub keys : {K : Type 0} → (K → K → Bool) → (K → ℕ) → ℕ → Keys K
 keys eq route shards = record { eq = eq; route = route; shards = shards }
 
-module _ {K V : Type 0} (w : Keys K) where
+module _ {K V : Type 0} (eq : K → K → Bool) where
   -- 'P at k': the pair whose key equals k, or none
   abbrev pub at : List (K × V) → K → Option (K × V)
   at [] k = None
-  at (p ∷ ps) k = if w.eq p.0 k then Some p else at ps k
-
-  -- 'P on i': the pairs whose key has the route i
-  abbrev pub on : ℕ → List (K × V) → List (K × V)
-  on i ps = filter (λ p. w.route p.0 == i) ps
+  at (p ∷ ps) k = if eq p.0 k then Some p else at ps k
 
   -- no two keys are equal
   abbrev pub Distinct : List (K × V) → Type 0
@@ -32,7 +28,12 @@ module _ {K V : Type 0} (w : Keys K) where
     pub distinct : Distinct qs
     pub same : (k : K) → at qs k ≡ at ps k
 
+module _ {K V : Type 0} (w : Keys K) where
+  -- 'P on i': the pairs whose key has the route i
+  abbrev pub on : ℕ → List (K × V) → List (K × V)
+  on i ps = filter (λ p. w.route p.0 == i) ps
+
   -- the contents of shard i: no two keys are equal, and no key goes elsewhere
   pub record IsOnShard (i : ℕ) (ps : List (K × V)) : Type 0 where
-    pub distinct : Distinct ps
-    pub routed : (k : K) → w.route k ≢ i → at ps k ≡ None
+    pub distinct : Distinct w.eq ps
+    pub routed : (k : K) → w.route k ≢ i → at w.eq ps k ≡ None

@@ -1,11 +1,10 @@
 -- What calls on all pairs of a shard do and promise.
 use Rattle.std.specs.Prelude.{◌≡◌, ◌≤◌, Bool, true, false, List, [], ◌∷◌, Option, Some, None, if◌then◌else◌}
 use Rattle.std.specs.Fn.{Mut, Takes, Called}
-use Rattle.dash_shard.specs.Steps.{Act, AlterAll, Retain, Done}
-use Rattle.dash_shard.specs.Shard.{ShardState, pairs, shard_len, keys_of, IsShard, SameShard, TakesExactly, StaysInPlace}
+use Rattle.dash_shard.specs.Steps.{Act, Step, Done}
+use Rattle.dash_shard.specs.Shard.{ShardState, pairs, shard_len, SameShard, TakesInPlace}
 use Rattle.dash_shard.specs.Contents.{EachOnce}
 use denote.Ref.{Bor}
-use Rattle.dash_shard.specs.Hashing.{KeyHash}
 
 module _ {F K V : Type 0} (g : Mut F (Bor K × (V × Unit {0})) V) where
   -- a call of f at a `&` to k and at v may return w, and leave f'
@@ -24,6 +23,13 @@ module _ {F K V : Type 0} (T : F → K → V → Bool → V → F → Type 0) wh
   abbrev pub CalledAlong : Act K V → F → List (K × V) → F → Type 0
   CalledAlong act f [] last = f ≡ last
   CalledAlong act f (p ∷ ps) last = (f' : F) × T f p.0 p.1 (act p.0 p.1).1 (act p.0 p.1).0 f' × CalledAlong act f' ps last
+
+  -- P is so of the action that says what these calls of f did
+  pub record ByCalls (f : F) (ps : List (K × V)) (P : Act K V → Type 0) : Type 0 where
+    pub act : Act K V
+    pub last : F
+    pub called : CalledAlong act f ps last
+    pub does : P act
 
   -- f was called at the pair of a place, if it has one, and left what `leaves` says there
   abbrev pub Visits : (K → V × Bool → Option (K × V)) → F → Option (K × V) → Option (K × V) → F → Type 0
@@ -48,45 +54,27 @@ if_kept k d = if d.1 then Some (k, d.0) else None
 abbrev pub altered : {K V : Type 0} → K → V × Bool → Option (K × V)
 altered k d = Some (k, d.0)
 
-module _ {K V S : Type 0} (h : KeyHash K S) where
-  -- all that `retain` promises: a pair stays where the action, which is what f did, answers yes
-  pub record Retains {F : Type 0} (T : F → K → V → Bool → V → F → Type 0) (f : F) (old new : ShardState K V S) : Type 0 where
-    pub act : Act K V
-    pub last : F
-    pub called : CalledAlong T act f (pairs old) last
-    pub taken : TakesExactly h old new (Retain old.number act) Done
-    pub places : StaysInPlace h old new (Retain old.number act)
-    pub room : new.capacity ≡ old.capacity
-    pub len : shard_len new ≤ shard_len old
-
-  -- all that `alter_all` promises: each value is the one that the action, which is what f did, makes of it
-  pub record AltersAll {F : Type 0} (T : F → K → V → Bool → V → F → Type 0) (f : F) (old new : ShardState K V S) : Type 0 where
-    pub act : Act K V
-    pub last : F
-    pub called : CalledAlong T act f (pairs old) last
-    pub taken : TakesExactly h old new (AlterAll old.number act) Done
-    pub places : StaysInPlace h old new (AlterAll old.number act)
-    pub room : new.capacity ≡ old.capacity
-    pub len : shard_len new ≡ shard_len old
-
-  -- all that `clear` promises: no pair stays
-  pub record Clears (old new : ShardState K V S) : Type 0 where
-    pub taken : TakesExactly h old new (Retain old.number (λ _ v. (v, false))) Done
-    pub empty : pairs new ≡ []
-    pub room : new.capacity ≡ old.capacity
-
-  -- all that `shrink_to_fit` promises: the pairs stay, in as many places as before or fewer, and none for no pairs
-  pub record Shrinks (old new : ShardState K V S) : Type 0 where
-    pub pairs : EachOnce (keys_of h old) (pairs old) (pairs new)
-    pub len : shard_len new ≡ shard_len old
-    pub room : new.capacity ≤ old.capacity
-    pub none : shard_len old ≡ 0 → new.capacity ≡ 0
-    pub stays : SameShard old new
-    pub lawful : IsShard h new
+module _ {K V S : Type 0} {F : Type 0} (T : F → K → V → Bool → V → F → Type 0) where
+  -- the step is taken in place, by the action that says what f did at the pairs
+  abbrev pub SweepsBy : (K → K → Bool) → F → ShardState K V S → ShardState K V S → (Act K V → Step K V) → Type 0
+  SweepsBy eq f old new step = ByCalls T f (pairs old) (λ act. TakesInPlace eq old new (step act) Done)
 
   -- all that a walk over a shard with f promises: what became of the pair of each place, in rising order, and how f was left
-  pub record SweepsShard {F : Type 0} (T : F → K → V → Bool → V → F → Type 0) (leaves : K → V × Bool → Option (K × V)) (f last : F) (old new : ShardState K V S) : Type 0 where
+  pub record SweepsShard (leaves : K → V × Bool → Option (K × V)) (f last : F) (old new : ShardState K V S) : Type 0 where
     pub swept : Sweeps T leaves f old.places new.places last
     pub room : new.capacity ≡ old.capacity
     pub stays : SameShard old new
-    pub lawful : IsShard h new
+
+-- all that `clear` promises: no pair stays
+pub record Clears {K V S : Type 0} (old new : ShardState K V S) : Type 0 where
+  pub empty : pairs new ≡ []
+  pub room : new.capacity ≡ old.capacity
+  pub stays : SameShard old new
+
+-- all that `shrink_to_fit` promises: the pairs stay, in as many places as before or fewer, and none for no pairs
+pub record Shrinks {K V S : Type 0} (eq : K → K → Bool) (old new : ShardState K V S) : Type 0 where
+  pub pairs : EachOnce eq (pairs old) (pairs new)
+  pub len : shard_len new ≡ shard_len old
+  pub room : new.capacity ≤ old.capacity
+  pub none : shard_len old ≡ 0 → new.capacity ≡ 0
+  pub stays : SameShard old new

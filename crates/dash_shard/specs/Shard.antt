@@ -2,9 +2,9 @@
 use Rattle.std.specs.Prelude.{◌≡◌, ℕ, ◌<◌, ◌≤◌, Bool, IsTrue, List, [], ◌∷◌, length, Option, Some, None, IsSome, IsSomeAnd, slice_index_or, slice_set, map, if◌then◌else◌, refl}
 use Rattle.std.specs.Option.{option_map}
 use Rattle.std.specs.Coded.{Coded, code_by, coded×, coded_ℕ, coded_list, coded_option}
-use Rattle.dash_shard.specs.Hashing.{KeyHash, IsAmount, route_by}
-use Rattle.dash_shard.specs.Contents.{Keys, keys, IsOnShard}
-use Rattle.dash_shard.specs.Steps.{Step, Reply, Replies, Becomes, after}
+use Rattle.dash_shard.specs.Hashing.{KeyHash, IsAmount, HashAlike, route_by}
+use Rattle.dash_shard.specs.Contents.{Keys, keys, at, IsOnShard}
+use Rattle.dash_shard.specs.Steps.{Act, Step, Reply, Replies, IsTaken, BySome, after}
 
 pub record ShardState (K V S : Type 0) : Type 0 where
   pub places : List (Option (K × V))
@@ -79,13 +79,37 @@ module _ {K V S : Type 0} where
       pub number : s.number < s.amount
       pub amount : IsAmount s.amount
 
-    -- takes, on one shard and to the letter: the step gets the reply of the table, and the contents become what the table says
-    pub record TakesExactly (old new : ShardState K V S) (step : Step K V) (reply : Reply K V) : Type 0 where
-      pub replies : Replies (keys_of old) step (pairs old) reply
-      pub becomes : Becomes (keys_of old) step (pairs old) (pairs new)
+    -- shard i of n, of a map with a hasher of this meaning
+    pub record IsPlaced (meaning : S) (n i : ℕ) (s : ShardState K V S) : Type 0 where
+      pub number : s.number ≡ i
+      pub amount : s.amount ≡ n
+      pub hashes : HashAlike h meaning s.hasher
+      pub shard : IsShard s
+
+  module _ (eq : K → K → Bool) where
+    -- the keys of one shard, which all go to it
+    abbrev pub own_keys : ShardState K V S → Keys K
+    own_keys s = keys eq (λ _. s.number) s.amount
+
+    -- the step may get this reply on the shard
+    abbrev pub RepliesOn : ShardState K V S → Step K V → Reply K V → Type 0
+    RepliesOn s step reply = Replies (own_keys s) step (pairs s) reply
+
+    -- the step is taken on the shard, which stays the one that it is
+    pub record TakesStep (old new : ShardState K V S) (step : Step K V) (reply : Reply K V) : Type 0 where
+      pub table : IsTaken (own_keys old) step reply (pairs old) (pairs new)
       pub stays : SameShard old new
-      pub lawful : IsShard new
 
     -- each pair stays in its place, where the place has afterwards what the table makes of the pair
-    abbrev pub StaysInPlace : ShardState K V S → ShardState K V S → Step K V → Type 0
-    StaysInPlace old new step = (i : ℕ) (p : K × V) → place old.places i ≡ Some p → place new.places i ≡ after (keys_of old) step p.0 (Some p)
+    abbrev pub StaysPut : ShardState K V S → ShardState K V S → Step K V → Type 0
+    StaysPut old new step = (i : ℕ) (p : K × V) → place old.places i ≡ Some p → place new.places i ≡ after (own_keys old) step p.0 (Some p)
+
+    -- the same in place: the pairs keep their places, and the room stays
+    pub record TakesInPlace (old new : ShardState K V S) (step : Step K V) (reply : Reply K V) : Type 0 where
+      pub taken : TakesStep old new step reply
+      pub places : StaysPut old new step
+      pub room : new.capacity ≡ old.capacity
+
+    -- the same by some action, which may do on the pair with an equal key what it does
+    abbrev pub TakesBy : ShardState K V S → ShardState K V S → (K → Act K V → Step K V) → K → Reply K V → (K × V → V × Bool → Type 0) → Type 0
+    TakesBy old new step key reply may = BySome may (at eq (pairs old) key) (λ act. TakesInPlace old new (step key act) reply)

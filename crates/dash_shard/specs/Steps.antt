@@ -1,5 +1,5 @@
 -- The step table: what each kind of step does to the contents of a map, and what it replies.
-use Rattle.std.specs.Prelude.{ℕ, ◌≡◌, ◌-◌, ◌^◌, ◌==◌, min, Bool, List, length, Option, Some, None, option_map, option_and_then, is_some, if◌then◌else◌}
+use Rattle.std.specs.Prelude.{ℕ, ◌≡◌, ◌-◌, ◌^◌, ◌==◌, min, Bool, List, length, Option, Some, None, option_map, option_and_then, is_some, IfSome, if◌then◌else◌}
 use Rattle.dash_shard.specs.Contents.{Keys, at, on, EachOnce}
 
 -- what an action makes of a pair's value, and what it answers: yes or no
@@ -78,8 +78,8 @@ module _ {K V : Type 0} (w : Keys K) where
   line_after (on_shard i becomes _) j o = if w.route j == i then option_and_then becomes o else o
 
   abbrev pub LineReplies : Line K V → List (K × V) → Reply K V → Type 0
-  LineReplies (at_key k _ replies) ps r = r ≡ replies (at w ps k)
-  LineReplies (on_shard i _ replies) ps r = (l : List (K × V)) × EachOnce w (on w i ps) l × (r ≡ replies l)
+  LineReplies (at_key k _ replies) ps r = r ≡ replies (at w.eq ps k)
+  LineReplies (on_shard i _ replies) ps r = (l : List (K × V)) × EachOnce w.eq (on w i ps) l × (r ≡ replies l)
 
   -- the place of a step: the route of its key, or the number that it names
   abbrev pub place : Step K V → ℕ
@@ -95,4 +95,13 @@ module _ {K V : Type 0} (w : Keys K) where
 
   -- a step makes qs of the contents ps
   abbrev pub Becomes : Step K V → List (K × V) → List (K × V) → Type 0
-  Becomes step ps qs = (j : K) → at w qs j ≡ after step j (at w ps j)
+  Becomes step ps qs = (j : K) → at w.eq qs j ≡ after step j (at w.eq ps j)
+
+  -- A STEP IS TAKEN: from the contents ps it gets this reply, and makes the contents qs
+  pub record IsTaken (step : Step K V) (reply : Reply K V) (ps qs : List (K × V)) : Type 0 where
+    pub replies : Replies step ps reply
+    pub becomes : Becomes step ps qs
+
+-- by some action, which may do on the pair that stands there what it does
+abbrev pub BySome : {K V : Type 0} → (K × V → V × Bool → Type 0) → Option (K × V) → (Act K V → Type 0) → Type 0
+BySome {K} {V} may there P = (act : Act K V) × P act × IfSome there (λ p. may p (act p.0 p.1))

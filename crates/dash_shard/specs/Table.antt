@@ -1,10 +1,12 @@
 -- A table of pairs, found by the buckets of their hashes. A bucket is a chain of places in falling order, and the free places are a
 -- stack. A link is one more than a place, or 0 at the end.
 use Rattle.std.specs.Prelude.{ℕ, zero, suc, ◌≡◌, ◌≢◌, ◌⊎◌, ◌+◌, ◌-◌, ◌<◌, ◌≤◌, true, false, Bool, List, map, length, slice_index_or, slice_index, slice_set, ◌++◌, replicate, Option, Some, None, IsSome, IsNone, bit_and, ◌==◌, if◌then◌else◌}
+use Rattle.std.specs.Cmp.{IsEquivalence}
 use Rattle.std.specs.Option.{option_map}
 use Rattle.std.specs.Vec.{with_item}
 use Rattle.dash_shard.specs.Hashing.{KeyHash}
-use Rattle.dash_shard.specs.Shard.{ShardState, IsShard, shard_len, place}
+use Rattle.dash_shard.specs.Contents.{Keys, Distinct, EachOnce}
+use Rattle.dash_shard.specs.Shard.{ShardState, IsShard, shard_len, place, taken}
 use Rattle.dash_shard.specs.declared.shard.table.Node.{Node}
 use Rattle.dash_shard.specs.declared.shard.table.Table.{Table}
 
@@ -139,6 +141,10 @@ module _ {K V : Type 0} where
     pub more : ℕ
     pub pairs : pairs_of new ≡ pairs_of old ++ replicate more None
     pub hashes : hashes_of new ≡ hashes_of old ++ replicate more 0
+
+  -- the new row has each pair of the old one once, whichever keys are equal
+  abbrev pub CarriesOnce : List (Node K V) → List (Node K V) → Type 0
+  CarriesOnce old new = (w : Keys K) → IsEquivalence w.eq → Distinct w.eq (taken (pairs_of old)) → EachOnce w.eq (taken (pairs_of old)) (taken (pairs_of new))
 
   -- each pair of the new row is one of the old, with its hash
   abbrev pub IsCarried : List (Node K V) → List (Node K V) → Type 0

@@ -5,10 +5,10 @@ ghost use Rattle.std.specs.Map.Iter.{deref_pair};
 ghost use Rattle.std.specs.Borrow.{sem};
 ghost use Rattle.dash_shard.specs.Hashing.{by, IsAmount};
 ghost use Rattle.dash_shard.specs.Contents.{at};
-ghost use Rattle.dash_shard.specs.Steps.{Get, Contains, Insert, Remove, Pair, Found, Old, Replies};
-ghost use Rattle.dash_shard.specs.Shard.{place, pairs, shard_len, keys_of, Routes, IsShard, TakesExactly, StaysInPlace};
-ghost use Rattle.dash_shard.specs.Held.{Inserts, Removes, RemovesAsked, RemovesChanged, Alters, Reserves};
-ghost use Rattle.dash_shard.specs.Closures.{MayAsk, AnswersOn, Viewed, MayChange, ChangesOn, MayGive, GivesOn};
+ghost use Rattle.dash_shard.specs.Steps.{Get, Contains, Insert, Remove, Pair, Found, Old, RemoveIf, RemoveIfMut, Alter, Done};
+ghost use Rattle.dash_shard.specs.Shard.{pairs, shard_len, Routes, IsShard, RepliesOn, TakesStep, StaysPut, TakesInPlace, TakesBy};
+ghost use Rattle.dash_shard.specs.Held.{Inserts, Reserves, Loses};
+ghost use Rattle.dash_shard.specs.Closures.{MayAsk, Viewed, MayChange, ChangesOn, MayGive, Answered, Given};
 ghost use Rattle.dash_shard.specs.declared.error.ConstructError.TheVariants.{Memory};
 
 use crate::error::{ConstructError, TryReserveError};
@@ -148,14 +148,15 @@ impl<K: Eq + Hash, V, S: BuildHasher> Shard<K, V, S> {
         K: Drop,
         V: Drop,
         requires { Routes ⟦<Self as Keyed>⟧.by self.old key }
-        ensures taken { IfOk result (λ old. TakesExactly ⟦<Self as Keyed>⟧.by self.old self.new (Insert key value) (Old old)) }
+        ensures taken { IfOk result (λ old. TakesStep K.eq self.old self.new (Insert key value) (Old old)) }
+        ensures lawful { IsShard ⟦<Self as Keyed>⟧.by self.new }
         ensures len { IfOk result (λ old. shard_len self.new ≡ shard_len self.old + (if is_some old then 0 else 1)) }
         ensures room { shard_len self.old < self.old.capacity → self.new.capacity ≡ self.old.capacity }
-        ensures places { OnOk result (self.new.capacity ≡ self.old.capacity → StaysInPlace ⟦<Self as Keyed>⟧.by self.old self.new (Insert key value)) }
+        ensures places { OnOk result (self.new.capacity ≡ self.old.capacity → StaysPut K.eq self.old self.new (Insert key value)) }
 
         // A refusal hands the pair back, and comes only for a new key in a full shard.
         ensures refused { IfErr result (λ e. (e.key ≡ key) × (e.value ≡ value) × (self.new ≡ self.old)) }
-        ensures absent { OnErr result (at (keys_of ⟦<Self as Keyed>⟧.by self.old) (pairs self.old) key ≡ None) }
+        ensures absent { OnErr result (at K.eq (pairs self.old) key ≡ None) }
         ensures full { OnErr result (shard_len self.old ≡ self.old.capacity) }
     {
         let hash = self.hash_one(&key);
@@ -175,7 +176,8 @@ impl<K: Eq + Hash, V, S: BuildHasher> Shard<K, V, S> {
         V: Drop,
         requires hash { hash ≡ ⟦<Self as Keyed>⟧.by.hash self.old.hasher key }
         requires route { Routes ⟦<Self as Keyed>⟧.by self.old key }
-        ensures { Inserts ⟦<Self as Keyed>⟧.by self.old self.new key value result }
+        ensures inserts { Inserts K.eq self.old self.new key value result }
+        ensures lawful { IsShard ⟦<Self as Keyed>⟧.by self.new }
     {
         if let Some(place) = self.table.find(hash, &key) {
             return Ok(Some(self.table.replace(place, value)));
@@ -193,10 +195,10 @@ impl<K: Eq + Hash, V, S: BuildHasher> Shard<K, V, S> {
     #[inline]
     pub fn remove(&mut self, key: &K) -> Option<(K, V)>
         requires { Routes ⟦<Self as Keyed>⟧.by self.old key.now }
-        ensures taken { TakesExactly ⟦<Self as Keyed>⟧.by self.old self.new (Remove key.now) (Pair result) }
+        ensures removes { TakesInPlace K.eq self.old self.new (Remove key.now) (Pair result) }
+        ensures lawful { IsShard ⟦<Self as Keyed>⟧.by self.new }
         ensures len { shard_len self.old ≡ shard_len self.new + (if is_some result then 1 else 0) }
         ensures room { self.new.capacity ≡ self.old.capacity }
-        ensures places { StaysInPlace ⟦<Self as Keyed>⟧.by self.old self.new (Remove key.now) }
     {
         let hash = self.hash_one(key);
         self.remove_hashed(hash, key)
@@ -207,7 +209,9 @@ impl<K: Eq + Hash, V, S: BuildHasher> Shard<K, V, S> {
     pub fn remove_hashed(&mut self, hash: u64, key: &K) -> Option<(K, V)>
         requires hash { hash ≡ ⟦<Self as Keyed>⟧.by.hash self.old.hasher key.now }
         requires route { Routes ⟦<Self as Keyed>⟧.by self.old key.now }
-        ensures { Removes ⟦<Self as Keyed>⟧.by self.old self.new key.now result }
+        ensures removes { TakesInPlace K.eq self.old self.new (Remove key.now) (Pair result) }
+        ensures len { Loses self.old self.new result }
+        ensures lawful { IsShard ⟦<Self as Keyed>⟧.by self.new }
     {
         let position = self.table.find(hash, key)?;
         Some(self.table.take(position))
@@ -217,8 +221,10 @@ impl<K: Eq + Hash, V, S: BuildHasher> Shard<K, V, S> {
     #[inline]
     pub fn remove_if<F: FnOnce(&K, &V) -> bool>(&mut self, key: &K, f: F) -> Option<(K, V)>
         requires route { Routes ⟦<Self as Keyed>⟧.by self.old key.now }
-        requires callable { IfSome (at (keys_of ⟦<Self as Keyed>⟧.by self.old) (pairs self.old) key.now) (MayAsk F.FnOnce f) }
-        ensures { RemovesAsked ⟦<Self as Keyed>⟧.by (AnswersOn F.FnOnce f) self.old self.new key.now result }
+        requires callable { IfSome (at K.eq (pairs self.old) key.now) (MayAsk F.FnOnce f) }
+        ensures removes { TakesBy K.eq self.old self.new RemoveIf key.now (Pair result) (Answered F.FnOnce f) }
+        ensures len { Loses self.old self.new result }
+        ensures lawful { IsShard ⟦<Self as Keyed>⟧.by self.new }
     {
         let hash = self.hash_one(key);
         self.remove_if_hashed(hash, key, f)
@@ -234,8 +240,10 @@ impl<K: Eq + Hash, V, S: BuildHasher> Shard<K, V, S> {
     ) -> Option<(K, V)>
         requires hash { hash ≡ ⟦<Self as Keyed>⟧.by.hash self.old.hasher key.now }
         requires route { Routes ⟦<Self as Keyed>⟧.by self.old key.now }
-        requires callable { IfSome (at (keys_of ⟦<Self as Keyed>⟧.by self.old) (pairs self.old) key.now) (MayAsk F.FnOnce f) }
-        ensures { RemovesAsked ⟦<Self as Keyed>⟧.by (AnswersOn F.FnOnce f) self.old self.new key.now result }
+        requires callable { IfSome (at K.eq (pairs self.old) key.now) (MayAsk F.FnOnce f) }
+        ensures removes { TakesBy K.eq self.old self.new RemoveIf key.now (Pair result) (Answered F.FnOnce f) }
+        ensures len { Loses self.old self.new result }
+        ensures lawful { IsShard ⟦<Self as Keyed>⟧.by self.new }
     {
         let place = self.position_of_hashed(hash, key)?;
         let (stored, value) = self.at(place);
@@ -249,8 +257,10 @@ impl<K: Eq + Hash, V, S: BuildHasher> Shard<K, V, S> {
     #[inline]
     pub fn remove_if_mut<F: FnOnce(&K, &mut V) -> bool>(&mut self, key: &K, f: F) -> Option<(K, V)>
         requires route { Routes ⟦<Self as Keyed>⟧.by self.old key.now }
-        requires callable { IfSome (at (keys_of ⟦<Self as Keyed>⟧.by self.old) (pairs self.old) key.now) (MayChange F.FnOnce f) }
-        ensures { RemovesChanged ⟦<Self as Keyed>⟧.by (ChangesOn F.FnOnce f) self.old self.new key.now result }
+        requires callable { IfSome (at K.eq (pairs self.old) key.now) (MayChange F.FnOnce f) }
+        ensures removes { TakesBy K.eq self.old self.new RemoveIfMut key.now (Pair result) (ChangesOn F.FnOnce f) }
+        ensures len { Loses self.old self.new result }
+        ensures lawful { IsShard ⟦<Self as Keyed>⟧.by self.new }
     {
         let hash = self.hash_one(key);
         self.remove_if_mut_hashed(hash, key, f)
@@ -266,8 +276,10 @@ impl<K: Eq + Hash, V, S: BuildHasher> Shard<K, V, S> {
     ) -> Option<(K, V)>
         requires hash { hash ≡ ⟦<Self as Keyed>⟧.by.hash self.old.hasher key.now }
         requires route { Routes ⟦<Self as Keyed>⟧.by self.old key.now }
-        requires callable { IfSome (at (keys_of ⟦<Self as Keyed>⟧.by self.old) (pairs self.old) key.now) (MayChange F.FnOnce f) }
-        ensures { RemovesChanged ⟦<Self as Keyed>⟧.by (ChangesOn F.FnOnce f) self.old self.new key.now result }
+        requires callable { IfSome (at K.eq (pairs self.old) key.now) (MayChange F.FnOnce f) }
+        ensures removes { TakesBy K.eq self.old self.new RemoveIfMut key.now (Pair result) (ChangesOn F.FnOnce f) }
+        ensures len { Loses self.old self.new result }
+        ensures lawful { IsShard ⟦<Self as Keyed>⟧.by self.new }
     {
         let place = self.position_of_hashed(hash, key)?;
         let (key, value) = self.table.pair_mut(place);
@@ -282,8 +294,10 @@ impl<K: Eq + Hash, V, S: BuildHasher> Shard<K, V, S> {
     #[inline]
     pub fn alter<F: FnOnce(&K, V) -> V>(&mut self, key: &K, f: F)
         requires route { Routes ⟦<Self as Keyed>⟧.by self.old key.now }
-        requires callable { IfSome (at (keys_of ⟦<Self as Keyed>⟧.by self.old) (pairs self.old) key.now) (MayGive F.FnOnce f) }
-        ensures { Alters ⟦<Self as Keyed>⟧.by (GivesOn F.FnOnce f) self.old self.new key.now }
+        requires callable { IfSome (at K.eq (pairs self.old) key.now) (MayGive F.FnOnce f) }
+        ensures alters { TakesBy K.eq self.old self.new Alter key.now Done (Given F.FnOnce f) }
+        ensures len { shard_len self.new ≡ shard_len self.old }
+        ensures lawful { IsShard ⟦<Self as Keyed>⟧.by self.new }
     {
         let hash = self.hash_one(key);
         self.alter_hashed(hash, key, f);
@@ -294,8 +308,10 @@ impl<K: Eq + Hash, V, S: BuildHasher> Shard<K, V, S> {
     pub fn alter_hashed<F: FnOnce(&K, V) -> V>(&mut self, hash: u64, key: &K, f: F)
         requires hash { hash ≡ ⟦<Self as Keyed>⟧.by.hash self.old.hasher key.now }
         requires route { Routes ⟦<Self as Keyed>⟧.by self.old key.now }
-        requires callable { IfSome (at (keys_of ⟦<Self as Keyed>⟧.by self.old) (pairs self.old) key.now) (MayGive F.FnOnce f) }
-        ensures { Alters ⟦<Self as Keyed>⟧.by (GivesOn F.FnOnce f) self.old self.new key.now }
+        requires callable { IfSome (at K.eq (pairs self.old) key.now) (MayGive F.FnOnce f) }
+        ensures alters { TakesBy K.eq self.old self.new Alter key.now Done (Given F.FnOnce f) }
+        ensures len { shard_len self.new ≡ shard_len self.old }
+        ensures lawful { IsShard ⟦<Self as Keyed>⟧.by self.new }
     {
         if let Some(place) = self.position_of_hashed(hash, key) {
             self.table.alter(place, f);
@@ -305,7 +321,7 @@ impl<K: Eq + Hash, V, S: BuildHasher> Shard<K, V, S> {
     /// The pair whose key equals `key`.
     #[inline]
     pub fn get(&self, key: &K) -> Option<(&K, &V)>
-        ensures pair { Replies (keys_of ⟦<Self as Keyed>⟧.by self.now) (Get key.now) (pairs self.now) (Pair (option_map deref_pair result)) }
+        ensures pair { RepliesOn K.eq self.now (Get key.now) (Pair (option_map deref_pair result)) }
         ensures lawful { IsShard ⟦<Self as Keyed>⟧.by self.now }
     {
         let position = self.position_of(key)?;
@@ -316,7 +332,7 @@ impl<K: Eq + Hash, V, S: BuildHasher> Shard<K, V, S> {
     #[inline]
     pub fn get_mut(&mut self, key: &K) -> Option<&mut V>
         ensures* writes_back { sem 𝓛 (lends_get K.row V.row S.row S.Hasher.row K.Hash S.BuildHasher S.Hasher.Hasher self.entry key.now result) }
-        ensures value { option_copied_mut result ≡ option_map (λ p. p.1) (at (keys_of ⟦<Self as Keyed>⟧.by self.old) (pairs self.old) key.now) }
+        ensures value { option_copied_mut result ≡ option_map (λ p. p.1) (at K.eq (pairs self.old) key.now) }
         ensures lawful { IsShard ⟦<Self as Keyed>⟧.by self.old }
     {
         let hash = self.hash_one(key);
@@ -328,7 +344,7 @@ impl<K: Eq + Hash, V, S: BuildHasher> Shard<K, V, S> {
     pub fn get_mut_hashed(&mut self, hash: u64, key: &K) -> Option<&mut V>
         requires { hash ≡ ⟦<Self as Keyed>⟧.by.hash self.old.hasher key.now }
         ensures* writes_back { sem 𝓛 (lends_get K.row V.row S.row S.Hasher.row K.Hash S.BuildHasher S.Hasher.Hasher self.entry key.now result) }
-        ensures value { option_copied_mut result ≡ option_map (λ p. p.1) (at (keys_of ⟦<Self as Keyed>⟧.by self.old) (pairs self.old) key.now) }
+        ensures value { option_copied_mut result ≡ option_map (λ p. p.1) (at K.eq (pairs self.old) key.now) }
         ensures lawful { IsShard ⟦<Self as Keyed>⟧.by self.old }
     {
         match self.position_of_hashed(hash, key) {
@@ -340,7 +356,7 @@ impl<K: Eq + Hash, V, S: BuildHasher> Shard<K, V, S> {
     /// Whether there is a pair whose key equals `key`.
     #[inline]
     pub fn contains_key(&self, key: &K) -> bool
-        ensures found { Replies (keys_of ⟦<Self as Keyed>⟧.by self.now) (Contains key.now) (pairs self.now) (Found result) }
+        ensures found { RepliesOn K.eq self.now (Contains key.now) (Found result) }
         ensures lawful { IsShard ⟦<Self as Keyed>⟧.by self.now }
     {
         self.get(key).is_some()
@@ -349,8 +365,8 @@ impl<K: Eq + Hash, V, S: BuildHasher> Shard<K, V, S> {
     /// What `f` answers on the pair whose key equals `key`.
     #[inline]
     pub fn view<R, F: FnOnce(&K, &V) -> R>(&self, key: &K, f: F) -> Option<R>
-        requires { IfSome (at (keys_of ⟦<Self as Keyed>⟧.by self.now) (pairs self.now) key.now) (MayAsk F.FnOnce f) }
-        ensures viewed { Viewed F.FnOnce f (at (keys_of ⟦<Self as Keyed>⟧.by self.now) (pairs self.now) key.now) result }
+        requires { IfSome (at K.eq (pairs self.now) key.now) (MayAsk F.FnOnce f) }
+        ensures viewed { Viewed F.FnOnce f (at K.eq (pairs self.now) key.now) result }
         ensures lawful { IsShard ⟦<Self as Keyed>⟧.by self.now }
     {
         let place = self.position_of(key)?;
@@ -379,7 +395,8 @@ impl<K: Eq + Hash, V, S: BuildHasher> Shard<K, V, S> {
     /// Makes room for so many pairs more, where there is less. It is refused (11) only where there is no memory for it; the pairs stay, and
     /// so do their places.
     pub fn try_reserve(&mut self, additional: usize) -> Result<(), TryReserveError>
-        ensures { Reserves ⟦<Self as Keyed>⟧.by additional self.old self.new result }
+        ensures reserves { Reserves additional self.old self.new result }
+        ensures lawful { IsShard ⟦<Self as Keyed>⟧.by self.new }
     {
         match self.table.reserve(additional) {
             Ok(()) => Ok(()),

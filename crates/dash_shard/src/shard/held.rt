@@ -4,10 +4,10 @@ ghost use Rattle.std.specs.Option.{option_map};
 ghost use Rattle.std.specs.Map.Iter.{deref_pair};
 ghost use Rattle.dash_shard.specs.Hashing.{by};
 ghost use Rattle.dash_shard.specs.Contents.{at};
-ghost use Rattle.dash_shard.specs.Steps.{Get, Contains, Pair, Found, Replies};
-ghost use Rattle.dash_shard.specs.Shard.{place, pairs, shard_len, keys_of, Routes, IsShard};
-ghost use Rattle.dash_shard.specs.Closures.{MayAsk, AnswersOn, Viewed, MayChange, ChangesOn, MayGive, GivesOn};
-ghost use Rattle.dash_shard.specs.Held.{FitsPlace, Inserts, Removes, RemovesAsked, RemovesChanged, Alters, Reserves};
+ghost use Rattle.dash_shard.specs.Steps.{Get, Contains, Pair, Found, Remove, RemoveIf, RemoveIfMut, Alter, Done};
+ghost use Rattle.dash_shard.specs.Shard.{pairs, shard_len, Routes, IsShard, RepliesOn, TakesInPlace, TakesBy};
+ghost use Rattle.dash_shard.specs.Closures.{MayAsk, Viewed, MayChange, ChangesOn, MayGive, Answered, Given};
+ghost use Rattle.dash_shard.specs.Held.{FitsPlace, Inserts, Reserves, Loses};
 ghost use Rattle.dash_shard.specs.Table.{IsInside, with_table};
 
 use crate::error::TryReserveError;
@@ -170,7 +170,8 @@ impl<K: Eq + Hash, V, S: BuildHasher> ShardMut<'_, K, V, S> {
         K: Drop,
         V: Drop,
         requires { Routes ⟦<Self as Keyed>⟧.by self.old key }
-        ensures { Inserts ⟦<Self as Keyed>⟧.by self.old self.new key value result }
+        ensures inserts { Inserts K.eq self.old self.new key value result }
+        ensures lawful { IsShard ⟦<Self as Keyed>⟧.by self.new }
     {
         let hash = self.guard.hash_one(&key);
         self.insert_hashed(hash, key, value)
@@ -189,7 +190,8 @@ impl<K: Eq + Hash, V, S: BuildHasher> ShardMut<'_, K, V, S> {
         V: Drop,
         requires hash { hash ≡ ⟦<Self as Keyed>⟧.by.hash self.old.hasher key }
         requires route { Routes ⟦<Self as Keyed>⟧.by self.old key }
-        ensures { Inserts ⟦<Self as Keyed>⟧.by self.old self.new key value result }
+        ensures inserts { Inserts K.eq self.old self.new key value result }
+        ensures lawful { IsShard ⟦<Self as Keyed>⟧.by self.new }
     {
         put_back(&mut self.guard, &mut self.table, self.is_lent);
         self.is_lent = false;
@@ -197,7 +199,8 @@ impl<K: Eq + Hash, V, S: BuildHasher> ShardMut<'_, K, V, S> {
             |shard: &mut Shard<K, V, S>| -> Result<Option<V>, InsertRefused<K, V>>
                 requires hash { hash ≡ (by K.Hash S.BuildHasher S.Hasher.Hasher).hash shard.old.hasher key }
                 requires route { Routes (by K.Hash S.BuildHasher S.Hasher.Hasher) shard.old key }
-                ensures { Inserts (by K.Hash S.BuildHasher S.Hasher.Hasher) shard.old shard.new key value result }
+                ensures inserts { Inserts K.eq shard.old shard.new key value result }
+                ensures lawful { IsShard (by K.Hash S.BuildHasher S.Hasher.Hasher) shard.new }
             { shard.insert_hashed(hash, key, value) },
         )
     }
@@ -208,7 +211,9 @@ impl<K: Eq + Hash, V, S: BuildHasher> ShardMut<'_, K, V, S> {
     #[inline]
     pub fn remove(&mut self, key: &K) -> Option<(K, V)>
         requires { Routes ⟦<Self as Keyed>⟧.by self.old key.now }
-        ensures { Removes ⟦<Self as Keyed>⟧.by self.old self.new key.now result }
+        ensures removes { TakesInPlace K.eq self.old self.new (Remove key.now) (Pair result) }
+        ensures len { Loses self.old self.new result }
+        ensures lawful { IsShard ⟦<Self as Keyed>⟧.by self.new }
     {
         let hash = self.guard.hash_one(key);
         self.remove_hashed(hash, key)
@@ -219,7 +224,9 @@ impl<K: Eq + Hash, V, S: BuildHasher> ShardMut<'_, K, V, S> {
     pub fn remove_hashed(&mut self, hash: u64, key: &K) -> Option<(K, V)>
         requires hash { hash ≡ ⟦<Self as Keyed>⟧.by.hash self.old.hasher key.now }
         requires route { Routes ⟦<Self as Keyed>⟧.by self.old key.now }
-        ensures { Removes ⟦<Self as Keyed>⟧.by self.old self.new key.now result }
+        ensures removes { TakesInPlace K.eq self.old self.new (Remove key.now) (Pair result) }
+        ensures len { Loses self.old self.new result }
+        ensures lawful { IsShard ⟦<Self as Keyed>⟧.by self.new }
     {
         put_back(&mut self.guard, &mut self.table, self.is_lent);
         self.is_lent = false;
@@ -227,7 +234,9 @@ impl<K: Eq + Hash, V, S: BuildHasher> ShardMut<'_, K, V, S> {
             |shard: &mut Shard<K, V, S>| -> Option<(K, V)>
                 requires hash { hash ≡ (by K.Hash S.BuildHasher S.Hasher.Hasher).hash shard.old.hasher key.now }
                 requires route { Routes (by K.Hash S.BuildHasher S.Hasher.Hasher) shard.old key.now }
-                ensures { Removes (by K.Hash S.BuildHasher S.Hasher.Hasher) shard.old shard.new key.entry.now result }
+                ensures removes { TakesInPlace K.eq shard.old shard.new (Remove key.entry.now) (Pair result) }
+                ensures len { Loses shard.old shard.new result }
+                ensures lawful { IsShard (by K.Hash S.BuildHasher S.Hasher.Hasher) shard.new }
             { shard.remove_hashed(hash, key) },
         )
     }
@@ -236,8 +245,10 @@ impl<K: Eq + Hash, V, S: BuildHasher> ShardMut<'_, K, V, S> {
     #[inline]
     pub fn remove_if<F: FnOnce(&K, &V) -> bool>(&mut self, key: &K, f: F) -> Option<(K, V)>
         requires route { Routes ⟦<Self as Keyed>⟧.by self.old key.now }
-        requires callable { IfSome (at (keys_of ⟦<Self as Keyed>⟧.by self.old) (pairs self.old) key.now) (MayAsk F.FnOnce f) }
-        ensures { RemovesAsked ⟦<Self as Keyed>⟧.by (AnswersOn F.FnOnce f) self.old self.new key.now result }
+        requires callable { IfSome (at K.eq (pairs self.old) key.now) (MayAsk F.FnOnce f) }
+        ensures removes { TakesBy K.eq self.old self.new RemoveIf key.now (Pair result) (Answered F.FnOnce f) }
+        ensures len { Loses self.old self.new result }
+        ensures lawful { IsShard ⟦<Self as Keyed>⟧.by self.new }
     {
         let hash = self.guard.hash_one(key);
         self.remove_if_hashed(hash, key, f)
@@ -253,8 +264,10 @@ impl<K: Eq + Hash, V, S: BuildHasher> ShardMut<'_, K, V, S> {
     ) -> Option<(K, V)>
         requires hash { hash ≡ ⟦<Self as Keyed>⟧.by.hash self.old.hasher key.now }
         requires route { Routes ⟦<Self as Keyed>⟧.by self.old key.now }
-        requires callable { IfSome (at (keys_of ⟦<Self as Keyed>⟧.by self.old) (pairs self.old) key.now) (MayAsk F.FnOnce f) }
-        ensures { RemovesAsked ⟦<Self as Keyed>⟧.by (AnswersOn F.FnOnce f) self.old self.new key.now result }
+        requires callable { IfSome (at K.eq (pairs self.old) key.now) (MayAsk F.FnOnce f) }
+        ensures removes { TakesBy K.eq self.old self.new RemoveIf key.now (Pair result) (Answered F.FnOnce f) }
+        ensures len { Loses self.old self.new result }
+        ensures lawful { IsShard ⟦<Self as Keyed>⟧.by self.new }
     {
         put_back(&mut self.guard, &mut self.table, self.is_lent);
         self.is_lent = false;
@@ -262,8 +275,10 @@ impl<K: Eq + Hash, V, S: BuildHasher> ShardMut<'_, K, V, S> {
             |shard: &mut Shard<K, V, S>| -> Option<(K, V)>
                 requires hash { hash ≡ (by K.Hash S.BuildHasher S.Hasher.Hasher).hash shard.old.hasher key.now }
                 requires route { Routes (by K.Hash S.BuildHasher S.Hasher.Hasher) shard.old key.now }
-                requires callable { IfSome (at (keys_of (by K.Hash S.BuildHasher S.Hasher.Hasher) shard.old) (pairs shard.old) key.now) (MayAsk F.FnOnce f) }
-                ensures { RemovesAsked (by K.Hash S.BuildHasher S.Hasher.Hasher) (AnswersOn F.FnOnce f) shard.old shard.new key.entry.now result }
+                requires callable { IfSome (at K.eq (pairs shard.old) key.now) (MayAsk F.FnOnce f) }
+                ensures removes { TakesBy K.eq shard.old shard.new RemoveIf key.entry.now (Pair result) (Answered F.FnOnce f) }
+                ensures len { Loses shard.old shard.new result }
+                ensures lawful { IsShard (by K.Hash S.BuildHasher S.Hasher.Hasher) shard.new }
             { shard.remove_if_hashed(hash, key, f) },
         )
     }
@@ -272,8 +287,10 @@ impl<K: Eq + Hash, V, S: BuildHasher> ShardMut<'_, K, V, S> {
     #[inline]
     pub fn remove_if_mut<F: FnOnce(&K, &mut V) -> bool>(&mut self, key: &K, f: F) -> Option<(K, V)>
         requires route { Routes ⟦<Self as Keyed>⟧.by self.old key.now }
-        requires callable { IfSome (at (keys_of ⟦<Self as Keyed>⟧.by self.old) (pairs self.old) key.now) (MayChange F.FnOnce f) }
-        ensures { RemovesChanged ⟦<Self as Keyed>⟧.by (ChangesOn F.FnOnce f) self.old self.new key.now result }
+        requires callable { IfSome (at K.eq (pairs self.old) key.now) (MayChange F.FnOnce f) }
+        ensures removes { TakesBy K.eq self.old self.new RemoveIfMut key.now (Pair result) (ChangesOn F.FnOnce f) }
+        ensures len { Loses self.old self.new result }
+        ensures lawful { IsShard ⟦<Self as Keyed>⟧.by self.new }
     {
         let hash = self.guard.hash_one(key);
         self.remove_if_mut_hashed(hash, key, f)
@@ -289,8 +306,10 @@ impl<K: Eq + Hash, V, S: BuildHasher> ShardMut<'_, K, V, S> {
     ) -> Option<(K, V)>
         requires hash { hash ≡ ⟦<Self as Keyed>⟧.by.hash self.old.hasher key.now }
         requires route { Routes ⟦<Self as Keyed>⟧.by self.old key.now }
-        requires callable { IfSome (at (keys_of ⟦<Self as Keyed>⟧.by self.old) (pairs self.old) key.now) (MayChange F.FnOnce f) }
-        ensures { RemovesChanged ⟦<Self as Keyed>⟧.by (ChangesOn F.FnOnce f) self.old self.new key.now result }
+        requires callable { IfSome (at K.eq (pairs self.old) key.now) (MayChange F.FnOnce f) }
+        ensures removes { TakesBy K.eq self.old self.new RemoveIfMut key.now (Pair result) (ChangesOn F.FnOnce f) }
+        ensures len { Loses self.old self.new result }
+        ensures lawful { IsShard ⟦<Self as Keyed>⟧.by self.new }
     {
         put_back(&mut self.guard, &mut self.table, self.is_lent);
         self.is_lent = false;
@@ -298,8 +317,10 @@ impl<K: Eq + Hash, V, S: BuildHasher> ShardMut<'_, K, V, S> {
             |shard: &mut Shard<K, V, S>| -> Option<(K, V)>
                 requires hash { hash ≡ (by K.Hash S.BuildHasher S.Hasher.Hasher).hash shard.old.hasher key.now }
                 requires route { Routes (by K.Hash S.BuildHasher S.Hasher.Hasher) shard.old key.now }
-                requires callable { IfSome (at (keys_of (by K.Hash S.BuildHasher S.Hasher.Hasher) shard.old) (pairs shard.old) key.now) (MayChange F.FnOnce f) }
-                ensures { RemovesChanged (by K.Hash S.BuildHasher S.Hasher.Hasher) (ChangesOn F.FnOnce f) shard.old shard.new key.entry.now result }
+                requires callable { IfSome (at K.eq (pairs shard.old) key.now) (MayChange F.FnOnce f) }
+                ensures removes { TakesBy K.eq shard.old shard.new RemoveIfMut key.entry.now (Pair result) (ChangesOn F.FnOnce f) }
+                ensures len { Loses shard.old shard.new result }
+                ensures lawful { IsShard (by K.Hash S.BuildHasher S.Hasher.Hasher) shard.new }
             { shard.remove_if_mut_hashed(hash, key, f) },
         )
     }
@@ -309,8 +330,10 @@ impl<K: Eq + Hash, V, S: BuildHasher> ShardMut<'_, K, V, S> {
     #[inline]
     pub fn alter<F: FnOnce(&K, V) -> V>(&mut self, key: &K, f: F)
         requires route { Routes ⟦<Self as Keyed>⟧.by self.old key.now }
-        requires callable { IfSome (at (keys_of ⟦<Self as Keyed>⟧.by self.old) (pairs self.old) key.now) (MayGive F.FnOnce f) }
-        ensures { Alters ⟦<Self as Keyed>⟧.by (GivesOn F.FnOnce f) self.old self.new key.now }
+        requires callable { IfSome (at K.eq (pairs self.old) key.now) (MayGive F.FnOnce f) }
+        ensures alters { TakesBy K.eq self.old self.new Alter key.now Done (Given F.FnOnce f) }
+        ensures len { shard_len self.new ≡ shard_len self.old }
+        ensures lawful { IsShard ⟦<Self as Keyed>⟧.by self.new }
     {
         let hash = self.guard.hash_one(key);
         self.alter_hashed(hash, key, f);
@@ -321,8 +344,10 @@ impl<K: Eq + Hash, V, S: BuildHasher> ShardMut<'_, K, V, S> {
     pub fn alter_hashed<F: FnOnce(&K, V) -> V>(&mut self, hash: u64, key: &K, f: F)
         requires hash { hash ≡ ⟦<Self as Keyed>⟧.by.hash self.old.hasher key.now }
         requires route { Routes ⟦<Self as Keyed>⟧.by self.old key.now }
-        requires callable { IfSome (at (keys_of ⟦<Self as Keyed>⟧.by self.old) (pairs self.old) key.now) (MayGive F.FnOnce f) }
-        ensures { Alters ⟦<Self as Keyed>⟧.by (GivesOn F.FnOnce f) self.old self.new key.now }
+        requires callable { IfSome (at K.eq (pairs self.old) key.now) (MayGive F.FnOnce f) }
+        ensures alters { TakesBy K.eq self.old self.new Alter key.now Done (Given F.FnOnce f) }
+        ensures len { shard_len self.new ≡ shard_len self.old }
+        ensures lawful { IsShard ⟦<Self as Keyed>⟧.by self.new }
     {
         put_back(&mut self.guard, &mut self.table, self.is_lent);
         self.is_lent = false;
@@ -330,8 +355,10 @@ impl<K: Eq + Hash, V, S: BuildHasher> ShardMut<'_, K, V, S> {
             |shard: &mut Shard<K, V, S>|
                 requires hash { hash ≡ (by K.Hash S.BuildHasher S.Hasher.Hasher).hash shard.old.hasher key.now }
                 requires route { Routes (by K.Hash S.BuildHasher S.Hasher.Hasher) shard.old key.now }
-                requires callable { IfSome (at (keys_of (by K.Hash S.BuildHasher S.Hasher.Hasher) shard.old) (pairs shard.old) key.now) (MayGive F.FnOnce f) }
-                ensures { Alters (by K.Hash S.BuildHasher S.Hasher.Hasher) (GivesOn F.FnOnce f) shard.old shard.new key.entry.now }
+                requires callable { IfSome (at K.eq (pairs shard.old) key.now) (MayGive F.FnOnce f) }
+                ensures alters { TakesBy K.eq shard.old shard.new Alter key.entry.now Done (Given F.FnOnce f) }
+                ensures len { shard_len shard.new ≡ shard_len shard.old }
+                ensures lawful { IsShard (by K.Hash S.BuildHasher S.Hasher.Hasher) shard.new }
             { shard.alter_hashed(hash, key, f) },
         );
     }
@@ -339,7 +366,7 @@ impl<K: Eq + Hash, V, S: BuildHasher> ShardMut<'_, K, V, S> {
     /// The pair whose key equals `key`.
     #[inline]
     pub fn get(&self, key: &K) -> Option<(&K, &V)>
-        ensures pair { Replies (keys_of ⟦<Self as Keyed>⟧.by self.now) (Get key.now) (pairs self.now) (Pair (option_map deref_pair result)) }
+        ensures pair { RepliesOn K.eq self.now (Get key.now) (Pair (option_map deref_pair result)) }
         ensures lawful { IsShard ⟦<Self as Keyed>⟧.by self.now }
     {
         let position = self.position_of(key)?;
@@ -349,7 +376,7 @@ impl<K: Eq + Hash, V, S: BuildHasher> ShardMut<'_, K, V, S> {
     /// Whether there is a pair whose key equals `key`.
     #[inline]
     pub fn contains_key(&self, key: &K) -> bool
-        ensures found { Replies (keys_of ⟦<Self as Keyed>⟧.by self.now) (Contains key.now) (pairs self.now) (Found result) }
+        ensures found { RepliesOn K.eq self.now (Contains key.now) (Found result) }
         ensures lawful { IsShard ⟦<Self as Keyed>⟧.by self.now }
     {
         self.get(key).is_some()
@@ -358,8 +385,8 @@ impl<K: Eq + Hash, V, S: BuildHasher> ShardMut<'_, K, V, S> {
     /// What `f` answers on the pair whose key equals `key`.
     #[inline]
     pub fn view<R, F: FnOnce(&K, &V) -> R>(&self, key: &K, f: F) -> Option<R>
-        requires { IfSome (at (keys_of ⟦<Self as Keyed>⟧.by self.now) (pairs self.now) key.now) (MayAsk F.FnOnce f) }
-        ensures viewed { Viewed F.FnOnce f (at (keys_of ⟦<Self as Keyed>⟧.by self.now) (pairs self.now) key.now) result }
+        requires { IfSome (at K.eq (pairs self.now) key.now) (MayAsk F.FnOnce f) }
+        ensures viewed { Viewed F.FnOnce f (at K.eq (pairs self.now) key.now) result }
         ensures lawful { IsShard ⟦<Self as Keyed>⟧.by self.now }
     {
         let place = self.position_of(key)?;
@@ -388,13 +415,15 @@ impl<K: Eq + Hash, V, S: BuildHasher> ShardMut<'_, K, V, S> {
     /// Makes room for so many pairs more, where there is less. It is refused (11) only where there is no memory for it; the pairs stay, and
     /// so do their places.
     pub fn try_reserve(&mut self, additional: usize) -> Result<(), TryReserveError>
-        ensures { Reserves ⟦<Self as Keyed>⟧.by additional self.old self.new result }
+        ensures reserves { Reserves additional self.old self.new result }
+        ensures lawful { IsShard ⟦<Self as Keyed>⟧.by self.new }
     {
         put_back(&mut self.guard, &mut self.table, self.is_lent);
         self.is_lent = false;
         self.guard.change(
             |shard: &mut Shard<K, V, S>| -> Result<(), TryReserveError>
-                ensures { Reserves (by K.Hash S.BuildHasher S.Hasher.Hasher) additional shard.old shard.new result }
+                ensures reserves { Reserves additional shard.old shard.new result }
+                ensures lawful { IsShard (by K.Hash S.BuildHasher S.Hasher.Hasher) shard.new }
             { shard.try_reserve(additional) },
         )
     }

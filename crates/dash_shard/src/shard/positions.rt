@@ -1,10 +1,11 @@
 //! A shard's calls by place: a look-up's answer for calls that make no other.
-ghost use Rattle.std.specs.Prelude.{◌≡◌, ℕ, ◌<◌, ◌↔◌, IsSome, IfSome, IsNone, Some, None};
+ghost use Rattle.std.specs.Prelude.{◌≡◌, ℕ, ◌+◌, ◌<◌, ◌↔◌, IsSome, IfSome, IsNone, Some, None};
 ghost use Rattle.std.specs.Map.Iter.{deref_pair, deref_pair_mut};
 ghost use Rattle.std.specs.Borrow.{sem};
 ghost use Rattle.dash_shard.specs.Contents.{at};
-ghost use Rattle.dash_shard.specs.Shard.{place, pairs, shard_len, HasKey, IsNextTaken, keys_of, Routes, IsShard};
-ghost use Rattle.dash_shard.specs.Held.{InsertsNew, Finds, Replaces};
+ghost use Rattle.dash_shard.specs.Shard.{place, pairs, shard_len, HasKey, IsNextTaken, Routes, IsShard, TakesInPlace};
+ghost use Rattle.dash_shard.specs.Held.{Finds, Replaces};
+ghost use Rattle.dash_shard.specs.Steps.{Insert, Old};
 
 use super::Shard;
 use crate::keyed::Keyed;
@@ -17,8 +18,8 @@ impl<K: Eq + Hash, V, S: BuildHasher> Shard<K, V, S> {
     #[inline(always)]
     pub fn position_of(&self, key: &K) -> Option<usize>
         ensures position { (i : ℕ) → (result ≡ Some i) ↔ HasKey K.eq self.now key.now i }
-        ensures pair { IfSome result (λ i. place self.now.places i ≡ at (keys_of ⟦<Self as Keyed>⟧.by self.now) (pairs self.now) key.now) }
-        ensures absent { IsNone result ↔ (at (keys_of ⟦<Self as Keyed>⟧.by self.now) (pairs self.now) key.now ≡ None) }
+        ensures pair { IfSome result (λ i. place self.now.places i ≡ at K.eq (pairs self.now) key.now) }
+        ensures absent { IsNone result ↔ (at K.eq (pairs self.now) key.now ≡ None) }
         ensures lawful { IsShard ⟦<Self as Keyed>⟧.by self.now }
     {
         self.position_of_hashed(self.hash_one(key), key)
@@ -28,7 +29,8 @@ impl<K: Eq + Hash, V, S: BuildHasher> Shard<K, V, S> {
     #[inline(always)]
     pub fn position_of_hashed(&self, hash: u64, key: &K) -> Option<usize>
         requires { hash ≡ ⟦<Self as Keyed>⟧.by.hash self.now.hasher key.now }
-        ensures { Finds ⟦<Self as Keyed>⟧.by self.now key.now result }
+        ensures finds { Finds K.eq self.now key.now result }
+        ensures lawful { IsShard ⟦<Self as Keyed>⟧.by self.now }
     {
         self.table.find(hash, key)
     }
@@ -61,9 +63,12 @@ impl<K: Eq + Hash, V, S: BuildHasher> Shard<K, V, S> {
         K: Drop,
         V: Drop,
         requires route { Routes ⟦<Self as Keyed>⟧.by self.old key }
-        requires absent { at (keys_of ⟦<Self as Keyed>⟧.by self.old) (pairs self.old) key ≡ None }
+        requires absent { at K.eq (pairs self.old) key ≡ None }
         requires room { shard_len self.old < self.old.capacity }
-        ensures { InsertsNew ⟦<Self as Keyed>⟧.by self.old self.new key value result }
+        ensures inserts { TakesInPlace K.eq self.old self.new (Insert key value) (Old None) }
+        ensures place { place self.new.places result ≡ Some (key, value) }
+        ensures len { shard_len self.new ≡ shard_len self.old + 1 }
+        ensures lawful { IsShard ⟦<Self as Keyed>⟧.by self.new }
     {
         let hash = self.hash_one(&key);
         self.table.push(hash, key, value)
@@ -74,7 +79,8 @@ impl<K: Eq + Hash, V, S: BuildHasher> Shard<K, V, S> {
     #[inline]
     pub fn replace_at(&mut self, position: usize, key: K, value: V) -> (K, V)
         requires { HasKey K.eq self.old key position }
-        ensures { Replaces ⟦<Self as Keyed>⟧.by self.old self.new position key value result }
+        ensures replaces { Replaces K.eq self.old self.new position key value result }
+        ensures lawful { IsShard ⟦<Self as Keyed>⟧.by self.new }
     {
         self.table.exchange(position, key, value)
     }

@@ -1,8 +1,9 @@
 //! The calls on all pairs of a shard.
-ghost use Rattle.std.specs.Prelude.{◌≡◌};
+ghost use Rattle.std.specs.Prelude.{◌≡◌, ◌≤◌};
 ghost use Rattle.std.specs.Map.Calls.{CalledAtPair, TakesPair, CallableOnEachPair};
-ghost use Rattle.dash_shard.specs.Shard.{pairs, IsShard};
-ghost use Rattle.dash_shard.specs.Each.{CalledOnPair, TakesOnPair, if_kept, altered, Retains, AltersAll, SweepsShard, Clears, Shrinks};
+ghost use Rattle.dash_shard.specs.Shard.{pairs, IsShard, shard_len};
+ghost use Rattle.dash_shard.specs.Each.{CalledOnPair, TakesOnPair, if_kept, altered, SweepsShard, Clears, Shrinks, SweepsBy};
+ghost use Rattle.dash_shard.specs.Steps.{Retain, AlterAll};
 
 use super::Shard;
 use super::table::walk::Iter;
@@ -19,7 +20,9 @@ impl<K: Eq + Hash, V, S: BuildHasher> Shard<K, V, S> {
         K: Drop,
         V: Drop,
         requires { CallableOnEachPair (CalledAtPair F.FnMut) (TakesPair F.FnMut) f (pairs self.old) }
-        ensures { Retains ⟦<Self as Keyed>⟧.by (CalledAtPair F.FnMut) f self.old self.new }
+        ensures retains { SweepsBy (CalledAtPair F.FnMut) K.eq f self.old self.new (Retain self.old.number) }
+        ensures len { shard_len self.new ≤ shard_len self.old }
+        ensures lawful { IsShard ⟦<Self as Keyed>⟧.by self.new }
     {
         self.table.retain(&mut f);
     }
@@ -30,7 +33,8 @@ impl<K: Eq + Hash, V, S: BuildHasher> Shard<K, V, S> {
         K: Drop,
         V: Drop,
         requires { CallableOnEachPair (CalledAtPair F.FnMut) (TakesPair F.FnMut) f.old (pairs self.old) }
-        ensures { SweepsShard ⟦<Self as Keyed>⟧.by (CalledAtPair F.FnMut) if_kept f.old f.new self.old self.new }
+        ensures sweeps { SweepsShard (CalledAtPair F.FnMut) if_kept f.old f.new self.old self.new }
+        ensures lawful { IsShard ⟦<Self as Keyed>⟧.by self.new }
     {
         self.table.retain(f);
     }
@@ -40,7 +44,9 @@ impl<K: Eq + Hash, V, S: BuildHasher> Shard<K, V, S> {
     /// `f` is called once at each pair, in rising order of places. The pairs keep their places. It takes no memory, and can't be refused.
     pub fn alter_all<F: FnMut(&K, V) -> V>(&mut self, mut f: F)
         requires { CallableOnEachPair (CalledOnPair F.FnMut) (TakesOnPair F.FnMut) f (pairs self.old) }
-        ensures { AltersAll ⟦<Self as Keyed>⟧.by (CalledOnPair F.FnMut) f self.old self.new }
+        ensures alters { SweepsBy (CalledOnPair F.FnMut) K.eq f self.old self.new (AlterAll self.old.number) }
+        ensures len { shard_len self.new ≡ shard_len self.old }
+        ensures lawful { IsShard ⟦<Self as Keyed>⟧.by self.new }
     {
         self.table.alter_all(&mut f);
     }
@@ -48,7 +54,8 @@ impl<K: Eq + Hash, V, S: BuildHasher> Shard<K, V, S> {
     /// As `alter_all`, with an `f` that is lent: the caller may go on with it.
     pub fn alter_all_by<F: FnMut(&K, V) -> V>(&mut self, f: &mut F)
         requires { CallableOnEachPair (CalledOnPair F.FnMut) (TakesOnPair F.FnMut) f.old (pairs self.old) }
-        ensures { SweepsShard ⟦<Self as Keyed>⟧.by (CalledOnPair F.FnMut) altered f.old f.new self.old self.new }
+        ensures sweeps { SweepsShard (CalledOnPair F.FnMut) altered f.old f.new self.old self.new }
+        ensures lawful { IsShard ⟦<Self as Keyed>⟧.by self.new }
     {
         self.table.alter_all(f);
     }
@@ -58,7 +65,8 @@ impl<K: Eq + Hash, V, S: BuildHasher> Shard<K, V, S> {
     where
         K: Drop,
         V: Drop,
-        ensures { Clears ⟦<Self as Keyed>⟧.by self.old self.new }
+        ensures clears { Clears self.old self.new }
+        ensures lawful { IsShard ⟦<Self as Keyed>⟧.by self.new }
     {
         self.table.clear();
     }
@@ -71,7 +79,8 @@ impl<K: Eq + Hash, V, S: BuildHasher> Shard<K, V, S> {
     where
         K: Drop,
         V: Drop,
-        ensures { Shrinks ⟦<Self as Keyed>⟧.by self.old self.new }
+        ensures shrinks { Shrinks K.eq self.old self.new }
+        ensures lawful { IsShard ⟦<Self as Keyed>⟧.by self.new }
     {
         self.table.shrink();
     }

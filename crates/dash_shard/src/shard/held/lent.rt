@@ -6,7 +6,7 @@ ghost use Rattle.std.specs.Option.{option_map, option_copied_mut};
 ghost use Rattle.core.specs.Mem.{manually_drop_value};
 ghost use Rattle.dash_shard.specs.Hashing.{by};
 ghost use Rattle.dash_shard.specs.Contents.{at};
-ghost use Rattle.dash_shard.specs.Shard.{place, pairs, keys_of, IsShard};
+ghost use Rattle.dash_shard.specs.Shard.{place, pairs, IsShard};
 ghost use Rattle.dash_shard.specs.Table.{IsInside, IsHeld, SwapsTable, with_table, held_state};
 
 use super::ShardMut;
@@ -92,7 +92,7 @@ impl<K: Eq + Hash, V, S: BuildHasher> ShardMut<'_, K, V, S> {
     #[inline]
     pub fn get_mut(&mut self, key: &K) -> Option<&mut V>
         ensures* writes_back { sem 𝓛 (held_lends_get K.row V.row S.row S.Hasher.row K.Hash S.BuildHasher S.Hasher.Hasher self.entry key.now result) }
-        ensures value { option_copied_mut result ≡ option_map (λ p. p.1) (at (keys_of ⟦<Self as Keyed>⟧.by self.old) (pairs self.old) key.now) }
+        ensures value { option_copied_mut result ≡ option_map (λ p. p.1) (at K.eq (pairs self.old) key.now) }
         ensures lawful { IsShard ⟦<Self as Keyed>⟧.by self.old }
     {
         let hash = self.guard.hash_one(key);
@@ -104,7 +104,7 @@ impl<K: Eq + Hash, V, S: BuildHasher> ShardMut<'_, K, V, S> {
     pub fn get_mut_hashed(&mut self, hash: u64, key: &K) -> Option<&mut V>
         requires { hash ≡ ⟦<Self as Keyed>⟧.by.hash self.old.hasher key.now }
         ensures* writes_back { sem 𝓛 (held_lends_get K.row V.row S.row S.Hasher.row K.Hash S.BuildHasher S.Hasher.Hasher self.entry key.now result) }
-        ensures value { option_copied_mut result ≡ option_map (λ p. p.1) (at (keys_of ⟦<Self as Keyed>⟧.by self.old) (pairs self.old) key.now) }
+        ensures value { option_copied_mut result ≡ option_map (λ p. p.1) (at K.eq (pairs self.old) key.now) }
         ensures lawful { IsShard ⟦<Self as Keyed>⟧.by self.old }
     {
         match self.position_of_hashed(hash, key) {

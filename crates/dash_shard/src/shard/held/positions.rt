@@ -1,10 +1,11 @@
 //! A held shard's calls by place.
-ghost use Rattle.std.specs.Prelude.{◌≡◌, ◌<◌, IsSome, Some, None};
+ghost use Rattle.std.specs.Prelude.{◌≡◌, ◌+◌, ◌<◌, IsSome, Some, None};
 ghost use Rattle.std.specs.Map.Iter.{deref_pair};
 ghost use Rattle.dash_shard.specs.Hashing.{by};
 ghost use Rattle.dash_shard.specs.Contents.{at};
-ghost use Rattle.dash_shard.specs.Shard.{place, pairs, shard_len, HasKey, IsNextTaken, keys_of, Routes, IsShard};
-ghost use Rattle.dash_shard.specs.Held.{InsertsNew, Finds, Replaces};
+ghost use Rattle.dash_shard.specs.Shard.{place, pairs, shard_len, HasKey, IsNextTaken, Routes, IsShard, TakesInPlace};
+ghost use Rattle.dash_shard.specs.Held.{Finds, Replaces};
+ghost use Rattle.dash_shard.specs.Steps.{Insert, Old};
 
 use super::ShardMut;
 use super::lent::put_back;
@@ -16,7 +17,8 @@ impl<K: Eq + Hash, V, S: BuildHasher> ShardMut<'_, K, V, S> {
     /// The place of the pair whose key equals `key`, for `at`. It is good while the shard isn't changed.
     #[inline]
     pub fn position_of(&self, key: &K) -> Option<usize>
-        ensures { Finds ⟦<Self as Keyed>⟧.by self.now key.now result }
+        ensures finds { Finds K.eq self.now key.now result }
+        ensures lawful { IsShard ⟦<Self as Keyed>⟧.by self.now }
     {
         self.position_of_hashed(self.guard.hash_one(key), key)
     }
@@ -25,7 +27,8 @@ impl<K: Eq + Hash, V, S: BuildHasher> ShardMut<'_, K, V, S> {
     #[inline]
     pub fn position_of_hashed(&self, hash: u64, key: &K) -> Option<usize>
         requires { hash ≡ ⟦<Self as Keyed>⟧.by.hash self.now.hasher key.now }
-        ensures { Finds ⟦<Self as Keyed>⟧.by self.now key.now result }
+        ensures finds { Finds K.eq self.now key.now result }
+        ensures lawful { IsShard ⟦<Self as Keyed>⟧.by self.now }
     {
         self.table().find(hash, key)
     }
@@ -47,18 +50,24 @@ impl<K: Eq + Hash, V, S: BuildHasher> ShardMut<'_, K, V, S> {
         K: Drop,
         V: Drop,
         requires route { Routes ⟦<Self as Keyed>⟧.by self.old key }
-        requires absent { at (keys_of ⟦<Self as Keyed>⟧.by self.old) (pairs self.old) key ≡ None }
+        requires absent { at K.eq (pairs self.old) key ≡ None }
         requires room { shard_len self.old < self.old.capacity }
-        ensures { InsertsNew ⟦<Self as Keyed>⟧.by self.old self.new key value result }
+        ensures inserts { TakesInPlace K.eq self.old self.new (Insert key value) (Old None) }
+        ensures place { place self.new.places result ≡ Some (key, value) }
+        ensures len { shard_len self.new ≡ shard_len self.old + 1 }
+        ensures lawful { IsShard ⟦<Self as Keyed>⟧.by self.new }
     {
         put_back(&mut self.guard, &mut self.table, self.is_lent);
         self.is_lent = false;
         self.guard.change(
             |shard: &mut Shard<K, V, S>| -> usize
                 requires route { Routes (by K.Hash S.BuildHasher S.Hasher.Hasher) shard.old key }
-                requires absent { at (keys_of (by K.Hash S.BuildHasher S.Hasher.Hasher) shard.old) (pairs shard.old) key ≡ None }
+                requires absent { at K.eq (pairs shard.old) key ≡ None }
                 requires room { shard_len shard.old < shard.old.capacity }
-                ensures { InsertsNew (by K.Hash S.BuildHasher S.Hasher.Hasher) shard.old shard.new key value result }
+                ensures inserts { TakesInPlace K.eq shard.old shard.new (Insert key value) (Old None) }
+                ensures place { place shard.new.places result ≡ Some (key, value) }
+                ensures len { shard_len shard.new ≡ shard_len shard.old + 1 }
+                ensures lawful { IsShard (by K.Hash S.BuildHasher S.Hasher.Hasher) shard.new }
             { shard.insert_new(key, value) },
         )
     }
@@ -71,14 +80,16 @@ impl<K: Eq + Hash, V, S: BuildHasher> ShardMut<'_, K, V, S> {
         K: Drop,
         V: Drop,
         requires { HasKey K.eq self.old key position }
-        ensures { Replaces ⟦<Self as Keyed>⟧.by self.old self.new position key value result }
+        ensures replaces { Replaces K.eq self.old self.new position key value result }
+        ensures lawful { IsShard ⟦<Self as Keyed>⟧.by self.new }
     {
         put_back(&mut self.guard, &mut self.table, self.is_lent);
         self.is_lent = false;
         self.guard.change(
             |shard: &mut Shard<K, V, S>| -> (K, V)
                 requires { HasKey K.eq shard.old key position }
-                ensures { Replaces (by K.Hash S.BuildHasher S.Hasher.Hasher) shard.old shard.new position key value result }
+                ensures replaces { Replaces K.eq shard.old shard.new position key value result }
+                ensures lawful { IsShard (by K.Hash S.BuildHasher S.Hasher.Hasher) shard.new }
             { shard.replace_at(position, key, value) },
         )
     }

@@ -1,9 +1,10 @@
 //! The calls on all pairs of a shard that is held for writing.
-ghost use Rattle.std.specs.Prelude.{◌≡◌};
+ghost use Rattle.std.specs.Prelude.{◌≡◌, ◌≤◌};
 ghost use Rattle.dash_shard.specs.Hashing.{by};
 ghost use Rattle.std.specs.Map.Calls.{CalledAtPair, TakesPair, CallableOnEachPair};
-ghost use Rattle.dash_shard.specs.Shard.{pairs, IsShard};
-ghost use Rattle.dash_shard.specs.Each.{CalledOnPair, TakesOnPair, if_kept, altered, Retains, AltersAll, SweepsShard, Clears, Shrinks};
+ghost use Rattle.dash_shard.specs.Shard.{pairs, IsShard, shard_len};
+ghost use Rattle.dash_shard.specs.Each.{CalledOnPair, TakesOnPair, if_kept, altered, SweepsShard, Clears, Shrinks, SweepsBy};
+ghost use Rattle.dash_shard.specs.Steps.{Retain, AlterAll};
 
 use super::ShardMut;
 use super::lent::put_back;
@@ -21,14 +22,18 @@ impl<K: Eq + Hash, V, S: BuildHasher> ShardMut<'_, K, V, S> {
         K: Drop,
         V: Drop,
         requires { CallableOnEachPair (CalledAtPair F.FnMut) (TakesPair F.FnMut) f (pairs self.old) }
-        ensures { Retains ⟦<Self as Keyed>⟧.by (CalledAtPair F.FnMut) f self.old self.new }
+        ensures retains { SweepsBy (CalledAtPair F.FnMut) K.eq f self.old self.new (Retain self.old.number) }
+        ensures len { shard_len self.new ≤ shard_len self.old }
+        ensures lawful { IsShard ⟦<Self as Keyed>⟧.by self.new }
     {
         put_back(&mut self.guard, &mut self.table, self.is_lent);
         self.is_lent = false;
         self.guard.change(
             |shard: &mut Shard<K, V, S>|
                 requires { CallableOnEachPair (CalledAtPair F.FnMut) (TakesPair F.FnMut) f (pairs shard.old) }
-                ensures { Retains (by K.Hash S.BuildHasher S.Hasher.Hasher) (CalledAtPair F.FnMut) f shard.old shard.new }
+                ensures retains { SweepsBy (CalledAtPair F.FnMut) K.eq f shard.old shard.new (Retain shard.old.number) }
+                ensures len { shard_len shard.new ≤ shard_len shard.old }
+                ensures lawful { IsShard (by K.Hash S.BuildHasher S.Hasher.Hasher) shard.new }
             { shard.retain(f) },
         )
     }
@@ -39,14 +44,16 @@ impl<K: Eq + Hash, V, S: BuildHasher> ShardMut<'_, K, V, S> {
         K: Drop,
         V: Drop,
         requires { CallableOnEachPair (CalledAtPair F.FnMut) (TakesPair F.FnMut) f (pairs self.old) }
-        ensures { SweepsShard ⟦<Self as Keyed>⟧.by (CalledAtPair F.FnMut) if_kept f result self.old self.new }
+        ensures sweeps { SweepsShard (CalledAtPair F.FnMut) if_kept f result self.old self.new }
+        ensures lawful { IsShard ⟦<Self as Keyed>⟧.by self.new }
     {
         put_back(&mut self.guard, &mut self.table, self.is_lent);
         self.is_lent = false;
         self.guard.change(
             |shard: &mut Shard<K, V, S>| -> F
                 requires { CallableOnEachPair (CalledAtPair F.FnMut) (TakesPair F.FnMut) f (pairs shard.old) }
-                ensures { SweepsShard (by K.Hash S.BuildHasher S.Hasher.Hasher) (CalledAtPair F.FnMut) if_kept f result shard.old shard.new }
+                ensures sweeps { SweepsShard (CalledAtPair F.FnMut) if_kept f result shard.old shard.new }
+                ensures lawful { IsShard (by K.Hash S.BuildHasher S.Hasher.Hasher) shard.new }
             {
                 let mut f = f;
                 shard.retain_by(&mut f);
@@ -60,14 +67,18 @@ impl<K: Eq + Hash, V, S: BuildHasher> ShardMut<'_, K, V, S> {
     /// `f` is called once at each pair, in rising order of places. The pairs keep their places. It takes no memory, and can't be refused.
     pub fn alter_all<F: FnMut(&K, V) -> V>(&mut self, f: F)
         requires { CallableOnEachPair (CalledOnPair F.FnMut) (TakesOnPair F.FnMut) f (pairs self.old) }
-        ensures { AltersAll ⟦<Self as Keyed>⟧.by (CalledOnPair F.FnMut) f self.old self.new }
+        ensures alters { SweepsBy (CalledOnPair F.FnMut) K.eq f self.old self.new (AlterAll self.old.number) }
+        ensures len { shard_len self.new ≡ shard_len self.old }
+        ensures lawful { IsShard ⟦<Self as Keyed>⟧.by self.new }
     {
         put_back(&mut self.guard, &mut self.table, self.is_lent);
         self.is_lent = false;
         self.guard.change(
             |shard: &mut Shard<K, V, S>|
                 requires { CallableOnEachPair (CalledOnPair F.FnMut) (TakesOnPair F.FnMut) f (pairs shard.old) }
-                ensures { AltersAll (by K.Hash S.BuildHasher S.Hasher.Hasher) (CalledOnPair F.FnMut) f shard.old shard.new }
+                ensures alters { SweepsBy (CalledOnPair F.FnMut) K.eq f shard.old shard.new (AlterAll shard.old.number) }
+                ensures len { shard_len shard.new ≡ shard_len shard.old }
+                ensures lawful { IsShard (by K.Hash S.BuildHasher S.Hasher.Hasher) shard.new }
             { shard.alter_all(f) },
         )
     }
@@ -75,14 +86,16 @@ impl<K: Eq + Hash, V, S: BuildHasher> ShardMut<'_, K, V, S> {
     /// As `alter_all`, and hands `f` back, so that the caller may go on with it.
     pub fn alter_all_by<F: FnMut(&K, V) -> V>(&mut self, f: F) -> F
         requires { CallableOnEachPair (CalledOnPair F.FnMut) (TakesOnPair F.FnMut) f (pairs self.old) }
-        ensures { SweepsShard ⟦<Self as Keyed>⟧.by (CalledOnPair F.FnMut) altered f result self.old self.new }
+        ensures sweeps { SweepsShard (CalledOnPair F.FnMut) altered f result self.old self.new }
+        ensures lawful { IsShard ⟦<Self as Keyed>⟧.by self.new }
     {
         put_back(&mut self.guard, &mut self.table, self.is_lent);
         self.is_lent = false;
         self.guard.change(
             |shard: &mut Shard<K, V, S>| -> F
                 requires { CallableOnEachPair (CalledOnPair F.FnMut) (TakesOnPair F.FnMut) f (pairs shard.old) }
-                ensures { SweepsShard (by K.Hash S.BuildHasher S.Hasher.Hasher) (CalledOnPair F.FnMut) altered f result shard.old shard.new }
+                ensures sweeps { SweepsShard (CalledOnPair F.FnMut) altered f result shard.old shard.new }
+                ensures lawful { IsShard (by K.Hash S.BuildHasher S.Hasher.Hasher) shard.new }
             {
                 let mut f = f;
                 shard.alter_all_by(&mut f);
@@ -96,13 +109,15 @@ impl<K: Eq + Hash, V, S: BuildHasher> ShardMut<'_, K, V, S> {
     where
         K: Drop,
         V: Drop,
-        ensures { Clears ⟦<Self as Keyed>⟧.by self.old self.new }
+        ensures clears { Clears self.old self.new }
+        ensures lawful { IsShard ⟦<Self as Keyed>⟧.by self.new }
     {
         put_back(&mut self.guard, &mut self.table, self.is_lent);
         self.is_lent = false;
         self.guard.change(
             |shard: &mut Shard<K, V, S>|
-                ensures { Clears (by K.Hash S.BuildHasher S.Hasher.Hasher) shard.old shard.new }
+                ensures clears { Clears shard.old shard.new }
+                ensures lawful { IsShard (by K.Hash S.BuildHasher S.Hasher.Hasher) shard.new }
             { shard.clear() },
         )
     }
@@ -115,13 +130,15 @@ impl<K: Eq + Hash, V, S: BuildHasher> ShardMut<'_, K, V, S> {
     where
         K: Drop,
         V: Drop,
-        ensures { Shrinks ⟦<Self as Keyed>⟧.by self.old self.new }
+        ensures shrinks { Shrinks K.eq self.old self.new }
+        ensures lawful { IsShard ⟦<Self as Keyed>⟧.by self.new }
     {
         put_back(&mut self.guard, &mut self.table, self.is_lent);
         self.is_lent = false;
         self.guard.change(
             |shard: &mut Shard<K, V, S>|
-                ensures { Shrinks (by K.Hash S.BuildHasher S.Hasher.Hasher) shard.old shard.new }
+                ensures shrinks { Shrinks K.eq shard.old shard.new }
+                ensures lawful { IsShard (by K.Hash S.BuildHasher S.Hasher.Hasher) shard.new }
             { shard.shrink_to_fit() },
         )
     }

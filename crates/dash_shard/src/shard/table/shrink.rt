@@ -1,8 +1,6 @@
 //! A table that gives memory back.
-ghost use Rattle.std.specs.Prelude.{ℕ, ◌≡◌, ◌+◌, ◌<◌, ◌≤◌, [], length};
-ghost use Rattle.std.specs.Cmp.{IsEquivalence};
-ghost use Rattle.dash_shard.specs.Contents.{Keys, Distinct, EachOnce};
-ghost use Rattle.dash_shard.specs.Table.{IsTable, IsCarried, pairs_of};
+ghost use Rattle.std.specs.Prelude.{◌≡◌, ◌+◌, ◌<◌, ◌≤◌, [], length};
+ghost use Rattle.dash_shard.specs.Table.{IsTable, CarriesOnce, IsCarried, pairs_of};
 ghost use Rattle.dash_shard.specs.Shard.{taken};
 
 use super::{Node, Table};
@@ -13,7 +11,7 @@ fn move_pairs<K: Drop, V: Drop>(nodes: &mut Vec<Node<K, V>>, table: &mut Table<K
     requires empty { taken (pairs_of table.old.nodes.items) ≡ [] }
     requires len { table.old.len ≡ 0 }
     requires room { length (taken (pairs_of nodes.old.items)) ≤ length table.old.nodes.items }
-    ensures once { (w : Keys K) → IsEquivalence w.eq → Distinct w (taken (pairs_of nodes.old.items)) → EachOnce w (taken (pairs_of nodes.old.items)) (taken (pairs_of table.new.nodes.items)) }
+    ensures once { CarriesOnce nodes.old.items table.new.nodes.items }
     ensures carried { IsCarried nodes.old.items table.new.nodes.items }
     ensures len { table.new.len ≡ length (taken (pairs_of nodes.old.items)) }
     ensures counted { table.new.len ≡ length (taken (pairs_of table.new.nodes.items)) }
@@ -36,7 +34,7 @@ impl<K, V> Table<K, V> {
         V: Drop,
         requires table { IsTable self.old }
         requires counted { self.old.len ≡ length (taken (pairs_of self.old.nodes.items)) }
-        ensures once { (w : Keys K) → IsEquivalence w.eq → Distinct w (taken (pairs_of self.old.nodes.items)) → EachOnce w (taken (pairs_of self.old.nodes.items)) (taken (pairs_of self.new.nodes.items)) }
+        ensures once { CarriesOnce self.old.nodes.items self.new.nodes.items }
         ensures carried { IsCarried self.old.nodes.items self.new.nodes.items }
         ensures len { self.new.len ≡ self.old.len }
         ensures counted { self.new.len ≡ length (taken (pairs_of self.new.nodes.items)) }

@@ -1,5 +1,5 @@
 use Rattle.dash_shard.specs.Each.{CalledOnPair}
-use Rattle.dash_shard.proofs.Alls.{altered-inside, alters}
+use Rattle.dash_shard.proofs.Alls.{altered-inside, altered-shard, alters, as-many}
 use Rattle.dash_shard.proofs.Lawful.{lawful-of}
 use Rattle.dash_shard.proofs.shard.Shard.alter_all.Goals as goal
 
@@ -11,4 +11,8 @@ invariant_of-self g c =
 pub returns : goal.returns
 returns g c =
     let r = c.alter_all.ensures in
-    alters _ (lawful-of g.S.BuildHasher g.S.Hasher.Hasher g.met.K.Eq.laws g.met.K.Hash.respects_eq) _ _ _ c.self.inside.table c.alter_all.new.self c.self.invariant (CalledOnPair g.F.FnMut) c.args.f (_, r.swept) r.places _ c.self.view_is
+    record {
+      alters = alters _ (lawful-of g.S.BuildHasher g.S.Hasher.Hasher g.met.K.Eq.laws g.met.K.Hash.respects_eq) _ _ _ c.self.inside.table c.alter_all.new.self c.self.invariant (CalledOnPair g.F.FnMut) c.args.f (_, r.swept) r.places _ c.self.view_is;
+      len = as-many _ (lawful-of g.S.BuildHasher g.S.Hasher.Hasher g.met.K.Eq.laws g.met.K.Hash.respects_eq) _ _ _ c.self.inside.table c.alter_all.new.self c.self.invariant (CalledOnPair g.F.FnMut) c.args.f (_, r.swept) _ c.self.view_is;
+      lawful = altered-shard _ (lawful-of g.S.BuildHasher g.S.Hasher.Hasher g.met.K.Eq.laws g.met.K.Hash.respects_eq) _ _ _ c.self.inside.table c.alter_all.new.self c.self.invariant (CalledOnPair g.F.FnMut) c.args.f (_, r.swept);
+    }

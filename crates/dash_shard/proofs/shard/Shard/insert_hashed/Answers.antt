@@ -17,9 +17,11 @@ returns-in-Some g c =
     let r = c.replace.ensures in
     let found = c.in-Some.ensures.found in
     let i = replaced _ (lawful-of g.S.BuildHasher g.S.Hasher.Hasher g.met.K.Eq.laws g.met.K.Hash.respects_eq) _ _ _ c.self.inside.table c.self.invariant _ _ c.self.view_is c.requires.route c.args.value c.replace.new.self _ found r.pairs r.hashes r.len r.table in
-    rw (r.old ∙ ap (λ o. option_map (λ p. p.1) o) found.is)
-    (inserts _ (lawful-of g.S.BuildHasher g.S.Hasher.Hasher g.met.K.Eq.laws g.met.K.Hash.respects_eq) _ _ _ _ _ _ _ _ _ c.self.view_is i
-    (λ _. r.places ∙ ap (λ s. s.capacity) c.self.view_is))
+    let room = r.places ∙ ap (λ s. s.capacity) c.self.view_is in
+    record {
+      inserts = rw (r.old ∙ ap (λ o. option_map (λ p. p.1) o) found.is) (inserts _ (lawful-of g.S.BuildHasher g.S.Hasher.Hasher g.met.K.Eq.laws g.met.K.Hash.respects_eq) _ _ _ _ _ _ _ _ _ c.self.view_is i (λ _. room));
+      lawful = i.inside.shard;
+    }
 
 pub invariant_of-self-2 : goal.invariant_of-self-2
 invariant_of-self-2 g c =
@@ -36,8 +38,13 @@ invariant_of-self-in_default-make_room g c =
 
 pub returns-in_default-make_room : goal.returns-in_default-make_room
 returns-in_default-make_room g c =
-    refuses _ (lawful-of g.S.BuildHasher g.S.Hasher.Hasher g.met.K.Eq.laws g.met.K.Hash.respects_eq) _ _ _ c.self.inside.table c.make_room.new.self c.args.key c.args.value _ c.self.view_is c.self.invariant c.in_default-make_room.ensures.err
-    (at-missing _ (lawful-of g.S.BuildHasher g.S.Hasher.Hasher g.met.K.Eq.laws g.met.K.Hash.respects_eq) _ _ _ _ c.self.invariant _ _ (hash-same (lawful-of g.S.BuildHasher g.S.Hasher.Hasher g.met.K.Eq.laws g.met.K.Hash.respects_eq) c.args.key _ _ c.self.view_is c.args.hash c.requires.hash) c.in_default.ensures.absent)
+    let m = c.make_room.ensures in
+    let hash = hash-same (lawful-of g.S.BuildHasher g.S.Hasher.Hasher g.met.K.Eq.laws g.met.K.Hash.respects_eq) c.args.key _ _ c.self.view_is c.args.hash c.requires.hash in
+    let absent = at-missing _ (lawful-of g.S.BuildHasher g.S.Hasher.Hasher g.met.K.Eq.laws g.met.K.Hash.respects_eq) _ _ _ _ c.self.invariant _ _ hash c.in_default.ensures.absent in
+    record {
+      inserts = refuses _ (lawful-of g.S.BuildHasher g.S.Hasher.Hasher g.met.K.Eq.laws g.met.K.Hash.respects_eq) _ _ _ c.self.inside.table c.make_room.new.self c.args.key c.args.value _ c.self.view_is c.self.invariant c.in_default-make_room.ensures.err absent;
+      lawful = (grown-inside _ (lawful-of g.S.BuildHasher g.S.Hasher.Hasher g.met.K.Eq.laws g.met.K.Hash.respects_eq) _ _ _ c.self.inside.table c.make_room.new.self c.self.invariant m.grown m.len m.table).shard;
+    }
 
 pub returns : goal.returns
 returns g c =
@@ -45,5 +52,8 @@ returns g c =
     let p = c.push.ensures in
     let i = pushed _ (lawful-of g.S.BuildHasher g.S.Hasher.Hasher g.met.K.Eq.laws g.met.K.Hash.respects_eq) _ _ _ c.self.inside.table c.make_room.new.self c.self.invariant m.grown m.len m.table
     c.args.key _ c.self.view_is c.requires.route c.args.value c.push.new.self c.args.hash m.ok (hash-same (lawful-of g.S.BuildHasher g.S.Hasher.Hasher g.met.K.Eq.laws g.met.K.Hash.respects_eq) c.args.key _ _ c.self.view_is c.args.hash c.requires.hash) c.in_default.ensures.absent p.pairs p.hashes p.len p.table in
-    inserts _ (lawful-of g.S.BuildHasher g.S.Hasher.Hasher g.met.K.Eq.laws g.met.K.Hash.respects_eq) _ _ _ _ _ _ _ _ _ c.self.view_is i
-    (λ room. p.places ∙ ap length (m.kept (omega (arith, c.self.invariant.counted, subst (λ x. shard_len x < x.capacity) (sym c.self.view_is) room))) ∙ ap (λ s. s.capacity) c.self.view_is)
+    record {
+      inserts = inserts _ (lawful-of g.S.BuildHasher g.S.Hasher.Hasher g.met.K.Eq.laws g.met.K.Hash.respects_eq) _ _ _ _ _ _ _ _ _ c.self.view_is i
+          (λ room. p.places ∙ ap length (m.kept (omega (arith, c.self.invariant.counted, subst (λ x. shard_len x < x.capacity) (sym c.self.view_is) room))) ∙ ap (λ s. s.capacity) c.self.view_is);
+      lawful = i.inside.shard;
+    }

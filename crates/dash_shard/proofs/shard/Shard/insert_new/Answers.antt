@@ -19,10 +19,9 @@ returns g c =
     let same = p.places ∙ ap (λ s. s.capacity) c.self.view_is in
     let x = inserts _ (lawful-of g.S.BuildHasher g.S.Hasher.Hasher g.met.K.Eq.laws g.met.K.Hash.respects_eq) _ _ _ _ _ _ _ _ _ c.self.view_is i (λ _. same) in
     record {
-      taken = x.taken;
+      inserts = record { taken = x.taken; places = x.places same; room = same };
       place = ap (λ n. place (pairs_of c.push.new.self.nodes.items) n) p.place
           ∙ filled-place _ (lawful-of g.S.BuildHasher g.S.Hasher.Hasher g.met.K.Eq.laws g.met.K.Hash.respects_eq) _ _ _ c.self.inside.table c.self.invariant _ _ c.self.view_is c.requires.route c.args.value c.push.new.self c.hash_one-hash.result c.requires.room c.push.ensures.pairs;
       len = x.len;
-      room = same;
-      places = x.places same;
+      lawful = i.inside.shard;
     }

@@ -1,3 +1,6 @@
+use Rattle.std.proofs.Common.{subst}
+use Rattle.dash_shard.specs.Shard.{IsShard}
+use Rattle.dash_shard.specs.Hashing.{key_hash}
 use Rattle.dash_shard.proofs.Positions.{located}
 use Rattle.dash_shard.proofs.Shards.{hash-same}
 use Rattle.dash_shard.proofs.Lawful.{lawful-of}
@@ -5,5 +8,8 @@ use Rattle.dash_shard.proofs.shard.Shard.position_of_hashed.Goals as goal
 
 pub returns : goal.returns
 returns g c =
-    located _ (lawful-of g.S.BuildHasher g.S.Hasher.Hasher g.met.K.Eq.laws g.met.K.Hash.respects_eq) _ _ _ _ c.self.invariant _ _ (hash-same (lawful-of g.S.BuildHasher g.S.Hasher.Hasher g.met.K.Eq.laws g.met.K.Hash.respects_eq) c.args.key.now _ _ c.self.view_is c.args.hash c.requires)
-    _ c.self.view_is _ c.find.ensures.found c.find.ensures.absent
+    record {
+      finds = located _ (lawful-of g.S.BuildHasher g.S.Hasher.Hasher g.met.K.Eq.laws g.met.K.Hash.respects_eq) _ _ _ _ c.self.invariant _ _ (hash-same (lawful-of g.S.BuildHasher g.S.Hasher.Hasher g.met.K.Eq.laws g.met.K.Hash.respects_eq) c.args.key.now _ _ c.self.view_is c.args.hash c.requires)
+      _ c.self.view_is _ c.find.ensures.found c.find.ensures.absent;
+      lawful = subst (IsShard (key_hash g.K.PartialEq.eq g.K.Hash.hash_input g.S.BuildHasher g.S.Hasher.Hasher)) c.self.view_is c.self.invariant.shard;
+    }

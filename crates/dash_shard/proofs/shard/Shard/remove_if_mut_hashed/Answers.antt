@@ -1,8 +1,8 @@
-use Rattle.std.proofs.Common.{true, false, is_some, refl, sym, subst, ap, ◌∙◌}
+use Rattle.std.proofs.Common.{true, false, is_some, refl, sym, subst, ap, ◌∙◌, add-zero}
 use Rattle.std.specs.Prelude.{IfSome}
 use Rattle.dash_shard.specs.Shard.{HasKey}
 use Rattle.dash_shard.specs.Closures.{ChangesOn}
-use Rattle.dash_shard.proofs.Altering.{idle, to, unremoved, altered-inside, gone-inside, gone-changed, stays-changed, stood}
+use Rattle.dash_shard.proofs.Altering.{idle, to, unremoved, altered-inside, gone-inside, gone-changed, stays-changed, stood, gone-len, as-many}
 use Rattle.dash_shard.proofs.Rewriting.{holds-pair, valued-rewritten, valued-place}
 use Rattle.dash_shard.proofs.shard.Shard.remove_if_mut_hashed.Goals as goal
 use Rattle.dash_shard.proofs.Lawful.{lawful-of}
@@ -10,12 +10,16 @@ use Rattle.dash_shard.specs.Hashing.{key_hash}
 
 pub returns-in_err-place : goal.returns-in_err-place
 returns-in_err-place g c =
-    let none = c.in_err-place.ensures.absent.0 refl in
-    rw c.from_residual.ensures (
-      idle,
-      unremoved (key_hash g.K.PartialEq.eq g.K.Hash.hash_input g.S.BuildHasher g.S.Hasher.Hasher) c.args.self.now c.args.key.now c.in_err-place.ensures.lawful,
-      subst (λ o. IfSome o (λ p. ChangesOn g.F.FnOnce c.args.f p (p.1, false))) (sym none) tt,
-    )
+    let none = c.in_err-place.ensures.finds.absent.0 refl in
+    record {
+      removes = rw c.from_residual.ensures (
+        idle,
+        unremoved g.K.PartialEq.eq c.args.self.now c.args.key.now,
+        subst (λ o. IfSome o (λ p. ChangesOn g.F.FnOnce c.args.f p (p.1, false))) (sym none) tt,
+      );
+      len = rw c.from_residual.ensures (sym (add-zero _));
+      lawful = c.in_err-place.ensures.lawful;
+    }
 
 pub take-requires-clause-table : goal.take-requires-clause-table
 take-requires-clause-table g c = (valued-rewritten c.self.inside.table c.in_ok-place.place _ c.f.new.arg3 c.self.invariant.table c.pair_mut-value.ensures.pair).table
@@ -29,7 +33,7 @@ invariant_of-self g c =
     let i = c.in_ok-place.place in
     let there = c.pair_mut-value.ensures.pair in
     let v = c.f.new.arg3 in
-    let found = holds-pair g.K.PartialEq.eq t.nodes.items c.args.key.now i _ there (subst (λ s. HasKey g.K.PartialEq.eq s c.args.key.now i) (sym c.self.view_is) ((c.in_ok-place.ensures.position i).0 refl)) in
+    let found = holds-pair g.K.PartialEq.eq t.nodes.items c.args.key.now i _ there (subst (λ s. HasKey g.K.PartialEq.eq s c.args.key.now i) (sym c.self.view_is) ((c.in_ok-place.ensures.finds.position i).0 refl)) in
     let r = c.take.ensures in
     gone-inside _ (lawful-of g.S.BuildHasher g.S.Hasher.Hasher g.met.K.Eq.laws g.met.K.Hash.respects_eq) _ _ _ _ _ c.self.invariant _ i found _ c.self.view_is c.requires.route v _ (valued-rewritten t i _ v c.self.invariant.table there) r.pairs r.hashes r.len r.table
 
@@ -39,14 +43,19 @@ returns-then-f g c =
     let i = c.in_ok-place.place in
     let there = c.pair_mut-value.ensures.pair in
     let v = c.f.new.arg3 in
-    let found = holds-pair g.K.PartialEq.eq t.nodes.items c.args.key.now i _ there (subst (λ s. HasKey g.K.PartialEq.eq s c.args.key.now i) (sym c.self.view_is) ((c.in_ok-place.ensures.position i).0 refl)) in
+    let found = holds-pair g.K.PartialEq.eq t.nodes.items c.args.key.now i _ there (subst (λ s. HasKey g.K.PartialEq.eq s c.args.key.now i) (sym c.self.view_is) ((c.in_ok-place.ensures.finds.position i).0 refl)) in
     let r = c.take.ensures in
-    let gone = gone-changed _ (lawful-of g.S.BuildHasher g.S.Hasher.Hasher g.met.K.Eq.laws g.met.K.Hash.respects_eq) _ _ _ _ _ c.self.invariant _ i found _ c.self.view_is c.requires.route v _ (valued-rewritten t i _ v c.self.invariant.table there) r.pairs r.hashes r.len r.table in (
-      to v true,
-      rw (sym r.old ∙ valued-place t i _ v c.self.invariant.table there) gone,
-      stood _ (lawful-of g.S.BuildHasher g.S.Hasher.Hasher g.met.K.Eq.laws g.met.K.Hash.respects_eq) _ _ _ _ t c.self.invariant _ i found _ c.self.view_is (λ p. ChangesOn g.F.FnOnce c.args.f p (v, true))
-          (record { key = c.pair_mut-value.result.0; value = c.pair_mut-value.result.1; shows = (refl, refl); left = _; leaves = refl; says = c.if-f.ensures }),
-    )
+    let gone = gone-changed _ (lawful-of g.S.BuildHasher g.S.Hasher.Hasher g.met.K.Eq.laws g.met.K.Hash.respects_eq) _ _ _ _ _ c.self.invariant _ i found _ c.self.view_is c.requires.route v _ (valued-rewritten t i _ v c.self.invariant.table there) r.pairs r.hashes r.len r.table in
+    record {
+      removes = (
+        to v true,
+        rw (sym r.old ∙ valued-place t i _ v c.self.invariant.table there) gone,
+        stood _ (lawful-of g.S.BuildHasher g.S.Hasher.Hasher g.met.K.Eq.laws g.met.K.Hash.respects_eq) _ _ _ _ t c.self.invariant _ i found _ c.self.view_is (λ p. ChangesOn g.F.FnOnce c.args.f p (v, true))
+            (record { key = c.pair_mut-value.result.0; value = c.pair_mut-value.result.1; shows = (refl, refl); left = _; leaves = refl; says = c.if-f.ensures }),
+      );
+      len = gone-len _ (lawful-of g.S.BuildHasher g.S.Hasher.Hasher g.met.K.Eq.laws g.met.K.Hash.respects_eq) _ _ _ _ _ c.self.invariant _ i found _ c.self.view_is c.requires.route v _ (valued-rewritten t i _ v c.self.invariant.table there) r.pairs r.hashes r.len r.table;
+      lawful = (gone-inside _ (lawful-of g.S.BuildHasher g.S.Hasher.Hasher g.met.K.Eq.laws g.met.K.Hash.respects_eq) _ _ _ _ _ c.self.invariant _ i found _ c.self.view_is c.requires.route v _ (valued-rewritten t i _ v c.self.invariant.table there) r.pairs r.hashes r.len r.table).shard;
+    }
 
 pub invariant_of-self-else-f : goal.invariant_of-self-else-f
 invariant_of-self-else-f g c =
@@ -54,7 +63,7 @@ invariant_of-self-else-f g c =
     let i = c.in_ok-place.place in
     let there = c.pair_mut-value.ensures.pair in
     let v = c.f.new.arg3 in
-    let found = holds-pair g.K.PartialEq.eq t.nodes.items c.args.key.now i _ there (subst (λ s. HasKey g.K.PartialEq.eq s c.args.key.now i) (sym c.self.view_is) ((c.in_ok-place.ensures.position i).0 refl)) in
+    let found = holds-pair g.K.PartialEq.eq t.nodes.items c.args.key.now i _ there (subst (λ s. HasKey g.K.PartialEq.eq s c.args.key.now i) (sym c.self.view_is) ((c.in_ok-place.ensures.finds.position i).0 refl)) in
     altered-inside _ (lawful-of g.S.BuildHasher g.S.Hasher.Hasher g.met.K.Eq.laws g.met.K.Hash.respects_eq) _ _ _ _ _ c.self.invariant _ i found _ c.self.view_is v (valued-rewritten t i _ v c.self.invariant.table there)
 
 pub returns : goal.returns
@@ -63,10 +72,15 @@ returns g c =
     let i = c.in_ok-place.place in
     let there = c.pair_mut-value.ensures.pair in
     let v = c.f.new.arg3 in
-    let found = holds-pair g.K.PartialEq.eq t.nodes.items c.args.key.now i _ there (subst (λ s. HasKey g.K.PartialEq.eq s c.args.key.now i) (sym c.self.view_is) ((c.in_ok-place.ensures.position i).0 refl)) in
-    let r = valued-rewritten t i _ v c.self.invariant.table there in (
-      to v false,
-      stays-changed _ (lawful-of g.S.BuildHasher g.S.Hasher.Hasher g.met.K.Eq.laws g.met.K.Hash.respects_eq) _ _ _ _ _ c.self.invariant _ i found _ c.self.view_is v r,
-      stood _ (lawful-of g.S.BuildHasher g.S.Hasher.Hasher g.met.K.Eq.laws g.met.K.Hash.respects_eq) _ _ _ _ t c.self.invariant _ i found _ c.self.view_is (λ p. ChangesOn g.F.FnOnce c.args.f p (v, false))
-          (record { key = c.pair_mut-value.result.0; value = c.pair_mut-value.result.1; shows = (refl, refl); left = _; leaves = refl; says = c.if-f.ensures }),
-    )
+    let found = holds-pair g.K.PartialEq.eq t.nodes.items c.args.key.now i _ there (subst (λ s. HasKey g.K.PartialEq.eq s c.args.key.now i) (sym c.self.view_is) ((c.in_ok-place.ensures.finds.position i).0 refl)) in
+    let r = valued-rewritten t i _ v c.self.invariant.table there in
+    record {
+      removes = (
+        to v false,
+        stays-changed _ (lawful-of g.S.BuildHasher g.S.Hasher.Hasher g.met.K.Eq.laws g.met.K.Hash.respects_eq) _ _ _ _ _ c.self.invariant _ i found _ c.self.view_is v r,
+        stood _ (lawful-of g.S.BuildHasher g.S.Hasher.Hasher g.met.K.Eq.laws g.met.K.Hash.respects_eq) _ _ _ _ t c.self.invariant _ i found _ c.self.view_is (λ p. ChangesOn g.F.FnOnce c.args.f p (v, false))
+            (record { key = c.pair_mut-value.result.0; value = c.pair_mut-value.result.1; shows = (refl, refl); left = _; leaves = refl; says = c.if-f.ensures }),
+      );
+      len = sym (as-many _ (lawful-of g.S.BuildHasher g.S.Hasher.Hasher g.met.K.Eq.laws g.met.K.Hash.respects_eq) _ _ _ _ _ c.self.invariant _ i found _ c.self.view_is v r) ∙ sym (add-zero _);
+      lawful = (altered-inside _ (lawful-of g.S.BuildHasher g.S.Hasher.Hasher g.met.K.Eq.laws g.met.K.Hash.respects_eq) _ _ _ _ _ c.self.invariant _ i found _ c.self.view_is v r).shard;
+    }

@@ -14,4 +14,7 @@ invariant_of-self g c =
 pub returns : goal.returns
 returns g c =
     let found = holds-key g.K.PartialEq.eq c.self.inside.table.nodes.items c.args.key c.args.position (subst (λ s. HasKey g.K.PartialEq.eq s c.args.key c.args.position) (sym c.self.view_is) c.requires) in
-    replaces _ (lawful-of g.S.BuildHasher g.S.Hasher.Hasher g.met.K.Eq.laws g.met.K.Hash.respects_eq) _ _ _ _ _ c.self.invariant c.args.key c.args.position found _ c.self.view_is (c.args.key, c.args.value) (g.met.K.Eq.laws.refl c.args.key) c.exchange.ensures.new _ c.exchange.ensures.old refl
+    record {
+      replaces = replaces _ (lawful-of g.S.BuildHasher g.S.Hasher.Hasher g.met.K.Eq.laws g.met.K.Hash.respects_eq) _ _ _ _ _ c.self.invariant c.args.key c.args.position found _ c.self.view_is (c.args.key, c.args.value) (g.met.K.Eq.laws.refl c.args.key) c.exchange.ensures.new _ c.exchange.ensures.old refl;
+      lawful = (rewritten-inside _ (lawful-of g.S.BuildHasher g.S.Hasher.Hasher g.met.K.Eq.laws g.met.K.Hash.respects_eq) _ _ _ _ _ c.self.invariant c.args.key c.args.position found (c.args.key, c.args.value) (g.met.K.Eq.laws.refl c.args.key) c.exchange.ensures.new).shard;
+    }

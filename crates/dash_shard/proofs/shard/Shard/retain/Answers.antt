@@ -1,5 +1,5 @@
 use Rattle.std.specs.Map.Calls.{CalledAtPair}
-use Rattle.dash_shard.proofs.Alls.{retained-inside, retains}
+use Rattle.dash_shard.proofs.Alls.{retained-inside, retained-shard, retains, fewer}
 use Rattle.dash_shard.proofs.Lawful.{lawful-of}
 use Rattle.dash_shard.proofs.shard.Shard.retain.Goals as goal
 
@@ -11,4 +11,8 @@ invariant_of-self g c =
 pub returns : goal.returns
 returns g c =
     let r = c.retain.ensures in
-    retains _ (lawful-of g.S.BuildHasher g.S.Hasher.Hasher g.met.K.Eq.laws g.met.K.Hash.respects_eq) _ _ _ c.self.inside.table c.retain.new.self c.self.invariant (CalledAtPair g.F.FnMut) c.args.f (_, r.swept) r.places _ c.self.view_is
+    record {
+      retains = retains _ (lawful-of g.S.BuildHasher g.S.Hasher.Hasher g.met.K.Eq.laws g.met.K.Hash.respects_eq) _ _ _ c.self.inside.table c.retain.new.self c.self.invariant (CalledAtPair g.F.FnMut) c.args.f (_, r.swept) r.places _ c.self.view_is;
+      len = fewer _ (lawful-of g.S.BuildHasher g.S.Hasher.Hasher g.met.K.Eq.laws g.met.K.Hash.respects_eq) _ _ _ c.self.inside.table c.retain.new.self c.self.invariant (CalledAtPair g.F.FnMut) c.args.f (_, r.swept) _ c.self.view_is;
+      lawful = retained-shard _ (lawful-of g.S.BuildHasher g.S.Hasher.Hasher g.met.K.Eq.laws g.met.K.Hash.respects_eq) _ _ _ c.self.inside.table c.retain.new.self c.self.invariant (CalledAtPair g.F.FnMut) c.args.f (_, r.swept);
+    }

@@ -10,4 +10,7 @@ invariant_of-self g c =
 pub returns : goal.returns
 returns g c =
     let r = c.shrink.ensures in
-    shrinks _ (lawful-of g.S.BuildHasher g.S.Hasher.Hasher g.met.K.Eq.laws g.met.K.Hash.respects_eq) _ _ _ c.self.inside.table c.shrink.new.self c.self.invariant r.once r.carried r.len r.counted r.table r.places r.none _ c.self.view_is
+    record {
+      shrinks = shrinks _ (lawful-of g.S.BuildHasher g.S.Hasher.Hasher g.met.K.Eq.laws g.met.K.Hash.respects_eq) _ _ _ c.self.inside.table c.shrink.new.self c.self.invariant r.once r.carried r.len r.counted r.table r.places r.none _ c.self.view_is;
+      lawful = (shrunk-inside _ (lawful-of g.S.BuildHasher g.S.Hasher.Hasher g.met.K.Eq.laws g.met.K.Hash.respects_eq) _ _ _ c.self.inside.table c.shrink.new.self c.self.invariant r.once r.carried r.len r.counted r.table).shard;
+    }

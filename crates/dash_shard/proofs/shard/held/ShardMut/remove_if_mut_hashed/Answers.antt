@@ -1,12 +1,11 @@
 use Rattle.std.proofs.Common.{subst, ◌∙◌}
+use Rattle.dash_shard.specs.Steps.{RemoveIfMut, Pair}
 use Rattle.dash_shard.specs.Closures.{ChangesOn}
-use Rattle.dash_shard.specs.Held.{RemovesChanged}
-use Rattle.dash_shard.specs.Shard.{ShardState}
+use Rattle.dash_shard.specs.Shard.{ShardState, TakesBy}
 use Rattle.dash_shard.proofs.shard.held.ShardMut.remove_if_mut_hashed.Goals as goal
-use Rattle.dash_shard.specs.Hashing.{key_hash}
 
-pub returns : goal.returns
-returns g c =
+pub returns-clause-removes : goal.returns-clause-removes
+returns-clause-removes g c =
     let ran = c.change.ensures.ran in
-    let P = λ (old new : ShardState g.row.K.Denot g.row.V.Denot g.row.S.Denot). RemovesChanged (key_hash g.K.PartialEq.eq g.K.Hash.hash_input g.S.BuildHasher g.S.Hasher.Hasher) (ChangesOn g.F.FnOnce c.args.f) old new c.args.key.now c.change.result in
-    subst (λ old. P old c.change.new.self.value) (ran.shows ∙ c.put_back.ensures.value ∙ c.self.view_is) (subst (λ new. P ran.shown.now new) ran.leaves ran.met)
+    let P = λ (old new : ShardState g.row.K.Denot g.row.V.Denot g.row.S.Denot). TakesBy g.K.PartialEq.eq old new RemoveIfMut c.args.key.now (Pair c.change.result) (ChangesOn g.F.FnOnce c.args.f) in
+    subst (λ old. P old c.change.new.self.value) (ran.shows ∙ c.put_back.ensures.value ∙ c.self.view_is) (subst (λ new. P ran.shown.now new) ran.leaves ran.met.0)

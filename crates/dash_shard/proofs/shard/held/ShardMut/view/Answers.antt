@@ -1,12 +1,11 @@
 use Rattle.std.proofs.Common.{◌≡◌, Some, refl, sym, ◌∙◌}
 use Rattle.std.specs.Map.Iter.{deref_pair}
 use Rattle.dash_shard.specs.Contents.{at}
-use Rattle.dash_shard.specs.Shard.{pairs, keys_of}
+use Rattle.dash_shard.specs.Shard.{pairs}
 use Rattle.dash_shard.proofs.shard.held.ShardMut.view.Goals as goal
-use Rattle.dash_shard.specs.Hashing.{key_hash}
 
 pub returns-clause-viewed : goal.returns-clause-viewed
 returns-clause-viewed g c =
-    let there : at (keys_of (key_hash g.K.PartialEq.eq g.K.Hash.hash_input g.S.BuildHasher g.S.Hasher.Hasher) c.args.self.now) (pairs c.args.self.now) c.args.key.now ≡ Some (deref_pair c.at.result) =
-    sym c.in_ok-place.ensures.pair ∙ c.at.ensures.pair in
+    let there : at g.K.PartialEq.eq (pairs c.args.self.now) c.args.key.now ≡ Some (deref_pair c.at.result) =
+    sym c.in_ok-place.ensures.finds.pair ∙ c.at.ensures.pair in
     rw there (record { key = c.at.result.0; value = c.at.result.1; shows = (refl, refl); says = c.f.ensures })
