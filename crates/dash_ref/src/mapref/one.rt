@@ -4,8 +4,8 @@ ghost use Rattle.std.specs.Option.{option_map};
 ghost use Rattle.std.specs.Map.Iter.{deref_pair};
 ghost use Rattle.dash_shard.specs.Hashing.{by};
 ghost use Rattle.dash_shard.specs.Contents.{at};
-ghost use Rattle.dash_shard.specs.Steps.{Get, Pair, Replies};
-ghost use Rattle.dash_shard.specs.Shard.{place, pairs, keys_of, IsShard};
+ghost use Rattle.dash_shard.specs.Steps.{Get, Pair};
+ghost use Rattle.dash_shard.specs.Shard.{place, pairs, IsShard, RepliesOn};
 ghost use Rattle.dash_ref.specs.Ref.{Stands, pair_of};
 
 use dash_shard::keyed::Keyed;
@@ -95,8 +95,8 @@ impl<'a, K: Eq + Hash, V, S: BuildHasher> Ref<'a, K, V, S> {
         key: &K,
     ) -> Option<Ref<'a, K, V, S>>
         requires { hash ≡ ⟦<Self as Keyed>⟧.by.hash guard.value.hasher key.now }
-        ensures pair { Replies (keys_of ⟦<Self as Keyed>⟧.by guard.entry.value) (Get key.now) (pairs guard.entry.value) (Pair (option_map pair_of result)) }
-        ensures absent { IsNone result ↔ (at (keys_of ⟦<Self as Keyed>⟧.by guard.entry.value) (pairs guard.entry.value) key.now ≡ None) }
+        ensures pair { RepliesOn K.eq guard.entry.value (Get key.now) (Pair (option_map pair_of result)) }
+        ensures absent { IsNone result ↔ (at K.eq (pairs guard.entry.value) key.now ≡ None) }
         ensures equal { IfSome result (λ found. IsTrue (K.eq found.key key.now)) }
         ensures shard { IfSome result (λ found. found.shard ≡ guard.entry.value) }
         ensures stands { IfSome result Stands }
