@@ -62,10 +62,10 @@ module _ {K V : Type 0} (m : Rules K V) (laws : Lawful m) where
   replies-alike : (s t : Line K V) (P : List (K × V)) (r : Reply K V) → AlikeLine s t → LineReplies m.keys s P r
       → (q : Reply K V) × LineReplies m.keys t P q × (alike_reply m.alike_key m.alike_value q r ≡ true)
   replies-alike (at_key j b f) (at_key k c g) P r a e =
-      let same : at m.keys P j ≡ at m.keys P k = at-equal m.keys laws.equal P j k (laws.alike_equal j k a.0) in
-      (g (at m.keys P k), refl, rw e (subst (λ o. alike_reply m.alike_key m.alike_value (g o) (f (at m.keys P j)) ≡ true) same (turned reply_laws (f (at m.keys P j)) (g (at m.keys P j)) (a.2 (at m.keys P j)))))
+      let same : at m.keys.eq P j ≡ at m.keys.eq P k = at-equal m.keys laws.equal P j k (laws.alike_equal j k a.0) in
+      (g (at m.keys.eq P k), refl, rw e (subst (λ o. alike_reply m.alike_key m.alike_value (g o) (f (at m.keys.eq P j)) ≡ true) same (turned reply_laws (f (at m.keys.eq P j)) (g (at m.keys.eq P j)) (a.2 (at m.keys.eq P j)))))
   replies-alike (on_shard i b f) (on_shard j c g) P r a e =
-      (g e.0, (e.0, subst (λ n. EachOnce m.keys (on m.keys n P) e.0) a.0 e.1, refl), rw e.2 (turned reply_laws (f e.0) (g e.0) (a.2 e.0)))
+      (g e.0, (e.0, subst (λ n. EachOnce m.keys.eq (on m.keys n P) e.0) a.0 e.1, refl), rw e.2 (turned reply_laws (f e.0) (g e.0) (a.2 e.0)))
   replies-alike (at_key j b f) (on_shard i c g) P r a e = absurd a
   replies-alike (on_shard i b f) (at_key k c g) P r a e = absurd a
 
@@ -75,17 +75,17 @@ module _ {K V : Type 0} (m : Rules K V) (laws : Lawful m) where
       record {
         in_range = subst (λ n. n < m.keys.shards) (place-alike (line s) (line t) a) x.in_range;
         answers = record { told = told.0; replies = told.1; alike = chained reply_laws told.0 x.answers.told q told.2 (chained reply_laws x.answers.told r q x.answers.alike h) };
-        each_key = λ j. chained at_laws _ _ _ (turned at_laws _ _ (after-alike (line s) (line t) j (at m.keys P j) a)) (x.each_key j);
+        each_key = λ j. chained at_laws _ _ _ (turned at_laws _ _ (after-alike (line s) (line t) j (at m.keys.eq P j) a)) (x.each_key j);
         distinct = x.distinct;
       }
 
   -- a step that got this reply and made exactly this of the contents was taken
   pub takes-exactly : (P Q : List (K × V)) (step : Step K V) (reply : Reply K V) → place m.keys step < m.keys.shards → Answers m P step reply
-      → Becomes m.keys step P Q → Distinct m.keys Q → Takes m P step reply Q
+      → Becomes m.keys step P Q → Distinct m.keys.eq Q → Takes m P step reply Q
   takes-exactly P Q step reply here answers becomes distinct = record {
     in_range = here;
     answers = answers;
-    each_key = λ j. subst (λ o. AlikeAt m (after m.keys step j (at m.keys P j)) o) (sym (becomes j)) (at_laws.refl (after m.keys step j (at m.keys P j)));
+    each_key = λ j. subst (λ o. AlikeAt m (after m.keys step j (at m.keys.eq P j)) o) (sym (becomes j)) (at_laws.refl (after m.keys step j (at m.keys.eq P j)));
     distinct = distinct;
   }
 

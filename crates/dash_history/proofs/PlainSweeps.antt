@@ -71,33 +71,33 @@ module _ {K V : Type 0} (m : Rules K V) (i : ℕ) (f : Act K V) where
     same-at p j e = ap (λ r. cond (r == i) (option_and_then (λ q. if_yes f q (changed f q)) (Some p)) (Some p)) (sym (laws.route_same p.0 j e))
 
     -- what is at no key of P is at no key of what became of P
-    gone : (P R : List (K × V)) (j : K) → at m.keys P j ≡ None → AlikeAt m (after m.keys (Retain i f) j (at m.keys P j)) (at m.keys R j) → at m.keys R j ≡ None
-    gone P R j none a = none-alike (at m.keys R j) (subst (λ o. AlikeAt m o (at m.keys R j)) (of-none j) (subst (λ o. AlikeAt m (after m.keys (Retain i f) j o) (at m.keys R j)) none a))
+    gone : (P R : List (K × V)) (j : K) → at m.keys.eq P j ≡ None → AlikeAt m (after m.keys (Retain i f) j (at m.keys.eq P j)) (at m.keys.eq R j) → at m.keys.eq R j ≡ None
+    gone P R j none a = none-alike (at m.keys.eq R j) (subst (λ o. AlikeAt m o (at m.keys.eq R j)) (of-none j) (subst (λ o. AlikeAt m (after m.keys (Retain i f) j o) (at m.keys.eq R j)) none a))
 
-    module _ (p : K × V) (P R : List (K × V)) (none : at m.keys P p.0 ≡ None) (later : (j : K) → AlikeAt m (after m.keys (Retain i f) j (at m.keys P j)) (at m.keys R j)) where
-      here : (o : Option (K × V)) (j : K) → AlikeAt m (becomes p) o → m.keys.eq p.0 j ≡ true → AlikeAt m (becomes p) (at m.keys (with_first o R) j)
+    module _ (p : K × V) (P R : List (K × V)) (none : at m.keys.eq P p.0 ≡ None) (later : (j : K) → AlikeAt m (after m.keys (Retain i f) j (at m.keys.eq P j)) (at m.keys.eq R j)) where
+      here : (o : Option (K × V)) (j : K) → AlikeAt m (becomes p) o → m.keys.eq p.0 j ≡ true → AlikeAt m (becomes p) (at m.keys.eq (with_first o R) j)
       here None j a same = rw (gone P R j (at-equal m.keys laws.equal P j p.0 (laws.equal.symm j p.0 ∙ same) ∙ none) (later j)) a
       here (Some q) j a same = rw (sym (laws.equal.congr p.0 q.0 j (key-of p q a)) ∙ same) a
 
-      there : (o : Option (K × V)) (j : K) → AlikeAt m (becomes p) o → m.keys.eq p.0 j ≡ false → AlikeAt m (after m.keys (Retain i f) j (at m.keys P j)) (at m.keys (with_first o R) j)
+      there : (o : Option (K × V)) (j : K) → AlikeAt m (becomes p) o → m.keys.eq p.0 j ≡ false → AlikeAt m (after m.keys (Retain i f) j (at m.keys.eq P j)) (at m.keys.eq (with_first o R) j)
       there None j a other = later j
       there (Some q) j a other = rw (sym (laws.equal.congr p.0 q.0 j (key-of p q a)) ∙ other) (later j)
 
-      first-at : (o : Option (K × V)) (j : K) → AlikeAt m (becomes p) o → AlikeAt m (after m.keys (Retain i f) j (at m.keys (p ∷ P) j)) (at m.keys (with_first o R) j)
-      first-at o j a = elim (cases_Bool (m.keys.eq p.0 j)) as (λ _. AlikeAt m (after m.keys (Retain i f) j (at m.keys (p ∷ P) j)) (at m.keys (with_first o R) j)) [
+      first-at : (o : Option (K × V)) (j : K) → AlikeAt m (becomes p) o → AlikeAt m (after m.keys (Retain i f) j (at m.keys.eq (p ∷ P) j)) (at m.keys.eq (with_first o R) j)
+      first-at o j a = elim (cases_Bool (m.keys.eq p.0 j)) as (λ _. AlikeAt m (after m.keys (Retain i f) j (at m.keys.eq (p ∷ P) j)) (at m.keys.eq (with_first o R) j)) [
         | inl same ↦ rw same (rw (same-at p j same) (here o j a same))
         | inr other ↦ rw other (there o j a other)
       ]
 
-      first-distinct : (o : Option (K × V)) → AlikeAt m (becomes p) o → Distinct m.keys R → Distinct m.keys (with_first o R)
+      first-distinct : (o : Option (K × V)) → AlikeAt m (becomes p) o → Distinct m.keys.eq R → Distinct m.keys.eq (with_first o R)
       first-distinct None a rest = rest
       first-distinct (Some q) a rest = (gone P R q.0 (at-equal m.keys laws.equal P q.0 p.0 (laws.equal.symm q.0 p.0 ∙ key-of p q a) ∙ none) (later q.0), rest)
 
-    pub swept-at : (P Q : List (K × V)) → Distinct m.keys P → Swept P Q → (j : K) → AlikeAt m (after m.keys (Retain i f) j (at m.keys P j)) (at m.keys Q j)
+    pub swept-at : (P Q : List (K × V)) → Distinct m.keys.eq P → Swept P Q → (j : K) → AlikeAt m (after m.keys (Retain i f) j (at m.keys.eq P j)) (at m.keys.eq Q j)
     swept-at [] Q d h j = rw (h, of-none j) refl
     swept-at (p ∷ P) Q d h j =
-        subst (λ l. AlikeAt m (after m.keys (Retain i f) j (at m.keys (p ∷ P) j)) (at m.keys l j)) (sym h.3) (first-at p P h.1 d.0 (swept-at P h.1 d.1 h.4) h.0 j h.2)
+        subst (λ l. AlikeAt m (after m.keys (Retain i f) j (at m.keys.eq (p ∷ P) j)) (at m.keys.eq l j)) (sym h.3) (first-at p P h.1 d.0 (swept-at P h.1 d.1 h.4) h.0 j h.2)
 
-    pub swept-distinct : (P Q : List (K × V)) → Distinct m.keys P → Swept P Q → Distinct m.keys Q
+    pub swept-distinct : (P Q : List (K × V)) → Distinct m.keys.eq P → Swept P Q → Distinct m.keys.eq Q
     swept-distinct [] Q d h = rw h tt
-    swept-distinct (p ∷ P) Q d h = subst (Distinct m.keys) (sym h.3) (first-distinct p P h.1 d.0 (swept-at P h.1 d.1 h.4) h.0 h.2 (swept-distinct P h.1 d.1 h.4))
+    swept-distinct (p ∷ P) Q d h = subst (Distinct m.keys.eq) (sym h.3) (first-distinct p P h.1 d.0 (swept-at P h.1 d.1 h.4) h.0 h.2 (swept-distinct P h.1 d.1 h.4))

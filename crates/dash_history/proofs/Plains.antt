@@ -36,7 +36,7 @@ module _ {K V : Type 0} (w : Keys K) (k : K) where
     | inr more ↦ absurd (none-some i (rw (le-ltb _ _ more) at e))
   ]
 
-  pub at-first : (ps : List (K × V)) (i : ℕ) (x : K × V) → IsFirst ps i x → at w ps k ≡ Some x
+  pub at-first : (ps : List (K × V)) (i : ℕ) (x : K × V) → IsFirst ps i x → at w.eq ps k ≡ Some x
   at-first [] i x f = absurd f
   at-first (p ∷ ps) zero x f = rw f.1 (ap Some f.0)
   at-first (p ∷ ps) (suc i) x f = rw f.0 (at-first ps i x f.1)
@@ -47,43 +47,43 @@ module _ {K V : Type 0} (w : Keys K) (k : K) where
   read-first (p ∷ ps) (suc i) x d f = read-first ps i x d f.1
 
   module _ (laws : IsEquivalence w.eq) where
-    at-head : (p : K × V) (ps : List (K × V)) (v : V) → w.eq p.0 k ≡ true → (j : K) → at w ((p.0, v) ∷ ps) j ≡ after w (Insert k v) j (at w (p ∷ ps) j)
-    at-head p ps v here j = elim (cases_Bool (w.eq k j)) as (λ _. at w ((p.0, v) ∷ ps) j ≡ after w (Insert k v) j (at w (p ∷ ps) j)) [
+    at-head : (p : K × V) (ps : List (K × V)) (v : V) → w.eq p.0 k ≡ true → (j : K) → at w.eq ((p.0, v) ∷ ps) j ≡ after w (Insert k v) j (at w.eq (p ∷ ps) j)
+    at-head p ps v here j = elim (cases_Bool (w.eq k j)) as (λ _. at w.eq ((p.0, v) ∷ ps) j ≡ after w (Insert k v) j (at w.eq (p ∷ ps) j)) [
       | inl same ↦ rw (same, sym (along laws p.0 k j same) ∙ here) refl
       | inr other ↦ rw (other, apart laws p.0 k j here other) refl
     ]
 
     -- what a step makes of the pair at k, behind a pair with another key
-    at-tail : (b : Option (K × V) → Option (K × V)) (p : K × V) (ps qs : List (K × V)) → w.eq p.0 k ≡ false → (j : K) → at w qs j ≡ cond (w.eq k j) (b (at w ps j)) (at w ps j)
-        → at w (p ∷ qs) j ≡ cond (w.eq k j) (b (at w (p ∷ ps) j)) (at w (p ∷ ps) j)
-    at-tail b p ps qs fails j e = elim (cases_Bool (w.eq k j)) as (λ _. at w (p ∷ qs) j ≡ cond (w.eq k j) (b (at w (p ∷ ps) j)) (at w (p ∷ ps) j)) [
+    at-tail : (b : Option (K × V) → Option (K × V)) (p : K × V) (ps qs : List (K × V)) → w.eq p.0 k ≡ false → (j : K) → at w.eq qs j ≡ cond (w.eq k j) (b (at w.eq ps j)) (at w.eq ps j)
+        → at w.eq (p ∷ qs) j ≡ cond (w.eq k j) (b (at w.eq (p ∷ ps) j)) (at w.eq (p ∷ ps) j)
+    at-tail b p ps qs fails j e = elim (cases_Bool (w.eq k j)) as (λ _. at w.eq (p ∷ qs) j ≡ cond (w.eq k j) (b (at w.eq (p ∷ ps) j)) (at w.eq (p ∷ ps) j)) [
       | inl same ↦ rw (same, sym (along laws p.0 k j same) ∙ fails) (e ∙ rw same refl)
       | inr other ↦ rw other (ap (cond (w.eq p.0 j) (Some p)) (e ∙ rw other refl))
     ]
 
     -- another value under the first such key
-    pub at-revalued : (ps : List (K × V)) (i : ℕ) (x : K × V) (v : V) → IsFirst ps i x → (j : K) → at w (set ps i (x.0, v)) j ≡ after w (Insert k v) j (at w ps j)
+    pub at-revalued : (ps : List (K × V)) (i : ℕ) (x : K × V) (v : V) → IsFirst ps i x → (j : K) → at w.eq (set ps i (x.0, v)) j ≡ after w (Insert k v) j (at w.eq ps j)
     at-revalued [] i x v f j = absurd f
-    at-revalued (p ∷ ps) zero x v f j = subst (λ y. at w ((y.0, v) ∷ ps) j ≡ after w (Insert k v) j (at w (p ∷ ps) j)) f.0 (at-head p ps v f.1 j)
+    at-revalued (p ∷ ps) zero x v f j = subst (λ y. at w.eq ((y.0, v) ∷ ps) j ≡ after w (Insert k v) j (at w.eq (p ∷ ps) j)) f.0 (at-head p ps v f.1 j)
     at-revalued (p ∷ ps) (suc i) x v f j = at-tail (λ o. Some (key_or k o, v)) p ps (set ps i (x.0, v)) f.0 j (at-revalued ps i x v f.1 j)
 
-    pub distinct-revalued : (ps : List (K × V)) (i : ℕ) (x : K × V) (v : V) → IsFirst ps i x → Distinct w ps → Distinct w (set ps i (x.0, v))
+    pub distinct-revalued : (ps : List (K × V)) (i : ℕ) (x : K × V) (v : V) → IsFirst ps i x → Distinct w.eq ps → Distinct w.eq (set ps i (x.0, v))
     distinct-revalued [] i x v f d = absurd f
-    distinct-revalued (p ∷ ps) zero x v f d = (subst (λ y. at w ps y.0 ≡ None) f.0 d.0, d.1)
+    distinct-revalued (p ∷ ps) zero x v f d = (subst (λ y. at w.eq ps y.0 ≡ None) f.0 d.0, d.1)
     distinct-revalued (p ∷ ps) (suc i) x v f d =
         let fails : w.eq k p.0 ≡ false = laws.symm k p.0 ∙ f.0 in
         (at-revalued ps i x v f.1 p.0 ∙ rw fails d.0, distinct-revalued ps i x v f.1 d.1)
 
     -- the first such pair taken out
-    pub at-removed : (ps : List (K × V)) (i : ℕ) (x : K × V) → IsFirst ps i x → Distinct w ps → Becomes w (Remove k) ps (remove ps i)
+    pub at-removed : (ps : List (K × V)) (i : ℕ) (x : K × V) → IsFirst ps i x → Distinct w.eq ps → Becomes w (Remove k) ps (remove ps i)
     at-removed [] i x f d j = absurd f
-    at-removed (p ∷ ps) zero x f d j = elim (cases_Bool (w.eq k j)) as (λ _. at w ps j ≡ after w (Remove k) j (at w (p ∷ ps) j)) [
+    at-removed (p ∷ ps) zero x f d j = elim (cases_Bool (w.eq k j)) as (λ _. at w.eq ps j ≡ after w (Remove k) j (at w.eq (p ∷ ps) j)) [
       | inl same ↦ rw same (sym (at-equal w laws ps p.0 j (sym (along laws p.0 k j same) ∙ f.1)) ∙ d.0)
       | inr other ↦ rw (other, apart laws p.0 k j f.1 other) refl
     ]
     at-removed (p ∷ ps) (suc i) x f d j = at-tail (λ _. None) p ps (remove ps i) f.0 j (at-removed ps i x f.1 d.1 j)
 
-    pub distinct-removed : (ps : List (K × V)) (i : ℕ) (x : K × V) → IsFirst ps i x → Distinct w ps → Distinct w (remove ps i)
+    pub distinct-removed : (ps : List (K × V)) (i : ℕ) (x : K × V) → IsFirst ps i x → Distinct w.eq ps → Distinct w.eq (remove ps i)
     distinct-removed [] i x f d = absurd f
     distinct-removed (p ∷ ps) zero x f d = d.1
     distinct-removed (p ∷ ps) (suc i) x f d =
@@ -91,42 +91,42 @@ module _ {K V : Type 0} (w : Keys K) (k : K) where
         (at-removed ps i x f.1 d.1 p.0 ∙ rw fails d.0, distinct-removed ps i x f.1 d.1)
 
     -- nothing to take out
-    pub absent : (ps : List (K × V)) → at w ps k ≡ None → Becomes w (Remove k) ps ps
-    absent ps none j = elim (cases_Bool (w.eq k j)) as (λ _. at w ps j ≡ after w (Remove k) j (at w ps j)) [
+    pub absent : (ps : List (K × V)) → at w.eq ps k ≡ None → Becomes w (Remove k) ps ps
+    absent ps none j = elim (cases_Bool (w.eq k j)) as (λ _. at w.eq ps j ≡ after w (Remove k) j (at w.eq ps j)) [
       | inl same ↦ rw same (sym (at-equal w laws ps k j same) ∙ none)
       | inr other ↦ rw other refl
     ]
 
     -- a new pair in front
-    pub at-pushed : (ps : List (K × V)) (v : V) → at w ps k ≡ None → (j : K) → at w ((k, v) ∷ ps) j ≡ after w (Insert k v) j (at w ps j)
-    at-pushed ps v none j = elim (cases_Bool (w.eq k j)) as (λ _. at w ((k, v) ∷ ps) j ≡ after w (Insert k v) j (at w ps j)) [
+    pub at-pushed : (ps : List (K × V)) (v : V) → at w.eq ps k ≡ None → (j : K) → at w.eq ((k, v) ∷ ps) j ≡ after w (Insert k v) j (at w.eq ps j)
+    at-pushed ps v none j = elim (cases_Bool (w.eq k j)) as (λ _. at w.eq ((k, v) ∷ ps) j ≡ after w (Insert k v) j (at w.eq ps j)) [
       | inl same ↦ rw (same, sym (at-equal w laws ps k j same) ∙ none) refl
       | inr other ↦ rw other refl
     ]
 
     -- the same, as `position` finds it
-    pub found : (ps : List (K × V)) (i : ℕ) (y : K × V) → position (λ p. w.eq p.0 k) ps ≡ Some i → y ≡ get_or ps i y → at w ps k ≡ Some y
+    pub found : (ps : List (K × V)) (i : ℕ) (y : K × V) → position (λ p. w.eq p.0 k) ps ≡ Some i → y ≡ get_or ps i y → at w.eq ps k ≡ Some y
     found ps i y e read = let f = first ps i e in at-first ps i f.0 f.1 ∙ ap Some (sym (read ∙ read-first ps i f.0 y f.1))
 
     pub revalued : (ps : List (K × V)) (i : ℕ) (y : K × V) (v : V) → position (λ p. w.eq p.0 k) ps ≡ Some i → y ≡ get_or ps i y
-        → ((j : K) → at w (set ps i (y.0, v)) j ≡ after w (Insert k v) j (at w ps j)) × (Distinct w ps → Distinct w (set ps i (y.0, v)))
+        → ((j : K) → at w.eq (set ps i (y.0, v)) j ≡ after w (Insert k v) j (at w.eq ps j)) × (Distinct w.eq ps → Distinct w.eq (set ps i (y.0, v)))
     revalued ps i y v e read =
         let f = first ps i e in
         let same : f.0 ≡ y = sym (read ∙ read-first ps i f.0 y f.1) in
-        subst (λ x. ((j : K) → at w (set ps i (x.0, v)) j ≡ after w (Insert k v) j (at w ps j)) × (Distinct w ps → Distinct w (set ps i (x.0, v)))) same
+        subst (λ x. ((j : K) → at w.eq (set ps i (x.0, v)) j ≡ after w (Insert k v) j (at w.eq ps j)) × (Distinct w.eq ps → Distinct w.eq (set ps i (x.0, v)))) same
         (at-revalued ps i f.0 v f.1, distinct-revalued ps i f.0 v f.1)
 
-    pub removed : (ps : List (K × V)) (i : ℕ) → position (λ p. w.eq p.0 k) ps ≡ Some i → Distinct w ps → Becomes w (Remove k) ps (remove ps i) × Distinct w (remove ps i)
+    pub removed : (ps : List (K × V)) (i : ℕ) → position (λ p. w.eq p.0 k) ps ≡ Some i → Distinct w.eq ps → Becomes w (Remove k) ps (remove ps i) × Distinct w.eq (remove ps i)
     removed ps i e d = let f = first ps i e in (at-removed ps i f.0 f.1 d, distinct-removed ps i f.0 f.1 d)
 
   -- a look-up changes nothing
   pub looked : (ps : List (K × V)) → Becomes w (Get k) ps ps
-  looked ps j = elim (cases_Bool (w.eq k j)) as (λ _. at w ps j ≡ after w (Get k) j (at w ps j)) [ inl same ↦ rw same refl | inr other ↦ rw other refl ]
+  looked ps j = elim (cases_Bool (w.eq k j)) as (λ _. at w.eq ps j ≡ after w (Get k) j (at w.eq ps j)) [ inl same ↦ rw same refl | inr other ↦ rw other refl ]
 
   -- what `position` didn't find
-  pub missing : (ps : List (K × V)) → position (λ p. w.eq p.0 k) ps ≡ None → at w ps k ≡ None
+  pub missing : (ps : List (K × V)) → position (λ p. w.eq p.0 k) ps ≡ None → at w.eq ps k ≡ None
   missing [] e = refl
-  missing (p ∷ ps) e = elim (cases_Bool (w.eq p.0 k)) as (λ _. at w (p ∷ ps) k ≡ None) [
+  missing (p ∷ ps) e = elim (cases_Bool (w.eq p.0 k)) as (λ _. at w.eq (p ∷ ps) k ≡ None) [
     | inl here ↦
         let lt : position_or_len (λ q. w.eq q.0 k) (p ∷ ps) < length (p ∷ ps) = rw here (omega arith) in
         absurd (none-some (position_or_len (λ q. w.eq q.0 k) (p ∷ ps)) (sym e ∙ rw (lt-ltb _ _ lt) refl))

@@ -1,10 +1,10 @@
 -- What was decided for a step is what the step leaves.
-use Rattle.std.proofs.Common.{◌≡◌, ◌≢◌, ℕ, ◌==◌, IsTrue, cond, List, [], ◌∷◌, ◌++◌, ◌<◌, Option, Some, None, refl, sym, ap, subst, ◌∙◌, inl, inr, eq-eqb}
+use Rattle.std.proofs.Common.{◌≡◌, ℕ, ◌==◌, IsTrue, cond, List, [], ◌∷◌, ◌++◌, ◌<◌, Option, Some, None, refl, sym, ap, subst, ◌∙◌, inl, inr}
 use Rattle.std.specs.Cmp.{IsEquivalence}
-use Rattle.std.proofs.lemmas.Bool.{cases_Bool, cases_eq}
+use Rattle.std.proofs.lemmas.Bool.{cases_Bool}
 use Rattle.std.proofs.lemmas.List.Elements.{filter-append}
 use Rattle.std.proofs.lemmas.Option.{none-some}
-use Rattle.dash_shard.specs.Contents.{Keys, at, on, Distinct, EachOnce, IsOnShard}
+use Rattle.dash_shard.specs.Contents.{Keys, at, on, Distinct}
 use Rattle.dash_shard.specs.Steps.{Step, Reply, Pair, LineReplies, at_key, line, line_place, line_after, after, Becomes, key_or}
 use Rattle.dash_shard.proofs.Equals.{at-equal}
 use Rattle.dash_history.specs.declared.step.Reply as program
@@ -17,34 +17,20 @@ use Rattle.dash_history.specs.Plan.{change_step, changed_by, HasPair, Fits}
 use Rattle.dash_history.proofs.Copies.{Lawful, at_laws}
 
 module _ {K V : Type 0} (w : Keys K) (laws : IsEquivalence w.eq) (i : ℕ) where
-  -- on the shard that they all go to, the pairs are all pairs
-  on-own : (ps : List (K × V)) → ((k : K) → w.route k ≢ i → at w ps k ≡ None) → on w i ps ≡ ps
-  on-own [] away = refl
-  on-own (p ∷ ps) away = elim (cases_eq (w.route p.0) i) as (λ _. on w i (p ∷ ps) ≡ p ∷ ps) [
-    | inl here ↦ rw (eq-eqb (w.route p.0) i here) (ap (λ l. p ∷ l) (on-own ps later))
-    | inr other ↦ absurd (none-some p (sym (away p.0 other) ∙ rw (laws.refl p.0) refl))
-  ]
-    where
-      later : (k : K) → w.route k ≢ i → at w ps k ≡ None
-      later k other = elim (cases_Bool (w.eq p.0 k)) as (λ _. at w ps k ≡ None) [
-        | inl same ↦ absurd (none-some p (sym (rw same at (away k other))))
-        | inr fails ↦ rw fails at (away k other)
-      ]
-
   -- what is not among the pairs is not among those of a shard
-  on-none : (ps : List (K × V)) (k : K) → at w ps k ≡ None → at w (on w i ps) k ≡ None
+  on-none : (ps : List (K × V)) (k : K) → at w.eq ps k ≡ None → at w.eq (on w i ps) k ≡ None
   on-none [] k none = refl
-  on-none (p ∷ ps) k none = elim (cases_Bool (w.eq p.0 k)) as (λ _. at w (on w i (p ∷ ps)) k ≡ None) [
+  on-none (p ∷ ps) k none = elim (cases_Bool (w.eq p.0 k)) as (λ _. at w.eq (on w i (p ∷ ps)) k ≡ None) [
     | inl same ↦ absurd (none-some p (sym (rw same at none)))
-    | inr fails ↦ elim (cases_Bool (w.route p.0 == i)) as (λ _. at w (on w i (p ∷ ps)) k ≡ None) [
+    | inr fails ↦ elim (cases_Bool (w.route p.0 == i)) as (λ _. at w.eq (on w i (p ∷ ps)) k ≡ None) [
       | inl here ↦ rw (here, fails) (on-none ps k (rw fails at none))
       | inr other ↦ rw other (on-none ps k (rw fails at none))
     ]
   ]
 
-  pub on-distinct : (ps : List (K × V)) → Distinct w ps → Distinct w (on w i ps)
+  pub on-distinct : (ps : List (K × V)) → Distinct w.eq ps → Distinct w.eq (on w i ps)
   on-distinct [] d = tt
-  on-distinct (p ∷ ps) d = elim (cases_Bool (w.route p.0 == i)) as (λ _. Distinct w (on w i (p ∷ ps))) [
+  on-distinct (p ∷ ps) d = elim (cases_Bool (w.route p.0 == i)) as (λ _. Distinct w.eq (on w i (p ∷ ps))) [
     | inl here ↦ rw here (on-none ps p.0 d.0, on-distinct ps d.1)
     | inr other ↦ rw other (on-distinct ps d.1)
   ]
@@ -53,24 +39,21 @@ module _ {K V : Type 0} (w : Keys K) (laws : IsEquivalence w.eq) (i : ℕ) where
   pub on-more : (ps : List (K × V)) (p : K × V) → on w i (ps ++ p ∷ []) ≡ on w i ps ++ cond (w.route p.0 == i) (p ∷ []) []
   on-more ps p = filter-append (λ (q : K × V). w.route q.0 == i) ps (p ∷ [])
 
-  pub each-own : (ps : List (K × V)) → IsOnShard w i ps → EachOnce w (on w i ps) ps
-  each-own ps h = record { distinct = h.distinct; same = λ k. ap (λ l. at w l k) (sym (on-own ps h.routed)) }
-
 module _ {K V : Type 0} (m : Rules K V) (laws : Lawful m) (P Q : List (K × V)) (k : K) where
   -- two lines at k that make alike of what stands there
-  lines-alike : (b c : Option (K × V) → Option (K × V)) → AlikeAt m (b (at m.keys P k)) (c (at m.keys P k))
-      → (j : K) → AlikeAt m (cond (m.keys.eq k j) (b (at m.keys P j)) (at m.keys P j)) (cond (m.keys.eq k j) (c (at m.keys P j)) (at m.keys P j))
-  lines-alike b c h j = elim (cases_Bool (m.keys.eq k j)) as (λ _. AlikeAt m (cond (m.keys.eq k j) (b (at m.keys P j)) (at m.keys P j)) (cond (m.keys.eq k j) (c (at m.keys P j)) (at m.keys P j))) [
+  lines-alike : (b c : Option (K × V) → Option (K × V)) → AlikeAt m (b (at m.keys.eq P k)) (c (at m.keys.eq P k))
+      → (j : K) → AlikeAt m (cond (m.keys.eq k j) (b (at m.keys.eq P j)) (at m.keys.eq P j)) (cond (m.keys.eq k j) (c (at m.keys.eq P j)) (at m.keys.eq P j))
+  lines-alike b c h j = elim (cases_Bool (m.keys.eq k j)) as (λ _. AlikeAt m (cond (m.keys.eq k j) (b (at m.keys.eq P j)) (at m.keys.eq P j)) (cond (m.keys.eq k j) (c (at m.keys.eq P j)) (at m.keys.eq P j))) [
     | inl same ↦ rw (same, sym (at-equal m.keys laws.equal P k j same)) h
-    | inr other ↦ rw other ((at_laws m laws).refl (at m.keys P j))
+    | inr other ↦ rw other ((at_laws m laws).refl (at m.keys.eq P j))
   ]
 
   -- a step at k that was carried out by the change that was decided
-  pub decided : (b : Option (K × V) → Option (K × V)) (d : Change V) → Fits m.alike_key m.alike_value k b (at m.keys P k) d
-      → Becomes m.keys (change_step k d) P Q → (j : K) → AlikeAt m (cond (m.keys.eq k j) (b (at m.keys P j)) (at m.keys P j)) (at m.keys Q j)
-  decided b d h becomes j = subst (λ o. AlikeAt m (cond (m.keys.eq k j) (b (at m.keys P j)) (at m.keys P j)) o) (sym (becomes j)) (by d h.there h.makes)
+  pub decided : (b : Option (K × V) → Option (K × V)) (d : Change V) → Fits m.alike_key m.alike_value k b (at m.keys.eq P k) d
+      → Becomes m.keys (change_step k d) P Q → (j : K) → AlikeAt m (cond (m.keys.eq k j) (b (at m.keys.eq P j)) (at m.keys.eq P j)) (at m.keys.eq Q j)
+  decided b d h becomes j = subst (λ o. AlikeAt m (cond (m.keys.eq k j) (b (at m.keys.eq P j)) (at m.keys.eq P j)) o) (sym (becomes j)) (by d h.there h.makes)
     where
-      by : (e : Change V) → HasPair e (at m.keys P k) → AlikeAt m (b (at m.keys P k)) (changed_by k e (at m.keys P k)) → AlikeAt m (cond (m.keys.eq k j) (b (at m.keys P j)) (at m.keys P j)) (after m.keys (change_step k e) j (at m.keys P j))
+      by : (e : Change V) → HasPair e (at m.keys.eq P k) → AlikeAt m (b (at m.keys.eq P k)) (changed_by k e (at m.keys.eq P k)) → AlikeAt m (cond (m.keys.eq k j) (b (at m.keys.eq P j)) (at m.keys.eq P j)) (after m.keys (change_step k e) j (at m.keys.eq P j))
       by change.Stays there made = lines-alike b (λ o. o) made j
       by change.Goes there made = lines-alike b (λ _. None) made j
       by (change.Becomes v) there made = lines-alike b (λ o. Some (key_or k o, v)) made j
@@ -86,21 +69,21 @@ module _ {K V : Type 0} where
   same_found o p e = ap pair_in e
 
   pub answers-found : (m : Rules K V) (P : List (K × V)) (k : K) (o : Option (K × V)) (b : Option (K × V) → Option (K × V)) (r : Option (K × V) → Reply K V) (step : Step K V) (reply : Reply K V)
-      → Pair o ≡ Pair (at m.keys P k) → line step ≡ at_key k b r → IsTrue (alike_reply m.alike_key m.alike_value (r o) reply) → Answers m P step reply
+      → Pair o ≡ Pair (at m.keys.eq P k) → line step ≡ at_key k b r → IsTrue (alike_reply m.alike_key m.alike_value (r o) reply) → Answers m P step reply
   answers-found m P k o b r step reply e is alike = record {
-    told = r (at m.keys P k);
-    replies = subst (λ l. LineReplies m.keys l P (r (at m.keys P k))) (sym is) refl;
-    alike = subst (λ x. IsTrue (alike_reply m.alike_key m.alike_value (r x) reply)) (same_found o (at m.keys P k) e) alike;
+    told = r (at m.keys.eq P k);
+    replies = subst (λ l. LineReplies m.keys l P (r (at m.keys.eq P k))) (sym is) refl;
+    alike = subst (λ x. IsTrue (alike_reply m.alike_key m.alike_value (r x) reply)) (same_found o (at m.keys.eq P k) e) alike;
   }
 
   -- a step at k that was planned from what a look-up found there, and carried out
   pub takes-planned : (m : Rules K V) (laws : Lawful m) (P Q : List (K × V)) (k : K) (o : Option (K × V)) (b : Option (K × V) → Option (K × V)) (r : Option (K × V) → Reply K V) (step : Step K V)
-      (reply : program.Reply K V) (change : Change V) → o ≡ at m.keys P k → line step ≡ at_key k b r → IsTrue (alike_reply m.alike_key m.alike_value (r o) (reply_of reply))
-      → Fits m.alike_key m.alike_value k b o change → m.keys.route k < m.keys.shards → Becomes m.keys (change_step k change) P Q → Distinct m.keys Q → Takes m P step (reply_of reply) Q
+      (reply : program.Reply K V) (change : Change V) → o ≡ at m.keys.eq P k → line step ≡ at_key k b r → IsTrue (alike_reply m.alike_key m.alike_value (r o) (reply_of reply))
+      → Fits m.alike_key m.alike_value k b o change → m.keys.route k < m.keys.shards → Becomes m.keys (change_step k change) P Q → Distinct m.keys.eq Q → Takes m P step (reply_of reply) Q
   takes-planned m laws P Q k o b r step reply change e is alike fits below becomes distinct = record {
     in_range = subst (λ l. line_place m.keys l < m.keys.shards) (sym is) below;
     answers = answers-found m P k o b r step (reply_of reply) (ap Pair e) is alike;
-    each_key = λ j. subst (λ l. AlikeAt m (line_after m.keys l j (at m.keys P j)) (at m.keys Q j)) (sym is)
+    each_key = λ j. subst (λ l. AlikeAt m (line_after m.keys l j (at m.keys.eq P j)) (at m.keys.eq Q j)) (sym is)
         (decided m laws P Q k b change (subst (λ x. Fits m.alike_key m.alike_value k b x change) e fits) becomes j);
     distinct = distinct;
   }

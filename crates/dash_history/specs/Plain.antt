@@ -18,19 +18,19 @@ module _ {K V S : Type 0} (h : KeyHash K S) (k : K → K → Bool) (v : V → V 
 
 -- no two keys are equal, and the amount is lawful
 pub record IsPlain {K V S : Type 0} (h : KeyHash K S) (m : PlainState K V S) : Type 0 where
-  pub distinct : Distinct (keys h.eq (route_by h m.hasher m.amount) m.amount) m.pairs
+  pub distinct : Distinct h.eq m.pairs
   pub amount : IsAmount m.amount
 
 -- the step may be refused at the contents P: it takes memory for copies of pairs that are there, or for a new pair, or the map has no
 -- shard of the number that it names
 abbrev pub MayRefuse : {K V A : Type 0} → Rules K V → List (K × V) → ShardStep K V A → Type 0
-MayRefuse m P (Get k) = IsSome (at m.keys P k)
+MayRefuse m P (Get k) = IsSome (at m.keys.eq P k)
 MayRefuse m P (Contains k) = ⊥
-MayRefuse m P (Insert k v) = at m.keys P k ≡ None
+MayRefuse m P (Insert k v) = at m.keys.eq P k ≡ None
 MayRefuse m P (Remove k) = ⊥
-MayRefuse m P (RemoveIf k f) = IsSome (at m.keys P k)
-MayRefuse m P (RemoveIfMut k f) = IsSome (at m.keys P k)
-MayRefuse m P (Alter k f) = IsSome (at m.keys P k)
+MayRefuse m P (RemoveIf k f) = IsSome (at m.keys.eq P k)
+MayRefuse m P (RemoveIfMut k f) = IsSome (at m.keys.eq P k)
+MayRefuse m P (Alter k f) = IsSome (at m.keys.eq P k)
 MayRefuse m P (Read i) = (m.keys.shards ≤ i) ⊎ (0 < length P)
 MayRefuse m P (Count i) = m.keys.shards ≤ i
 MayRefuse m P (AlterAll i f) = (m.keys.shards ≤ i) ⊎ (0 < length P)

@@ -58,13 +58,13 @@ module _ {K V : Type 0} where
 module _ {K V A : Type 0} (m : Kinds K V A) (P : List (K × V)) where
   -- the change is what the step's action makes of the pair at its key, or of each pair of its shard
   abbrev pub Decides : ShardStep K V A → Change V → Type 0
-  Decides (RemoveIf k f) change = FitsLine m.rules.alike_key m.rules.alike_value (line (table.RemoveIf k (m.acts f))) (at m.rules.keys P k) change
-  Decides (RemoveIfMut k f) change = FitsLine m.rules.alike_key m.rules.alike_value (line (table.RemoveIfMut k (m.acts f))) (at m.rules.keys P k) change
-  Decides (Alter k f) change = FitsLine m.rules.alike_key m.rules.alike_value (line (table.Alter k (m.acts f))) (at m.rules.keys P k) change
+  Decides (RemoveIf k f) change = FitsLine m.rules.alike_key m.rules.alike_value (line (table.RemoveIf k (m.acts f))) (at m.rules.keys.eq P k) change
+  Decides (RemoveIfMut k f) change = FitsLine m.rules.alike_key m.rules.alike_value (line (table.RemoveIfMut k (m.acts f))) (at m.rules.keys.eq P k) change
+  Decides (Alter k f) change = FitsLine m.rules.alike_key m.rules.alike_value (line (table.Alter k (m.acts f))) (at m.rules.keys.eq P k) change
   Decides (AlterAll i f) change = MakesEach m.rules.alike_value (keeping true (m.acts f)) P change
   Decides (Retain i f) change = MakesEach m.rules.alike_value (keeping false (m.acts f)) P change
   Decides _ change = ⊤
 
   -- the step leaves Q, up to alike
   abbrev pub Leaves : ShardStep K V A → List (K × V) → Type 0
-  Leaves step Q = (j : K) → AlikeAt m.rules (after m.rules.keys (step_of m.acts step) j (at m.rules.keys P j)) (at m.rules.keys Q j)
+  Leaves step Q = (j : K) → AlikeAt m.rules (after m.rules.keys (step_of m.acts step) j (at m.rules.keys.eq P j)) (at m.rules.keys.eq Q j)

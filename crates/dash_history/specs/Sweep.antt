@@ -1,6 +1,8 @@
 -- What an action makes of copies of a shard's values, and how they are put in place.
-use Rattle.std.specs.Prelude.{◌≡◌, ◌||◌, Bool, List, [], ◌∷◌, IsTrue, ⊤}
-use Rattle.dash_shard.specs.Steps.{Act}
+use Rattle.std.specs.Prelude.{◌≡◌, ◌||◌, Bool, List, [], ◌∷◌, IsTrue, ⊤, option_and_then}
+use Rattle.dash_shard.specs.Contents.{at}
+use Rattle.dash_shard.specs.Steps.{Act, changed, if_yes}
+use Rattle.dash_history.specs.Alike.{alike_option, alike_pair}
 
 module _ {K V : Type 0} where
   -- the action, which answers yes always where all pairs stay
@@ -12,6 +14,10 @@ module _ {K V : Type 0} where
   GivesEach same f [] ds = ds ≡ []
   GivesEach same f (p ∷ ps) [] = ⊥
   GivesEach same f (p ∷ ps) (d ∷ ds) = IsTrue (same (f p.0 p.1).0 d.0) × (d.1 ≡ (f p.0 p.1).1) × GivesEach same f ps ds
+
+  -- Q has at each key what the action makes of the pair that P has there, up to alike: none where it answers no
+  abbrev pub SweptTo : (K → K → Bool) → (K → K → Bool) → (V → V → Bool) → Act K V → List (K × V) → List (K × V) → Type 0
+  SweptTo eq k v f P Q = (j : K) → IsTrue (alike_option (alike_pair k v) (option_and_then (λ p. if_yes f p (changed f p)) (at eq P j)) (at eq Q j))
 
 -- the value is the next of these, and so is the answer, if there is one
 abbrev pub PutsNext : {V : Type 0} → List (V × Bool) → List (V × Bool) → V → Bool → Type 0

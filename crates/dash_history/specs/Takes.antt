@@ -43,8 +43,8 @@ module _ {K V : Type 0} (m : Rules K V) where
   pub record Takes (P : List (K × V)) (step : Step K V) (reply : Reply K V) (Q : List (K × V)) : Type 0 where
     pub in_range : place m.keys step < m.keys.shards
     pub answers : Answers P step reply
-    pub each_key : (j : K) → AlikeAt (after m.keys step j (at m.keys P j)) (at m.keys Q j)
-    pub distinct : Distinct m.keys Q
+    pub each_key : (j : K) → AlikeAt (after m.keys step j (at m.keys.eq P j)) (at m.keys.eq Q j)
+    pub distinct : Distinct m.keys.eq Q
 
   -- runs: the steps, taken one after the other from P on, may get these replies, and leave Q
   abbrev pub Runs : List (K × V) → List (Step K V × Reply K V) → List (K × V) → Type 0

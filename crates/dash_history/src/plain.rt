@@ -72,7 +72,7 @@ impl<K: KeptKey + Drop, V: Kept + Drop, S: BuildHasher> Plain<K, V, S> {
 
     // The pair whose key equals `key`.
     fn get(&self, key: &K) -> Option<(&K, &V)>
-        ensures { option_map deref_pair result ≡ at (plain_rules ⟦<Self as Keyed>⟧.by K.alike V.alike self.now).keys self.now.pairs key.now }
+        ensures { option_map deref_pair result ≡ at K.eq self.now.pairs key.now }
     {
         let i = find(&self.pairs, key)?;
         let pair = &self.pairs[i];
@@ -103,10 +103,10 @@ impl<K: KeptKey + Drop, V: Kept + Drop, S: BuildHasher> Plain<K, V, S> {
     fn put(&mut self, key: K, value: V) -> Result<Option<V>, (K, V)>
         ensures old { IfOk result (λ old. Replies (plain_rules ⟦<Self as Keyed>⟧.by K.alike V.alike self.old).keys (Insert key value) self.old.pairs (Old old)) }
         ensures pairs { OnOk result (Becomes (plain_rules ⟦<Self as Keyed>⟧.by K.alike V.alike self.old).keys (Insert key value) self.old.pairs self.new.pairs) }
-        ensures distinct { OnOk result (Distinct (plain_rules ⟦<Self as Keyed>⟧.by K.alike V.alike self.old).keys self.new.pairs) }
+        ensures distinct { OnOk result (Distinct K.eq self.new.pairs) }
         ensures stays { (self.new.hasher ≡ self.old.hasher) × (self.new.amount ≡ self.old.amount) }
         ensures refused { IfErr result (λ back. (back ≡ (key, value)) × (self.new ≡ self.old)) }
-        ensures absent { OnErr result (at (plain_rules ⟦<Self as Keyed>⟧.by K.alike V.alike self.old).keys self.old.pairs key ≡ None) }
+        ensures absent { OnErr result (at K.eq self.old.pairs key ≡ None) }
     {
         if let Some(i) = find(&self.pairs, &key) {
             let old = mem::replace(&mut self.pairs[i].1, value);
@@ -122,7 +122,7 @@ impl<K: KeptKey + Drop, V: Kept + Drop, S: BuildHasher> Plain<K, V, S> {
     fn remove(&mut self, key: &K) -> Option<(K, V)>
         ensures pair { Replies (plain_rules ⟦<Self as Keyed>⟧.by K.alike V.alike self.old).keys (Remove key.now) self.old.pairs (Pair result) }
         ensures pairs { Becomes (plain_rules ⟦<Self as Keyed>⟧.by K.alike V.alike self.old).keys (Remove key.now) self.old.pairs self.new.pairs }
-        ensures distinct { Distinct (plain_rules ⟦<Self as Keyed>⟧.by K.alike V.alike self.old).keys self.new.pairs }
+        ensures distinct { Distinct K.eq self.new.pairs }
         ensures stays { (self.new.hasher ≡ self.old.hasher) × (self.new.amount ≡ self.old.amount) }
     {
         let i = find(&self.pairs, key)?;
@@ -170,8 +170,8 @@ impl<K: KeptKey + Drop, V: Kept + Drop, S: BuildHasher> Plain<K, V, S> {
     // Lets the action change the values of a shard, if there is such a shard and memory. Where not all stay, the pairs with no go.
     fn sweep<A: Action<K, V>>(&mut self, shard: usize, action: &A, all: bool) -> Option<Reply<K, V>>
         ensures done { IfSome result (λ reply. (reply ≡ Reply.Done) × (shard < self.old.amount)) }
-        ensures leaves { IsSome result → (j : K) → AlikeAt (plain_rules ⟦<Self as Keyed>⟧.by K.alike V.alike self.old) (after (plain_rules ⟦<Self as Keyed>⟧.by K.alike V.alike self.old).keys (Retain shard (keeping all (A.acts action.now))) j (at (plain_rules ⟦<Self as Keyed>⟧.by K.alike V.alike self.old).keys self.old.pairs j)) (at (plain_rules ⟦<Self as Keyed>⟧.by K.alike V.alike self.old).keys self.new.pairs j) }
-        ensures distinct { Distinct (plain_rules ⟦<Self as Keyed>⟧.by K.alike V.alike self.old).keys self.new.pairs }
+        ensures leaves { IsSome result → (j : K) → AlikeAt (plain_rules ⟦<Self as Keyed>⟧.by K.alike V.alike self.old) (after (plain_rules ⟦<Self as Keyed>⟧.by K.alike V.alike self.old).keys (Retain shard (keeping all (A.acts action.now))) j (at K.eq self.old.pairs j)) (at K.eq self.new.pairs j) }
+        ensures distinct { Distinct K.eq self.new.pairs }
         ensures stays { (self.new.hasher ≡ self.old.hasher) × (self.new.amount ≡ self.old.amount) }
         ensures refused { IsNone result → (self.new ≡ self.old) × ((self.old.amount ≤ shard) ⊎ (0 < length self.old.pairs)) }
     {
@@ -190,9 +190,9 @@ impl<K: KeptKey + Drop, V: Kept + Drop, S: BuildHasher> Plain<K, V, S> {
 
     // Makes of the pair at a key what was decided, and answers the reply.
     fn make_change(&mut self, key: K, change: Change<V>, reply: Reply<K, V>) -> Reply<K, V>
-        requires { HasPair change (at (plain_rules ⟦<Self as Keyed>⟧.by K.alike V.alike self.old).keys self.old.pairs key) }
+        requires { HasPair change (at K.eq self.old.pairs key) }
         ensures becomes { Becomes (plain_rules ⟦<Self as Keyed>⟧.by K.alike V.alike self.old).keys (change_step key change) self.old.pairs self.new.pairs }
-        ensures distinct { Distinct (plain_rules ⟦<Self as Keyed>⟧.by K.alike V.alike self.old).keys self.new.pairs }
+        ensures distinct { Distinct K.eq self.new.pairs }
         ensures stays { (self.new.hasher ≡ self.old.hasher) × (self.new.amount ≡ self.old.amount) }
         ensures reply { result ≡ reply }
     {

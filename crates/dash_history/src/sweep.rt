@@ -1,11 +1,10 @@
 //! What a step makes of all pairs of a shard: copies of them, and what its action makes of copies of their values.
 ghost use Rattle.std.specs.Prelude.{◌≡◌, List, IsTrue, IfOk};
 ghost use Rattle.dash_shard.specs.Hashing.{by};
-ghost use Rattle.dash_shard.specs.Contents.{at};
-ghost use Rattle.dash_shard.specs.Steps.{Act, Retain, after};
-ghost use Rattle.dash_shard.specs.Shard.{pairs, keys_of, IsShard, SameShard};
-ghost use Rattle.dash_history.specs.Alike.{alike_list, alike_option, alike_pair};
-ghost use Rattle.dash_history.specs.Sweep.{keeping, GivesEach, PutsNext};
+ghost use Rattle.dash_shard.specs.Steps.{Act};
+ghost use Rattle.dash_shard.specs.Shard.{pairs, IsShard, SameShard};
+ghost use Rattle.dash_history.specs.Alike.{alike_list, alike_pair};
+ghost use Rattle.dash_history.specs.Sweep.{keeping, GivesEach, SweptTo, PutsNext};
 
 use crate::action::Action;
 use crate::change::ask;
@@ -52,7 +51,7 @@ pub(crate) fn put_each<K: KeptKey + Drop, V: Kept + Drop, S: BuildHasher>(
     shard: &mut Shard<K, V, S>,
     made: Vec<(V, bool)>,
 )
-    ensures leaves { (f : Act K V) → GivesEach V.alike f (pairs shard.old) made.items → (j : K) → IsTrue (alike_option (alike_pair K.alike V.alike) (after (keys_of (by K.Hash S.BuildHasher S.Hasher.Hasher) shard.old) (Retain shard.old.number f) j (at (keys_of (by K.Hash S.BuildHasher S.Hasher.Hasher) shard.old) (pairs shard.old) j)) (at (keys_of (by K.Hash S.BuildHasher S.Hasher.Hasher) shard.old) (pairs shard.new) j)) }
+    ensures leaves { (f : Act K V) → GivesEach V.alike f (pairs shard.old) made.items → SweptTo K.eq K.alike V.alike f (pairs shard.old) (pairs shard.new) }
     ensures stays { SameShard shard.old shard.new }
     ensures lawful { IsShard (by K.Hash S.BuildHasher S.Hasher.Hasher) shard.old → IsShard (by K.Hash S.BuildHasher S.Hasher.Hasher) shard.new }
 {

@@ -1,13 +1,13 @@
 //! What a step will do to a shard: it is made first, since it takes memory, and carried out once all copies are there.
 ghost use Rattle.std.specs.Prelude.{◌≡◌, IfOk, IfErr, OnOk, IsTrue};
 ghost use Rattle.dash_shard.specs.Hashing.{by};
-ghost use Rattle.dash_history.specs.Alike.{alike_option, alike_pair};
 ghost use Rattle.dash_shard.specs.Contents.{at};
-ghost use Rattle.dash_shard.specs.Steps.{Act, Retain, Becomes, after};
+ghost use Rattle.dash_shard.specs.Steps.{Act, Becomes};
 ghost use Rattle.dash_shard.specs.Shard.{pairs, keys_of, Routes, IsShard, SameShard};
 ghost use Rattle.dash_history.specs.Steps.{step_of, reply_of};
 ghost use Rattle.dash_history.specs.Takes.{known, Answers};
 ghost use Rattle.dash_history.specs.History.{kinds_of, place_of};
+ghost use Rattle.dash_history.specs.Sweep.{SweptTo};
 ghost use Rattle.dash_history.specs.Plan.{change_step, Decides, HasPair, Leaves, MakesEach};
 
 use crate::action::KeptAction;
@@ -69,7 +69,7 @@ fn make_change<K: KeptKey + Drop, V: Kept + Drop, S: BuildHasher>(
     change: Change<V>,
 )
     requires route { Routes (by K.Hash S.BuildHasher S.Hasher.Hasher) shard.old key }
-    requires there { HasPair change (at (keys_of (by K.Hash S.BuildHasher S.Hasher.Hasher) shard.old) (pairs shard.old) key) }
+    requires there { HasPair change (at K.eq (pairs shard.old) key) }
     ensures becomes { Becomes (keys_of (by K.Hash S.BuildHasher S.Hasher.Hasher) shard.old) (change_step key change) (pairs shard.old) (pairs shard.new) }
     ensures stays { SameShard shard.old shard.new }
     ensures lawful { IsShard (by K.Hash S.BuildHasher S.Hasher.Hasher) shard.old → IsShard (by K.Hash S.BuildHasher S.Hasher.Hasher) shard.new }
@@ -86,7 +86,7 @@ fn change_each<K: KeptKey + Drop, V: Kept + Drop, S: BuildHasher>(
     shard: &mut Shard<K, V, S>,
     change: Change<V>,
 )
-    ensures leaves { (f : Act K V) → MakesEach V.alike f (pairs shard.old) change → (j : K) → IsTrue (alike_option (alike_pair K.alike V.alike) (after (keys_of (by K.Hash S.BuildHasher S.Hasher.Hasher) shard.old) (Retain shard.old.number f) j (at (keys_of (by K.Hash S.BuildHasher S.Hasher.Hasher) shard.old) (pairs shard.old) j)) (at (keys_of (by K.Hash S.BuildHasher S.Hasher.Hasher) shard.old) (pairs shard.new) j)) }
+    ensures leaves { (f : Act K V) → MakesEach V.alike f (pairs shard.old) change → SweptTo K.eq K.alike V.alike f (pairs shard.old) (pairs shard.new) }
     ensures stays { SameShard shard.old shard.new }
     ensures lawful { IsShard (by K.Hash S.BuildHasher S.Hasher.Hasher) shard.old → IsShard (by K.Hash S.BuildHasher S.Hasher.Hasher) shard.new }
 {
@@ -132,6 +132,8 @@ pub(super) fn carry_out<
         }
         ShardStep::Read(_) | ShardStep::Count(_) => Ok(()),
         ShardStep::AlterAll(_shard, _action) | ShardStep::Retain(_shard, _action) => {
+            // Its pairs go to it.
+            let _ = shard.number();
             change_each(shard, decided);
             Ok(())
         }

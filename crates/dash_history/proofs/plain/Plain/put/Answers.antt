@@ -33,10 +33,9 @@ returns-in-Some-clause-pairs g c =
 
 pub returns-in-Some-clause-distinct : goal.returns-in-Some-clause-distinct
 returns-in-Some-clause-distinct g c =
-    let At : Type 0 = PlainState g.row.K.Denot g.row.V.Denot g.row.S.Denot in
     let m = plain_rules (key_hash g.K.PartialEq.eq g.K.Hash.hash_input g.S.BuildHasher g.S.Hasher.Hasher) g.K.Kept.alike g.V.Kept.alike c.args.self.now in
     let here = subst (λ ps. position (λ p. g.K.PartialEq.eq p.0 c.args.key) ps ≡ Some c.in-Some.i) c.deref.ensures.value (sym c.in-Some.ensures) in
-    rw (← c.self.view_is) ((revalued m.keys c.args.key g.met.K.Eq.laws c.self.inside.pairs.items c.in-Some.i c.index_mut.result.now c.replace-old.new.dest here c.index_mut.ensures.value).1 c.self.invariant.distinct)
+    (revalued m.keys c.args.key g.met.K.Eq.laws c.self.inside.pairs.items c.in-Some.i c.index_mut.result.now c.replace-old.new.dest here c.index_mut.ensures.value).1 c.self.invariant.distinct
 
 pub invariant_of-self-2 : goal.invariant_of-self-2
 invariant_of-self-2 g c =
@@ -70,7 +69,7 @@ returns-clause-distinct g c =
     let m = plain_rules (key_hash g.K.PartialEq.eq g.K.Hash.hash_input g.S.BuildHasher g.S.Hasher.Hasher) g.K.Kept.alike g.V.Kept.alike c.args.self.now in
     let none = missing m.keys c.args.key c.self.inside.pairs.items (subst (λ ps. position (λ p. g.K.PartialEq.eq p.0 c.args.key) ps ≡ None) c.deref.ensures.value (sym c.in_default.ensures)) in
     elim c.match-insert.branch [
-      | in-Ok w ↦ rw (w.result-is, w.in-Ok.ensures.items, ← c.self.view_is) (none, c.self.invariant.distinct)
+      | in-Ok w ↦ rw (w.result-is, w.in-Ok.ensures.items) (none, c.self.invariant.distinct)
       | in-Err w ↦ rw w.result-is tt
     ]
 

@@ -42,4 +42,4 @@ pub returns-clause-distinct : goal.returns-clause-distinct
 returns-clause-distinct g c =
     let m = plain_rules (key_hash g.K.PartialEq.eq g.K.Hash.hash_input g.S.BuildHasher g.S.Hasher.Hasher) g.K.Kept.alike g.V.Kept.alike c.args.self.now in
     let here = subst (λ ps. position (λ p. g.K.PartialEq.eq p.0 c.args.key.now) ps ≡ Some c.in_ok-i.i) c.deref.ensures.value (sym c.in_ok-i.ensures) in
-    rw (c.remove.ensures.items, ← c.self.view_is) (removed m.keys c.args.key.now g.met.K.Eq.laws c.self.inside.pairs.items c.in_ok-i.i here c.self.invariant.distinct).1
+    rw c.remove.ensures.items (removed m.keys c.args.key.now g.met.K.Eq.laws c.self.inside.pairs.items c.in_ok-i.i here c.self.invariant.distinct).1

@@ -44,34 +44,22 @@ invariant_of-self g c =
     let all = take_all c.loop-pair.pair-index c.deref-pair-items.result.now (omega (arith, c.loop-pair-test.false)) ∙ c.deref-pair-items.ensures.value ∙ ap (λ (x : At). x.pairs) c.self.view_is in
     let swept = subst (λ P. Swept m c.args.shard f P c.loop-pair.next.items) all c.loop-pair.invariant in
     let distinct = swept-distinct m c.args.shard f laws now.pairs c.loop-pair.next.items plain.distinct swept in
-    record {
-      distinct = subst (λ (x : At). Distinct (plain_rules (key_hash g.K.PartialEq.eq g.K.Hash.hash_input g.S.BuildHasher g.S.Hasher.Hasher) g.K.Kept.alike g.V.Kept.alike x).keys c.loop-pair.next.items) (sym c.self.view_is) distinct;
-      amount = c.self.invariant.amount;
-    }
+    record { distinct = distinct; amount = c.self.invariant.amount }
 
 pub returns-then-shard-self-clause-distinct : goal.returns-then-shard-self-clause-distinct
-returns-then-shard-self-clause-distinct g c =
-    let At : Type 0 = PlainState g.row.K.Denot g.row.V.Denot g.row.S.Denot in
-    let plain = subst (λ (x : At). IsPlain (key_hash g.K.PartialEq.eq g.K.Hash.hash_input g.S.BuildHasher g.S.Hasher.Hasher) x) c.self.view_is c.self.invariant in
-    plain.distinct
+returns-then-shard-self-clause-distinct g c = rw (← c.self.view_is) c.self.invariant.distinct
 
 pub returns-then-shard-self-clause-stays : goal.returns-then-shard-self-clause-stays
 returns-then-shard-self-clause-stays g c = (refl, refl)
 
 pub returns-in_err-left-clause-distinct : goal.returns-in_err-left-clause-distinct
-returns-in_err-left-clause-distinct g c =
-    let At : Type 0 = PlainState g.row.K.Denot g.row.V.Denot g.row.S.Denot in
-    let plain = subst (λ (x : At). IsPlain (key_hash g.K.PartialEq.eq g.K.Hash.hash_input g.S.BuildHasher g.S.Hasher.Hasher) x) c.self.view_is c.self.invariant in
-    plain.distinct
+returns-in_err-left-clause-distinct g c = rw (← c.self.view_is) c.self.invariant.distinct
 
 pub returns-in_err-left-clause-stays : goal.returns-in_err-left-clause-stays
 returns-in_err-left-clause-stays g c = (refl, refl)
 
 pub returns-in_err-ok-clause-distinct : goal.returns-in_err-ok-clause-distinct
-returns-in_err-ok-clause-distinct g c =
-    let At : Type 0 = PlainState g.row.K.Denot g.row.V.Denot g.row.S.Denot in
-    let plain = subst (λ (x : At). IsPlain (key_hash g.K.PartialEq.eq g.K.Hash.hash_input g.S.BuildHasher g.S.Hasher.Hasher) x) c.self.view_is c.self.invariant in
-    plain.distinct
+returns-in_err-ok-clause-distinct g c = rw (← c.self.view_is) c.self.invariant.distinct
 
 pub returns-in_err-ok-clause-stays : goal.returns-in_err-ok-clause-stays
 returns-in_err-ok-clause-stays g c = (refl, refl)

@@ -37,7 +37,7 @@ returns-in-Ok-clause-ok g c =
     let laws = lawful-by _ (lawful-of g.S.BuildHasher g.S.Hasher.Hasher g.met.K.Eq.laws g.met.K.Hash.respects_eq) _ _ g.met.K.Kept.alike_laws g.met.V.Kept.alike_laws g.met.K.KeptKey.alike_equal c.args.self.now.hasher c.args.self.now.amount in
     let plain = subst (λ (x : PlainState g.row.K.Denot g.row.V.Denot g.row.S.Denot). IsPlain (key_hash g.K.PartialEq.eq g.K.Hash.hash_input g.S.BuildHasher g.S.Hasher.Hasher) x) c.self.view_is c.self.invariant in
     rw c.in-Get.is (takes-exactly m laws c.args.self.now.pairs c.args.self.now.pairs (table.Get c.in-Get.key) (Pair c.in-Ok.pair) (route_below _ _ (omega (arith, plain.amount.several)))
-    (record { told = Pair (at m.keys c.args.self.now.pairs c.in-Get.key); replies = refl; alike = subst (λ o. IsTrue (alike_option (alike_pair g.K.Kept.alike g.V.Kept.alike) o c.in-Ok.pair)) c.get.ensures c.in-Ok.ensures.copy }) (looked m.keys c.in-Get.key c.args.self.now.pairs) plain.distinct)
+    (record { told = Pair (at m.keys.eq c.args.self.now.pairs c.in-Get.key); replies = refl; alike = subst (λ o. IsTrue (alike_option (alike_pair g.K.Kept.alike g.V.Kept.alike) o c.in-Ok.pair)) c.get.ensures c.in-Ok.ensures.copy }) (looked m.keys c.in-Get.key c.args.self.now.pairs) plain.distinct)
 
 pub returns-in-Ok-put-clause-ok : goal.returns-in-Ok-put-clause-ok
 returns-in-Ok-put-clause-ok g c =
@@ -93,7 +93,7 @@ returns-in-Contains-clause-ok g c =
     let m = plain_rules (key_hash g.K.PartialEq.eq g.K.Hash.hash_input g.S.BuildHasher g.S.Hasher.Hasher) g.K.Kept.alike g.V.Kept.alike c.args.self.now in
     let laws = lawful-by _ (lawful-of g.S.BuildHasher g.S.Hasher.Hasher g.met.K.Eq.laws g.met.K.Hash.respects_eq) _ _ g.met.K.Kept.alike_laws g.met.V.Kept.alike_laws g.met.K.KeptKey.alike_equal c.args.self.now.hasher c.args.self.now.amount in
     let plain = subst (λ (x : PlainState g.row.K.Denot g.row.V.Denot g.row.S.Denot). IsPlain (key_hash g.K.PartialEq.eq g.K.Hash.hash_input g.S.BuildHasher g.S.Hasher.Hasher) x) c.self.view_is c.self.invariant in
-    let found : Found c.is_some.result ≡ Found (is_some (at m.keys c.args.self.now.pairs c.in-Contains.key)) = ap Found (c.is_some.ensures ∙ mapped deref_pair c.get-in-Contains.result ∙ ap is_some c.get-in-Contains.ensures) in
+    let found : Found c.is_some.result ≡ Found (is_some (at m.keys.eq c.args.self.now.pairs c.in-Contains.key)) = ap Found (c.is_some.ensures ∙ mapped deref_pair c.get-in-Contains.result ∙ ap is_some c.get-in-Contains.ensures) in
     rw c.in-Contains.is (takes-exactly m laws c.args.self.now.pairs c.args.self.now.pairs (table.Contains c.in-Contains.key) (Found c.is_some.result) (route_below _ _ (omega (arith, plain.amount.several)))
     (record { told = Found c.is_some.result; replies = found; alike = (reply_laws m laws).refl (Found c.is_some.result) }) (looked m.keys c.in-Contains.key c.args.self.now.pairs) plain.distinct)
 
@@ -104,7 +104,7 @@ returns-in-Count-clause-ok g c =
     let plain = subst (λ (x : PlainState g.row.K.Denot g.row.V.Denot g.row.S.Denot). IsPlain (key_hash g.K.PartialEq.eq g.K.Hash.hash_input g.S.BuildHasher g.S.Hasher.Hasher) x) c.self.view_is c.self.invariant in
     let P = c.args.self.now.pairs in
     rw c.in-Count.is (takes-exactly m laws P P (table.Count c.in-Count.shard) (Number c.count.result) (subst (λ (x : PlainState g.row.K.Denot g.row.V.Denot g.row.S.Denot). c.in-Count.shard < x.amount) c.self.view_is c.if-shard-self.true)
-    (record { told = Number c.count.result; replies = (on m.keys c.in-Count.shard P, record { distinct = on-distinct m.keys g.met.K.Eq.laws c.in-Count.shard P plain.distinct; same = λ _. refl }, ap Number c.count.ensures); alike = (reply_laws m laws).refl (Number c.count.result) }) (λ j. shown (m.keys.route j == c.in-Count.shard) (at m.keys P j)) plain.distinct)
+    (record { told = Number c.count.result; replies = (on m.keys c.in-Count.shard P, record { distinct = on-distinct m.keys g.met.K.Eq.laws c.in-Count.shard P plain.distinct; same = λ _. refl }, ap Number c.count.ensures); alike = (reply_laws m laws).refl (Number c.count.result) }) (λ j. shown (m.keys.route j == c.in-Count.shard) (at m.keys.eq P j)) plain.distinct)
 
 -- what an option has, is what its Ok has
 taken : {A E : Type 0} (o : Option A) (e : E) (r : Result A E) (P Q : A → Type 0) → r ≡ ok_or o e → IfSome o P → ((x : A) → o ≡ Some x → P x → Q x) → IfOk r Q
@@ -112,7 +112,7 @@ taken None e r P Q is h then = subst (λ x. IfOk x Q) (sym is) tt
 taken (Some x) e r P Q is h then = subst (λ x. IfOk x Q) (sym is) (then x refl h)
 
 -- the pairs of a shard
-own : {K V : Type 0} (m : Rules K V) (laws : IsEquivalence m.keys.eq) (i : ℕ) (P : List (K × V)) → Distinct m.keys P → EachOnce m.keys (on m.keys i P) (on m.keys i P)
+own : {K V : Type 0} (m : Rules K V) (laws : IsEquivalence m.keys.eq) (i : ℕ) (P : List (K × V)) → Distinct m.keys.eq P → EachOnce m.keys.eq (on m.keys i P) (on m.keys i P)
 own m laws i P distinct = record { distinct = on-distinct m.keys laws i P distinct; same = λ _. refl }
 
 pub returns-in-Read-clause-ok : goal.returns-in-Read-clause-ok
@@ -123,7 +123,7 @@ returns-in-Read-clause-ok g c =
     let P = c.args.self.now.pairs in
     let i = c.in-Read.shard in
     rw c.in-Read.is (taken c.read.result _ _ _ _ c.ok_or.ensures.value c.read.ensures.pairs (λ reply is h. takes-exactly m laws P P (table.Read i) (reply_of reply) h.0
-    (record { told = Pairs (on m.keys i P); replies = (on m.keys i P, own m g.met.K.Eq.laws i P plain.distinct, refl); alike = h.1 }) (λ j. shown (m.keys.route j == i) (at m.keys P j)) plain.distinct))
+    (record { told = Pairs (on m.keys i P); replies = (on m.keys i P, own m g.met.K.Eq.laws i P plain.distinct, refl); alike = h.1 }) (λ j. shown (m.keys.route j == i) (at m.keys.eq P j)) plain.distinct))
 
 pub returns-in-AlterAll-clause-ok : goal.returns-in-AlterAll-clause-ok
 returns-in-AlterAll-clause-ok g c =

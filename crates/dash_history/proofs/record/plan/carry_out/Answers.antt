@@ -1,12 +1,13 @@
 use Rattle.std.proofs.Common.{⊎_elim, true, false, sym, subst}
 use Rattle.dash_shard.specs.Contents.{at}
-use Rattle.dash_shard.specs.Steps.{Step, AlterAll, Retain, after}
+use Rattle.dash_shard.specs.Steps.{Act, Step, AlterAll, Retain, after}
 use Rattle.dash_shard.specs.Shard.{pairs}
 use Rattle.dash_history.specs.Sweep.{keeping}
 use Rattle.dash_history.specs.Takes.{known_by, AlikeAt}
 use Rattle.dash_history.specs.History.{kinds_of}
 use Rattle.dash_history.proofs.Recording.{lawful-by}
 use Rattle.dash_history.proofs.Planning.{decided}
+use Rattle.dash_history.proofs.Sweeping.{leaves}
 use Rattle.dash_history.proofs.record.plan.carry_out.Goals as goal
 use Rattle.dash_shard.proofs.Lawful.{lawful-of}
 
@@ -25,6 +26,7 @@ returns-clause-ok g c j =
     let m = kinds_of (known_by g.K.PartialEq.eq g.K.Hash.hash_input g.K.Kept.alike g.V.Kept.alike g.A.Kept.alike g.A.Action.acts g.S.BuildHasher g.S.Hasher.Hasher) s in
     let i = c.in-AlterAll._shard in
     let f = g.A.Action.acts c.in-AlterAll._action in
-    let Left = λ (step : Step g.row.K.Denot g.row.V.Denot). AlikeAt m.rules (after m.rules.keys step j (at m.rules.keys (pairs s) j)) (at m.rules.keys (pairs c.change_each.new.shard) j) in
-    ⊎_elim (λ is. rw is (subst (λ n. Left (AlterAll n f)) (sym (rw is at c.requires.place)) (c.change_each.ensures.leaves (keeping true f) (rw is at c.requires.decides) j)))
-    (λ is. rw is (subst (λ n. Left (Retain n f)) (sym (rw is at c.requires.place)) (c.change_each.ensures.leaves (keeping false f) (rw is at c.requires.decides) j))) c.in-AlterAll.is
+    let Left = λ (step : Step g.row.K.Denot g.row.V.Denot). AlikeAt m.rules (after m.rules.keys step j (at m.rules.keys.eq (pairs s) j)) (at m.rules.keys.eq (pairs c.change_each.new.shard) j) in
+    let each = λ (made : Act g.row.K.Denot g.row.V.Denot). leaves m.rules s.number made (pairs s) (pairs c.change_each.new.shard) c.number.ensures.lawful.contents.routed in
+    ⊎_elim (λ is. rw is (subst (λ n. Left (AlterAll n f)) (sym (rw is at c.requires.place)) (each (keeping true f) (c.change_each.ensures.leaves (keeping true f) (rw is at c.requires.decides)) j)))
+    (λ is. rw is (subst (λ n. Left (Retain n f)) (sym (rw is at c.requires.place)) (each (keeping false f) (c.change_each.ensures.leaves (keeping false f) (rw is at c.requires.decides)) j))) c.in-AlterAll.is

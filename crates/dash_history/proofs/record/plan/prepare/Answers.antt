@@ -11,13 +11,14 @@ use Rattle.dash_history.specs.Takes.{Rules, Answers}
 use Rattle.dash_history.proofs.AlikeLaws.{reply_equiv}
 use Rattle.std.proofs.lemmas.Result.{IfOk-weaker}
 use Rattle.dash_history.specs.Plan.{FitsLine}
-use Rattle.dash_history.proofs.Planning.{each-own, answers-found, same_found}
+use Rattle.dash_history.proofs.Planning.{answers-found, same_found}
+use Rattle.dash_shard.proofs.Remade.{each-once}
 use Rattle.dash_history.proofs.record.plan.prepare.Goals as goal
 use Rattle.dash_shard.specs.Hashing.{key_hash}
 
 -- a copy of the pair at the key
 copied : {K V A : Type 0} (acts : A → Act K V) (m : Rules K V) (P : List (K × V)) (step : ShardStep K V A) (k : K) (o p : Option (K × V)) → (step ≡ Get k) ⊎ (step ≡ Remove k)
-    → Pair o ≡ Pair (at m.keys P k) → IsTrue (alike_option (alike_pair m.alike_key m.alike_value) o p) → Answers m P (step_of acts step) (Pair p)
+    → Pair o ≡ Pair (at m.keys.eq P k) → IsTrue (alike_option (alike_pair m.alike_key m.alike_value) o p) → Answers m P (step_of acts step) (Pair p)
 copied acts m P step k o p (inl is) replies alike = rw is (record { told = Pair o; replies = replies; alike = alike })
 copied acts m P step k o p (inr is) replies alike = rw is (record { told = Pair o; replies = replies; alike = alike })
 
@@ -46,7 +47,7 @@ returns-in-Count-clause-answers g c =
     let here : c.in-Count.field-0 ≡ s.number = rw c.in-Count.is at c.requires in
     rw c.in-Count.is (record {
       told = Number c.len.result;
-      replies = (pairs s, each-own w g.met.K.Eq.laws c.in-Count.field-0 (pairs s) (subst (λ i. IsOnShard w i (pairs s)) (sym here) c.len.ensures.lawful.contents), ap Number (omega (arith, c.len.ensures.len, c.len.type_inv)));
+      replies = (pairs s, each-once w g.met.K.Eq.laws c.in-Count.field-0 (pairs s) (subst (λ i. IsOnShard w i (pairs s)) (sym here) c.len.ensures.lawful.contents), ap Number (omega (arith, c.len.ensures.len, c.len.type_inv)));
       alike = (reply_equiv g.met.K.Kept.alike_laws g.met.V.Kept.alike_laws).refl (Number c.len.result);
     })
 
@@ -81,8 +82,8 @@ returns-in-Alter-clause-decides g c =
     rw c.in-Alter.is (IfOk-weaker c.plan_alter.result _ _ (λ plan p. subst (λ o. FitsLine g.K.Kept.alike g.V.Kept.alike (line (Alter c.in-Alter.key (g.A.Action.acts c.in-Alter.action))) o plan.1) same (p c.in-Alter.key).1) c.plan_alter.ensures.plan)
 
 -- the pairs of the step's shard
-own : {K V : Type 0} (w : Keys K) (laws : IsEquivalence w.eq) (i n : ℕ) (P : List (K × V)) → i ≡ n → IsOnShard w n P → EachOnce w (on w i P) P
-own w laws i n P here h = each-own w laws i P (subst (λ x. IsOnShard w x P) (sym here) h)
+own : {K V : Type 0} (w : Keys K) (laws : IsEquivalence w.eq) (i n : ℕ) (P : List (K × V)) → i ≡ n → IsOnShard w n P → EachOnce w.eq (on w i P) P
+own w laws i n P here h = each-once w laws i P (subst (λ x. IsOnShard w x P) (sym here) h)
 
 pub returns-in_ok-copy_pairs-in-Read-clause-answers : goal.returns-in_ok-copy_pairs-in-Read-clause-answers
 returns-in_ok-copy_pairs-in-Read-clause-answers g c =
