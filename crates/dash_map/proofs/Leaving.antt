@@ -6,9 +6,9 @@ use Rattle.std.proofs.Math.Seq.{take-length}
 use Rattle.std.specs.Cmp.{IsEquivalence}
 use Rattle.std.specs.Map.Calls.{CallableOnEachPair}
 use Rattle.dash_shard.specs.Hashing.{KeyHash, IsAmount}
-use Rattle.dash_shard.specs.Shard.{ShardState, SameShard, IsShard, taken}
+use Rattle.dash_shard.specs.Shard.{ShardState, SameShard, IsShard, taken, IsPlaced}
 use Rattle.dash_shard.specs.Each.{Sweeps, SweepsShard, Clears, Shrinks, if_kept, altered}
-use Rattle.dash_map.specs.Alone.{AloneState, IsPlaced}
+use Rattle.dash_map.specs.Alone.{AloneState}
 use Rattle.dash_map.specs.Behind.{LeavesShards, IsBehind}
 use Rattle.dash_map.specs.Map.{MapState}
 use Rattle.dash_map.specs.Whole.{SameRoom, ClearsAlone, ShrinksAlone, RetainsAlone, AltersAllAlone}
@@ -77,15 +77,15 @@ module _ {K V S : Type 0} (h : KeyHash K S) (m : MapState S) where
         all-left : (Q : AloneState K V S → AloneState K V S → Type 0) → Q (row-of so.olds) (row-of so.news) → LeavesShards h m Q
         all-left Q did = record { before = row-of so.olds; after = row-of so.news; stood = all-stood; stands = all-stand; leaves = did }
 
-  pub all-cleared : (n : ℕ) → Leaving (Clears h) n → n ≡ m.amount → IsAmount m.amount → LeavesShards {V = V} h m (ClearsAlone h)
+  pub all-cleared : (n : ℕ) → Leaving Clears n → n ≡ m.amount → IsAmount m.amount → LeavesShards {V = V} h m (ClearsAlone)
   all-cleared n so all amount =
-      all-left (Clears h) n so all amount (ClearsAlone h)
-      (clears-alone h n (row-of so.olds) (row-of so.news) (all-turned (Clears h) n so all amount) (sym so.stands.count))
+      all-left Clears n so all amount (ClearsAlone)
+      (clears-alone h n (row-of so.olds) (row-of so.news) (all-turned Clears n so all amount) (sym so.stands.count))
 
-  pub all-shrunk : IsEquivalence h.eq → (n : ℕ) → Leaving (Shrinks h) n → n ≡ m.amount → IsAmount m.amount → LeavesShards {V = V} h m (ShrinksAlone h)
+  pub all-shrunk : IsEquivalence h.eq → (n : ℕ) → Leaving (Shrinks h.eq) n → n ≡ m.amount → IsAmount m.amount → LeavesShards {V = V} h m (ShrinksAlone h.eq)
   all-shrunk laws n so all amount =
-      all-left (Shrinks h) n so all amount (ShrinksAlone h)
-      (shrinks-alone h laws n (row-of so.olds) (row-of so.news) (all-stood (Shrinks h) n so all amount).lawful (all-turned (Shrinks h) n so all amount) (sym so.stands.count))
+      all-left (Shrinks h.eq) n so all amount (ShrinksAlone h.eq)
+      (shrinks-alone h laws n (row-of so.olds) (row-of so.news) (all-stood (Shrinks h.eq) n so all amount).lawful (all-turned (Shrinks h.eq) n so all amount) (sym so.stands.count))
 
   module _ {F : Type 0} (T : F → K → V → Bool → V → F → Type 0) (Q : F → K → V → Type 0) (leaves : K → V × Bool → Option (K × V)) (first : F) where
     -- the closure went over the shards in front of n, and may go on
@@ -98,9 +98,9 @@ module _ {K V S : Type 0} (h : KeyHash K S) (m : MapState S) where
     going-first callable = record { left = none-left SameRoom; swept = (refl, refl); ready = callable }
 
     module _ (n : ℕ) (f : F) (so : Going n f) where
-      pub going-next : (s t : ShardState K V S) (f' : F) → IsPlaced h m.hasher m.amount n s → SweepsShard h T leaves f f' s t → Going (n + 1) f'
-      going-next s t f' placed x = record {
-        left = one-left SameRoom n so.left s t placed x.stays x.lawful x.room;
+      pub going-next : (s t : ShardState K V S) (f' : F) → IsPlaced h m.hasher m.amount n s → SweepsShard T leaves f f' s t → IsShard h t → Going (n + 1) f'
+      going-next s t f' placed x lawful = record {
+        left = one-left SameRoom n so.left s t placed x.stays lawful x.room;
         swept = subst (λ l. Sweeps T leaves first l (places_of (so.left.news ++ t ∷ [])) f') (sym (places-more so.left.olds s))
             (subst (λ l. Sweeps T leaves first (places_of so.left.olds ++ s.places) l f') (sym (places-more so.left.news t))
             (sweeps-append T leaves first f f' (places_of so.left.olds) (places_of so.left.news) s.places t.places so.swept x.swept));
@@ -120,12 +120,12 @@ module _ {K V S : Type 0} (h : KeyHash K S) (m : MapState S) where
         }
 
   module _ {F : Type 0} (T : F → K → V → Bool → V → F → Type 0) (Q : F → K → V → Type 0) (first : F) (laws : IsEquivalence h.eq) (n : ℕ) (f : F) (all : n ≡ m.amount) (amount : IsAmount m.amount) where
-    pub all-retained : Going T Q if_kept first n f → LeavesShards h m (RetainsAlone h T first)
+    pub all-retained : Going T Q if_kept first n f → LeavesShards h m (RetainsAlone h.eq T first)
     all-retained so =
-        all-left SameRoom n so.left all amount (RetainsAlone h T first)
+        all-left SameRoom n so.left all amount (RetainsAlone h.eq T first)
         (retains-alone h T Q first laws n (row-of so.left.olds) (row-of so.left.news) f (all-stood SameRoom n so.left all amount).lawful (sym so.left.stands.count) (gone T Q if_kept first n f so all amount))
 
-    pub all-altered : Going T Q altered first n f → LeavesShards h m (AltersAllAlone h T first)
+    pub all-altered : Going T Q altered first n f → LeavesShards h m (AltersAllAlone h.eq T first)
     all-altered so =
-        all-left SameRoom n so.left all amount (AltersAllAlone h T first)
+        all-left SameRoom n so.left all amount (AltersAllAlone h.eq T first)
         (alters-all-alone h T Q first laws n (row-of so.left.olds) (row-of so.left.news) f (all-stood SameRoom n so.left all amount).lawful (sym so.left.stands.count) (gone T Q altered first n f so all amount))

@@ -24,7 +24,7 @@ module _ {K V : Type 0} (eq : K → K → Bool) (k : K) (v : V) where
   keeps-key : KeepsKey (λ p. Some (revalued p))
   keeps-key p q e = ap (λ (x : K × V). x.0) (sym (same_Some (revalued p) q e))
 
-  untouched : (w : Keys K) → w.eq ≡ eq → (xs : List (Option (K × V))) → at w (taken xs) k ≡ None → map (option_map revalued) xs ≡ xs
+  untouched : (w : Keys K) → w.eq ≡ eq → (xs : List (Option (K × V))) → at w.eq (taken xs) k ≡ None → map (option_map revalued) xs ≡ xs
   untouched w is [] none = refl
   untouched w is (None ∷ xs) none = ap (λ l. None ∷ l) (untouched w is xs none)
   untouched w is (Some p ∷ xs) none = elim (cases_Bool (w.eq p.0 k)) as (λ _. map (option_map revalued) (Some p ∷ xs) ≡ Some p ∷ xs) [
@@ -38,15 +38,15 @@ module _ {K V : Type 0} (eq : K → K → Bool) (k : K) (v : V) where
     abbrev wrote : ShardState K V S → ShardState K V S
     wrote s = with_value_of eq s k v
 
-    wrote-none : (s : ShardState K V S) → at w (pairs s) k ≡ None → wrote s ≡ s
+    wrote-none : (s : ShardState K V S) → at w.eq (pairs s) k ≡ None → wrote s ≡ s
     wrote-none s none = ap (λ ps. record s { places = ps }) (untouched w is s.places none)
 
-    wrote-nowhere : (row : List (ShardState K V S)) → ((j : ℕ) (t : ShardState K V S) → slice_get row j ≡ Some t → at w (pairs t) k ≡ None) → row ≡ map wrote row
+    wrote-nowhere : (row : List (ShardState K V S)) → ((j : ℕ) (t : ShardState K V S) → slice_get row j ≡ Some t → at w.eq (pairs t) k ≡ None) → row ≡ map wrote row
     wrote-nowhere [] none = refl
     wrote-nowhere (x ∷ row) none = ap (λ y. y ∷ row) (sym (wrote-none x (none zero x refl))) ∙ ap (λ l. wrote x ∷ l) (wrote-nowhere row (λ j. none (suc j)))
 
     -- the one shard with the key was written
-    wrote-one : (row : List (ShardState K V S)) (i : ℕ) (s : ShardState K V S) → slice_get row i ≡ Some s → ((j : ℕ) (t : ShardState K V S) → j ≢ i → slice_get row j ≡ Some t → at w (pairs t) k ≡ None)
+    wrote-one : (row : List (ShardState K V S)) (i : ℕ) (s : ShardState K V S) → slice_get row i ≡ Some s → ((j : ℕ) (t : ShardState K V S) → j ≢ i → slice_get row j ≡ Some t → at w.eq (pairs t) k ≡ None)
         → slice_set row i (wrote s) ≡ map wrote row
     wrote-one [] i s here others = absurd (none-some s here)
     wrote-one (x ∷ row) zero s here others =

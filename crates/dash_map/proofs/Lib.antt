@@ -8,6 +8,7 @@ mod Refusals
 mod Reserving
 mod Running
 mod Seeing
+mod Spots
 mod Sweeping
 mod Turning
 mod Union

@@ -12,8 +12,8 @@ use Rattle.std.proofs.lemmas.List.{set-get_or}
 use Rattle.dash_shard.specs.Steps.{Step, Reply, Insert, Old, Becomes, line, line_after, LineReplies, at_key}
 use Rattle.std.specs.Prelude.{IfOk, IfErr, IsSomeAnd}
 use Rattle.dash_shard.specs.declared.shard.InsertRefused.{InsertRefused}
-use Rattle.dash_shard.specs.Shard.{ShardState, SameShard, IsShard, TakesExactly, pairs, shard_len, keys_of}
-use Rattle.dash_map.specs.Alone.{AloneState, IsPlaced, IsAlone, TakesAlone, contents, keys_in}
+use Rattle.dash_shard.specs.Shard.{ShardState, SameShard, IsShard, TakesStep, pairs, shard_len, keys_of, IsPlaced}
+use Rattle.dash_map.specs.Alone.{AloneState, IsAlone, TakesAlone, contents, keys_in}
 use Rattle.dash_map.proofs.Union.{OnShards, at-union}
 
 module _ {K V S : Type 0} (h : KeyHash K S) where
@@ -67,85 +67,30 @@ module _ {K V S : Type 0} (h : KeyHash K S) where
     on' = subst (λ n. OnShards (keys h.eq (route_by h base n) n) 0 row') (length-set row (w.route k) t) (on-shards base row' (alone-set base (w.route k) row s t a here stays new))
 
     -- what stands at a key of the step's shard
-    pub at-here : (j : K) → w.route j ≡ w.route k → at w (flat_map pairs row) j ≡ at w (pairs s) j
+    pub at-here : (j : K) → w.route j ≡ w.route k → at w.eq (flat_map pairs row) j ≡ at w.eq (pairs s) j
     at-here j same = at-union w row j s on (ap (slice_get row) same ∙ here)
 
-    at-after : (j : K) → w.route j ≡ w.route k → at w (flat_map pairs row') j ≡ at w (pairs t) j
+    at-after : (j : K) → w.route j ≡ w.route k → at w.eq (flat_map pairs row') j ≡ at w.eq (pairs t) j
     at-after j same = at-union w row' j t on' (ap (slice_get row') same ∙ slice_get-set_same row (w.route k) t (slice_get_within row (w.route k) s here))
 
-    at-other : (j : K) → w.route j ≢ w.route k → at w (flat_map pairs row') j ≡ at w (flat_map pairs row) j
+    at-other : (j : K) → w.route j ≢ w.route k → at w.eq (flat_map pairs row') j ≡ at w.eq (flat_map pairs row) j
     at-other j other =
         let u = get_or row' (w.route j) t in
         let there : slice_get row' (w.route j) ≡ Some u = slice_get-get_or row' (w.route j) t (omega (arith, length-set row (w.route k) t, route_below (h.hash base j) (length row) (omega (arith, a.amount.several)))) in
         at-union w row' j u on' there ∙ sym (at-union w row j u on (slice_get-set_other row (w.route k) (w.route j) t u other there))
 
     -- a step at the key k that became so on its shard became so on the map
-    pub lifted : (f : Option (K × V) → Option (K × V)) (g : Option (K × V) → Reply K V) → ((j : K) → at w (pairs t) j ≡ line_after w (at_key k f g) j (at w (pairs s) j))
-        → (j : K) → at w (flat_map pairs row') j ≡ line_after w (at_key k f g) j (at w (flat_map pairs row) j)
-    lifted f g became j = elim (cases_eq (w.route j) (w.route k)) as (λ _. at w (flat_map pairs row') j ≡ line_after w (at_key k f g) j (at w (flat_map pairs row) j)) [
+    pub lifted : (f : Option (K × V) → Option (K × V)) (g : Option (K × V) → Reply K V) → ((j : K) → at w.eq (pairs t) j ≡ line_after w (at_key k f g) j (at w.eq (pairs s) j))
+        → (j : K) → at w.eq (flat_map pairs row') j ≡ line_after w (at_key k f g) j (at w.eq (flat_map pairs row) j)
+    lifted f g became j = elim (cases_eq (w.route j) (w.route k)) as (λ _. at w.eq (flat_map pairs row') j ≡ line_after w (at_key k f g) j (at w.eq (flat_map pairs row) j)) [
       | inl same ↦ at-after j same ∙ became j ∙ ap (λ o. line_after w (at_key k f g) j o) (sym (at-here j same))
-      | inr other ↦ at-other j other ∙ sym (elim (cases_Bool (h.eq k j)) as (λ _. line_after w (at_key k f g) j (at w (flat_map pairs row) j) ≡ at w (flat_map pairs row) j) [
+      | inr other ↦ at-other j other ∙ sym (elim (cases_Bool (h.eq k j)) as (λ _. line_after w (at_key k f g) j (at w.eq (flat_map pairs row) j) ≡ at w.eq (flat_map pairs row) j) [
         | inl equal ↦ absurd (other (ap (route_of_hash (length row)) (sym (law.respects base k j equal))))
-        | inr apart ↦ ap (λ c. cond c (f (at w (flat_map pairs row) j)) (at w (flat_map pairs row) j)) apart
+        | inr apart ↦ ap (λ c. cond c (f (at w.eq (flat_map pairs row) j)) (at w.eq (flat_map pairs row) j)) apart
       ])
     ]
 
   -- an insert leaves a shard of the same place, whether it is refused or not
-  pub settled : (r : Result (Option V) (InsertRefused K V)) (s t : ShardState K V S) (k : K) (v : V) → IfOk r (λ o. TakesExactly h s t (Insert k v) (Old o)) → IfErr r (λ e. (e.key ≡ k) × (e.value ≡ v) × (t ≡ s))
-      → IsShard h s → SameShard s t × IsShard h t
-  settled (Ok o) s t k v taken refused shard = (taken.stays, taken.lawful)
-  settled (Err e) s t k v taken refused shard = rw refused.2 (record { number = refl; amount = refl; hasher = refl }, shard)
-
-  -- The map, the place that was computed, and the shard that an index lends there.
-  module _ (law : IsLawful h) (base : S) (row : List (ShardState K V S)) (z : AloneState K V S) (view : record { hasher = base; row = row } ≡ z)
-      (a : IsAlone h (record { hasher = base; row = row })) (k : K) (p : ℕ) (computed : p ≡ (keys_in h z).route k) (s : ShardState K V S) (within : p < length row) (read : s ≡ get_or row p s) where
-    abbrev known : Keys K
-    known = keys h.eq (route_by h base (length row)) (length row)
-
-    route_is : p ≡ known.route k
-    route_is = computed ∙ sym (ap (λ x. (keys_in h x).route k) view)
-
-    pub here : slice_get row p ≡ Some s
-    here = slice_get-get_or row p s within ∙ ap Some (sym read)
-
-    there : slice_get row (known.route k) ≡ Some s
-    there = subst (λ i. slice_get row i ≡ Some s) route_is here
-
-    -- the key goes to that shard
-    pub goes_there : (keys_of h s).route k ≡ s.number
-    goes_there = ap (λ x. x.route k) (keys-same base (length row) p s (a.placed p s here)) ∙ sym route_is ∙ sym (a.placed p s here).number
-
-    -- the key has one hash there and by the map's hasher
-    pub hashed_there : (hash : ℕ) → hash ≡ h.hash z.hasher k → hash ≡ h.hash s.hasher k
-    hashed_there hash is = is ∙ sym (ap (λ x. h.hash x.hasher k) view) ∙ sym ((a.placed p s here).hashes k)
-
-    -- that shard is the one of the key
-    pub full-there : shard_len s ≡ s.capacity → IsSomeAnd (slice_get z.row ((keys_in h z).route k)) (λ x. shard_len x ≡ x.capacity)
-    full-there full =
-        let found : slice_get z.row ((keys_in h z).route k) ≡ Some s = subst (λ i. slice_get z.row i ≡ Some s) computed (subst (λ x. slice_get x.row p ≡ Some s) view here) in
-        rw found full
-
-    -- what stands at the key stands on that shard
-    pub stands : at (keys_in h z) (contents z) k ≡ at (keys_of h s) (pairs s) k
-    stands = subst (λ x. at (keys_in h x) (contents x) k ≡ at known (pairs s) k) view (at-union known row k s (on-shards base row a) there)
-
-    -- a step at the key that was taken on that shard was taken on the map
-    pub taken : (t : ShardState K V S) → SameShard s t → IsShard h t → (f : Option (K × V) → Option (K × V)) (g : Option (K × V) → Reply K V) (step : Step K V) (reply : Reply K V) → line step ≡ at_key k f g
-        → reply ≡ g (at known (pairs s) k) → ((j : K) → at known (pairs t) j ≡ line_after known (at_key k f g) j (at known (pairs s) j))
-        → TakesAlone h z (record { hasher = base; row = slice_set row p t }) step reply
-    taken t stays new f g step reply kind replies becomes =
-        let old : AloneState K V S = record { hasher = base; row = row } in
-        let moved = lifted law base row a k s t there stays new f g becomes in
-        record {
-          replies = subst (λ l. LineReplies (keys_in h z) l (contents z) reply) (sym kind) (replies ∙ ap g (sym stands));
-          becomes = subst (λ x. Becomes (keys_in h x) step (contents x) (flat_map pairs (slice_set row p t))) view
-              (subst (λ i. Becomes (keys_in h old) step (contents old) (flat_map pairs (slice_set row i t))) (sym route_is)
-              (λ j. subst (λ l. at known (flat_map pairs (slice_set row (known.route k) t)) j ≡ line_after known l j (at known (flat_map pairs row) j)) (sym kind) (moved j)));
-          hasher = ap (λ x. x.hasher) view;
-          amount = length-set row p t ∙ ap (λ x. length x.row) view;
-          lawful = alone-set base p row s t a here stays new;
-        }
-
-    -- the shard was put back as it was
-    pub unchanged : (t : ShardState K V S) → t ≡ s → record { hasher = base; row = slice_set row p t } ≡ z
-    unchanged t e = ap (λ x. record { hasher = base; row = slice_set row p x }) (e ∙ read) ∙ ap (λ x. record { hasher = base; row = x }) (set-get_or row p s) ∙ view
+  pub settled : (r : Result (Option V) (InsertRefused K V)) (s t : ShardState K V S) (k : K) (v : V) → IfOk r (λ o. TakesStep h.eq s t (Insert k v) (Old o)) → IfErr r (λ e. (e.key ≡ k) × (e.value ≡ v) × (t ≡ s)) → SameShard s t
+  settled (Ok o) s t k v taken refused = taken.stays
+  settled (Err e) s t k v taken refused = rw refused.2 (record { number = refl; amount = refl; hasher = refl })

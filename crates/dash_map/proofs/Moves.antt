@@ -6,10 +6,10 @@ use Rattle.crossbeam_utils.specs.Padded.{padded_value}
 use Rattle.dash_shard.specs.Hashing.{KeyHash, IsAmount, HashAlike}
 use Rattle.dash_shard.specs.Held.{FitsPlace}
 use Rattle.dash_shard.specs.Rows.{Moved}
-use Rattle.dash_shard.specs.Shard.{ShardState}
+use Rattle.dash_shard.specs.Shard.{ShardState, IsPlaced}
 use Rattle.dash_shard.specs.declared.shard.held.ShardTag.{ShardTag}
 use Rattle.dash_shard.proofs.Rows.{moved-length, moved-from}
-use Rattle.dash_map.specs.Alone.{IsPlaced, IsAlone}
+use Rattle.dash_map.specs.Alone.{IsAlone}
 use Rattle.dash_map.specs.Map.{MapState, IsAt, IsMap}
 
 module _ {K V S : Type 0} (h : KeyHash K S) where
@@ -19,7 +19,7 @@ module _ {K V S : Type 0} (h : KeyHash K S) where
     number = p.number ∙ at.number;
     amount = p.amount ∙ at.amount;
     hashes = subst (λ x. HashAlike h x s.hasher) at.hasher p.hashes;
-    shard = p.lawful;
+    shard = p.shard;
   }
 
   -- what is held through the lock that an index lends stands in that place of the map, whose state is written z

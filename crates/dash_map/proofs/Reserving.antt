@@ -52,6 +52,14 @@ module _ {K V S : Type 0} (h : KeyHash K S) where
     }
 
     -- the shard was refused
-    pub refused : {E : Type 0} (answer : Result (Unit {0}) E) → IsErr answer → ReservesAlone h additional old (record { hasher = base; row = slice_set row i t }) answer
+    pub refused : {E : Type 0} (answer : Result (Unit {0}) E) → IsErr answer → ReservesAlone additional old (record { hasher = base; row = slice_set row i t }) answer
     refused (Ok x) failed = cc
-    refused (Err e) failed = record { room = tt; pairs = turned.pairs; hasher = turned.hasher; amount = turned.amount; lawful = turned.lawful }
+    refused (Err e) failed = record { room = tt; pairs = turned.pairs; stays = record { hasher = turned.hasher; amount = turned.amount } }
+
+  -- all shards had theirs
+  pub all-reserved : (additional i : ℕ) (old now : AloneState K V S) → Reserving additional i old now → i ≡ length now.row → {E : Type 0} → ReservesAlone additional old now {E = E} (Ok tt)
+  all-reserved additional i old now r all = record {
+    room = λ j s e. r.room j s (omega (arith, all, slice_get_within now.row j s e)) e;
+    pairs = r.pairs;
+    stays = record { hasher = r.hasher; amount = r.amount };
+  }

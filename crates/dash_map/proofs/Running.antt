@@ -9,11 +9,11 @@ use Rattle.std.proofs.lemmas.Option.{slice_get-get_or, slice_get_within}
 use Rattle.std.proofs.Math.ListN.{length-set}
 use Rattle.dash_shard.proofs.Rows.{slice_get-set_same, slice_get-set_other}
 use Rattle.dash_shard.proofs.Routing.{route_below}
-use Rattle.dash_shard.specs.Each.{CalledAlong, Retains}
+use Rattle.dash_shard.specs.Each.{CalledAlong, SweepsBy}
 use Rattle.dash_shard.specs.Hashing.{IsLawful, KeyHash, route_by, route_of_hash}
 use Rattle.dash_shard.specs.Contents.{Keys, keys, at, on, Distinct, EachOnce, IsOnShard}
 use Rattle.dash_shard.specs.Steps as table
-use Rattle.dash_shard.specs.Shard.{ShardState, pairs}
+use Rattle.dash_shard.specs.Shard.{ShardState, IsShard, pairs}
 use Rattle.dash_history.specs.Steps.{step_of, reply_of}
 use Rattle.dash_history.specs.Takes.{Rules, AlikeAt, Answers, Takes, Runs}
 use Rattle.dash_history.specs.declared.step.ShardStep.{ShardStep}
@@ -26,7 +26,7 @@ use Rattle.dash_map.specs.declared.run.Fault.{Fault}
 use Rattle.dash_map.specs.declared.run.Fault.TheVariants.{NoSuchShard, Memory}
 use Rattle.dash_map.specs.Run.{answered, rules_in, IsRefused}
 use Rattle.dash_map.proofs.Distincts.{distinct-contents}
-use Rattle.dash_map.proofs.Lifting.{keys-same, on-shards, alone-set}
+use Rattle.dash_map.proofs.Lifting.{on-shards, alone-set}
 use Rattle.dash_map.proofs.Union.{OnShards, at-union}
 
 module _ {K V A : Type 0} (m : Rules K V) (acts : A → table.Act K V) where
@@ -87,36 +87,36 @@ module _ {F K V : Type 0} (m : Rules K V) (laws : Lawful m) (T : F → K → V �
   kept false u p q e a = subst (λ x. AlikeAt m None (cond x (Some q) None)) (sym e) refl
 
   pub called-alike : (ps : List (K × V)) (last : F) → CalledAlong T act x ps last → (j : K)
-      → AlikeAt m (option_and_then (λ p. table.if_yes f p (table.changed f p)) (at m.keys ps j)) (option_and_then (λ p. table.if_yes act p (table.changed act p)) (at m.keys ps j))
+      → AlikeAt m (option_and_then (λ p. table.if_yes f p (table.changed f p)) (at m.keys.eq ps j)) (option_and_then (λ p. table.if_yes act p (table.changed act p)) (at m.keys.eq ps j))
   called-alike [] last called j = refl
   called-alike (p ∷ ps) last called j =
       let here = did p.0 p.1 (act p.0 p.1).1 (act p.0 p.1).0 called.0 called.1 in
       let rest : CalledAlong T act x ps last = subst (λ y. CalledAlong T act y ps last) here.2 called.2 in
-      elim (cases_Bool (m.keys.eq p.0 j)) as (λ _. AlikeAt m (option_and_then (λ q. table.if_yes f q (table.changed f q)) (at m.keys (p ∷ ps) j)) (option_and_then (λ q. table.if_yes act q (table.changed act q)) (at m.keys (p ∷ ps) j))) [
+      elim (cases_Bool (m.keys.eq p.0 j)) as (λ _. AlikeAt m (option_and_then (λ q. table.if_yes f q (table.changed f q)) (at m.keys.eq (p ∷ ps) j)) (option_and_then (λ q. table.if_yes act q (table.changed act q)) (at m.keys.eq (p ∷ ps) j))) [
         | inl equal ↦ rw equal (kept _ _ _ _ here.1 (and_from _ _ (laws.key.refl p.0) here.0))
         | inr other ↦ rw other (called-alike ps last rest j)
       ]
 
 -- the pairs on a shard, where equal keys have one route
 module _ {K V : Type 0} (w : Keys K) (laws : IsEquivalence w.eq) (route_same : (j k : K) → w.eq j k ≡ true → w.route j ≡ w.route k) (i : ℕ) where
-  at-on : (ps : List (K × V)) (k : K) → at w (on w i ps) k ≡ cond (w.route k == i) (at w ps k) None
+  at-on : (ps : List (K × V)) (k : K) → at w.eq (on w i ps) k ≡ cond (w.route k == i) (at w.eq ps k) None
   at-on [] k = sym (same-both (w.route k == i) None)
-  at-on (p ∷ ps) k = elim (cases_Bool (w.eq p.0 k)) as (λ _. at w (on w i (p ∷ ps)) k ≡ cond (w.route k == i) (at w (p ∷ ps) k) None) [
-    | inl same ↦ elim (cases_Bool (w.route k == i)) as (λ _. at w (on w i (p ∷ ps)) k ≡ cond (w.route k == i) (at w (p ∷ ps) k) None) [
+  at-on (p ∷ ps) k = elim (cases_Bool (w.eq p.0 k)) as (λ _. at w.eq (on w i (p ∷ ps)) k ≡ cond (w.route k == i) (at w.eq (p ∷ ps) k) None) [
+    | inl same ↦ elim (cases_Bool (w.route k == i)) as (λ _. at w.eq (on w i (p ∷ ps)) k ≡ cond (w.route k == i) (at w.eq (p ∷ ps) k) None) [
       | inl here ↦ rw (here, same, ap (λ r. r == i) (route_same p.0 k same) ∙ here, same) refl
       | inr other ↦ rw (other, ap (λ r. r == i) (route_same p.0 k same) ∙ other) (at-on ps k ∙ rw other refl)
     ]
-    | inr fails ↦ elim (cases_Bool (w.route p.0 == i)) as (λ _. at w (on w i (p ∷ ps)) k ≡ cond (w.route k == i) (at w (p ∷ ps) k) None) [
+    | inr fails ↦ elim (cases_Bool (w.route p.0 == i)) as (λ _. at w.eq (on w i (p ∷ ps)) k ≡ cond (w.route k == i) (at w.eq (p ∷ ps) k) None) [
       | inl here ↦ rw (fails, here, fails) (at-on ps k)
       | inr other ↦ rw (fails, other) (at-on ps k)
     ]
   ]
 
   -- the pairs of shard i are those of the map on it
-  pub each-on : (ps qs : List (K × V)) → IsOnShard w i qs → ((k : K) → w.route k ≡ i → at w ps k ≡ at w qs k) → EachOnce w (on w i ps) qs
+  pub each-on : (ps qs : List (K × V)) → IsOnShard w i qs → ((k : K) → w.route k ≡ i → at w.eq ps k ≡ at w.eq qs k) → EachOnce w.eq (on w i ps) qs
   each-on ps qs h same = record {
     distinct = h.distinct;
-    same = λ k. elim (cases_eq (w.route k) i) as (λ _. at w qs k ≡ at w (on w i ps) k) [
+    same = λ k. elim (cases_eq (w.route k) i) as (λ _. at w.eq qs k ≡ at w.eq (on w i ps) k) [
       | inl here ↦ sym (at-on ps k ∙ rw (eq-eqb (w.route k) i here) (same k here))
       | inr other ↦ h.routed k other ∙ sym (at-on ps k ∙ rw (ne_eqb (w.route k) i other) refl)
     ];
@@ -132,8 +132,8 @@ module _ {K V S : Type 0} (h : KeyHash K S) (k : K → K → Bool) (v : V → V 
     laws-in a = lawful-by h law k v key value alike_equal a.hasher (length a.row)
 
     -- no two keys of a map that knows the same are equal
-    pub distinct-same : (old new : AloneState K V S) → new.hasher ≡ old.hasher → length new.row ≡ length old.row → IsAlone h new → Distinct (keys_in h old) (contents new)
-    distinct-same old new base amount lawful = subst (λ r. Distinct r.keys (contents new)) (rules-same old new base amount) (distinct-contents h law.laws new lawful)
+    pub distinct-same : (old new : AloneState K V S) → new.hasher ≡ old.hasher → length new.row ≡ length old.row → IsAlone h new → Distinct h.eq (contents new)
+    distinct-same old new base amount lawful = distinct-contents h law.laws new lawful
 
     -- a look whose answer is up to alike
     pub takes-look : (a : AloneState K V S) (step : table.Step K V) (reply : table.Reply K V) → table.place (keys_in h a) step < length a.row → IsAlone h a → Answers (rules_in h k v a) (contents a) step reply
@@ -146,11 +146,11 @@ module _ {K V S : Type 0} (h : KeyHash K S) (k : K → K → Bool) (v : V → V 
         → Takes (rules_in h k v old) (contents old) step reply (contents new)
     takes-alone old new step reply below x =
         takes-exactly (rules_in h k v old) (laws-in old) (contents old) (contents new) step reply below
-        (record { told = reply; replies = x.replies; alike = (reply_laws (rules_in h k v old) (laws-in old)).refl reply }) x.becomes (distinct-same old new x.hasher x.amount x.lawful)
+        (record { told = reply; replies = x.table.replies; alike = (reply_laws (rules_in h k v old) (laws-in old)).refl reply }) x.table.becomes (distinct-same old new x.stays.hasher x.stays.amount x.lawful)
 
     -- a shard's pairs are those of the map on it
     pub each-there : (a : AloneState K V S) (i : ℕ) (s : ShardState K V S) → IsAlone h a → slice_get a.row i ≡ Some s
-        → EachOnce (keys_in h a) (on (keys_in h a) i (contents a)) (pairs s)
+        → EachOnce h.eq (on (keys_in h a) i (contents a)) (pairs s)
     each-there a i s lawful here =
         let w = keys_in h a in
         let shard : IsOnShard w i (pairs s) = subst (λ n. IsOnShard w n (pairs s)) (omega arith) (on-shards h a.hasher a.row lawful i s here) in
@@ -158,7 +158,7 @@ module _ {K V S : Type 0} (h : KeyHash K S) (k : K → K → Bool) (v : V → V 
         (λ j at_i. at-union w a.row j s (on-shards h a.hasher a.row lawful) (ap (slice_get a.row) at_i ∙ here))
 
     -- Shard i was swept by calls that did alike what the action f makes.
-    module _ (a : AloneState K V S) (i : ℕ) (s t : ShardState K V S) (lawful : IsAlone h a) (here : slice_get a.row i ≡ Some s) {F : Type 0} {T : F → K → V → Bool → V → F → Type 0} {x : F} (r : Retains h T x s t) where
+    module _ (a : AloneState K V S) (i : ℕ) (s t : ShardState K V S) (lawful : IsAlone h a) (here : slice_get a.row i ≡ Some s) {F : Type 0} {T : F → K → V → Bool → V → F → Type 0} {x : F} (r : SweepsBy T h.eq x s t (table.Retain s.number)) (new : IsShard h t) where
       abbrev w : Keys K
       w = keys_in h a
 
@@ -166,33 +166,32 @@ module _ {K V S : Type 0} (h : KeyHash K S) (k : K → K → Bool) (v : V → V 
       row' = slice_set a.row i t
 
       pub alone-after : IsAlone h (record { hasher = a.hasher; row = row' })
-      alone-after = alone-set h a.hasher i a.row s t lawful here r.taken.stays r.taken.lawful
+      alone-after = alone-set h a.hasher i a.row s t lawful here r.does.taken.stays new
 
       on' : OnShards w 0 row'
       on' = subst (λ n. OnShards (keys h.eq (route_by h a.hasher n) n) 0 row') (length-set a.row i t) (on-shards h a.hasher row' alone-after)
 
-      stood : (j : K) → w.route j ≡ i → at w (contents a) j ≡ at w (pairs s) j
+      stood : (j : K) → w.route j ≡ i → at w.eq (contents a) j ≡ at w.eq (pairs s) j
       stood j same = at-union w a.row j s (on-shards h a.hasher a.row lawful) (ap (slice_get a.row) same ∙ here)
 
-      stands : (j : K) → w.route j ≡ i → at w (flat_map pairs row') j ≡ at w (pairs t) j
+      stands : (j : K) → w.route j ≡ i → at w.eq (flat_map pairs row') j ≡ at w.eq (pairs t) j
       stands j same = at-union w row' j t on' (ap (slice_get row') same ∙ slice_get-set_same a.row i t (slice_get_within a.row i s here))
 
-      stays : (j : K) → w.route j ≢ i → at w (flat_map pairs row') j ≡ at w (contents a) j
+      stays : (j : K) → w.route j ≢ i → at w.eq (flat_map pairs row') j ≡ at w.eq (contents a) j
       stays j other =
           let u = get_or row' (w.route j) t in
           let there : slice_get row' (w.route j) ≡ Some u = slice_get-get_or row' (w.route j) t (omega (arith, length-set a.row i t, route_below (h.hash a.hasher j) (length a.row) (omega (arith, lawful.amount.several)))) in
           at-union w row' j u on' there ∙ sym (at-union w a.row j u (on-shards h a.hasher a.row lawful) (slice_get-set_other a.row i (w.route j) t u other there))
 
       -- what the calls made of the shard
-      became : (j : K) → at w (pairs t) j ≡ table.after w (table.Retain i r.act) j (at w (pairs s) j)
-      became = subst (λ n. (j : K) → at w (pairs t) j ≡ table.after w (table.Retain n r.act) j (at w (pairs s) j)) (lawful.placed i s here).number
-          (subst (λ u. (j : K) → at u (pairs t) j ≡ table.after u (table.Retain s.number r.act) j (at u (pairs s) j)) (keys-same h a.hasher (length a.row) i s (lawful.placed i s here)) r.taken.becomes)
+      became : (j : K) → at h.eq (pairs t) j ≡ option_and_then (λ p. table.if_yes r.act p (table.changed r.act p)) (at h.eq (pairs s) j)
+      became j = r.does.taken.table.becomes j ∙ rw (eq-eqb s.number s.number refl) refl
 
       module _ (f : table.Act K V) (did : (j : K) (u : V) (yes : Bool) (new : V) (y : F) → T x j u yes new y → IsTrue (v (f j u).0 new) × (yes ≡ (f j u).1) × (y ≡ x)) where
-        each-key : (j : K) → AlikeAt (rules_in h k v a) (table.after w (table.Retain i f) j (at w (contents a) j)) (at w (flat_map pairs row') j)
-        each-key j = elim (cases_eq (w.route j) i) as (λ _. AlikeAt (rules_in h k v a) (table.after w (table.Retain i f) j (at w (contents a) j)) (at w (flat_map pairs row') j)) [
-          | inl same ↦ rw (eq-eqb (w.route j) i same, stood j same, stands j same ∙ became j, eq-eqb (w.route j) i same) (called-alike (rules_in h k v a) (laws-in a) T f r.act x did (pairs s) r.last r.called j)
-          | inr other ↦ rw (ne_eqb (w.route j) i other, stays j other) ((at_laws (rules_in h k v a) (laws-in a)).refl (at w (contents a) j))
+        each-key : (j : K) → AlikeAt (rules_in h k v a) (table.after w (table.Retain i f) j (at w.eq (contents a) j)) (at w.eq (flat_map pairs row') j)
+        each-key j = elim (cases_eq (w.route j) i) as (λ _. AlikeAt (rules_in h k v a) (table.after w (table.Retain i f) j (at w.eq (contents a) j)) (at w.eq (flat_map pairs row') j)) [
+          | inl same ↦ rw (eq-eqb (w.route j) i same, stood j same, stands j same ∙ became j) (called-alike (rules_in h k v a) (laws-in a) T f r.act x did (pairs s) r.last r.called j)
+          | inr other ↦ rw (ne_eqb (w.route j) i other, stays j other) ((at_laws (rules_in h k v a) (laws-in a)).refl (at w.eq (contents a) j))
         ]
 
         pub takes-sweep : Takes (rules_in h k v a) (contents a) (table.Retain i f) table.Done (flat_map pairs row')

@@ -10,15 +10,13 @@ use Rattle.std.specs.Map.Iter.{deref_pair}
 use Rattle.crossbeam_utils.specs.declared.cache_padded.CachePadded.{CachePadded}
 use Rattle.crossbeam_utils.specs.Padded.{padded_value}
 use Rattle.dash_shard.specs.Hashing.{KeyHash, IsAmount, route_by}
-use Rattle.dash_shard.specs.Contents.{Keys, at}
-use Rattle.dash_shard.specs.Steps.{Act}
+use Rattle.dash_shard.specs.Contents.{at}
 use Rattle.dash_shard.specs.Held.{FitsPlace}
-use Rattle.dash_shard.specs.Shard.{ShardState, Routes, pairs, shard_len}
+use Rattle.dash_shard.specs.Shard.{ShardState, SameShard, Routes, IsShard, IsPlaced, pairs, shard_len}
 use Rattle.dash_shard.specs.declared.shard.held.ShardTag.{ShardTag}
-use Rattle.dash_map.specs.Alone.{IsPlaced}
-use Rattle.dash_map.specs.Behind.{Asked, Changed, IsBehind}
+use Rattle.dash_map.specs.Behind.{IsBehind, StandsAt, LeavesShard}
 use Rattle.dash_map.specs.Map.{MapState, IsMap}
-use Rattle.dash_map.proofs.Lifting.{keys-same}
+use Rattle.dash_map.proofs.Lifting.{keys-same, placed-moved}
 use Rattle.dash_map.proofs.Found.{at-key}
 use Rattle.dash_map.proofs.Moves.{placed-held}
 
@@ -51,6 +49,13 @@ module _ {K V S : Type 0} (h : KeyHash K S) where
   pub routes : (base : S) (n : ℕ) (k : K) (s : ShardState K V S) → IsPlaced h base n (route_by h base n k) s → Routes h s k
   routes base n k s p = ap (λ x. x.route k) (keys-same h base n _ s p) ∙ sym p.number
 
+  -- what a hold of the key's shard found there and left
+  pub left-behind : (m : MapState S) (k : K) (i : ℕ) → i ≡ route_by h m.hasher m.amount k → (s t : ShardState K V S) → IsPlaced h m.hasher m.amount i s → SameShard s t → IsShard h t
+      → (R : ShardState K V S → ShardState K V S → Type 0) → R s t → LeavesShard h m k R
+  left-behind m k i route s t placed stays new R did =
+      let here : StandsAt h m k s = subst (λ n. IsPlaced h m.hasher m.amount n s) route placed in
+      (s, t, here, placed-moved h m.hasher m.amount _ s t here stays new, did)
+
   -- the shards in front of n, each as it stood when it was held
   pub record SoFar (m : MapState S) (n : ℕ) (row : List (ShardState K V S)) : Type 0 where
     pub count : length row ≡ n
@@ -80,23 +85,13 @@ module _ {K V S : Type 0} (h : KeyHash K S) where
         };
       }
 
--- a removal that was asked first, through what the step table replies
-pub asked : {K V : Type 0} (answers : K × V → Bool → Type 0) (o r : Option (K × V)) (answer : Bool) → r ≡ option_and_then (λ p. cond answer (Some p) None) o → IfSome o (λ p. answers p answer) → Asked answers o r
-asked answers None r answer e said = e
-asked answers (Some p) r true e said = subst (λ x. Asked answers (Some p) x) (sym e) (refl, said)
-asked answers (Some p) r false e said = subst (λ x. Asked answers (Some p) x) (sym e) said
-
-pub changed : {K V : Type 0} (changes : K × V → V × Bool → Type 0) (act : Act K V) (o r : Option (K × V)) → r ≡ option_and_then (λ p. cond (act p.0 p.1).1 (Some (p.0, (act p.0 p.1).0)) None) o → IfSome o (λ p. changes p (act p.0 p.1)) → Changed changes o r
-changed changes act None r e said = e
-changed changes act (Some p) r e said = (act p.0 p.1, said, e)
-
 -- what holds of each pair with an equal key holds of the one that stands at it
-pub at-each : {K V : Type 0} (w : Keys K) (ps : List (K × V)) (k : K) (P : K × V → Type 0) → ((p : K × V) → IsTrue (w.eq p.0 k) → P p) → IfSome (at w ps k) P
-at-each {K} {V} w ps k P each = from (at w ps k) refl
+pub at-each : {K V : Type 0} (eq : K → K → Bool) (ps : List (K × V)) (k : K) (P : K × V → Type 0) → ((p : K × V) → IsTrue (eq p.0 k) → P p) → IfSome (at eq ps k) P
+at-each {K} {V} eq ps k P each = from (at eq ps k) refl
   where
-    from : (o : Option (K × V)) → at w ps k ≡ o → IfSome o P
+    from : (o : Option (K × V)) → at eq ps k ≡ o → IfSome o P
     from None e = tt
-    from (Some p) e = each p (at-key w ps k p e)
+    from (Some p) e = each p (at-key eq ps k p e)
 
 pub shown : {K V : Type 0} (o : Option (Bor K × Bor V)) → is_some o ≡ is_some (option_map deref_pair o)
 shown None = refl

@@ -1,6 +1,6 @@
 -- A closure that is called along the shards of a map, one after the other.
 use Rattle.std.proofs.Common.{◌≡◌, ℕ, suc, ◌+◌, ◌≤◌, Bool, List, [], ◌∷◌, ◌++◌, length, Option, Some, None, slice_get, slice_set, flat_map, sym, ap, subst, refl, ◌∙◌, arith, append_assoc, append-nil}
-use Rattle.std.specs.Prelude.{option_and_then, option_map}
+use Rattle.std.specs.Prelude.{option_and_then}
 use Rattle.std.specs.Cmp.{IsEquivalence}
 use Rattle.std.specs.Map.Calls.{CallableOnEachPair}
 use Rattle.std.proofs.Math.ListN.{take, drop}
@@ -9,8 +9,7 @@ use Rattle.std.proofs.lemmas.Grind.{flat_map-append}
 use Rattle.std.proofs.lemmas.List.{take_more, take_more_set, drop-set-lt}
 use Rattle.std.proofs.lemmas.Option.{slice_get_within, get_or_from_slice_get}
 use Rattle.dash_shard.specs.Contents.{Keys, at, Distinct}
-use Rattle.dash_shard.specs.Steps.{changed}
-use Rattle.dash_shard.specs.Shard.{ShardState, taken, pairs}
+use Rattle.dash_shard.specs.Shard.{ShardState, IsShard, taken, pairs}
 use Rattle.dash_shard.specs.Each.{CalledAlong, Sweeps, SweepsShard, if_kept, altered}
 use Rattle.dash_shard.proofs.Alls.{kept-key, altered-key, length-altered}
 use Rattle.dash_shard.proofs.Remade.{KeepsKey, remade, at-remade, fewer-remade, Acts, acts, makes}
@@ -84,14 +83,14 @@ module _ {K V S F : Type 0} (h : KeyHash K S)
     sweeping-ready = callable-front T leaves Q f (pairs s) (flat_map pairs (drop (i + 1) row)) ready-both
 
     -- and was
-    pub sweeping-next : (t : ShardState K V S) (f' : F) → SweepsShard h T leaves f f' s t → Sweeping (i + 1) old (record { hasher = base; row = slice_set row i t }) f'
-    sweeping-next t f' x =
+    pub sweeping-next : (t : ShardState K V S) (f' : F) → SweepsShard T leaves f f' s t → IsShard h t → Sweeping (i + 1) old (record { hasher = base; row = slice_set row i t }) f'
+    sweeping-next t f' x lawful =
         let lt = slice_get_within row i s here in
         let was : slice_get old.row i ≡ Some s = r.turning.rest i s (omega arith) here in
         let before : take (i + 1) old.row ≡ take i old.row ++ s ∷ [] = take_more old.row i s (slice_get_within old.row i s was) ∙ ap (λ y. take i old.row ++ y ∷ []) (get_or_from_slice_get old.row i s s was) in
         let after : take (i + 1) (slice_set row i t) ≡ take i row ++ t ∷ [] = take_more_set row i t lt in
         record {
-          turning = turned h SameRoom i old base row r.turning s t here x.stays x.lawful x.room;
+          turning = turned h SameRoom i old base row r.turning s t here x.stays lawful x.room;
           swept = subst (λ l. Sweeps T leaves first l (places_of (take (i + 1) (slice_set row i t))) f') (sym (ap places_of before ∙ places-more (take i old.row) s))
               (subst (λ l. Sweeps T leaves first (places_of (take i old.row) ++ s.places) l f') (sym (ap places_of after ∙ places-more (take i row) t))
               (sweeps-append T leaves first f f' (places_of (take i old.row)) (places_of (take i row)) s.places t.places r.swept x.swept));
@@ -110,8 +109,8 @@ module _ {K V S F : Type 0} (h : KeyHash K S)
         let none-left : take i now.row ≡ now.row = ap (λ n. take n now.row) all ∙ take-length now.row in
         subst (λ l. Sweeps T leaves first (places_of l) (places_of now.row) last) none-more (subst (λ l. Sweeps T leaves first (places_of (take i old.row)) (places_of l) last) none-left r.swept)
 
-    distinct : Distinct w (taken (places_of old.row))
-    distinct = subst (Distinct w) (sym (taken-places old.row)) (distinct-contents h laws old a)
+    distinct : Distinct w.eq (taken (places_of old.row))
+    distinct = subst (Distinct w.eq) (sym (taken-places old.row)) (distinct-contents h laws old a)
 
     pub did : Acts T leaves w laws first (places_of old.row) (places_of now.row) last
     did = acts T leaves w laws first (places_of old.row) (places_of now.row) last distinct whole
@@ -123,43 +122,43 @@ module _ {K V S F : Type 0} (h : KeyHash K S)
     pub made-all : contents now ≡ taken (remade (makes T leaves w laws did.act) (places_of old.row))
     made-all = sym (taken-places now.row) ∙ ap taken did.made
 
-    pub each-made : KeepsKey (makes T leaves w laws did.act) → (j : K) → at w (contents now) j ≡ option_and_then (makes T leaves w laws did.act) (at w (contents old) j)
-    each-made keeps j = ap (λ ps. at w ps j) made-all ∙ at-remade (makes T leaves w laws did.act) keeps w laws (places_of old.row) distinct j
-        ∙ ap (λ ps. option_and_then (makes T leaves w laws did.act) (at w ps j)) (taken-places old.row)
-
-map-then : {A B : Type 0} (g : A → B) (o : Option A) → option_and_then (λ x. Some (g x)) o ≡ option_map g o
-map-then g None = refl
-map-then g (Some x) = refl
+    pub each-made : KeepsKey (makes T leaves w laws did.act) → (j : K) → at w.eq (contents now) j ≡ option_and_then (makes T leaves w laws did.act) (at w.eq (contents old) j)
+    each-made keeps j = ap (λ ps. at w.eq ps j) made-all ∙ at-remade (makes T leaves w laws did.act) keeps w laws (places_of old.row) distinct j
+        ∙ ap (λ ps. option_and_then (makes T leaves w laws did.act) (at w.eq ps j)) (taken-places old.row)
 
 module _ {K V S F : Type 0} (h : KeyHash K S)
     (T : F → K → V → Bool → V → F → Type 0) (Q : F → K → V → Type 0) (first : F) (laws : IsEquivalence h.eq) (i : ℕ) (old now : AloneState K V S) (last : F) (a : IsAlone h old) (all : i ≡ length now.row) where
-  pub retains-alone : Sweeping h T Q if_kept first i old now last → RetainsAlone h T first old now
+  pub retains-alone : Sweeping h T Q if_kept first i old now last → RetainsAlone h.eq T first old now
   retains-alone r =
       let d = did h T Q if_kept first laws i old now last a r all in
       record {
-        act = d.act;
-        last = last;
-        called = called-all h T Q if_kept first laws i old now last a r all;
-        each = each-made h T Q if_kept first laws i old now last a r all (kept-key d.act);
+        did = record {
+          act = d.act;
+          last = last;
+          called = called-all h T Q if_kept first laws i old now last a r all;
+          does = record {
+            each = each-made h T Q if_kept first laws i old now last a r all (kept-key d.act);
+            room = each-turned h SameRoom i old now r.turning all;
+            stays = record { hasher = r.turning.hasher; amount = r.turning.amount };
+          };
+        };
         len = subst (λ n. length (contents now) ≤ n) (ap length (taken-places old.row))
             (subst (λ ps. length ps ≤ length (taken (places_of old.row))) (sym (made-all h T Q if_kept first laws i old now last a r all)) (fewer-remade (makes T if_kept (keys_in h old) laws d.act) (places_of old.row)));
-        room = each-turned h SameRoom i old now r.turning all;
-        hasher = r.turning.hasher;
-        amount = r.turning.amount;
-        lawful = r.turning.lawful;
       }
 
-  pub alters-all-alone : Sweeping h T Q altered first i old now last → AltersAllAlone h T first old now
+  pub alters-all-alone : Sweeping h T Q altered first i old now last → AltersAllAlone h.eq T first old now
   alters-all-alone r =
       let d = did h T Q altered first laws i old now last a r all in
       record {
-        act = d.act;
-        last = last;
-        called = called-all h T Q altered first laws i old now last a r all;
-        each = λ j. each-made h T Q altered first laws i old now last a r all (altered-key d.act) j ∙ map-then (changed d.act) (at (keys_in h old) (contents old) j);
+        did = record {
+          act = d.act;
+          last = last;
+          called = called-all h T Q altered first laws i old now last a r all;
+          does = record {
+            each = each-made h T Q altered first laws i old now last a r all (altered-key d.act);
+            room = each-turned h SameRoom i old now r.turning all;
+            stays = record { hasher = r.turning.hasher; amount = r.turning.amount };
+          };
+        };
         len = ap length (made-all h T Q altered first laws i old now last a r all) ∙ length-altered d.act (places_of old.row) ∙ ap length (taken-places old.row);
-        room = each-turned h SameRoom i old now r.turning all;
-        hasher = r.turning.hasher;
-        amount = r.turning.amount;
-        lawful = r.turning.lawful;
       }

@@ -80,37 +80,33 @@ module _ {K V S : Type 0} (h : KeyHash K S) where
     pub each-turned : (i : ℕ) (old now : AloneState K V S) → Turning i old now → i ≡ length now.row → EachShard R old now
     each-turned i old now r all j s t e f = r.done j s t (omega (arith, all, slice_get_within now.row j t f)) e f
 
-  pub clears-alone : (i : ℕ) (old now : AloneState K V S) → Turning (Clears h) i old now → i ≡ length now.row → ClearsAlone h old now
+  pub clears-alone : (i : ℕ) (old now : AloneState K V S) → Turning Clears i old now → i ≡ length now.row → ClearsAlone old now
   clears-alone i old now r all =
-      let each = each-turned (Clears h) i old now r all in
+      let each = each-turned Clears i old now r all in
       record {
         empty = none-there now.row (λ j t f. (each j (get_or old.row j t) t (slice_get-get_or old.row j t (omega (arith, slice_get_within now.row j t f, r.amount))) f).empty);
         room = λ j s t e f. (each j s t e f).room;
-        hasher = r.hasher;
-        amount = r.amount;
-        lawful = r.lawful;
+        stays = record { hasher = r.hasher; amount = r.amount };
       }
 
-  pub shrinks-alone : IsEquivalence h.eq → (i : ℕ) (old now : AloneState K V S) → IsAlone h old → Turning (Shrinks h) i old now → i ≡ length now.row → ShrinksAlone h old now
+  pub shrinks-alone : IsEquivalence h.eq → (i : ℕ) (old now : AloneState K V S) → IsAlone h old → Turning (Shrinks h.eq) i old now → i ≡ length now.row → ShrinksAlone h.eq old now
   shrinks-alone laws i old now a r all =
-      let each = each-turned (Shrinks h) i old now r all in
+      let each = each-turned (Shrinks h.eq) i old now r all in
       let w : Keys K = keys_in h old in
       let known : keys_in h now ≡ w = known-same old now r.hasher r.amount in
       let on : OnShards w 0 old.row = on-shards h old.hasher old.row a in
       let on' : OnShards w 0 now.row = subst (λ x. OnShards x 0 now.row) known (on-shards h now.hasher now.row r.lawful) in
       record {
         pairs = record {
-          distinct = subst (λ x. Distinct x (contents now)) known (distinct-contents h laws now r.lawful);
+          distinct = distinct-contents h laws now r.lawful;
           same = λ k. same-there k on on' each;
         };
         len = as-many old.row now.row r.amount (λ j s t e f. (each j s t e f).len);
         shards = each;
-        hasher = r.hasher;
-        amount = r.amount;
-        lawful = r.lawful;
+        stays = record { hasher = r.hasher; amount = r.amount };
       }
     where
-      same-there : (k : K) → OnShards (keys_in h old) 0 old.row → OnShards (keys_in h old) 0 now.row → EachShard (Shrinks h) old now → at (keys_in h old) (contents now) k ≡ at (keys_in h old) (contents old) k
+      same-there : (k : K) → OnShards (keys_in h old) 0 old.row → OnShards (keys_in h old) 0 now.row → EachShard (Shrinks h.eq) old now → at h.eq (contents now) k ≡ at h.eq (contents old) k
       same-there k on on' each =
           let w : Keys K = keys_in h old in
           let below : w.route k < length old.row = route_below (h.hash old.hasher k) (length old.row) (omega (arith, a.amount.several)) in

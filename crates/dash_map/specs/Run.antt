@@ -1,9 +1,9 @@
 -- A run: a list of steps, taken one after the other on a map of one owner, up to the first that is refused.
-use Rattle.std.specs.Prelude.{◌≡◌, ◌≤◌, ◌↔◌, Bool, List, [], ◌∷◌, ◌++◌, map, IfSome, ⊤}
+use Rattle.std.specs.Prelude.{◌≡◌, ◌≤◌, ◌↔◌, Bool, List, [], ◌∷◌, ◌++◌, length, map, IfSome, ⊤}
 use Rattle.std.specs.Option.{option_map_or}
 use Rattle.dash_shard.specs.Steps as table
 use Rattle.dash_history.specs.Steps.{step_of, reply_of}
-use Rattle.dash_history.specs.Takes.{Rules, rules, Runs}
+use Rattle.dash_history.specs.Takes.{Rules, rules, Takes, Runs}
 use Rattle.dash_history.specs.declared.step.ShardStep.{ShardStep}
 use Rattle.dash_history.specs.declared.step.ShardStep.TheVariants.{Get, Contains, Insert, Remove, Read, Count, AlterAll, Retain}
 use Rattle.dash_history.specs.declared.step.Reply.{Reply}
@@ -54,10 +54,18 @@ module _ {K V A : Type 0} where
       pub taken : Runs m P (map (answered acts) front) Q
       pub stops : IfSome outcome.stopped (λ stop. IsRefused stop.0.items stop.1)
 
+-- the fault says that the map has no shard of the step's place, exactly where it has none
+abbrev pub IsMissing : {K V S : Type 0} → KeyHash K S → AloneState K V S → table.Step K V → Fault → Type 0
+IsMissing h a step fault = (fault ≡ NoSuchShard) ↔ (length a.row ≤ table.place (keys_in h a) step)
+
 module _ {K V S : Type 0} (h : KeyHash K S) (k : K → K → Bool) (v : V → V → Bool) where
   -- what the map knows of its keys and values
   abbrev pub rules_in : AloneState K V S → Rules K V
   rules_in a = rules k v (keys_in h a)
+
+  -- from old the step may get this reply, and leaves new, up to alike
+  abbrev pub TakesLike : AloneState K V S → AloneState K V S → table.Step K V → Reply K V → Type 0
+  TakesLike old new step reply = Takes (rules_in old) (contents old) step (reply_of reply) (contents new)
 
   -- the run was one on shards that stood behind the locks of this map, and what it left stands there
   pub record RanBehind {A : Type 0} (acts : A → table.Act K V) (m : MapState S) (steps : List (ShardStep K V A)) (outcome : RunOutcome K V A) : Type 0 where

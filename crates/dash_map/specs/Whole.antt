@@ -1,11 +1,10 @@
 -- What calls on all pairs of a map of one owner do and promise.
-use Rattle.std.specs.Prelude.{ℕ, ◌≡◌, ◌≤◌, Bool, [], length, Some, slice_get, option_map, option_and_then}
+use Rattle.std.specs.Prelude.{ℕ, ◌≡◌, ◌≤◌, Bool, [], length, Option, Some, slice_get, option_and_then}
 use Rattle.dash_shard.specs.Contents.{at, EachOnce}
 use Rattle.dash_shard.specs.Steps.{Act, changed, if_yes}
 use Rattle.dash_shard.specs.Shard.{ShardState}
-use Rattle.dash_shard.specs.Each.{CalledAlong, Shrinks}
-use Rattle.dash_map.specs.Alone.{AloneState, IsAlone, contents, keys_in}
-use Rattle.dash_shard.specs.Hashing.{KeyHash}
+use Rattle.dash_shard.specs.Each.{ByCalls, Shrinks}
+use Rattle.dash_map.specs.Alone.{AloneState, SameMap, contents}
 
 module _ {K V S : Type 0} where
   -- each shard is to the one that stood in its place what R says
@@ -16,44 +15,33 @@ module _ {K V S : Type 0} where
   abbrev pub SameRoom : ShardState K V S → ShardState K V S → Type 0
   SameRoom s t = t.capacity ≡ s.capacity
 
-module _ {K V S : Type 0} (h : KeyHash K S) where
   -- all that `clear` promises: no pair stays
   pub record ClearsAlone (old new : AloneState K V S) : Type 0 where
     pub empty : contents new ≡ []
     pub room : EachShard SameRoom old new
-    pub hasher : new.hasher ≡ old.hasher
-    pub amount : length new.row ≡ length old.row
-    pub lawful : IsAlone h new
+    pub stays : SameMap old new
 
-  -- all that `shrink_to_fit` promises: the pairs stay, and each shard was shrunk
-  pub record ShrinksAlone (old new : AloneState K V S) : Type 0 where
-    pub pairs : EachOnce (keys_in h old) (contents old) (contents new)
-    pub len : length (contents new) ≡ length (contents old)
-    pub shards : EachShard (Shrinks h) old new
-    pub hasher : new.hasher ≡ old.hasher
-    pub amount : length new.row ≡ length old.row
-    pub lawful : IsAlone h new
+  module _ (eq : K → K → Bool) where
+    -- all that `shrink_to_fit` promises: the pairs stay, and each shard was shrunk
+    pub record ShrinksAlone (old new : AloneState K V S) : Type 0 where
+      pub pairs : EachOnce eq (contents old) (contents new)
+      pub len : length (contents new) ≡ length (contents old)
+      pub shards : EachShard (Shrinks eq) old new
+      pub stays : SameMap old new
 
-  -- all that `retain` promises: a pair stays, with its new value, where the action, which is what f did, answers yes
-  pub record RetainsAlone {F : Type 0} (T : F → K → V → Bool → V → F → Type 0) (f : F) (old new : AloneState K V S) : Type 0 where
-    pub act : Act K V
-    pub last : F
-    pub called : CalledAlong T act f (contents old) last
-    pub each : (j : K) → at (keys_in h old) (contents new) j ≡ option_and_then (λ p. if_yes act p (changed act p)) (at (keys_in h old) (contents old) j)
-    pub len : length (contents new) ≤ length (contents old)
-    pub room : EachShard SameRoom old new
-    pub hasher : new.hasher ≡ old.hasher
-    pub amount : length new.row ≡ length old.row
-    pub lawful : IsAlone h new
+    -- each pair becomes what is said here, or goes
+    pub record Remakes (becomes : K × V → Option (K × V)) (old new : AloneState K V S) : Type 0 where
+      pub each : (j : K) → at eq (contents new) j ≡ option_and_then becomes (at eq (contents old) j)
+      pub room : EachShard SameRoom old new
+      pub stays : SameMap old new
 
-  -- all that `alter_all` promises: each pair stays, with the value that the action, which is what f did, makes of its own
-  pub record AltersAllAlone {F : Type 0} (T : F → K → V → Bool → V → F → Type 0) (f : F) (old new : AloneState K V S) : Type 0 where
-    pub act : Act K V
-    pub last : F
-    pub called : CalledAlong T act f (contents old) last
-    pub each : (j : K) → at (keys_in h old) (contents new) j ≡ option_map (changed act) (at (keys_in h old) (contents old) j)
-    pub len : length (contents new) ≡ length (contents old)
-    pub room : EachShard SameRoom old new
-    pub hasher : new.hasher ≡ old.hasher
-    pub amount : length new.row ≡ length old.row
-    pub lawful : IsAlone h new
+    module _ {F : Type 0} (T : F → K → V → Bool → V → F → Type 0) (f : F) where
+      -- all that `retain` promises: a pair stays, with its new value, where the action, which is what f did, answers yes
+      pub record RetainsAlone (old new : AloneState K V S) : Type 0 where
+        pub did : ByCalls T f (contents old) (λ act. Remakes (λ p. if_yes act p (changed act p)) old new)
+        pub len : length (contents new) ≤ length (contents old)
+
+      -- all that `alter_all` promises: each pair stays, with the value that the action, which is what f did, makes of its own
+      pub record AltersAllAlone (old new : AloneState K V S) : Type 0 where
+        pub did : ByCalls T f (contents old) (λ act. Remakes (λ p. Some (changed act p)) old new)
+        pub len : length (contents new) ≡ length (contents old)

@@ -2,15 +2,15 @@
 ghost use Rattle.std.specs.Prelude.{◌≡◌, ◌⊎◌, ℕ, ◌+◌, ◌-◌, ◌^◌, ◌<◌, ◌≤◌, ◌↔◌, min, IsErrOf, IfOk, IfErr, OnOk, Some, None, length, slice_get, OnErr, is_some, IsSomeAnd, IfSome, sum_by, ◌==◌};
 ghost use Rattle.crossbeam_utils.specs.Padded.{padded_value};
 ghost use Rattle.dash_shard.specs.Hashing.{by, IsAmount, HashAlike};
-ghost use Rattle.dash_shard.specs.Shard.{shard_len};
+ghost use Rattle.dash_shard.specs.Shard.{shard_len, IsPlaced};
 ghost use Rattle.dash_shard.specs.Held.{FitsPlace};
 ghost use Rattle.dash_map.specs.Amounts.{Overflows, share};
 ghost use Rattle.std.specs.Option.{option_map};
 ghost use Rattle.std.specs.Map.Iter.{deref_pair};
 ghost use Rattle.dash_shard.specs.Contents.{at};
-ghost use Rattle.dash_shard.specs.Steps.{Get, Contains, Insert, Remove, Pair, Found, Old, Replies};
-ghost use Rattle.dash_shard.specs.Closures.{MayAsk, AnswersOn, Viewed};
-ghost use Rattle.dash_map.specs.Alone.{IsAlone, IsPlaced, ReservesAlone, TakesAlone, TakesAsked, contents, keys_in};
+ghost use Rattle.dash_shard.specs.Steps.{Get, Contains, Insert, Remove, Pair, Found, Old, RemoveIf};
+ghost use Rattle.dash_shard.specs.Closures.{MayAsk, Viewed, Answered};
+ghost use Rattle.dash_map.specs.Alone.{IsAlone, ReservesAlone, TakesAlone, contents, keys_in, RepliesAlone, TakesAloneBy};
 ghost use Rattle.dash_map.specs.Map.{IsAt};
 
 use crate::map::{DashMap, Locked};
@@ -146,7 +146,7 @@ impl<K: Eq + Hash + Drop, V: Drop, S: BuildHasher> Alone<K, V, S> {
     pub fn insert(&mut self, key: K, value: V) -> Result<Option<V>, InsertRefused<K, V>>
         ensures taken { IfOk result (λ old. TakesAlone ⟦<Self as Keyed>⟧.by self.old self.new (Insert key value) (Old old)) }
         ensures refused { IfErr result (λ e. (e.key ≡ key) × (e.value ≡ value) × (self.new ≡ self.old)) }
-        ensures absent { OnErr result (at (keys_in ⟦<Self as Keyed>⟧.by self.old) (contents self.old) key ≡ None) }
+        ensures absent { OnErr result (at K.eq (contents self.old) key ≡ None) }
         ensures full { OnErr result (IsSomeAnd (slice_get self.old.row ((keys_in ⟦<Self as Keyed>⟧.by self.old).route key)) (λ s. shard_len s ≡ s.capacity)) }
     {
         let (hash, place) = self.place_of(&key);
@@ -177,8 +177,8 @@ impl<K: Eq + Hash + Drop, V: Drop, S: BuildHasher> Alone<K, V, S> {
     /// Takes the pair whose key equals `key` out if `f` answers yes on it, and answers it. It takes no memory, and can't be refused.
     #[inline]
     pub fn remove_if<F: FnOnce(&K, &V) -> bool>(&mut self, key: &K, f: F) -> Option<(K, V)>
-        requires { IfSome (at (keys_in ⟦<Self as Keyed>⟧.by self.old) (contents self.old) key.now) (MayAsk F.FnOnce f) }
-        ensures { TakesAsked ⟦<Self as Keyed>⟧.by (AnswersOn F.FnOnce f) self.old self.new key.now result }
+        requires { IfSome (at K.eq (contents self.old) key.now) (MayAsk F.FnOnce f) }
+        ensures { TakesAloneBy ⟦<Self as Keyed>⟧.by self.old self.new RemoveIf key.now (Pair result) (Answered F.FnOnce f) }
     {
         let (hash, place) = self.place_of(key);
         self.row[place].remove_if_hashed(hash, key, f)
@@ -187,7 +187,7 @@ impl<K: Eq + Hash + Drop, V: Drop, S: BuildHasher> Alone<K, V, S> {
     /// The pair whose key equals `key`.
     #[inline]
     pub fn get(&self, key: &K) -> Option<(&K, &V)>
-        ensures pair { Replies (keys_in ⟦<Self as Keyed>⟧.by self.now) (Get key.now) (contents self.now) (Pair (option_map deref_pair result)) }
+        ensures pair { RepliesAlone ⟦<Self as Keyed>⟧.by self.now (Get key.now) (Pair (option_map deref_pair result)) }
         ensures lawful { IsAlone ⟦<Self as Keyed>⟧.by self.now }
     {
         let (hash, place) = self.place_of(key);
@@ -200,7 +200,7 @@ impl<K: Eq + Hash + Drop, V: Drop, S: BuildHasher> Alone<K, V, S> {
         requires hash { hash ≡ ⟦<Self as Keyed>⟧.by.hash self.now.hasher key.now }
         requires place { place ≡ (keys_in ⟦<Self as Keyed>⟧.by self.now).route key.now }
         requires below { place < length self.now.row }
-        ensures pair { Replies (keys_in ⟦<Self as Keyed>⟧.by self.now) (Get key.now) (contents self.now) (Pair (option_map deref_pair result)) }
+        ensures pair { RepliesAlone ⟦<Self as Keyed>⟧.by self.now (Get key.now) (Pair (option_map deref_pair result)) }
         ensures lawful { IsAlone ⟦<Self as Keyed>⟧.by self.now }
     {
         let _ = &self.hasher;
@@ -212,7 +212,7 @@ impl<K: Eq + Hash + Drop, V: Drop, S: BuildHasher> Alone<K, V, S> {
     /// Whether there is a pair whose key equals `key`.
     #[inline]
     pub fn contains_key(&self, key: &K) -> bool
-        ensures found { Replies (keys_in ⟦<Self as Keyed>⟧.by self.now) (Contains key.now) (contents self.now) (Found result) }
+        ensures found { RepliesAlone ⟦<Self as Keyed>⟧.by self.now (Contains key.now) (Found result) }
         ensures lawful { IsAlone ⟦<Self as Keyed>⟧.by self.now }
     {
         self.get(key).is_some()
@@ -221,8 +221,8 @@ impl<K: Eq + Hash + Drop, V: Drop, S: BuildHasher> Alone<K, V, S> {
     /// What `f` answers on the pair whose key equals `key`.
     #[inline]
     pub fn view<R, F: FnOnce(&K, &V) -> R>(&self, key: &K, f: F) -> Option<R>
-        requires { IfSome (at (keys_in ⟦<Self as Keyed>⟧.by self.now) (contents self.now) key.now) (MayAsk F.FnOnce f) }
-        ensures viewed { Viewed F.FnOnce f (at (keys_in ⟦<Self as Keyed>⟧.by self.now) (contents self.now) key.now) result }
+        requires { IfSome (at K.eq (contents self.now) key.now) (MayAsk F.FnOnce f) }
+        ensures viewed { Viewed F.FnOnce f (at K.eq (contents self.now) key.now) result }
         ensures lawful { IsAlone ⟦<Self as Keyed>⟧.by self.now }
     {
         let (key, value) = self.get(key)?;
@@ -268,7 +268,8 @@ impl<K: Eq + Hash + Drop, V: Drop, S: BuildHasher> Alone<K, V, S> {
     ///
     /// It asks the shards in their order, and is refused (11) at the first that finds no memory: those before it keep their room.
     pub fn try_reserve(&mut self, additional: usize) -> Result<(), TryReserveError>
-        ensures { ReservesAlone ⟦<Self as Keyed>⟧.by additional self.old self.new result }
+        ensures reserves { ReservesAlone additional self.old self.new result }
+        ensures lawful { IsAlone ⟦<Self as Keyed>⟧.by self.new }
     {
         let _ = &self.hasher;
         for place in 0..self.row.len() {

@@ -2,14 +2,15 @@
 ghost use Rattle.std.specs.Prelude.{◌≡◌, ◌<◌, ◌==◌, ◌-◌, ◌^◌, min, length, sum_by, Option, IsTrue, IfSome, IfErr, is_some};
 ghost use Rattle.std.specs.Option.{option_map};
 ghost use Rattle.std.specs.Map.Iter.{deref_pair};
-ghost use Rattle.dash_shard.specs.Closures.{MayAsk, AnswersOn, Viewed, MayChange, ChangesOn, MayGive, GivesOn};
+ghost use Rattle.dash_shard.specs.Closures.{MayAsk, Viewed, MayChange, ChangesOn, MayGive, Answered, Given};
 ghost use Rattle.dash_shard.specs.Contents.{at};
-ghost use Rattle.dash_shard.specs.Shard.{keys_of, pairs, IsShard};
-ghost use Rattle.dash_shard.specs.Held.{Alters};
-ghost use Rattle.dash_map.specs.Behind.{Asked, Changed, ReservesBehind, SawPair, SawShards, LeavesShard};
+ghost use Rattle.dash_shard.specs.Shard.{pairs, IsShard, RepliesOn, TakesInPlace, TakesBy, IsPlaced, ShardState};
+ghost use Rattle.dash_map.specs.Behind.{SawShards, LeavesShard, SawShard, LeavesShards, StandsAt};
 ghost use Rattle.dash_shard.specs.Hashing.{route_by};
-ghost use Rattle.dash_map.specs.Alone.{AloneState, IsPlaced, contents};
-ghost use Rattle.dash_ref.specs.Ref.{Stands};
+ghost use Rattle.dash_map.specs.Alone.{AloneState, contents, ReservesAlone};
+ghost use Rattle.dash_ref.specs.Ref.{Stands, pair_of};
+ghost use Rattle.dash_shard.specs.Held.{Inserts};
+ghost use Rattle.dash_shard.specs.Steps.{Remove, RemoveIf, RemoveIfMut, Alter, Done, Pair, Found, Get, Contains};
 
 use crate::map::DashMap;
 use core::mem::replace_with;
@@ -32,7 +33,7 @@ fn find<'s, K: Eq + Hash, V, S: BuildHasher>(
     key: &K,
 ) -> Option<(&'s K, &'s V)>
     requires { hash ≡ ⟦<DashMap<K, V, S> as Keyed>⟧.by.hash shard.now.hasher key.now }
-    ensures pair { option_map deref_pair result ≡ at (keys_of ⟦<DashMap<K, V, S> as Keyed>⟧.by shard.now) (pairs shard.now) key.now }
+    ensures pair { option_map deref_pair result ≡ at K.eq (pairs shard.now) key.now }
     ensures equal { IfSome result (λ p. IsTrue (K.eq p.0.now key.now)) }
     ensures lawful { IsShard ⟦<DashMap<K, V, S> as Keyed>⟧.by shard.now }
 {
@@ -74,7 +75,7 @@ impl<K: Eq + Hash, V, S: BuildHasher> DashMap<K, V, S> {
     where
         K: Drop,
         V: Drop,
-        ensures refused { IfErr result (λ e. (e.key ≡ key) × (e.value ≡ value)) }
+        ensures { LeavesShard ⟦<Self as Keyed>⟧.by self.now key (λ s t. Inserts K.eq s t key value result) }
     {
         let (hash, place) = self.place_of(&key);
         self.shards_mut(rt, place).insert_hashed(hash, key, value)
@@ -84,6 +85,7 @@ impl<K: Eq + Hash, V, S: BuildHasher> DashMap<K, V, S> {
     #[inline]
     pub fn remove<R: Wait + Clock>(&self, rt: &R, key: &K) -> Option<(K, V)>
         ensures equal { IfSome result (λ pair. IsTrue (K.eq pair.0 key.now)) }
+        ensures leaves { LeavesShard ⟦<Self as Keyed>⟧.by self.now key.now (λ s t. TakesInPlace K.eq s t (Remove key.now) (Pair result)) }
     {
         let (hash, place) = self.place_of(key);
         self.shards_mut(rt, place).remove_hashed(hash, key)
@@ -94,9 +96,10 @@ impl<K: Eq + Hash, V, S: BuildHasher> DashMap<K, V, S> {
     /// Till the reference is dropped, whoever wants to write the shard waits, this thread too. It takes no memory.
     #[inline]
     pub fn get<R: Wait + Clock>(&self, rt: &R, key: &K) -> Option<Ref<'_, K, V, S>>
+        ensures saw { SawShard ⟦<Self as Keyed>⟧.by self.now key.now (λ s. RepliesOn K.eq s (Get key.now) (Pair (option_map pair_of result))) }
         ensures equal { IfSome result (λ found. IsTrue (K.eq found.key key.now)) }
         ensures stands { IfSome result Stands }
-        ensures placed { IfSome result (λ found. IsPlaced ⟦<Self as Keyed>⟧.by self.now.hasher self.now.amount (route_by ⟦<Self as Keyed>⟧.by self.now.hasher self.now.amount key.now) found.shard) }
+        ensures placed { IfSome result (λ found. StandsAt ⟦<Self as Keyed>⟧.by self.now key.now found.shard) }
     {
         let (hash, place) = self.place_of(key);
         Ref::find(self.row[place].read(rt), hash, key)
@@ -113,7 +116,7 @@ impl<K: Eq + Hash, V, S: BuildHasher> DashMap<K, V, S> {
         f: F,
     ) -> Option<(K, V)>
         requires { (p : K × V) → IsTrue (K.eq p.0 key.now) → MayAsk F.FnOnce f p }
-        ensures { SawPair ⟦<Self as Keyed>⟧.by self.now key.now (λ p. Asked (AnswersOn F.FnOnce f) p result) }
+        ensures { LeavesShard ⟦<Self as Keyed>⟧.by self.now key.now (λ s t. TakesBy K.eq s t RemoveIf key.now (Pair result) (Answered F.FnOnce f)) }
     {
         let (hash, place) = self.place_of(key);
         self.shards_mut(rt, place).remove_if_hashed(hash, key, f)
@@ -131,7 +134,7 @@ impl<K: Eq + Hash, V, S: BuildHasher> DashMap<K, V, S> {
         f: F,
     ) -> Option<(K, V)>
         requires { (p : K × V) → IsTrue (K.eq p.0 key.now) → MayChange F.FnOnce f p }
-        ensures { SawPair ⟦<Self as Keyed>⟧.by self.now key.now (λ p. Changed (ChangesOn F.FnOnce f) p result) }
+        ensures { LeavesShard ⟦<Self as Keyed>⟧.by self.now key.now (λ s t. TakesBy K.eq s t RemoveIfMut key.now (Pair result) (ChangesOn F.FnOnce f)) }
     {
         let (hash, place) = self.place_of(key);
         self.shards_mut(rt, place)
@@ -149,7 +152,7 @@ impl<K: Eq + Hash, V, S: BuildHasher> DashMap<K, V, S> {
         f: F,
     ) -> Option<T>
         requires { (p : K × V) → IsTrue (K.eq p.0 key.now) → MayAsk F.FnOnce f p }
-        ensures { SawPair ⟦<Self as Keyed>⟧.by self.now key.now (λ p. Viewed F.FnOnce f p result) }
+        ensures { SawShard ⟦<Self as Keyed>⟧.by self.now key.now (λ s. Viewed F.FnOnce f (at K.eq (pairs s) key.now) result) }
     {
         let (hash, place) = self.place_of(key);
         let guard = self.row[place].read(rt);
@@ -164,7 +167,7 @@ impl<K: Eq + Hash, V, S: BuildHasher> DashMap<K, V, S> {
     #[inline]
     pub fn alter<R: Wait + Clock, F: FnOnce(&K, V) -> V>(&self, rt: &R, key: &K, f: F)
         requires { (p : K × V) → IsTrue (K.eq p.0 key.now) → MayGive F.FnOnce f p }
-        ensures { LeavesShard ⟦<Self as Keyed>⟧.by self.now key.now (λ s t. Alters ⟦<Self as Keyed>⟧.by (GivesOn F.FnOnce f) s t key.now) }
+        ensures { LeavesShard ⟦<Self as Keyed>⟧.by self.now key.now (λ s t. TakesBy K.eq s t Alter key.now Done (Given F.FnOnce f)) }
     {
         let (hash, place) = self.place_of(key);
         self.shards_mut(rt, place).alter_hashed(hash, key, f);
@@ -173,7 +176,7 @@ impl<K: Eq + Hash, V, S: BuildHasher> DashMap<K, V, S> {
     /// Whether there is a pair whose key equals `key`. Waits until no writer has the key's shard. It takes no memory.
     #[inline]
     pub fn contains_key<R: Wait + Clock>(&self, rt: &R, key: &K) -> bool
-        ensures { SawPair ⟦<Self as Keyed>⟧.by self.now key.now (λ (p : Option (K × V)). result ≡ is_some p) }
+        ensures { SawShard ⟦<Self as Keyed>⟧.by self.now key.now (λ (s : ShardState K V S). RepliesOn K.eq s (Contains key.now) (Found result)) }
     {
         let (hash, place) = self.place_of(key);
         let guard = self.row[place].read(rt);
@@ -221,7 +224,7 @@ impl<K: Eq + Hash, V, S: BuildHasher> DashMap<K, V, S> {
     where
         K: Drop,
         V: Drop,
-        ensures reserves { ReservesBehind V ⟦<Self as Keyed>⟧.by self.old additional result }
+        ensures reserves { LeavesShards {V = V} ⟦<Self as Keyed>⟧.by self.old (λ old new. ReservesAlone additional old new result) }
         ensures same { self.new ≡ self.old }
     {
         replace_with(self, additional, Self::try_reserve_alone)
@@ -232,7 +235,7 @@ impl<K: Eq + Hash, V, S: BuildHasher> DashMap<K, V, S> {
     where
         K: Drop,
         V: Drop,
-        ensures reserves { ReservesBehind V ⟦<Self as Keyed>⟧.by self additional result.1 }
+        ensures reserves { LeavesShards {V = V} ⟦<Self as Keyed>⟧.by self (λ old new. ReservesAlone additional old new result.1) }
         ensures same { result.0 ≡ self }
     {
         let mut alone = self.alone();

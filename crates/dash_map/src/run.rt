@@ -2,12 +2,12 @@
 ghost use Rattle.std.specs.Prelude.{◌≡◌, ◌<◌, ◌≤◌, ◌↔◌, IsTrue, IfOk, IfErr, length};
 ghost use Rattle.dash_shard.specs.Contents.{at};
 ghost use Rattle.dash_shard.specs.Steps as table;
-ghost use Rattle.dash_shard.specs.Steps.{Becomes, place};
-ghost use Rattle.dash_history.specs.Steps.{step_of, reply_of};
-ghost use Rattle.dash_history.specs.Takes.{Takes};
+ghost use Rattle.dash_shard.specs.Steps.{Becomes};
+ghost use Rattle.dash_history.specs.Steps.{step_of};
 ghost use Rattle.dash_history.specs.Plan.{change_step, HasPair};
 ghost use Rattle.dash_history.specs.Sweep.{keeping};
-ghost use Rattle.dash_map.specs.Alone.{IsAlone, contents, keys_in};
+ghost use Rattle.dash_map.specs.Alone.{IsAlone, contents, keys_in, SameMap};
+ghost use Rattle.dash_map.specs.Run.{TakesLike, IsMissing};
 
 use crate::alone::Alone;
 use crate::map::DashMap;
@@ -45,10 +45,9 @@ impl<K: KeptKey + Drop, V: Kept + Drop, S: BuildHasher> Alone<K, V, S> {
 
     // Makes of the pair at a key what was decided.
     fn make_change(&mut self, key: K, change: Change<V>)
-        requires { HasPair change (at (keys_in ⟦<Self as Keyed>⟧.by self.old) (contents self.old) key) }
+        requires { HasPair change (at K.eq (contents self.old) key) }
         ensures becomes { Becomes (keys_in ⟦<Self as Keyed>⟧.by self.old) (change_step key change) (contents self.old) (contents self.new) }
-        ensures hasher { self.new.hasher ≡ self.old.hasher }
-        ensures amount { length self.new.row ≡ length self.old.row }
+        ensures stays { SameMap self.old self.new }
         ensures lawful { IsAlone ⟦<Self as Keyed>⟧.by self.new }
     {
         let _ = &self.hasher;
@@ -74,7 +73,7 @@ impl<K: KeptKey + Drop, V: Kept + Drop, S: BuildHasher> Alone<K, V, S> {
 
     // The pairs of a shard, as a reply.
     fn read(&self, shard: usize) -> Result<Reply<K, V>, Fault>
-        ensures taken { IfOk result (λ reply. Takes (rules_in ⟦<Self as Keyed>⟧.by K.alike V.alike self.now) (contents self.now) (table.Read shard) (reply_of reply) (contents self.now)) }
+        ensures taken { IfOk result (λ reply. TakesLike ⟦<Self as Keyed>⟧.by K.alike V.alike self.now self.now (table.Read shard) reply) }
         ensures fault { IfErr result (λ fault. (fault ≡ Fault.NoSuchShard) ↔ (length self.now.row ≤ shard)) }
     {
         let _ = &self.hasher;
@@ -89,7 +88,7 @@ impl<K: KeptKey + Drop, V: Kept + Drop, S: BuildHasher> Alone<K, V, S> {
 
     // How many pairs a shard has, as a reply.
     fn count(&self, shard: usize) -> Result<Reply<K, V>, Fault>
-        ensures taken { IfOk result (λ reply. Takes (rules_in ⟦<Self as Keyed>⟧.by K.alike V.alike self.now) (contents self.now) (table.Count shard) (reply_of reply) (contents self.now)) }
+        ensures taken { IfOk result (λ reply. TakesLike ⟦<Self as Keyed>⟧.by K.alike V.alike self.now self.now (table.Count shard) reply) }
         ensures fault { IfErr result (λ fault. (fault ≡ Fault.NoSuchShard) ↔ (length self.now.row ≤ shard)) }
     {
         let _ = &self.hasher;
@@ -106,10 +105,9 @@ impl<K: KeptKey + Drop, V: Kept + Drop, S: BuildHasher> Alone<K, V, S> {
         action: &A,
         all: bool,
     ) -> Result<Reply<K, V>, Fault>
-        ensures taken { IfOk result (λ reply. Takes (rules_in ⟦<Self as Keyed>⟧.by K.alike V.alike self.old) (contents self.old) (table.Retain shard (keeping all (A.acts action.now))) (reply_of reply) (contents self.new)) }
+        ensures taken { IfOk result (λ reply. TakesLike ⟦<Self as Keyed>⟧.by K.alike V.alike self.old self.new (table.Retain shard (keeping all (A.acts action.now))) reply) }
         ensures refused { IfErr result (λ fault. (fault ≡ Fault.NoSuchShard) × (length self.old.row ≤ shard) × (self.new ≡ self.old)) }
-        ensures hasher { self.new.hasher ≡ self.old.hasher }
-        ensures amount { length self.new.row ≡ length self.old.row }
+        ensures stays { SameMap self.old self.new }
         ensures lawful { IsAlone ⟦<Self as Keyed>⟧.by self.new }
     {
         let _ = &self.hasher;
@@ -134,11 +132,10 @@ impl<K: KeptKey + Drop, V: Kept + Drop, S: BuildHasher> Alone<K, V, S> {
         step: ShardStep<K, V, A>,
     ) -> Result<Reply<K, V>, (ShardStep<K, V, A>, Fault)>
         requires { IsPlain step → ⊥ }
-        ensures taken { IfOk result (λ reply. Takes (rules_in ⟦<Self as Keyed>⟧.by K.alike V.alike self.old) (contents self.old) (step_of A.acts step) (reply_of reply) (contents self.new)) }
+        ensures taken { IfOk result (λ reply. TakesLike ⟦<Self as Keyed>⟧.by K.alike V.alike self.old self.new (step_of A.acts step) reply) }
         ensures refused { IfErr result (λ e. (e.0 ≡ step) × (self.new ≡ self.old)) }
-        ensures fault { IfErr result (λ e. (e.1 ≡ Fault.NoSuchShard) ↔ (length self.old.row ≤ place (keys_in ⟦<Self as Keyed>⟧.by self.old) (step_of A.acts step))) }
-        ensures hasher { self.new.hasher ≡ self.old.hasher }
-        ensures amount { length self.new.row ≡ length self.old.row }
+        ensures fault { IfErr result (λ e. IsMissing ⟦<Self as Keyed>⟧.by self.old (step_of A.acts step) e.1) }
+        ensures stays { SameMap self.old self.new }
         ensures lawful { IsAlone ⟦<Self as Keyed>⟧.by self.new }
     {
         let _ = &self.hasher;
@@ -179,11 +176,10 @@ impl<K: KeptKey + Drop, V: Kept + Drop, S: BuildHasher> Alone<K, V, S> {
         step: &ShardStep<K, V, A>,
     ) -> Result<Reply<K, V>, Fault>
         requires { NamesShard step.now }
-        ensures taken { IfOk result (λ reply. Takes (rules_in ⟦<Self as Keyed>⟧.by K.alike V.alike self.old) (contents self.old) (step_of A.acts step.now) (reply_of reply) (contents self.new)) }
+        ensures taken { IfOk result (λ reply. TakesLike ⟦<Self as Keyed>⟧.by K.alike V.alike self.old self.new (step_of A.acts step.now) reply) }
         ensures refused { IfErr result (λ fault. self.new ≡ self.old) }
-        ensures fault { IfErr result (λ fault. (fault ≡ Fault.NoSuchShard) ↔ (length self.old.row ≤ place (keys_in ⟦<Self as Keyed>⟧.by self.old) (step_of A.acts step.now))) }
-        ensures hasher { self.new.hasher ≡ self.old.hasher }
-        ensures amount { length self.new.row ≡ length self.old.row }
+        ensures fault { IfErr result (λ fault. IsMissing ⟦<Self as Keyed>⟧.by self.old (step_of A.acts step.now) fault) }
+        ensures stays { SameMap self.old self.new }
         ensures lawful { IsAlone ⟦<Self as Keyed>⟧.by self.new }
     {
         let _ = &self.hasher;
@@ -201,11 +197,10 @@ impl<K: KeptKey + Drop, V: Kept + Drop, S: BuildHasher> Alone<K, V, S> {
         &mut self,
         step: ShardStep<K, V, A>,
     ) -> Result<Reply<K, V>, (ShardStep<K, V, A>, Fault)>
-        ensures taken { IfOk result (λ reply. Takes (rules_in ⟦<Self as Keyed>⟧.by K.alike V.alike self.old) (contents self.old) (step_of A.acts step) (reply_of reply) (contents self.new)) }
+        ensures taken { IfOk result (λ reply. TakesLike ⟦<Self as Keyed>⟧.by K.alike V.alike self.old self.new (step_of A.acts step) reply) }
         ensures refused { IfErr result (λ e. (e.0 ≡ step) × (self.new ≡ self.old)) }
-        ensures fault { IfErr result (λ e. (e.1 ≡ Fault.NoSuchShard) ↔ (length self.old.row ≤ place (keys_in ⟦<Self as Keyed>⟧.by self.old) (step_of A.acts step))) }
-        ensures hasher { self.new.hasher ≡ self.old.hasher }
-        ensures amount { length self.new.row ≡ length self.old.row }
+        ensures fault { IfErr result (λ e. IsMissing ⟦<Self as Keyed>⟧.by self.old (step_of A.acts step) e.1) }
+        ensures stays { SameMap self.old self.new }
         ensures lawful { IsAlone ⟦<Self as Keyed>⟧.by self.new }
     {
         let _ = &self.hasher;
@@ -235,8 +230,7 @@ impl<K: KeptKey + Drop, V: Kept + Drop, S: BuildHasher> Alone<K, V, S> {
         mut steps: Vec<ShardStep<K, V, A>>,
     ) -> RunOutcome<K, V, A>
         ensures ran { Ran (rules_in ⟦<Self as Keyed>⟧.by K.alike V.alike self.old) A.acts (contents self.old) (contents self.new) steps.items result }
-        ensures hasher { self.new.hasher ≡ self.old.hasher }
-        ensures amount { length self.new.row ≡ length self.old.row }
+        ensures stays { SameMap self.old self.new }
         ensures lawful { IsAlone ⟦<Self as Keyed>⟧.by self.new }
     {
         let _ = &self.hasher;

@@ -1,15 +1,18 @@
 //! The calls of a map that threads share, as a trait: code may be written for any such map.
-ghost use Rattle.std.specs.Prelude.{◌≡◌, ◌<◌, ◌==◌, ◌-◌, ◌^◌, min, length, sum_by, Option, IsTrue, IfOk, IfSome, IfErr, is_some};
+ghost use Rattle.std.specs.Prelude.{◌≡◌, ◌<◌, ◌==◌, ◌-◌, ◌^◌, min, length, sum_by, Option, IsTrue, IfOk, IfSome, IfErr, is_some, option_map};
 ghost use Rattle.std.specs.Map.Calls.{CalledAtPair, TakesPair};
-ghost use Rattle.dash_shard.specs.Closures.{MayAsk, AnswersOn, Viewed, MayChange, ChangesOn, MayGive, GivesOn};
+ghost use Rattle.dash_shard.specs.Closures.{MayAsk, Viewed, MayChange, ChangesOn, MayGive, Answered, Given};
 ghost use Rattle.dash_shard.specs.Each.{CalledOnPair, TakesOnPair};
-ghost use Rattle.dash_shard.specs.Hashing.{by, route_by};
-ghost use Rattle.dash_shard.specs.Held.{Alters};
-ghost use Rattle.dash_map.specs.Alone.{AloneState, IsPlaced, contents};
-ghost use Rattle.dash_map.specs.Behind.{Asked, Changed, SawPair, SawShards, LeavesShard, LeavesShards, CallableOnPairs};
+ghost use Rattle.dash_shard.specs.Hashing.{by};
+ghost use Rattle.dash_map.specs.Alone.{AloneState, contents};
+ghost use Rattle.dash_map.specs.Behind.{SawShards, LeavesShard, LeavesShards, CallableOnPairs, SawShard, StandsAt};
 ghost use Rattle.dash_map.specs.Map.{MapState};
 ghost use Rattle.dash_map.specs.Whole.{ClearsAlone, ShrinksAlone, RetainsAlone, AltersAllAlone};
-ghost use Rattle.dash_ref.specs.Ref.{Stands};
+ghost use Rattle.dash_ref.specs.Ref.{Stands, pair_of};
+ghost use Rattle.dash_shard.specs.Contents.{at};
+ghost use Rattle.dash_shard.specs.Shard.{RepliesOn, TakesInPlace, TakesBy, IsPlaced, ShardState, pairs};
+ghost use Rattle.dash_shard.specs.Held.{Inserts};
+ghost use Rattle.dash_shard.specs.Steps.{Remove, RemoveIf, RemoveIfMut, Alter, Done, Pair, Found, Get, Contains};
 
 use crate::map::DashMap;
 use dash_ref::mapref::one::Ref;
@@ -46,11 +49,12 @@ pub trait Map<K: Eq + Hash, V, S: BuildHasher> {
     where
         K: Drop,
         V: Drop,
-        ensures refused { IfErr result (λ e. (e.key ≡ key) × (e.value ≡ value)) };
+        ensures { LeavesShard (by K.Hash S.BuildHasher S.Hasher.Hasher) (state self.now) key (λ s t. Inserts K.eq s t key value result) };
 
     /// As `DashMap::remove`.
     fn _remove<R: Wait + Clock>(&self, rt: &R, key: &K) -> Option<(K, V)>
-        ensures equal { IfSome result (λ pair. IsTrue (K.eq pair.0 key.now)) };
+        ensures equal { IfSome result (λ pair. IsTrue (K.eq pair.0 key.now)) }
+        ensures leaves { LeavesShard (by K.Hash S.BuildHasher S.Hasher.Hasher) (state self.now) key.now (λ s t. TakesInPlace K.eq s t (Remove key.now) (Pair result)) };
 
     /// As `DashMap::remove_if`.
     fn _remove_if<R: Wait + Clock, F: FnOnce(&K, &V) -> bool>(
@@ -60,7 +64,7 @@ pub trait Map<K: Eq + Hash, V, S: BuildHasher> {
         f: F,
     ) -> Option<(K, V)>
         requires { (p : K × V) → IsTrue (K.eq p.0 key.now) → MayAsk F.FnOnce f p }
-        ensures { SawPair (by K.Hash S.BuildHasher S.Hasher.Hasher) (state self.now) key.now (λ p. Asked (AnswersOn F.FnOnce f) p result) };
+        ensures { LeavesShard (by K.Hash S.BuildHasher S.Hasher.Hasher) (state self.now) key.now (λ s t. TakesBy K.eq s t RemoveIf key.now (Pair result) (Answered F.FnOnce f)) };
 
     /// As `DashMap::remove_if_mut`.
     fn _remove_if_mut<R: Wait + Clock, F: FnOnce(&K, &mut V) -> bool>(
@@ -70,20 +74,21 @@ pub trait Map<K: Eq + Hash, V, S: BuildHasher> {
         f: F,
     ) -> Option<(K, V)>
         requires { (p : K × V) → IsTrue (K.eq p.0 key.now) → MayChange F.FnOnce f p }
-        ensures { SawPair (by K.Hash S.BuildHasher S.Hasher.Hasher) (state self.now) key.now (λ p. Changed (ChangesOn F.FnOnce f) p result) };
+        ensures { LeavesShard (by K.Hash S.BuildHasher S.Hasher.Hasher) (state self.now) key.now (λ s t. TakesBy K.eq s t RemoveIfMut key.now (Pair result) (ChangesOn F.FnOnce f)) };
 
     /// As `DashMap::get`.
     fn _get<R: Wait + Clock>(&self, rt: &R, key: &K) -> Option<Ref<'_, K, V, S>>
+        ensures saw { SawShard (by K.Hash S.BuildHasher S.Hasher.Hasher) (state self.now) key.now (λ s. RepliesOn K.eq s (Get key.now) (Pair (option_map pair_of result))) }
         ensures equal { IfSome result (λ found. IsTrue (K.eq found.key key.now)) }
         ensures stands { IfSome result Stands }
-        ensures placed { IfSome result (λ found. IsPlaced (by K.Hash S.BuildHasher S.Hasher.Hasher) (state self.now).hasher (state self.now).amount (route_by (by K.Hash S.BuildHasher S.Hasher.Hasher) (state self.now).hasher (state self.now).amount key.now) found.shard) };
+        ensures placed { IfSome result (λ found. StandsAt (by K.Hash S.BuildHasher S.Hasher.Hasher) (state self.now) key.now found.shard) };
 
     /// As `DashMap::shrink_to_fit`.
     fn _shrink_to_fit<R: Wait + Clock>(&self, rt: &R)
     where
         K: Drop,
         V: Drop,
-        ensures { LeavesShards (by K.Hash S.BuildHasher S.Hasher.Hasher) (state self.now) (ShrinksAlone {V = V} (by K.Hash S.BuildHasher S.Hasher.Hasher)) };
+        ensures { LeavesShards {V = V} (by K.Hash S.BuildHasher S.Hasher.Hasher) (state self.now) (ShrinksAlone K.eq) };
 
     /// As `DashMap::retain`.
     fn _retain<R: Wait + Clock, F: FnMut(&K, &mut V) -> bool>(&self, rt: &R, f: F)
@@ -91,7 +96,7 @@ pub trait Map<K: Eq + Hash, V, S: BuildHasher> {
         K: Drop,
         V: Drop,
         requires { CallableOnPairs (CalledAtPair F.FnMut) (TakesPair F.FnMut) f }
-        ensures { LeavesShards (by K.Hash S.BuildHasher S.Hasher.Hasher) (state self.now) (RetainsAlone (by K.Hash S.BuildHasher S.Hasher.Hasher) (CalledAtPair F.FnMut) f) };
+        ensures { LeavesShards (by K.Hash S.BuildHasher S.Hasher.Hasher) (state self.now) (RetainsAlone K.eq (CalledAtPair F.FnMut) f) };
 
     /// As `DashMap::len`.
     fn _len<R: Wait + Clock>(&self, rt: &R) -> usize
@@ -104,17 +109,17 @@ pub trait Map<K: Eq + Hash, V, S: BuildHasher> {
     /// As `DashMap::alter`.
     fn _alter<R: Wait + Clock, F: FnOnce(&K, V) -> V>(&self, rt: &R, key: &K, f: F)
         requires { (p : K × V) → IsTrue (K.eq p.0 key.now) → MayGive F.FnOnce f p }
-        ensures { LeavesShard (by K.Hash S.BuildHasher S.Hasher.Hasher) (state self.now) key.now (λ s t. Alters (by K.Hash S.BuildHasher S.Hasher.Hasher) (GivesOn F.FnOnce f) s t key.now) };
+        ensures { LeavesShard (by K.Hash S.BuildHasher S.Hasher.Hasher) (state self.now) key.now (λ s t. TakesBy K.eq s t Alter key.now Done (Given F.FnOnce f)) };
 
     /// As `DashMap::alter_all`.
     fn _alter_all<R: Wait + Clock, F: FnMut(&K, V) -> V>(&self, rt: &R, f: F)
         requires { CallableOnPairs (CalledOnPair F.FnMut) (TakesOnPair F.FnMut) f }
-        ensures { LeavesShards (by K.Hash S.BuildHasher S.Hasher.Hasher) (state self.now) (AltersAllAlone (by K.Hash S.BuildHasher S.Hasher.Hasher) (CalledOnPair F.FnMut) f) };
+        ensures { LeavesShards (by K.Hash S.BuildHasher S.Hasher.Hasher) (state self.now) (AltersAllAlone K.eq (CalledOnPair F.FnMut) f) };
 
     /// As `DashMap::view`.
     fn _view<R: Wait + Clock, T, F: FnOnce(&K, &V) -> T>(&self, rt: &R, key: &K, f: F) -> Option<T>
         requires { (p : K × V) → IsTrue (K.eq p.0 key.now) → MayAsk F.FnOnce f p }
-        ensures { SawPair (by K.Hash S.BuildHasher S.Hasher.Hasher) (state self.now) key.now (λ p. Viewed F.FnOnce f p result) };
+        ensures { SawShard (by K.Hash S.BuildHasher S.Hasher.Hasher) (state self.now) key.now (λ s. Viewed F.FnOnce f (at K.eq (pairs s) key.now) result) };
 
     /// A copy of `DashMap::hasher`, refused where it finds no memory.
     fn _hasher(&self) -> Result<S, AllocError>
@@ -127,11 +132,11 @@ pub trait Map<K: Eq + Hash, V, S: BuildHasher> {
     where
         K: Drop,
         V: Drop,
-        ensures { LeavesShards (by K.Hash S.BuildHasher S.Hasher.Hasher) (state self.now) (ClearsAlone {V = V} (by K.Hash S.BuildHasher S.Hasher.Hasher)) };
+        ensures { LeavesShards {V = V} (by K.Hash S.BuildHasher S.Hasher.Hasher) (state self.now) ClearsAlone };
 
     /// As `DashMap::contains_key`.
     fn _contains_key<R: Wait + Clock>(&self, rt: &R, key: &K) -> bool
-        ensures { SawPair (by K.Hash S.BuildHasher S.Hasher.Hasher) (state self.now) key.now (λ (p : Option (K × V)). result ≡ is_some p) };
+        ensures { SawShard (by K.Hash S.BuildHasher S.Hasher.Hasher) (state self.now) key.now (λ (s : ShardState K V S). RepliesOn K.eq s (Contains key.now) (Found result)) };
 
     /// As `DashMap::is_empty`.
     fn _is_empty<R: Wait + Clock>(&self, rt: &R) -> bool

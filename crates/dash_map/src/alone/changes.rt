@@ -3,8 +3,9 @@ ghost use Rattle.std.specs.Prelude.{◌≡◌, IfSome};
 ghost use Rattle.std.specs.Borrow.{sem};
 ghost use Rattle.std.specs.Option.{option_map, option_copied_mut};
 ghost use Rattle.dash_shard.specs.Contents.{at};
-ghost use Rattle.dash_shard.specs.Closures.{MayChange, ChangesOn, MayGive, GivesOn};
-ghost use Rattle.dash_map.specs.Alone.{IsAlone, TakesChanged, TakesAltered, contents, keys_in};
+ghost use Rattle.dash_shard.specs.Closures.{MayChange, ChangesOn, MayGive, Given};
+ghost use Rattle.dash_map.specs.Alone.{IsAlone, contents, TakesAloneBy};
+ghost use Rattle.dash_shard.specs.Steps.{RemoveIfMut, Alter, Done, Pair};
 
 use super::Alone;
 use dash_shard::keyed::Keyed;
@@ -17,8 +18,8 @@ impl<K: Eq + Hash + Drop, V: Drop, S: BuildHasher> Alone<K, V, S> {
     /// can't be refused, and waits for nobody.
     #[inline]
     pub fn remove_if_mut<F: FnOnce(&K, &mut V) -> bool>(&mut self, key: &K, f: F) -> Option<(K, V)>
-        requires { IfSome (at (keys_in ⟦<Self as Keyed>⟧.by self.old) (contents self.old) key.now) (MayChange F.FnOnce f) }
-        ensures { TakesChanged ⟦<Self as Keyed>⟧.by (ChangesOn F.FnOnce f) self.old self.new key.now result }
+        requires { IfSome (at K.eq (contents self.old) key.now) (MayChange F.FnOnce f) }
+        ensures { TakesAloneBy ⟦<Self as Keyed>⟧.by self.old self.new RemoveIfMut key.now (Pair result) (ChangesOn F.FnOnce f) }
     {
         let (hash, place) = self.place_of(key);
         self.row[place].remove_if_mut_hashed(hash, key, f)
@@ -28,8 +29,8 @@ impl<K: Eq + Hash + Drop, V: Drop, S: BuildHasher> Alone<K, V, S> {
     /// can't be refused, and waits for nobody.
     #[inline]
     pub fn alter<F: FnOnce(&K, V) -> V>(&mut self, key: &K, f: F)
-        requires { IfSome (at (keys_in ⟦<Self as Keyed>⟧.by self.old) (contents self.old) key.now) (MayGive F.FnOnce f) }
-        ensures { TakesAltered ⟦<Self as Keyed>⟧.by (GivesOn F.FnOnce f) self.old self.new key.now }
+        requires { IfSome (at K.eq (contents self.old) key.now) (MayGive F.FnOnce f) }
+        ensures { TakesAloneBy ⟦<Self as Keyed>⟧.by self.old self.new Alter key.now Done (Given F.FnOnce f) }
     {
         let (hash, place) = self.place_of(key);
         self.row[place].alter_hashed(hash, key, f);
@@ -39,7 +40,7 @@ impl<K: Eq + Hash + Drop, V: Drop, S: BuildHasher> Alone<K, V, S> {
     #[inline]
     pub fn get_mut(&mut self, key: &K) -> Option<&mut V>
         ensures* writes_back { sem 𝓛 (lends_value K.row V.row S.row S.Hasher.row K.Hash S.BuildHasher S.Hasher.Hasher self.entry key.now result) }
-        ensures value { option_copied_mut result ≡ option_map (λ p. p.1) (at (keys_in ⟦<Self as Keyed>⟧.by self.old) (contents self.old) key.now) }
+        ensures value { option_copied_mut result ≡ option_map (λ p. p.1) (at K.eq (contents self.old) key.now) }
         ensures lawful { IsAlone ⟦<Self as Keyed>⟧.by self.old }
     {
         let (hash, place) = self.place_of(key);

@@ -4,6 +4,7 @@ ghost use Rattle.std.specs.Map.Calls.{CalledAtPair, TakesPair, CallableOnEachPai
 ghost use Rattle.dash_shard.specs.Each.{CalledOnPair, TakesOnPair};
 ghost use Rattle.dash_map.specs.Alone.{contents};
 ghost use Rattle.dash_map.specs.Whole.{ClearsAlone, ShrinksAlone, RetainsAlone, AltersAllAlone};
+ghost use Rattle.dash_map.specs.Alone.{IsAlone};
 
 use super::Alone;
 use dash_shard::keyed::Keyed;
@@ -15,7 +16,8 @@ impl<K: Eq + Hash + Drop, V: Drop, S: BuildHasher> Alone<K, V, S> {
     /// `f` is called once at each pair, shard after shard. The room stays. It takes no memory, can't be refused, and waits for nobody.
     pub fn retain<F: FnMut(&K, &mut V) -> bool>(&mut self, mut f: F)
         requires { CallableOnEachPair (CalledAtPair F.FnMut) (TakesPair F.FnMut) f (contents self.old) }
-        ensures { RetainsAlone ⟦<Self as Keyed>⟧.by (CalledAtPair F.FnMut) f self.old self.new }
+        ensures retains { RetainsAlone K.eq (CalledAtPair F.FnMut) f self.old self.new }
+        ensures lawful { IsAlone ⟦<Self as Keyed>⟧.by self.new }
     {
         let _ = &self.hasher;
         for place in 0..self.row.len() {
@@ -25,7 +27,8 @@ impl<K: Eq + Hash + Drop, V: Drop, S: BuildHasher> Alone<K, V, S> {
 
     /// Lets all pairs go. The room stays, for pairs that come later. It takes no memory, and waits for nobody.
     pub fn clear(&mut self)
-        ensures { ClearsAlone ⟦<Self as Keyed>⟧.by self.old self.new }
+        ensures clears { ClearsAlone self.old self.new }
+        ensures lawful { IsAlone ⟦<Self as Keyed>⟧.by self.new }
     {
         let _ = &self.hasher;
         for place in 0..self.row.len() {
@@ -38,7 +41,8 @@ impl<K: Eq + Hash + Drop, V: Drop, S: BuildHasher> Alone<K, V, S> {
     /// `f` is called once at each pair, shard after shard. It takes no memory, can't be refused, and waits for nobody.
     pub fn alter_all<F: FnMut(&K, V) -> V>(&mut self, mut f: F)
         requires { CallableOnEachPair (CalledOnPair F.FnMut) (TakesOnPair F.FnMut) f (contents self.old) }
-        ensures { AltersAllAlone ⟦<Self as Keyed>⟧.by (CalledOnPair F.FnMut) f self.old self.new }
+        ensures alters { AltersAllAlone K.eq (CalledOnPair F.FnMut) f self.old self.new }
+        ensures lawful { IsAlone ⟦<Self as Keyed>⟧.by self.new }
     {
         let _ = &self.hasher;
         for place in 0..self.row.len() {
@@ -50,7 +54,8 @@ impl<K: Eq + Hash + Drop, V: Drop, S: BuildHasher> Alone<K, V, S> {
     ///
     /// A shard takes memory for its new places, and keeps the old ones where there is none. It waits for nobody.
     pub fn shrink_to_fit(&mut self)
-        ensures { ShrinksAlone ⟦<Self as Keyed>⟧.by self.old self.new }
+        ensures shrinks { ShrinksAlone K.eq self.old self.new }
+        ensures lawful { IsAlone ⟦<Self as Keyed>⟧.by self.new }
     {
         let _ = &self.hasher;
         for place in 0..self.row.len() {

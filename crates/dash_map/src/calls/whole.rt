@@ -21,7 +21,7 @@ impl<K: Eq + Hash, V, S: BuildHasher> DashMap<K, V, S> {
         K: Drop,
         V: Drop,
         requires { CallableOnPairs (CalledAtPair F.FnMut) (TakesPair F.FnMut) f }
-        ensures { LeavesShards ⟦<Self as Keyed>⟧.by self.now (RetainsAlone ⟦<Self as Keyed>⟧.by (CalledAtPair F.FnMut) f) }
+        ensures { LeavesShards ⟦<Self as Keyed>⟧.by self.now (RetainsAlone K.eq (CalledAtPair F.FnMut) f) }
     {
         for place in 0..self.row.len() {
             f = self.shards_mut(rt, place).retain_by(f);
@@ -34,7 +34,7 @@ impl<K: Eq + Hash, V, S: BuildHasher> DashMap<K, V, S> {
     where
         K: Drop,
         V: Drop,
-        ensures { LeavesShards ⟦<Self as Keyed>⟧.by self.now (ClearsAlone {V = V} ⟦<Self as Keyed>⟧.by) }
+        ensures { LeavesShards {V = V} ⟦<Self as Keyed>⟧.by self.now ClearsAlone }
     {
         for place in 0..self.row.len() {
             self.shards_mut(rt, place).clear();
@@ -45,7 +45,7 @@ impl<K: Eq + Hash, V, S: BuildHasher> DashMap<K, V, S> {
     /// no memory, and can't be refused.
     pub fn alter_all<R: Wait + Clock, F: FnMut(&K, V) -> V>(&self, rt: &R, mut f: F)
         requires { CallableOnPairs (CalledOnPair F.FnMut) (TakesOnPair F.FnMut) f }
-        ensures { LeavesShards ⟦<Self as Keyed>⟧.by self.now (AltersAllAlone ⟦<Self as Keyed>⟧.by (CalledOnPair F.FnMut) f) }
+        ensures { LeavesShards ⟦<Self as Keyed>⟧.by self.now (AltersAllAlone K.eq (CalledOnPair F.FnMut) f) }
     {
         for place in 0..self.row.len() {
             f = self.shards_mut(rt, place).alter_all_by(f);
@@ -59,7 +59,7 @@ impl<K: Eq + Hash, V, S: BuildHasher> DashMap<K, V, S> {
     where
         K: Drop,
         V: Drop,
-        ensures { LeavesShards ⟦<Self as Keyed>⟧.by self.now (ShrinksAlone {V = V} ⟦<Self as Keyed>⟧.by) }
+        ensures { LeavesShards {V = V} ⟦<Self as Keyed>⟧.by self.now (ShrinksAlone K.eq) }
     {
         for place in 0..self.row.len() {
             self.shards_mut(rt, place).shrink_to_fit();

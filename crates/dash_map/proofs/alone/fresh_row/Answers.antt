@@ -1,8 +1,7 @@
 use Rattle.std.proofs.Common.{◌≡◌, ◌≤◌, ◌∙◌, sym, subst, arith, Some, slice_get, List, ℕ, length}
 use Rattle.dash_shard.specs.Hashing.{key_hash, HashAlike}
-use Rattle.dash_shard.specs.Shard.{ShardState, shard_len}
+use Rattle.dash_shard.specs.Shard.{ShardState, shard_len, IsPlaced}
 use Rattle.dash_shard.proofs.Rows.{each-more}
-use Rattle.dash_map.specs.Alone.{IsPlaced}
 use Rattle.dash_map.proofs.alone.fresh_row.Goals as goal
 
 pub loop-number-preserved : goal.loop-number-preserved

@@ -1,6 +1,5 @@
 use Rattle.std.proofs.Common.{◌≡◌, ◌≤◌, ℕ, Some, length, slice_get, vec_capacity}
-use Rattle.dash_shard.specs.Shard.{shard_len}
-use Rattle.dash_map.specs.Alone.{IsPlaced}
+use Rattle.dash_shard.specs.Shard.{shard_len, IsPlaced}
 use Rattle.dash_map.proofs.alone.fresh_row.Given as goal
 use Rattle.dash_shard.specs.Hashing.{key_hash}
 

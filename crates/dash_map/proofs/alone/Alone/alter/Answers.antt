@@ -1,44 +1,40 @@
-use Rattle.std.proofs.Common.{◌<◌, Option, refl, sym, ap, subst, length, arith}
-use Rattle.std.specs.Prelude.{IfSome, option_map}
-use Rattle.dash_shard.specs.Closures.{MayGive, GivesOn}
-use Rattle.dash_shard.specs.Steps.{Alter, Done, changed}
-use Rattle.dash_map.proofs.Lifting.{goes_there, hashed_there, here, stands, alone-set, taken}
+use Rattle.std.proofs.Common.{◌<◌, refl, ap, length, arith}
+use Rattle.dash_shard.specs.Closures.{MayGive, Given}
+use Rattle.dash_shard.specs.Steps.{Alter, Done}
+use Rattle.dash_map.proofs.Spots.{Spot, spot-route, spot-hash, spot-known, spot-alone, spot-by}
+use Rattle.dash_map.proofs.alone.Alone.alter.Given.{Over}
+use Rattle.dash_map.proofs.alone.Alone.alter.Goals.{After-index_mut}
 use Rattle.dash_map.proofs.alone.Alone.alter.Goals as goal
 use Rattle.dash_shard.proofs.Lawful.{lawful-of}
 use Rattle.dash_shard.specs.Hashing.{key_hash}
 
+abbrev spot : (g : Over) (c : After-index_mut g) → Spot (key_hash g.K.PartialEq.eq g.K.Hash.hash_input g.S.BuildHasher g.S.Hasher.Hasher) c.args.self.now c.args.key.now c.place_of-hash.result.1 c.index_mut.result.now
+spot g c = record {
+  law = lawful-of g.S.BuildHasher g.S.Hasher.Hasher g.met.K.Eq.laws g.met.K.Hash.respects_eq;
+  base = c.self.inside.hasher;
+  row = c.self.inside.row.items;
+  view = c.self.view_is;
+  lawful = c.self.invariant.0;
+  computed = c.place_of-hash.ensures.place;
+  within = omega (arith, c.place_of-hash.ensures.below, ap (λ a. length a.row) c.self.view_is);
+  read = c.index_mut.ensures.value;
+}
+
 pub alter_hashed-requires-clause-hash : goal.alter_hashed-requires-clause-hash
-alter_hashed-requires-clause-hash g c =
-    let row = c.self.inside.row in
-    let within : c.place_of-hash.result.1 < length row.items = omega (arith, c.place_of-hash.ensures.below, ap (λ a. length a.row) c.self.view_is) in
-    hashed_there _ (lawful-of g.S.BuildHasher g.S.Hasher.Hasher g.met.K.Eq.laws g.met.K.Hash.respects_eq) _ _ _ c.self.view_is c.self.invariant.0 c.args.key.now c.place_of-hash.result.1 c.place_of-hash.ensures.place c.index_mut.result.now within c.index_mut.ensures.value c.place_of-hash.result.0 c.place_of-hash.ensures.hash
+alter_hashed-requires-clause-hash g c = spot-hash (spot g c) c.place_of-hash.result.0 c.place_of-hash.ensures.hash
 
 pub alter_hashed-requires-clause-route : goal.alter_hashed-requires-clause-route
-alter_hashed-requires-clause-route g c =
-    let row = c.self.inside.row in
-    let within : c.place_of-hash.result.1 < length row.items = omega (arith, c.place_of-hash.ensures.below, ap (λ a. length a.row) c.self.view_is) in
-    goes_there _ (lawful-of g.S.BuildHasher g.S.Hasher.Hasher g.met.K.Eq.laws g.met.K.Hash.respects_eq) _ _ _ c.self.view_is c.self.invariant.0 c.args.key.now c.place_of-hash.result.1 c.place_of-hash.ensures.place c.index_mut.result.now within c.index_mut.ensures.value
+alter_hashed-requires-clause-route g c = spot-route (spot g c)
 
 pub alter_hashed-requires-clause-callable : goal.alter_hashed-requires-clause-callable
-alter_hashed-requires-clause-callable g c =
-    let row = c.self.inside.row in
-    let within : c.place_of-hash.result.1 < length row.items = omega (arith, c.place_of-hash.ensures.below, ap (λ a. length a.row) c.self.view_is) in
-    subst (λ (o : Option (g.row.K.Denot × g.row.V.Denot)). IfSome o (MayGive g.F.FnOnce c.args.f)) (stands _ (lawful-of g.S.BuildHasher g.S.Hasher.Hasher g.met.K.Eq.laws g.met.K.Hash.respects_eq) _ _ _ c.self.view_is c.self.invariant.0 c.args.key.now c.place_of-hash.result.1 c.place_of-hash.ensures.place c.index_mut.result.now within c.index_mut.ensures.value) c.requires
+alter_hashed-requires-clause-callable g c = spot-known (spot g c) (MayGive g.F.FnOnce c.args.f) c.requires
 
 pub invariant_of-self : goal.invariant_of-self
 invariant_of-self g c =
-    let row = c.self.inside.row in
-    let within : c.place_of-hash.result.1 < length row.items = omega (arith, c.place_of-hash.ensures.below, ap (λ a. length a.row) c.self.view_is) in
-    let x = c.alter_hashed.ensures.1.taken in
-    (alone-set (key_hash g.K.PartialEq.eq g.K.Hash.hash_input g.S.BuildHasher g.S.Hasher.Hasher) _ c.place_of-hash.result.1 row.items c.index_mut.result.now c.alter_hashed.new.self c.self.invariant.0 (here _ (lawful-of g.S.BuildHasher g.S.Hasher.Hasher g.met.K.Eq.laws g.met.K.Hash.respects_eq) _ _ _ c.self.view_is c.self.invariant.0 c.args.key.now c.place_of-hash.result.1 c.place_of-hash.ensures.place c.index_mut.result.now within c.index_mut.ensures.value) x.stays x.lawful, c.self.invariant.1, c.self.invariant.2)
+    let r = c.alter_hashed.ensures in
+    (spot-alone (spot g (goal.at.invariant_of-self g c).After-index_mut) c.alter_hashed.new.self r.lawful r.alters.1.taken.stays, c.self.invariant.1, c.self.invariant.2)
 
 pub returns : goal.returns
 returns g c =
-    let row = c.self.inside.row in
-    let within : c.place_of-hash.result.1 < length row.items = omega (arith, c.place_of-hash.ensures.below, ap (λ a. length a.row) c.self.view_is) in
-    let did = c.alter_hashed.ensures in
-    let x = did.1.taken in (
-      did.0,
-      taken _ (lawful-of g.S.BuildHasher g.S.Hasher.Hasher g.met.K.Eq.laws g.met.K.Hash.respects_eq) _ _ _ c.self.view_is c.self.invariant.0 c.args.key.now c.place_of-hash.result.1 c.place_of-hash.ensures.place c.index_mut.result.now within c.index_mut.ensures.value c.alter_hashed.new.self x.stays x.lawful (option_map (changed did.0)) (λ _. Done) (Alter c.args.key.now did.0) Done refl x.replies x.becomes,
-      subst (λ (o : Option (g.row.K.Denot × g.row.V.Denot)). IfSome o (λ p. GivesOn g.F.FnOnce c.args.f p (did.0 p.0 p.1).0)) (sym (stands _ (lawful-of g.S.BuildHasher g.S.Hasher.Hasher g.met.K.Eq.laws g.met.K.Hash.respects_eq) _ _ _ c.self.view_is c.self.invariant.0 c.args.key.now c.place_of-hash.result.1 c.place_of-hash.ensures.place c.index_mut.result.now within c.index_mut.ensures.value)) did.2,
-    )
+    let r = c.alter_hashed.ensures in
+    spot-by (spot g (goal.at.returns g c).After-index_mut) c.alter_hashed.new.self r.lawful Alter Done (Given g.F.FnOnce c.args.f) (λ act. (_, _, refl)) r.alters

@@ -33,11 +33,15 @@ loop-place-preserved g c =
     let here : slice_get row i ≡ Some s = slice_get-get_or row i s within ∙ ap Some (sym c.index_mut.ensures.value) in
     let x = c.alter_all_by.ensures in
     record {
-      so_far = sweeping-next (key_hash g.K.PartialEq.eq g.K.Hash.hash_input g.S.BuildHasher g.S.Hasher.Hasher) (CalledOnPair g.F.FnMut) (TakesOnPair g.F.FnMut) altered c.args.f i c.args.self.now c.loop-place.self-inside.hasher row c.loop-place.f c.loop-place.invariant.so_far s here c.alter_all_by.new.self c.alter_all_by.new.f x;
+      so_far = sweeping-next (key_hash g.K.PartialEq.eq g.K.Hash.hash_input g.S.BuildHasher g.S.Hasher.Hasher) (CalledOnPair g.F.FnMut) (TakesOnPair g.F.FnMut) altered c.args.f i c.args.self.now c.loop-place.self-inside.hasher row c.loop-place.f c.loop-place.invariant.so_far s here c.alter_all_by.new.self c.alter_all_by.new.f x.sweeps x.lawful;
       end = c.loop-place.invariant.end ∙ sym (length-set row i c.alter_all_by.new.self);
       locks = c.loop-place.invariant.locks;
       room = c.loop-place.invariant.room;
     }
 
-pub returns : goal.returns
-returns g c = alters-all-alone (key_hash g.K.PartialEq.eq g.K.Hash.hash_input g.S.BuildHasher g.S.Hasher.Hasher) (CalledOnPair g.F.FnMut) (TakesOnPair g.F.FnMut) c.args.f g.met.K.Eq.laws c.loop-place.place c.args.self.now _ c.loop-place.f (subst (λ (a : AloneState g.row.K.Denot g.row.V.Denot g.row.S.Denot). IsAlone (key_hash g.K.PartialEq.eq g.K.Hash.hash_input g.S.BuildHasher g.S.Hasher.Hasher) a) c.self.view_is c.self.invariant.0) (omega (arith, c.loop-place.invariant.end)) c.loop-place.invariant.so_far
+pub returns-clause-alters : goal.returns-clause-alters
+returns-clause-alters g c =
+    alters-all-alone (key_hash g.K.PartialEq.eq g.K.Hash.hash_input g.S.BuildHasher g.S.Hasher.Hasher) (CalledOnPair g.F.FnMut) (TakesOnPair g.F.FnMut) c.args.f g.met.K.Eq.laws c.loop-place.place c.args.self.now _ c.loop-place.f (subst (λ (a : AloneState g.row.K.Denot g.row.V.Denot g.row.S.Denot). IsAlone (key_hash g.K.PartialEq.eq g.K.Hash.hash_input g.S.BuildHasher g.S.Hasher.Hasher) a) c.self.view_is c.self.invariant.0) (omega (arith, c.loop-place.invariant.end)) c.loop-place.invariant.so_far
+
+pub returns-clause-lawful : goal.returns-clause-lawful
+returns-clause-lawful g c = c.loop-place.invariant.so_far.turning.lawful

@@ -27,4 +27,4 @@ returns-clause-taken g c =
       told = Number c.len-2.result;
       replies = (pairs s, each-there _ _ _ (lawful-of g.S.BuildHasher g.S.Hasher.Hasher g.met.K.Eq.laws g.met.K.Hash.respects_eq) g.met.K.Kept.alike_laws g.met.V.Kept.alike_laws g.met.K.KeptKey.alike_equal a i s lawful here, ap Number (omega (arith, c.len-2.ensures.len, c.len-2.type_inv)));
       alike = (reply_laws (rules_in (key_hash g.K.PartialEq.eq g.K.Hash.hash_input g.S.BuildHasher g.S.Hasher.Hasher) g.K.Kept.alike g.V.Kept.alike a) (laws-in _ _ _ (lawful-of g.S.BuildHasher g.S.Hasher.Hasher g.met.K.Eq.laws g.met.K.Hash.respects_eq) g.met.K.Kept.alike_laws g.met.V.Kept.alike_laws g.met.K.KeptKey.alike_equal a)).refl (Number c.len-2.result);
-    }) (λ j. shown (w.route j == i) (at w (contents a) j))
+    }) (λ j. shown (w.route j == i) (at w.eq (contents a) j))

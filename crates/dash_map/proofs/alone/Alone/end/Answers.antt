@@ -1,6 +1,6 @@
+use Rattle.dash_shard.specs.Shard.{IsPlaced}
 use Rattle.std.proofs.Common.{◌≡◌, ◌∙◌, sym, subst, ap, length, arith}
 use Rattle.dash_shard.proofs.Rows.{moved-length}
-use Rattle.dash_map.specs.Alone.{IsPlaced}
 use Rattle.dash_map.proofs.Moves.{map-of_alone}
 use Rattle.dash_map.proofs.alone.Alone.end.Goals as goal
 use Rattle.dash_shard.specs.Hashing.{key_hash}

@@ -1,6 +1,6 @@
+use Rattle.dash_shard.specs.Shard.{IsPlaced}
 use Rattle.std.proofs.Common.{rules, ◌≤◌, ◌/◌, arith, subst, sym}
 use Rattle.dash_shard.specs.Hashing.{key_hash, IsAmount}
-use Rattle.dash_map.specs.Alone.{IsPlaced}
 use Rattle.dash_map.proofs.alone.Alone.new.Goals as goal
 
 pub invariant_of-result : goal.invariant_of-result

@@ -26,4 +26,4 @@ returns-in-Ok-clause-taken g c =
       told = Pairs (pairs s);
       replies = (pairs s, each-there _ _ _ (lawful-of g.S.BuildHasher g.S.Hasher.Hasher g.met.K.Eq.laws g.met.K.Hash.respects_eq) g.met.K.Kept.alike_laws g.met.V.Kept.alike_laws g.met.K.KeptKey.alike_equal a i s lawful here, refl);
       alike = subst (λ l. IsTrue (alike_list (alike_pair g.K.Kept.alike g.V.Kept.alike) l c.in-Ok.pairs.items)) c.iter.ensures.pairs c.in-Ok.ensures;
-    }) (λ j. shown (w.route j == i) (at w (contents a) j))
+    }) (λ j. shown (w.route j == i) (at w.eq (contents a) j))

@@ -1,32 +1,36 @@
-use Rattle.std.proofs.Common.{◌<◌, None, refl, ap, length, arith}
+use Rattle.std.proofs.Common.{◌<◌, refl, ap, length, arith}
 use Rattle.dash_shard.specs.Steps.{Remove, Pair}
-use Rattle.dash_map.proofs.Lifting.{goes_there, hashed_there, here, alone-set, taken}
+use Rattle.dash_map.proofs.Spots.{Spot, spot-route, spot-hash, spot-alone, spot-takes}
+use Rattle.dash_map.proofs.alone.Alone.remove_hashed.Given.{Over}
+use Rattle.dash_map.proofs.alone.Alone.remove_hashed.Goals.{After-index_mut}
 use Rattle.dash_map.proofs.alone.Alone.remove_hashed.Goals as goal
 use Rattle.dash_shard.proofs.Lawful.{lawful-of}
 use Rattle.dash_shard.specs.Hashing.{key_hash}
 
+abbrev spot : (g : Over) (c : After-index_mut g) → Spot (key_hash g.K.PartialEq.eq g.K.Hash.hash_input g.S.BuildHasher g.S.Hasher.Hasher) c.args.self.now c.args.key.now c.args.place c.index_mut.result.now
+spot g c = record {
+  law = lawful-of g.S.BuildHasher g.S.Hasher.Hasher g.met.K.Eq.laws g.met.K.Hash.respects_eq;
+  base = c.self.inside.hasher;
+  row = c.self.inside.row.items;
+  view = c.self.view_is;
+  lawful = c.self.invariant.0;
+  computed = c.requires.place;
+  within = omega (arith, c.requires.below, ap (λ a. length a.row) c.self.view_is);
+  read = c.index_mut.ensures.value;
+}
+
 pub remove_hashed-requires-clause-hash : goal.remove_hashed-requires-clause-hash
-remove_hashed-requires-clause-hash g c =
-    let row = c.self.inside.row in
-    let within : c.args.place < length row.items = omega (arith, c.requires.below, ap (λ a. length a.row) c.self.view_is) in
-    hashed_there _ (lawful-of g.S.BuildHasher g.S.Hasher.Hasher g.met.K.Eq.laws g.met.K.Hash.respects_eq) _ _ _ c.self.view_is c.self.invariant.0 c.args.key.now c.args.place c.requires.place c.index_mut.result.now within c.index_mut.ensures.value c.args.hash c.requires.hash
+remove_hashed-requires-clause-hash g c = spot-hash (spot g c) c.args.hash c.requires.hash
 
 pub remove_hashed-requires-clause-route : goal.remove_hashed-requires-clause-route
-remove_hashed-requires-clause-route g c =
-    let row = c.self.inside.row in
-    let within : c.args.place < length row.items = omega (arith, c.requires.below, ap (λ a. length a.row) c.self.view_is) in
-    goes_there _ (lawful-of g.S.BuildHasher g.S.Hasher.Hasher g.met.K.Eq.laws g.met.K.Hash.respects_eq) _ _ _ c.self.view_is c.self.invariant.0 c.args.key.now c.args.place c.requires.place c.index_mut.result.now within c.index_mut.ensures.value
+remove_hashed-requires-clause-route g c = spot-route (spot g c)
 
 pub invariant_of-self : goal.invariant_of-self
 invariant_of-self g c =
-    let row = c.self.inside.row in
-    let within : c.args.place < length row.items = omega (arith, c.requires.below, ap (λ a. length a.row) c.self.view_is) in
-    let x = c.remove_hashed.ensures.taken in
-    (alone-set (key_hash g.K.PartialEq.eq g.K.Hash.hash_input g.S.BuildHasher g.S.Hasher.Hasher) _ c.args.place row.items c.index_mut.result.now c.remove_hashed.new.self c.self.invariant.0 (here _ (lawful-of g.S.BuildHasher g.S.Hasher.Hasher g.met.K.Eq.laws g.met.K.Hash.respects_eq) _ _ _ c.self.view_is c.self.invariant.0 c.args.key.now c.args.place c.requires.place c.index_mut.result.now within c.index_mut.ensures.value) x.stays x.lawful, c.self.invariant.1, c.self.invariant.2)
+    let r = c.remove_hashed.ensures in
+    (spot-alone (spot g (goal.at.invariant_of-self g c).After-index_mut) c.remove_hashed.new.self r.lawful r.removes.taken.stays, c.self.invariant.1, c.self.invariant.2)
 
 pub returns : goal.returns
 returns g c =
-    let row = c.self.inside.row in
-    let within : c.args.place < length row.items = omega (arith, c.requires.below, ap (λ a. length a.row) c.self.view_is) in
-    let x = c.remove_hashed.ensures.taken in
-    taken _ (lawful-of g.S.BuildHasher g.S.Hasher.Hasher g.met.K.Eq.laws g.met.K.Hash.respects_eq) _ _ _ c.self.view_is c.self.invariant.0 c.args.key.now c.args.place c.requires.place c.index_mut.result.now within c.index_mut.ensures.value c.remove_hashed.new.self x.stays x.lawful (λ _. None) Pair (Remove c.args.key.now) (Pair c.remove_hashed.result) refl x.replies x.becomes
+    let r = c.remove_hashed.ensures in
+    spot-takes (spot g (goal.at.returns g c).After-index_mut) c.remove_hashed.new.self r.lawful (Remove c.args.key.now) (Pair c.remove_hashed.result) (_, _, refl) r.removes.taken

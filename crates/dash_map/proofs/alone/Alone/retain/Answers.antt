@@ -34,11 +34,15 @@ loop-place-preserved g c =
     let here : slice_get row i ≡ Some s = slice_get-get_or row i s within ∙ ap Some (sym c.index_mut.ensures.value) in
     let x = c.retain_by.ensures in
     record {
-      so_far = sweeping-next (key_hash g.K.PartialEq.eq g.K.Hash.hash_input g.S.BuildHasher g.S.Hasher.Hasher) (CalledAtPair g.F.FnMut) (TakesPair g.F.FnMut) if_kept c.args.f i c.args.self.now c.loop-place.self-inside.hasher row c.loop-place.f c.loop-place.invariant.so_far s here c.retain_by.new.self c.retain_by.new.f x;
+      so_far = sweeping-next (key_hash g.K.PartialEq.eq g.K.Hash.hash_input g.S.BuildHasher g.S.Hasher.Hasher) (CalledAtPair g.F.FnMut) (TakesPair g.F.FnMut) if_kept c.args.f i c.args.self.now c.loop-place.self-inside.hasher row c.loop-place.f c.loop-place.invariant.so_far s here c.retain_by.new.self c.retain_by.new.f x.sweeps x.lawful;
       end = c.loop-place.invariant.end ∙ sym (length-set row i c.retain_by.new.self);
       locks = c.loop-place.invariant.locks;
       room = c.loop-place.invariant.room;
     }
 
-pub returns : goal.returns
-returns g c = retains-alone (key_hash g.K.PartialEq.eq g.K.Hash.hash_input g.S.BuildHasher g.S.Hasher.Hasher) (CalledAtPair g.F.FnMut) (TakesPair g.F.FnMut) c.args.f g.met.K.Eq.laws c.loop-place.place c.args.self.now _ c.loop-place.f (subst (λ (a : AloneState g.row.K.Denot g.row.V.Denot g.row.S.Denot). IsAlone (key_hash g.K.PartialEq.eq g.K.Hash.hash_input g.S.BuildHasher g.S.Hasher.Hasher) a) c.self.view_is c.self.invariant.0) (omega (arith, c.loop-place.invariant.end)) c.loop-place.invariant.so_far
+pub returns-clause-retains : goal.returns-clause-retains
+returns-clause-retains g c =
+    retains-alone (key_hash g.K.PartialEq.eq g.K.Hash.hash_input g.S.BuildHasher g.S.Hasher.Hasher) (CalledAtPair g.F.FnMut) (TakesPair g.F.FnMut) c.args.f g.met.K.Eq.laws c.loop-place.place c.args.self.now _ c.loop-place.f (subst (λ (a : AloneState g.row.K.Denot g.row.V.Denot g.row.S.Denot). IsAlone (key_hash g.K.PartialEq.eq g.K.Hash.hash_input g.S.BuildHasher g.S.Hasher.Hasher) a) c.self.view_is c.self.invariant.0) (omega (arith, c.loop-place.invariant.end)) c.loop-place.invariant.so_far
+
+pub returns-clause-lawful : goal.returns-clause-lawful
+returns-clause-lawful g c = c.loop-place.invariant.so_far.turning.lawful

@@ -43,8 +43,8 @@ loop-step-preserved g c =
     let takes = subst (λ (r : Rules g.row.K.Denot g.row.V.Denot). Takes r (contents c.loop-step.self) (step_of g.A.Action.acts c.in-Some.step) (reply_of c.in-Ok-take.reply) (contents c.take.new.self)) known took.taken in
     record {
       so_far = rw c.push_reserved.ensures.items (running-more m g.A.Action.acts _ _ _ _ _ _ _ c.in-Some.step c.in-Ok-take.reply c.loop-step.invariant.so_far c.in-Some.ensures.items takes);
-      hasher = took.hasher ∙ c.loop-step.invariant.hasher;
-      amount = took.amount ∙ c.loop-step.invariant.amount;
+      hasher = took.stays.hasher ∙ c.loop-step.invariant.hasher;
+      amount = took.stays.amount ∙ c.loop-step.invariant.amount;
       lawful = took.lawful;
       room = omega (arith, c.loop-step.invariant.room, c.push_reserved.ensures.len, c.push_reserved.ensures.capacity, c.in-Some.ensures.cases);
     }

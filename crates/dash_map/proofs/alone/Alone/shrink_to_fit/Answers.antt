@@ -9,7 +9,7 @@ use Rattle.dash_shard.specs.Hashing.{key_hash}
 
 pub loop-place-init : goal.loop-place-init
 loop-place-init g c = record {
-  so_far = turning-first (key_hash g.K.PartialEq.eq g.K.Hash.hash_input g.S.BuildHasher g.S.Hasher.Hasher) (Shrinks (key_hash g.K.PartialEq.eq g.K.Hash.hash_input g.S.BuildHasher g.S.Hasher.Hasher)) _ _ c.self.view_is c.self.invariant.0;
+  so_far = turning-first (key_hash g.K.PartialEq.eq g.K.Hash.hash_input g.S.BuildHasher g.S.Hasher.Hasher) (Shrinks g.K.PartialEq.eq) _ _ c.self.view_is c.self.invariant.0;
   end = c.len-place-end.ensures ∙ c.self.inside.row.ok.0;
   locks = c.self.invariant.1;
   room = c.self.invariant.2;
@@ -24,11 +24,15 @@ loop-place-preserved g c =
     let here : slice_get row i ≡ Some s = slice_get-get_or row i s within ∙ ap Some (sym c.index_mut.ensures.value) in
     let x = c.shrink_to_fit.ensures in
     record {
-      so_far = turned (key_hash g.K.PartialEq.eq g.K.Hash.hash_input g.S.BuildHasher g.S.Hasher.Hasher) (Shrinks (key_hash g.K.PartialEq.eq g.K.Hash.hash_input g.S.BuildHasher g.S.Hasher.Hasher)) i c.args.self.now c.loop-place.self-inside.hasher row c.loop-place.invariant.so_far s c.shrink_to_fit.new.self here x.stays x.lawful x;
+      so_far = turned (key_hash g.K.PartialEq.eq g.K.Hash.hash_input g.S.BuildHasher g.S.Hasher.Hasher) (Shrinks g.K.PartialEq.eq) i c.args.self.now c.loop-place.self-inside.hasher row c.loop-place.invariant.so_far s c.shrink_to_fit.new.self here x.shrinks.stays x.lawful x.shrinks;
       end = c.loop-place.invariant.end ∙ sym (length-set row i c.shrink_to_fit.new.self);
       locks = c.loop-place.invariant.locks;
       room = c.loop-place.invariant.room;
     }
 
-pub returns : goal.returns
-returns g c = shrinks-alone (key_hash g.K.PartialEq.eq g.K.Hash.hash_input g.S.BuildHasher g.S.Hasher.Hasher) g.met.K.Eq.laws c.loop-place.place c.args.self.now _ (subst (λ (a : AloneState g.row.K.Denot g.row.V.Denot g.row.S.Denot). IsAlone (key_hash g.K.PartialEq.eq g.K.Hash.hash_input g.S.BuildHasher g.S.Hasher.Hasher) a) c.self.view_is c.self.invariant.0) c.loop-place.invariant.so_far (omega (arith, c.loop-place.invariant.end))
+pub returns-clause-shrinks : goal.returns-clause-shrinks
+returns-clause-shrinks g c =
+    shrinks-alone (key_hash g.K.PartialEq.eq g.K.Hash.hash_input g.S.BuildHasher g.S.Hasher.Hasher) g.met.K.Eq.laws c.loop-place.place c.args.self.now _ (subst (λ (a : AloneState g.row.K.Denot g.row.V.Denot g.row.S.Denot). IsAlone (key_hash g.K.PartialEq.eq g.K.Hash.hash_input g.S.BuildHasher g.S.Hasher.Hasher) a) c.self.view_is c.self.invariant.0) c.loop-place.invariant.so_far (omega (arith, c.loop-place.invariant.end))
+
+pub returns-clause-lawful : goal.returns-clause-lawful
+returns-clause-lawful g c = c.loop-place.invariant.so_far.lawful

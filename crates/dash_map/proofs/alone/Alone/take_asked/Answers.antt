@@ -20,7 +20,7 @@ returns-in-Ok-clause-taken g c =
     let m = c.make_change.ensures in
     let p = c.in-Ok.ensures.plan c.in-RemoveIf.key in
     rw c.in-RemoveIf.is (takes-planned (rules_in (key_hash g.K.PartialEq.eq g.K.Hash.hash_input g.S.BuildHasher g.S.Hasher.Hasher) g.K.Kept.alike g.V.Kept.alike a) (laws-in _ _ _ (lawful-of g.S.BuildHasher g.S.Hasher.Hasher g.met.K.Eq.laws g.met.K.Hash.respects_eq) g.met.K.Kept.alike_laws g.met.V.Kept.alike_laws g.met.K.KeptKey.alike_equal a) _ _ c.in-RemoveIf.key _ _ _ _ _ _
-    (same_found _ _ c.get.ensures.pair) refl p.0 p.1 (route_below _ _ (omega (arith, lawful.amount.several))) m.becomes (distinct-same _ _ _ (lawful-of g.S.BuildHasher g.S.Hasher.Hasher g.met.K.Eq.laws g.met.K.Hash.respects_eq) g.met.K.Kept.alike_laws g.met.V.Kept.alike_laws g.met.K.KeptKey.alike_equal a c.make_change.new.self m.hasher m.amount m.lawful))
+    (same_found _ _ c.get.ensures.pair) refl p.0 p.1 (route_below _ _ (omega (arith, lawful.amount.several))) m.becomes (distinct-same _ _ _ (lawful-of g.S.BuildHasher g.S.Hasher.Hasher g.met.K.Eq.laws g.met.K.Hash.respects_eq) g.met.K.Kept.alike_laws g.met.V.Kept.alike_laws g.met.K.KeptKey.alike_equal a c.make_change.new.self m.stays.hasher m.stays.amount m.lawful))
 
 pub make_change-requires-in-Ok-plan_remove_if_mut : goal.make_change-requires-in-Ok-plan_remove_if_mut
 make_change-requires-in-Ok-plan_remove_if_mut g c = subst (λ o. HasPair c.in-Ok-plan_remove_if_mut.change o) (same_found _ _ c.get-in-RemoveIfMut.ensures.pair) (c.in-Ok-plan_remove_if_mut.ensures.plan c.in-RemoveIfMut.key).1.there
@@ -33,7 +33,7 @@ returns-in-Ok-plan_remove_if_mut-clause-taken g c =
     let m = c.make_change-in-Ok-plan_remove_if_mut.ensures in
     let p = c.in-Ok-plan_remove_if_mut.ensures.plan c.in-RemoveIfMut.key in
     rw c.in-RemoveIfMut.is (takes-planned (rules_in (key_hash g.K.PartialEq.eq g.K.Hash.hash_input g.S.BuildHasher g.S.Hasher.Hasher) g.K.Kept.alike g.V.Kept.alike a) (laws-in _ _ _ (lawful-of g.S.BuildHasher g.S.Hasher.Hasher g.met.K.Eq.laws g.met.K.Hash.respects_eq) g.met.K.Kept.alike_laws g.met.V.Kept.alike_laws g.met.K.KeptKey.alike_equal a) _ _ c.in-RemoveIfMut.key _ _ _ _ _ _
-    (same_found _ _ c.get-in-RemoveIfMut.ensures.pair) refl p.0 p.1 (route_below _ _ (omega (arith, lawful.amount.several))) m.becomes (distinct-same _ _ _ (lawful-of g.S.BuildHasher g.S.Hasher.Hasher g.met.K.Eq.laws g.met.K.Hash.respects_eq) g.met.K.Kept.alike_laws g.met.V.Kept.alike_laws g.met.K.KeptKey.alike_equal a c.make_change-in-Ok-plan_remove_if_mut.new.self m.hasher m.amount m.lawful))
+    (same_found _ _ c.get-in-RemoveIfMut.ensures.pair) refl p.0 p.1 (route_below _ _ (omega (arith, lawful.amount.several))) m.becomes (distinct-same _ _ _ (lawful-of g.S.BuildHasher g.S.Hasher.Hasher g.met.K.Eq.laws g.met.K.Hash.respects_eq) g.met.K.Kept.alike_laws g.met.V.Kept.alike_laws g.met.K.KeptKey.alike_equal a c.make_change-in-Ok-plan_remove_if_mut.new.self m.stays.hasher m.stays.amount m.lawful))
 
 pub make_change-requires-in-Ok-plan_alter : goal.make_change-requires-in-Ok-plan_alter
 make_change-requires-in-Ok-plan_alter g c = subst (λ o. HasPair c.in-Ok-plan_alter.change o) (same_found _ _ c.get-in-Alter.ensures.pair) (c.in-Ok-plan_alter.ensures.plan c.in-Alter.key).1.there
@@ -46,7 +46,7 @@ returns-in-Ok-plan_alter-clause-taken g c =
     let m = c.make_change-in-Ok-plan_alter.ensures in
     let p = c.in-Ok-plan_alter.ensures.plan c.in-Alter.key in
     rw c.in-Alter.is (takes-planned (rules_in (key_hash g.K.PartialEq.eq g.K.Hash.hash_input g.S.BuildHasher g.S.Hasher.Hasher) g.K.Kept.alike g.V.Kept.alike a) (laws-in _ _ _ (lawful-of g.S.BuildHasher g.S.Hasher.Hasher g.met.K.Eq.laws g.met.K.Hash.respects_eq) g.met.K.Kept.alike_laws g.met.V.Kept.alike_laws g.met.K.KeptKey.alike_equal a) _ _ c.in-Alter.key _ _ _ _ _ _
-    (same_found _ _ c.get-in-Alter.ensures.pair) refl p.0 p.1 (route_below _ _ (omega (arith, lawful.amount.several))) m.becomes (distinct-same _ _ _ (lawful-of g.S.BuildHasher g.S.Hasher.Hasher g.met.K.Eq.laws g.met.K.Hash.respects_eq) g.met.K.Kept.alike_laws g.met.V.Kept.alike_laws g.met.K.KeptKey.alike_equal a c.make_change-in-Ok-plan_alter.new.self m.hasher m.amount m.lawful))
+    (same_found _ _ c.get-in-Alter.ensures.pair) refl p.0 p.1 (route_below _ _ (omega (arith, lawful.amount.several))) m.becomes (distinct-same _ _ _ (lawful-of g.S.BuildHasher g.S.Hasher.Hasher g.met.K.Eq.laws g.met.K.Hash.respects_eq) g.met.K.Kept.alike_laws g.met.V.Kept.alike_laws g.met.K.KeptKey.alike_equal a c.make_change-in-Ok-plan_alter.new.self m.stays.hasher m.stays.amount m.lawful))
 
 pub returns-in-Err-clause-fault : goal.returns-in-Err-clause-fault
 returns-in-Err-clause-fault g c =

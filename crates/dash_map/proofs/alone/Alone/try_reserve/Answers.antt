@@ -1,7 +1,7 @@
 use Rattle.std.proofs.Common.{◌≡◌, ◌<◌, ◌∙◌, Some, length, slice_get, sym, ap, arith}
 use Rattle.std.proofs.lemmas.Option.{slice_get-get_or}
 use Rattle.std.proofs.Math.ListN.{length-set}
-use Rattle.dash_map.proofs.Reserving.{reserved, refused}
+use Rattle.dash_map.proofs.Reserving.{turned, reserved, refused, all-reserved}
 use Rattle.dash_map.proofs.alone.Alone.try_reserve.Goals as goal
 use Rattle.dash_shard.specs.Hashing.{key_hash}
 
@@ -13,7 +13,10 @@ returns-in_err-try_reserve g c =
     let within : i < length row = omega (arith, c.loop-place.invariant.end) in
     let here : slice_get row i ≡ Some s = slice_get-get_or row i s within ∙ ap Some (sym c.index_mut.ensures.value) in
     let x = c.try_reserve.ensures in
-    refused (key_hash g.K.PartialEq.eq g.K.Hash.hash_input g.S.BuildHasher g.S.Hasher.Hasher) c.args.additional i c.args.self.now c.loop-place.self-inside.hasher row c.loop-place.invariant.so_far s c.try_reserve.new.self here x.stays x.lawful x.pairs c.from_residual.result c.from_residual.ensures.0
+    record {
+      reserves = refused (key_hash g.K.PartialEq.eq g.K.Hash.hash_input g.S.BuildHasher g.S.Hasher.Hasher) c.args.additional i c.args.self.now c.loop-place.self-inside.hasher row c.loop-place.invariant.so_far s c.try_reserve.new.self here x.reserves.stays x.lawful x.reserves.pairs c.from_residual.result c.from_residual.ensures.0;
+      lawful = (turned (key_hash g.K.PartialEq.eq g.K.Hash.hash_input g.S.BuildHasher g.S.Hasher.Hasher) c.args.additional i c.args.self.now c.loop-place.self-inside.hasher row c.loop-place.invariant.so_far s c.try_reserve.new.self here x.reserves.stays x.lawful x.reserves.pairs).lawful;
+    }
 
 pub loop-place-preserved : goal.loop-place-preserved
 loop-place-preserved g c =
@@ -24,8 +27,11 @@ loop-place-preserved g c =
     let here : slice_get row i ≡ Some s = slice_get-get_or row i s within ∙ ap Some (sym c.index_mut.ensures.value) in
     let x = c.in_ok-try_reserve.ensures in
     record {
-      so_far = reserved (key_hash g.K.PartialEq.eq g.K.Hash.hash_input g.S.BuildHasher g.S.Hasher.Hasher) c.args.additional i c.args.self.now c.loop-place.self-inside.hasher row c.loop-place.invariant.so_far s c.try_reserve.new.self here x.stays x.lawful x.pairs x.room;
+      so_far = reserved (key_hash g.K.PartialEq.eq g.K.Hash.hash_input g.S.BuildHasher g.S.Hasher.Hasher) c.args.additional i c.args.self.now c.loop-place.self-inside.hasher row c.loop-place.invariant.so_far s c.try_reserve.new.self here x.reserves.stays x.lawful x.reserves.pairs x.reserves.room;
       end = c.loop-place.invariant.end ∙ sym (length-set row i c.try_reserve.new.self);
       locks = c.loop-place.invariant.locks;
       room = c.loop-place.invariant.room;
     }
+
+pub returns-clause-reserves : goal.returns-clause-reserves
+returns-clause-reserves g c = all-reserved (key_hash g.K.PartialEq.eq g.K.Hash.hash_input g.S.BuildHasher g.S.Hasher.Hasher) c.args.additional c.loop-place.place c.args.self.now _ c.loop-place.invariant.so_far (omega (arith, c.loop-place.invariant.end))

@@ -1,11 +1,8 @@
 use Rattle.std.proofs.Common.{Option, Some, refl, ap, subst}
 use Rattle.dash_shard.specs.Closures.{Viewed}
 use Rattle.dash_map.proofs.Found.{replied}
-use Rattle.dash_map.specs.Alone.{keys_in}
 use Rattle.dash_map.proofs.alone.Alone.view.Goals as goal
-use Rattle.dash_shard.specs.Hashing.{key_hash}
 
 pub returns-clause-viewed : goal.returns-clause-viewed
 returns-clause-viewed g c =
-    let w = keys_in (key_hash g.K.PartialEq.eq g.K.Hash.hash_input g.S.BuildHasher g.S.Hasher.Hasher) c.args.self.now in
-    subst (λ (o : Option (g.row.K.Denot × g.row.V.Denot)). Viewed g.F.FnOnce c.args.f o (Some c.f.result)) (ap (replied w) c.in_ok-key.ensures.pair) (record { key = c.in_ok-key.key; value = c.in_ok-key.value; shows = (refl, refl); says = c.f.ensures })
+    subst (λ (o : Option (g.row.K.Denot × g.row.V.Denot)). Viewed g.F.FnOnce c.args.f o (Some c.f.result)) (ap replied c.in_ok-key.ensures.pair) (record { key = c.in_ok-key.key; value = c.in_ok-key.value; shows = (refl, refl); says = c.f.ensures })

@@ -14,7 +14,7 @@ alter_all_by-f-requires g c = c.loop-place.invariant.ready (pairs c.shards_mut.r
 pub loop-place-preserved : goal.loop-place-preserved
 loop-place-preserved g c =
     going-next (key_hash g.K.PartialEq.eq g.K.Hash.hash_input g.S.BuildHasher g.S.Hasher.Hasher) c.args.self.now (CalledOnPair g.F.FnMut) (TakesOnPair g.F.FnMut) altered c.args.f
-    c.loop-place.place c.loop-place.f c.loop-place.invariant c.shards_mut.result c.alter_all_by-f.new.self c.alter_all_by-f.result c.shards_mut.ensures.placed c.alter_all_by-f.ensures
+    c.loop-place.place c.loop-place.f c.loop-place.invariant c.shards_mut.result c.alter_all_by-f.new.self c.alter_all_by-f.result c.shards_mut.ensures.placed c.alter_all_by-f.ensures.sweeps c.alter_all_by-f.ensures.lawful
 
 pub returns : goal.returns
 returns g c =

@@ -7,8 +7,8 @@ use Rattle.dash_map.proofs.map.DashMap.clear.Goals as goal
 pub loop-place-preserved : goal.loop-place-preserved
 loop-place-preserved g c =
     let r = c.clear.ensures in
-    one-left (key_hash g.K.PartialEq.eq g.K.Hash.hash_input g.S.BuildHasher g.S.Hasher.Hasher) c.args.self.now (Clears {V = g.row.V.Denot} (key_hash g.K.PartialEq.eq g.K.Hash.hash_input g.S.BuildHasher g.S.Hasher.Hasher))
-    c.loop-place.place c.loop-place.invariant c.shards_mut.result c.clear.new.self c.shards_mut.ensures.placed r.taken.stays r.taken.lawful r
+    one-left (key_hash g.K.PartialEq.eq g.K.Hash.hash_input g.S.BuildHasher g.S.Hasher.Hasher) c.args.self.now (Clears {V = g.row.V.Denot})
+    c.loop-place.place c.loop-place.invariant c.shards_mut.result c.clear.new.self c.shards_mut.ensures.placed r.clears.stays r.lawful r.clears
 
 pub returns : goal.returns
 returns g c =

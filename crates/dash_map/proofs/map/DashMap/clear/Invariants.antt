@@ -4,4 +4,4 @@ use Rattle.dash_map.proofs.map.DashMap.clear.Given as goal
 use Rattle.dash_shard.specs.Hashing.{key_hash}
 
 abbrev pub invariant-loop-place : goal.invariant-loop-place
-invariant-loop-place g l = Leaving (key_hash g.K.PartialEq.eq g.K.Hash.hash_input g.S.BuildHasher g.S.Hasher.Hasher) l.self (Clears {V = g.row.V.Denot} (key_hash g.K.PartialEq.eq g.K.Hash.hash_input g.S.BuildHasher g.S.Hasher.Hasher)) l.place
+invariant-loop-place g l = Leaving (key_hash g.K.PartialEq.eq g.K.Hash.hash_input g.S.BuildHasher g.S.Hasher.Hasher) l.self (Clears {V = g.row.V.Denot}) l.place

@@ -1,5 +1,6 @@
 use Rattle.std.proofs.Common.{◌<◌, ◌∙◌, ap, sym, length, arith}
 use Rattle.std.specs.Prelude.{is_some}
+use Rattle.dash_shard.specs.Steps.{Found}
 use Rattle.dash_map.proofs.Seeing.{seen, shown}
 use Rattle.dash_map.proofs.map.DashMap.contains_key.Goals as goal
 use Rattle.dash_shard.specs.Hashing.{key_hash}
@@ -19,5 +20,5 @@ returns g c =
     let within : i < length row = omega (arith, c.place_of-hash.ensures.below, ap (λ m. m.amount) c.self.view_is) in (
       c.deref-2.result.now,
       seen (key_hash g.K.PartialEq.eq g.K.Hash.hash_input g.S.BuildHasher g.S.Hasher.Hasher) _ _ c.self.view_is row c.self.invariant.0 i within c.index.result.now c.index.ensures _ c.deref.ensures c.read-guard.result.value c.read-guard.ensures.fits c.args.key.now c.place_of-hash.ensures.route c.deref-2.result.now c.deref-2.ensures.0,
-      c.is_some.ensures ∙ shown c.find.result ∙ ap is_some c.find.ensures.pair,
+      ap Found (c.is_some.ensures ∙ shown c.find.result ∙ ap is_some c.find.ensures.pair),
     )

@@ -1,7 +1,15 @@
-use Rattle.dash_shard.specs.Shard.{keys_of, pairs}
-use Rattle.dash_map.proofs.Found.{taken-equal}
-use Rattle.dash_map.proofs.map.DashMap.remove.Goals as goal
+use Rattle.dash_shard.specs.Steps.{Remove, Pair}
+use Rattle.dash_shard.specs.Shard.{TakesInPlace, pairs}
 use Rattle.dash_shard.specs.Hashing.{key_hash}
+use Rattle.dash_map.proofs.Found.{taken-equal}
+use Rattle.dash_map.proofs.Seeing.{left-behind}
+use Rattle.dash_map.proofs.map.DashMap.remove.Goals as goal
 
 pub returns : goal.returns
-returns g c = record { equal = taken-equal (keys_of (key_hash g.K.PartialEq.eq g.K.Hash.hash_input g.S.BuildHasher g.S.Hasher.Hasher) c.shards_mut.result) (pairs c.shards_mut.result) c.args.key.now c.remove_hashed.result c.remove_hashed.ensures.taken.replies }
+returns g c =
+    let r = c.remove_hashed.ensures in
+    record {
+      equal = taken-equal g.K.PartialEq.eq (pairs c.shards_mut.result) c.args.key.now c.remove_hashed.result r.removes.taken.table.replies;
+      leaves = left-behind (key_hash g.K.PartialEq.eq g.K.Hash.hash_input g.S.BuildHasher g.S.Hasher.Hasher) c.args.self.now c.args.key.now _ c.place_of-hash.ensures.route _ _ c.shards_mut.ensures.placed r.removes.taken.stays r.lawful
+          (λ s t. TakesInPlace g.K.PartialEq.eq s t (Remove c.args.key.now) (Pair c.remove_hashed.result)) r.removes;
+    }

@@ -1,25 +1,15 @@
-use Rattle.std.proofs.Common.{ap, subst}
-use Rattle.dash_shard.specs.Closures.{MayAsk, AnswersOn}
-use Rattle.dash_shard.specs.Contents.{at}
-use Rattle.dash_shard.specs.Shard.{keys_of, pairs}
-use Rattle.dash_map.specs.Alone.{IsPlaced}
-use Rattle.dash_map.proofs.Found.{replied}
-use Rattle.dash_map.proofs.Seeing.{asked, at-each}
-use Rattle.dash_map.proofs.map.DashMap.remove_if.Goals as goal
+use Rattle.dash_shard.specs.Closures.{MayAsk, Answered}
+use Rattle.dash_shard.specs.Steps.{RemoveIf, Pair}
+use Rattle.dash_shard.specs.Shard.{TakesBy, pairs}
 use Rattle.dash_shard.specs.Hashing.{key_hash}
+use Rattle.dash_map.proofs.Seeing.{at-each, left-behind}
+use Rattle.dash_map.proofs.map.DashMap.remove_if.Goals as goal
 
 pub remove_if_hashed-requires-clause-callable : goal.remove_if_hashed-requires-clause-callable
-remove_if_hashed-requires-clause-callable g c =
-    let s = c.shards_mut.result in
-    at-each (keys_of (key_hash g.K.PartialEq.eq g.K.Hash.hash_input g.S.BuildHasher g.S.Hasher.Hasher) s) (pairs s) c.args.key.now (MayAsk g.F.FnOnce c.args.f) c.requires
+remove_if_hashed-requires-clause-callable g c = at-each g.K.PartialEq.eq (pairs c.shards_mut.result) c.args.key.now (MayAsk g.F.FnOnce c.args.f) c.requires
 
 pub returns : goal.returns
 returns g c =
-    let s = c.shards_mut.result in
-    let m = c.args.self.now in
-    let w = keys_of (key_hash g.K.PartialEq.eq g.K.Hash.hash_input g.S.BuildHasher g.S.Hasher.Hasher) s in
-    let r = c.remove_if_hashed.ensures in (
-      s,
-      subst (λ i. IsPlaced (key_hash g.K.PartialEq.eq g.K.Hash.hash_input g.S.BuildHasher g.S.Hasher.Hasher) m.hasher m.amount i s) c.place_of-hash.ensures.route c.shards_mut.ensures.placed,
-      asked (AnswersOn g.F.FnOnce c.args.f) (at w (pairs s) c.args.key.now) c.remove_if_hashed.result r.0 (ap (replied w) r.1.taken.replies) r.2,
-    )
+    let r = c.remove_if_hashed.ensures in
+    left-behind (key_hash g.K.PartialEq.eq g.K.Hash.hash_input g.S.BuildHasher g.S.Hasher.Hasher) c.args.self.now c.args.key.now _ c.place_of-hash.ensures.route _ _ c.shards_mut.ensures.placed r.removes.1.taken.stays r.lawful
+    (λ s t. TakesBy g.K.PartialEq.eq s t RemoveIf c.args.key.now (Pair c.remove_if_hashed.result) (Answered g.F.FnOnce c.args.f)) r.removes

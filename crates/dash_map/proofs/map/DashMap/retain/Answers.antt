@@ -15,7 +15,7 @@ retain_by-f-requires g c = c.loop-place.invariant.ready (pairs c.shards_mut.resu
 pub loop-place-preserved : goal.loop-place-preserved
 loop-place-preserved g c =
     going-next (key_hash g.K.PartialEq.eq g.K.Hash.hash_input g.S.BuildHasher g.S.Hasher.Hasher) c.args.self.now (CalledAtPair g.F.FnMut) (TakesPair g.F.FnMut) if_kept c.args.f
-    c.loop-place.place c.loop-place.f c.loop-place.invariant c.shards_mut.result c.retain_by-f.new.self c.retain_by-f.result c.shards_mut.ensures.placed c.retain_by-f.ensures
+    c.loop-place.place c.loop-place.f c.loop-place.invariant c.shards_mut.result c.retain_by-f.new.self c.retain_by-f.result c.shards_mut.ensures.placed c.retain_by-f.ensures.sweeps c.retain_by-f.ensures.lawful
 
 pub returns : goal.returns
 returns g c =

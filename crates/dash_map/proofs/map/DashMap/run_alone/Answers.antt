@@ -7,8 +7,8 @@ returns-clause-ran g c = record {
   after = c.run-outcome.new.self;
   stood = record { hasher = c.alone-alone.ensures.hasher; amount = c.alone-alone.ensures.amount; lawful = c.alone-alone.ensures.lawful };
   stands = record {
-    hasher = c.run-outcome.ensures.hasher ∙ c.alone-alone.ensures.hasher;
-    amount = c.run-outcome.ensures.amount ∙ c.alone-alone.ensures.amount;
+    hasher = c.run-outcome.ensures.stays.hasher ∙ c.alone-alone.ensures.hasher;
+    amount = c.run-outcome.ensures.stays.amount ∙ c.alone-alone.ensures.amount;
     lawful = c.run-outcome.ensures.lawful;
   };
   ran = c.run-outcome.ensures.ran;

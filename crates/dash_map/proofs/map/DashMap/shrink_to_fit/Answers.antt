@@ -7,8 +7,8 @@ use Rattle.dash_map.proofs.map.DashMap.shrink_to_fit.Goals as goal
 pub loop-place-preserved : goal.loop-place-preserved
 loop-place-preserved g c =
     let r = c.shrink_to_fit.ensures in
-    one-left (key_hash g.K.PartialEq.eq g.K.Hash.hash_input g.S.BuildHasher g.S.Hasher.Hasher) c.args.self.now (Shrinks {V = g.row.V.Denot} (key_hash g.K.PartialEq.eq g.K.Hash.hash_input g.S.BuildHasher g.S.Hasher.Hasher))
-    c.loop-place.place c.loop-place.invariant c.shards_mut.result c.shrink_to_fit.new.self c.shards_mut.ensures.placed r.stays r.lawful r
+    one-left (key_hash g.K.PartialEq.eq g.K.Hash.hash_input g.S.BuildHasher g.S.Hasher.Hasher) c.args.self.now (Shrinks {V = g.row.V.Denot} g.K.PartialEq.eq)
+    c.loop-place.place c.loop-place.invariant c.shards_mut.result c.shrink_to_fit.new.self c.shards_mut.ensures.placed r.shrinks.stays r.lawful r.shrinks
 
 pub returns : goal.returns
 returns g c =

@@ -7,9 +7,9 @@ returns-clause-reserves g c = record {
   after = c.try_reserve-made.new.self;
   stood = record { hasher = c.alone-alone.ensures.hasher; amount = c.alone-alone.ensures.amount; lawful = c.alone-alone.ensures.lawful };
   stands = record {
-    hasher = c.try_reserve-made.ensures.hasher ∙ c.alone-alone.ensures.hasher;
-    amount = c.try_reserve-made.ensures.amount ∙ c.alone-alone.ensures.amount;
+    hasher = c.try_reserve-made.ensures.reserves.stays.hasher ∙ c.alone-alone.ensures.hasher;
+    amount = c.try_reserve-made.ensures.reserves.stays.amount ∙ c.alone-alone.ensures.amount;
     lawful = c.try_reserve-made.ensures.lawful;
   };
-  reserves = c.try_reserve-made.ensures;
+  leaves = c.try_reserve-made.ensures.reserves;
 }

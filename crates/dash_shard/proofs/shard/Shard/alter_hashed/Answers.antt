@@ -7,7 +7,6 @@ use Rattle.dash_shard.proofs.Shards.{holds-key}
 use Rattle.dash_shard.proofs.shard.Shard.alter_hashed.Goals as goal
 use Rattle.dash_shard.proofs.Lawful.{lawful-of}
 
-
 pub invariant_of-self : goal.invariant_of-self
 invariant_of-self g c =
     let here = (c.position_of_hashed.ensures.finds.position c.in-Some.place).0 c.in-Some.is in

@@ -10,6 +10,6 @@ pub returns : goal.returns
 returns g c =
     record {
       finds = located _ (lawful-of g.S.BuildHasher g.S.Hasher.Hasher g.met.K.Eq.laws g.met.K.Hash.respects_eq) _ _ _ _ c.self.invariant _ _ (hash-same (lawful-of g.S.BuildHasher g.S.Hasher.Hasher g.met.K.Eq.laws g.met.K.Hash.respects_eq) c.args.key.now _ _ c.self.view_is c.args.hash c.requires)
-      _ c.self.view_is _ c.find.ensures.found c.find.ensures.absent;
+          _ c.self.view_is _ c.find.ensures.found c.find.ensures.absent;
       lawful = subst (IsShard (key_hash g.K.PartialEq.eq g.K.Hash.hash_input g.S.BuildHasher g.S.Hasher.Hasher)) c.self.view_is c.self.invariant.shard;
     }

@@ -1,0 +1,100 @@
+-- A keyed call of a map of one owner: the key, its place, and the shard that an index lends there.
+use Rattle.std.proofs.Common.{◌≡◌, ℕ, ◌<◌, Bool, List, length, Option, Some, slice_get, slice_set, flat_map, get_or, sym, ap, subst, ◌∙◌}
+use Rattle.std.specs.Prelude.{IfSome, IsSomeAnd}
+use Rattle.std.proofs.lemmas.List.{set-get_or}
+use Rattle.std.proofs.lemmas.Option.{slice_get-get_or}
+use Rattle.std.proofs.Math.ListN.{length-set}
+use Rattle.dash_shard.specs.Hashing.{IsLawful, KeyHash, route_by}
+use Rattle.dash_shard.specs.Contents.{Keys, keys, at}
+use Rattle.dash_shard.specs.Steps.{Act, Step, Reply, Becomes, line, line_after, LineReplies, at_key}
+use Rattle.dash_shard.specs.Shard.{ShardState, SameShard, Routes, IsShard, TakesStep, TakesBy, pairs, shard_len, own_keys}
+use Rattle.dash_map.specs.Alone.{AloneState, IsAlone, TakesAlone, TakesAloneBy, contents, keys_in}
+use Rattle.dash_map.proofs.Lifting.{keys-same, on-shards, alone-set, lifted}
+use Rattle.dash_map.proofs.Union.{at-union}
+
+-- the step is on the pair at the key k
+abbrev pub IsKeyed : {K V : Type 0} → Step K V → K → Type 0
+IsKeyed {K} {V} step k = (f : Option (K × V) → Option (K × V)) × (g : Option (K × V) → Reply K V) × (line step ≡ at_key k f g)
+
+module _ {K V S : Type 0} (h : KeyHash K S) where
+  -- the map z, whose fields are base and row, and its shard s at the place p of the key k
+  pub record Spot (z : AloneState K V S) (k : K) (p : ℕ) (s : ShardState K V S) : Type 0 where
+    pub law : IsLawful h
+    pub base : S
+    pub row : List (ShardState K V S)
+    pub view : record { hasher = base; row = row } ≡ z
+    pub lawful : IsAlone h (record { hasher = base; row = row })
+    pub computed : p ≡ (keys_in h z).route k
+    pub within : p < length row
+    pub read : s ≡ get_or row p s
+
+module _ {K V S : Type 0} {h : KeyHash K S} {z : AloneState K V S} {k : K} {p : ℕ} {s : ShardState K V S} (x : Spot h z k p s) where
+  abbrev w : Keys K
+  w = keys h.eq (route_by h x.base (length x.row)) (length x.row)
+
+  route_is : p ≡ w.route k
+  route_is = x.computed ∙ sym (ap (λ y. (keys_in h y).route k) x.view)
+
+  pub spot-here : slice_get x.row p ≡ Some s
+  spot-here = slice_get-get_or x.row p s x.within ∙ ap Some (sym x.read)
+
+  there : slice_get x.row (w.route k) ≡ Some s
+  there = subst (λ i. slice_get x.row i ≡ Some s) route_is spot-here
+
+  -- the key goes to that shard
+  pub spot-route : Routes h s k
+  spot-route = ap (λ y. y.route k) (keys-same h x.base (length x.row) p s (x.lawful.placed p s spot-here)) ∙ sym route_is ∙ sym (x.lawful.placed p s spot-here).number
+
+  -- the key has one hash there and by the map's hasher
+  pub spot-hash : (hash : ℕ) → hash ≡ h.hash z.hasher k → hash ≡ h.hash s.hasher k
+  spot-hash hash is = is ∙ sym (ap (λ y. h.hash y.hasher k) x.view) ∙ sym ((x.lawful.placed p s spot-here).hashes k)
+
+  -- that shard is the one of the key
+  pub spot-full : shard_len s ≡ s.capacity → IsSomeAnd (slice_get z.row ((keys_in h z).route k)) (λ y. shard_len y ≡ y.capacity)
+  spot-full full =
+      let found : slice_get z.row ((keys_in h z).route k) ≡ Some s = subst (λ i. slice_get z.row i ≡ Some s) x.computed (subst (λ y. slice_get y.row p ≡ Some s) x.view spot-here) in
+      rw found full
+
+  -- what stands at the key stands on that shard
+  pub spot-stands : at h.eq (contents z) k ≡ at h.eq (pairs s) k
+  spot-stands = subst (λ y. at h.eq (contents y) k ≡ at h.eq (pairs s) k) x.view (at-union w x.row k s (on-shards h x.base x.row x.lawful) there)
+
+  -- so what is known of the one is known of the other
+  pub spot-known : (P : K × V → Type 0) → IfSome (at h.eq (contents z) k) P → IfSome (at h.eq (pairs s) k) P
+  spot-known P known = subst (λ o. IfSome o P) spot-stands known
+
+  -- the shard was put back as it was
+  pub spot-unchanged : (t : ShardState K V S) → t ≡ s → record { hasher = x.base; row = slice_set x.row p t } ≡ z
+  spot-unchanged t e = ap (λ y. record { hasher = x.base; row = slice_set x.row p y }) (e ∙ x.read) ∙ ap (λ y. record { hasher = x.base; row = y }) (set-get_or x.row p s) ∙ x.view
+
+  module _ (t : ShardState K V S) (new : IsShard h t) where
+    -- the map with the shard that a call leaves
+    abbrev with : AloneState K V S
+    with = record { hasher = x.base; row = slice_set x.row p t }
+
+    pub spot-alone : SameShard s t → IsAlone h with
+    spot-alone stays = alone-set h x.base p x.row s t x.lawful spot-here stays new
+
+    -- a step at the key that was taken on that shard was taken on the map
+    pub spot-takes : (step : Step K V) (reply : Reply K V) → IsKeyed step k → TakesStep h.eq s t step reply → TakesAlone h z with step reply
+    spot-takes step reply (f, g, kind) d =
+        let old : AloneState K V S = record { hasher = x.base; row = x.row } in
+        let o : Keys K = own_keys h.eq s in
+        let replies : reply ≡ g (at h.eq (pairs s) k) = subst (λ l. LineReplies o l (pairs s) reply) kind d.table.replies in
+        let becomes : (j : K) → at h.eq (pairs t) j ≡ line_after w (at_key k f g) j (at h.eq (pairs s) j) = λ j. subst (λ l. at h.eq (pairs t) j ≡ line_after o l j (at h.eq (pairs s) j)) kind (d.table.becomes j) in
+        let moved = lifted h x.law x.base x.row x.lawful k s t there d.stays new f g becomes in
+        record {
+          table = record {
+            replies = subst (λ l. LineReplies (keys_in h z) l (contents z) reply) (sym kind) (replies ∙ ap g (sym spot-stands));
+            becomes = subst (λ y. Becomes (keys_in h y) step (contents y) (flat_map pairs (slice_set x.row p t))) x.view
+                (subst (λ i. Becomes (keys_in h old) step (contents old) (flat_map pairs (slice_set x.row i t))) (sym route_is)
+                (λ j. subst (λ l. at h.eq (flat_map pairs (slice_set x.row (w.route k) t)) j ≡ line_after w l j (at h.eq (flat_map pairs x.row) j)) (sym kind) (moved j)));
+          };
+          stays = record { hasher = ap (λ y. y.hasher) x.view; amount = length-set x.row p t ∙ ap (λ y. length y.row) x.view };
+          lawful = spot-alone d.stays;
+        }
+
+    -- the same by some action
+    pub spot-by : (step : K → Act K V → Step K V) (reply : Reply K V) (may : K × V → V × Bool → Type 0) → ((act : Act K V) → IsKeyed (step k act) k) → TakesBy h.eq s t step k reply may
+        → TakesAloneBy h z with step k reply may
+    spot-by step reply may keyed by = (by.0, spot-takes (step k by.0) reply (keyed by.0) by.1.taken, subst (λ o. IfSome o (λ q. may q (by.0 q.0 q.1))) (sym spot-stands) by.2)
