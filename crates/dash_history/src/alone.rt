@@ -7,6 +7,7 @@ ghost use Rattle.dash_history.specs.Takes.{known};
 
 use crate::action::KeptAction;
 use crate::kept::{Kept, KeptKey};
+use crate::known::Recorded;
 use crate::record::map::Locked;
 use crate::record::{CallerLog, RecShard, RecordFault};
 use crate::step::{Reply, ShardStep};
@@ -36,6 +37,18 @@ impl<K: KeptKey, V: Kept, S: BuildHasher, A: KeptAction<K, V>> Model for RecAlon
     ghost view = { λ a. record { hasher = a.hasher; callers = a.callers; row = a.row.items } };
 
     ghost invariant = { λ a. IsAlone (key_hash K.eq K.hash_input S.BuildHasher S.Hasher.Hasher) (record { hasher = a.hasher; callers = a.callers; row = a.row.items }) × (a.locks.items ≡ []) × (vec_len a.row ≤ vec_capacity a.locks) };
+}
+
+impl<K: KeptKey, V: Kept, S: BuildHasher, A: KeptAction<K, V>> Recorded for RecAlone<K, V, S, A> {
+    type Key = K;
+
+    type Value = V;
+
+    type Action = A;
+
+    type State = S;
+
+    ghost known = { known K.KeptKey V.alike A.KeptAction S.BuildHasher S.Hasher.Hasher };
 }
 
 // The row of a map with no pairs and no histories.
@@ -89,13 +102,13 @@ impl<K: KeptKey + Drop, V: Kept + Drop, S: BuildHasher, A: KeptAction<K, V> + Dr
     ) -> Result<(RecAlone<K, V, S, A>, Vec<CallerLog<K, V, A>>), ConstructError>
     where
         S: Clone,
-        requires { (s t : S) → S.is_clone s t → HashAlike (by K.Hash S.BuildHasher S.Hasher.Hasher) s t }
+        requires { (s t : S) → S.is_clone s t → HashAlike ⟦<Self as Recorded>⟧.known.keys s t }
         ensures hasher { IfOk result (λ m. m.0.hasher ≡ hasher) }
         ensures callers { IfOk result (λ m. m.0.callers ≡ callers) }
         ensures amount { IfOk result (λ m. length m.0.row ≡ amount) }
         ensures fresh { IfOk result (λ m. (i : ℕ) (s : _) → slice_get m.0.row i ≡ Some s → IsFresh s) }
         ensures logs { IfOk result (λ m. m.1.items ≡ fresh_logs callers) }
-        ensures lawful { IfOk result (λ m. IsAlone (by K.Hash S.BuildHasher S.Hasher.Hasher) m.0) }
+        ensures lawful { IfOk result (λ m. IsAlone ⟦<Self as Recorded>⟧.known.keys m.0) }
 
         // In the order of the refusals' numbers.
         ensures bad_amount { IsErrOf result ConstructError.ShardAmount ↔ (IsAmount amount → ⊥) }
@@ -130,7 +143,7 @@ impl<K: KeptKey + Drop, V: Kept + Drop, S: BuildHasher, A: KeptAction<K, V> + Dr
     #[inline]
     pub fn callers(&self) -> u32
         ensures callers { result ≡ self.now.callers }
-        ensures lawful { IsAlone (by K.Hash S.BuildHasher S.Hasher.Hasher) self.now }
+        ensures lawful { IsAlone ⟦<Self as Recorded>⟧.known.keys self.now }
     {
         self.callers
     }
@@ -139,7 +152,7 @@ impl<K: KeptKey + Drop, V: Kept + Drop, S: BuildHasher, A: KeptAction<K, V> + Dr
     #[inline]
     pub fn shard_count(&self) -> usize
         ensures count { result ≡ length self.now.row }
-        ensures lawful { IsAlone (by K.Hash S.BuildHasher S.Hasher.Hasher) self.now }
+        ensures lawful { IsAlone ⟦<Self as Recorded>⟧.known.keys self.now }
     {
         let _ = &self.hasher;
         self.row.len()
@@ -154,12 +167,12 @@ impl<K: KeptKey + Drop, V: Kept + Drop, S: BuildHasher, A: KeptAction<K, V> + Dr
         step: ShardStep<K, V, A>,
     ) -> Result<Reply<K, V>, (ShardStep<K, V, A>, RecordFault)>
         requires { log.old.caller < self.old.callers }
-        ensures ok { IfOk result (λ reply. Applied (kinds_in (known K.KeptKey V.alike A.KeptAction S.BuildHasher S.Hasher.Hasher) self.old) self.old self.new log.old log.new step reply) }
+        ensures ok { IfOk result (λ reply. Applied (kinds_in ⟦<Self as Recorded>⟧.known self.old) self.old self.new log.old log.new step reply) }
         ensures refused { IfErr result (λ e. (e.0 ≡ step) × (self.new ≡ self.old) × (log.new ≡ log.old)) }
 
         // In this order; else there was no memory.
-        ensures no_such_shard { (result ≡ Err (step, RecordFault.NoSuchShard)) ↔ (length self.old.row ≤ place_of (kinds_in (known K.KeptKey V.alike A.KeptAction S.BuildHasher S.Hasher.Hasher) self.old) step) }
-        ensures last_stamp { (result ≡ Err (step, RecordFault.LastStamp)) ↔ ((place_of (kinds_in (known K.KeptKey V.alike A.KeptAction S.BuildHasher S.Hasher.Hasher) self.old) step < length self.old.row) × (max (last_at self.old (place_of (kinds_in (known K.KeptKey V.alike A.KeptAction S.BuildHasher S.Hasher.Hasher) self.old) step)) log.old.last ≡ 2 ^ 64 - 1)) }
+        ensures no_such_shard { (result ≡ Err (step, RecordFault.NoSuchShard)) ↔ (length self.old.row ≤ place_of (kinds_in ⟦<Self as Recorded>⟧.known self.old) step) }
+        ensures last_stamp { (result ≡ Err (step, RecordFault.LastStamp)) ↔ ((place_of (kinds_in ⟦<Self as Recorded>⟧.known self.old) step < length self.old.row) × (max (last_at self.old (place_of (kinds_in ⟦<Self as Recorded>⟧.known self.old) step)) log.old.last ≡ 2 ^ 64 - 1)) }
     {
         let place = step.place(&self.hasher, self.row.len());
         if place >= self.row.len() {

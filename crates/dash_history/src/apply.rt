@@ -6,6 +6,7 @@ ghost use Rattle.dash_history.specs.Takes.{known};
 
 use crate::action::KeptAction;
 use crate::kept::{Kept, KeptKey};
+use crate::known::Recorded;
 use crate::record::map::RecordedMap;
 use crate::record::{CallerLog, RecordFault};
 use crate::step::{Reply, ShardStep};
@@ -30,12 +31,12 @@ impl<K: KeptKey + Drop, V: Kept + Drop, S: BuildHasher, A: KeptAction<K, V> + Dr
         step: ShardStep<K, V, A>,
     ) -> Result<Reply<K, V>, (ShardStep<K, V, A>, RecordFault)>
         requires { log.old.caller < self.now.callers }
-        ensures ok { IfOk result (λ reply. Logged (kinds_on (known K.KeptKey V.alike A.KeptAction S.BuildHasher S.Hasher.Hasher) self.now) log.old log.new step reply) }
+        ensures ok { IfOk result (λ reply. Logged (kinds_on ⟦<Self as Recorded>⟧.known self.now) log.old log.new step reply) }
         ensures refused { IfErr result (λ e. (e.0 ≡ step) × (log.new ≡ log.old)) }
-        ensures no_such_shard { (result ≡ Err (step, RecordFault.NoSuchShard)) ↔ (self.now.amount ≤ place_of (kinds_on (known K.KeptKey V.alike A.KeptAction S.BuildHasher S.Hasher.Hasher) self.now) step) }
+        ensures no_such_shard { (result ≡ Err (step, RecordFault.NoSuchShard)) ↔ (self.now.amount ≤ place_of (kinds_on ⟦<Self as Recorded>⟧.known self.now) step) }
 
         // The shard's last stamp is not known here, the log's is.
-        ensures last_stamp { (place_of (kinds_on (known K.KeptKey V.alike A.KeptAction S.BuildHasher S.Hasher.Hasher) self.now) step < self.now.amount) × (log.old.last ≡ 2 ^ 64 - 1) → result ≡ Err (step, RecordFault.LastStamp) }
+        ensures last_stamp { (place_of (kinds_on ⟦<Self as Recorded>⟧.known self.now) step < self.now.amount) × (log.old.last ≡ 2 ^ 64 - 1) → result ≡ Err (step, RecordFault.LastStamp) }
     {
         let place = self.place(&step);
         if place >= self.shard_count() {

@@ -10,6 +10,7 @@ ghost use Rattle.dash_history.specs.Alone.{IsFresh};
 
 use crate::action::KeptAction;
 use crate::kept::{Kept, KeptKey};
+use crate::known::Recorded;
 use crate::step::{Record, Reply, ShardStep};
 use dash_shard::shard::Shard;
 use plan::{carry_out, prepare};
@@ -118,6 +119,18 @@ impl<K: KeptKey, V: Kept, S: BuildHasher, A: KeptAction<K, V>> Model for RecShar
     ghost invariant = { λ s. IsRecorded (known_by K.eq K.hash_input K.alike V.alike A.alike A.acts S.BuildHasher S.Hasher.Hasher) (record { shard = s.shard; callers = s.callers; last = s.last; history = s.history.items }) };
 }
 
+impl<K: KeptKey, V: Kept, S: BuildHasher, A: KeptAction<K, V>> Recorded for RecShard<K, V, S, A> {
+    type Key = K;
+
+    type Value = V;
+
+    type Action = A;
+
+    type State = S;
+
+    ghost known = { known K.KeptKey V.alike A.KeptAction S.BuildHasher S.Hasher.Hasher };
+}
+
 // The record of a step with its reply, twice.
 fn copies<K: Kept + Drop, V: Kept + Drop, A: Kept + Drop>(
     stamp: u64,
@@ -204,7 +217,7 @@ impl<K: KeptKey + Drop, V: Kept + Drop, S: BuildHasher, A: KeptAction<K, V> + Dr
     #[inline]
     pub(crate) fn last_stamp(&self) -> u64
         ensures last { result ≡ self.now.last }
-        ensures legal { IsRecorded (known K.KeptKey V.alike A.KeptAction S.BuildHasher S.Hasher.Hasher) self.now }
+        ensures legal { IsRecorded ⟦<Self as Recorded>⟧.known self.now }
     {
         self.last
     }
@@ -216,10 +229,10 @@ impl<K: KeptKey + Drop, V: Kept + Drop, S: BuildHasher, A: KeptAction<K, V> + Dr
         caller: u32,
         step: ShardStep<K, V, A>,
     ) -> Result<(Reply<K, V>, Record<K, V, A>), ShardStep<K, V, A>>
-        requires place { place_of (kinds_of (known K.KeptKey V.alike A.KeptAction S.BuildHasher S.Hasher.Hasher) self.old.shard) step ≡ self.old.shard.number }
+        requires place { place_of (kinds_of ⟦<Self as Recorded>⟧.known self.old.shard) step ≡ self.old.shard.number }
         requires caller { caller < self.old.callers }
         requires above { self.old.last < stamp }
-        ensures ok { IfOk result (λ p. Grown (kinds_of (known K.KeptKey V.alike A.KeptAction S.BuildHasher S.Hasher.Hasher) self.old.shard) self.old self.new stamp caller step p.0 p.1) }
+        ensures ok { IfOk result (λ p. Grown (kinds_of ⟦<Self as Recorded>⟧.known self.old.shard) self.old self.new stamp caller step p.0 p.1) }
         ensures refused { IfErr result (λ back. (back ≡ step) × (self.new ≡ self.old)) }
         ensures stays { SameShard self.old.shard self.new.shard }
         ensures callers { self.new.callers ≡ self.old.callers }
@@ -257,9 +270,9 @@ impl<K: KeptKey + Drop, V: Kept + Drop, S: BuildHasher, A: KeptAction<K, V> + Dr
         log: &mut CallerLog<K, V, A>,
         step: ShardStep<K, V, A>,
     ) -> Result<Reply<K, V>, (ShardStep<K, V, A>, RecordFault)>
-        requires place { place_of (kinds_of (known K.KeptKey V.alike A.KeptAction S.BuildHasher S.Hasher.Hasher) self.old.shard) step ≡ self.old.shard.number }
+        requires place { place_of (kinds_of ⟦<Self as Recorded>⟧.known self.old.shard) step ≡ self.old.shard.number }
         requires caller { log.old.caller < self.old.callers }
-        ensures ok { IfOk result (λ reply. Recorded (kinds_of (known K.KeptKey V.alike A.KeptAction S.BuildHasher S.Hasher.Hasher) self.old.shard) self.old self.new log.old log.new step reply) }
+        ensures ok { IfOk result (λ reply. Recorded (kinds_of ⟦<Self as Recorded>⟧.known self.old.shard) self.old self.new log.old log.new step reply) }
         ensures refused { IfErr result (λ e. (e.0 ≡ step) × (self.new ≡ self.old) × (log.new ≡ log.old)) }
         ensures last_stamp { (result ≡ Err (step, RecordFault.LastStamp)) ↔ (max self.old.last log.old.last ≡ 2 ^ 64 - 1) }
         ensures faults { IfErr result (λ e. (e.1 ≡ RecordFault.LastStamp) ⊎ (e.1 ≡ RecordFault.Memory)) }

@@ -9,6 +9,7 @@ ghost use Rattle.dash_history.specs.Takes.{known};
 use super::{CallerLog, RecShard, RecordFault, make_room};
 use crate::action::KeptAction;
 use crate::kept::{Kept, KeptKey};
+use crate::known::Recorded;
 use crate::step::{Record, Reply, ShardStep};
 use dash_shard::lock::{RwLockWriteGuard, Tagged};
 use std::hash::BuildHasher;
@@ -46,6 +47,19 @@ impl<'a, K: KeptKey, V: Kept, S: BuildHasher, A: KeptAction<K, V>> Model
     ghost view = { λ s. s.guard.value };
 }
 
+impl<K: KeptKey, V: Kept, S: BuildHasher, A: KeptAction<K, V>> Recorded
+    for RecShardMut<'_, K, V, S, A> {
+    type Key = K;
+
+    type Value = V;
+
+    type Action = A;
+
+    type State = S;
+
+    ghost known = { known K.KeptKey V.alike A.KeptAction S.BuildHasher S.Hasher.Hasher };
+}
+
 impl<K: KeptKey, V: Kept, S: BuildHasher, A: KeptAction<K, V>> Drop
     for RecShardMut<'_, K, V, S, A> {
     #[inline]
@@ -60,7 +74,7 @@ impl<'a, K: KeptKey, V: Kept, S: BuildHasher, A: KeptAction<K, V>> RecShardMut<'
     #[inline]
     pub fn of(guard: RwLockWriteGuard<'a, RecShard<K, V, S, A>>) -> RecShardMut<'a, K, V, S, A>
         ensures value { result ≡ guard.entry.value }
-        ensures fits { FitsPlace (by K.Hash S.BuildHasher S.Hasher.Hasher) guard.entry.tag result }
+        ensures fits { FitsPlace ⟦<Self as Recorded>⟧.known.keys guard.entry.tag result }
     {
         RecShardMut { guard }
     }
@@ -77,7 +91,7 @@ impl<K: KeptKey + Drop, V: Kept + Drop, S: BuildHasher, A: KeptAction<K, V> + Dr
     #[inline]
     pub fn number(&self) -> usize
         ensures number { result ≡ self.now.shard.number }
-        ensures legal { IsRecorded (known K.KeptKey V.alike A.KeptAction S.BuildHasher S.Hasher.Hasher) self.now }
+        ensures legal { IsRecorded ⟦<Self as Recorded>⟧.known self.now }
     {
         self.guard.shard.number()
     }
@@ -109,7 +123,7 @@ impl<K: KeptKey + Drop, V: Kept + Drop, S: BuildHasher, A: KeptAction<K, V> + Dr
     /// Whether the key goes to this shard.
     #[inline]
     pub fn routes(&self, key: &K) -> bool
-        ensures { IsTrue result ↔ Routes (by K.Hash S.BuildHasher S.Hasher.Hasher) self.now.shard key.now }
+        ensures { IsTrue result ↔ Routes ⟦<Self as Recorded>⟧.known.keys self.now.shard key.now }
     {
         self.guard.shard.routes(key)
     }
@@ -121,10 +135,10 @@ impl<K: KeptKey + Drop, V: Kept + Drop, S: BuildHasher, A: KeptAction<K, V> + Dr
         caller: u32,
         step: ShardStep<K, V, A>,
     ) -> Result<(Reply<K, V>, Record<K, V, A>), ShardStep<K, V, A>>
-        requires place { place_of (kinds_of (known K.KeptKey V.alike A.KeptAction S.BuildHasher S.Hasher.Hasher) self.old.shard) step ≡ self.old.shard.number }
+        requires place { place_of (kinds_of ⟦<Self as Recorded>⟧.known self.old.shard) step ≡ self.old.shard.number }
         requires caller { caller < self.old.callers }
         requires above { self.old.last < stamp }
-        ensures { Grows (kinds_of (known K.KeptKey V.alike A.KeptAction S.BuildHasher S.Hasher.Hasher) self.old.shard) self.old self.new stamp caller step result }
+        ensures { Grows (kinds_of ⟦<Self as Recorded>⟧.known self.old.shard) self.old self.new stamp caller step result }
     {
         self.guard.change(
             |shard: &mut RecShard<K, V, S, A>| -> Result<
@@ -148,9 +162,9 @@ impl<K: KeptKey + Drop, V: Kept + Drop, S: BuildHasher, A: KeptAction<K, V> + Dr
         log: &mut CallerLog<K, V, A>,
         step: ShardStep<K, V, A>,
     ) -> Result<Reply<K, V>, (ShardStep<K, V, A>, RecordFault)>
-        requires place { place_of (kinds_of (known K.KeptKey V.alike A.KeptAction S.BuildHasher S.Hasher.Hasher) self.old.shard) step ≡ self.old.shard.number }
+        requires place { place_of (kinds_of ⟦<Self as Recorded>⟧.known self.old.shard) step ≡ self.old.shard.number }
         requires caller { log.old.caller < self.old.callers }
-        ensures ok { IfOk result (λ reply. Recorded (kinds_of (known K.KeptKey V.alike A.KeptAction S.BuildHasher S.Hasher.Hasher) self.old.shard) self.old self.new log.old log.new step reply) }
+        ensures ok { IfOk result (λ reply. Recorded (kinds_of ⟦<Self as Recorded>⟧.known self.old.shard) self.old self.new log.old log.new step reply) }
         ensures refused { IfErr result (λ e. (e.0 ≡ step) × (self.new ≡ self.old) × (log.new ≡ log.old)) }
         ensures last_stamp { (result ≡ Err (step, RecordFault.LastStamp)) ↔ (max self.old.last log.old.last ≡ 2 ^ 64 - 1) }
         ensures log_last { log.old.last ≡ 2 ^ 64 - 1 → result ≡ Err (step, RecordFault.LastStamp) }
