@@ -1,11 +1,11 @@
 //! A recorded map that threads share, and its two moves: shards out of their locks, and behind them again.
-ghost use Rattle.std.specs.Prelude.{◌≡◌, ◌<◌, ◌↔◌, ◌⊎◌, IsErrOf, IfOk, IfErr, length};
+ghost use Rattle.std.specs.Prelude.{◌≡◌, ◌<◌, ◌↔◌, IsErrOf, IfOk, IfErr, length};
 ghost use Rattle.crossbeam_utils.specs.Padded.{padded_value};
 ghost use Rattle.dash_shard.specs.Hashing.{by, IsAmount, HashAlike};
-ghost use Rattle.dash_history.specs.Alone.{IsAlone, IsCallers, IsPlaced, fresh_logs};
+ghost use Rattle.dash_history.specs.Alone.{BadCallers, IsMapError, IsAlone, IsCallers, IsPlaced, fresh_logs};
 ghost use Rattle.dash_history.specs.Held.{FitsPlace};
 ghost use Rattle.dash_history.specs.History.{IsRecorded, place_of};
-ghost use Rattle.dash_history.specs.Map.{IsAt, kinds_on};
+ghost use Rattle.dash_history.specs.Map.{map_of, IsAt, IsShardOf, kinds_on};
 ghost use Rattle.dash_history.specs.Takes.{known};
 
 use super::held::{Place, RecShardMut};
@@ -83,13 +83,13 @@ impl<K: KeptKey + Drop, V: Kept + Drop, S: BuildHasher, A: KeptAction<K, V> + Dr
     where
         S: Clone,
         requires { (s t : S) → S.is_clone s t → HashAlike ⟦<Self as Recorded>⟧.known.keys s t }
-        ensures made { IfOk result (λ m. m.0 ≡ record { hasher = hasher; callers = callers; amount = amount }) }
+        ensures made { IfOk result (λ m. m.0 ≡ map_of hasher callers amount) }
         ensures logs { IfOk result (λ m. m.1.items ≡ fresh_logs callers) }
 
         // In the order of the refusals' numbers.
         ensures bad_amount { IsErrOf result ConstructError.ShardAmount ↔ (IsAmount amount → ⊥) }
-        ensures bad_callers { IsErrOf result ConstructError.Callers ↔ (IsAmount amount × (IsCallers callers → ⊥)) }
-        ensures kinds { IfErr result (λ e. (e ≡ ConstructError.ShardAmount) ⊎ (e ≡ ConstructError.Callers) ⊎ (e ≡ ConstructError.Memory)) }
+        ensures bad_callers { IsErrOf result ConstructError.Callers ↔ BadCallers amount callers }
+        ensures kinds { IfErr result IsMapError }
     {
         let (alone, logs) = RecAlone::new(alloc, hasher, amount, callers)?;
         Ok((alone.end(), logs))
@@ -125,7 +125,7 @@ impl<K: KeptKey + Drop, V: Kept + Drop, S: BuildHasher, A: KeptAction<K, V> + Dr
     #[inline]
     pub fn held<R: Wait + Clock>(&self, rt: &R, shard: usize) -> RecShardMut<'_, K, V, S, A>
         requires { shard < self.now.amount }
-        ensures placed { IsPlaced ⟦<Self as Recorded>⟧.known.keys self.now.hasher self.now.amount self.now.callers shard result }
+        ensures placed { IsShardOf ⟦<Self as Recorded>⟧.known.keys self.now shard result }
         ensures legal { IsRecorded ⟦<Self as Recorded>⟧.known result }
     {
         RecShardMut::of(self.row[shard].write(rt))
@@ -168,7 +168,7 @@ impl<K: KeptKey + Drop, V: Kept + Drop, S: BuildHasher, A: KeptAction<K, V> + Dr
 > {
     /// The map behind its locks again. It takes no memory.
     pub fn end(self) -> RecordedMap<K, V, S, A>
-        ensures { result ≡ record { hasher = self.hasher; callers = self.callers; amount = length self.row } }
+        ensures { result ≡ map_of self.hasher self.callers (length self.row) }
     {
         let RecAlone {
             hasher,
@@ -182,7 +182,7 @@ impl<K: KeptKey + Drop, V: Kept + Drop, S: BuildHasher, A: KeptAction<K, V> + Dr
             &mut locks,
             |number: usize, shard: RecShard<K, V, S, A>| -> Locked<K, V, S, A>
                 requires { IsPlaced (by K.Hash S.BuildHasher S.Hasher.Hasher) hasher amount callers number shard }
-                ensures { IsAt (record { hasher = hasher; callers = callers; amount = amount }) number result }
+                ensures { IsAt (map_of hasher callers amount) number result }
             {
                 let place = Place {
                     number,
