@@ -48,7 +48,7 @@ module _ {K V S : Type 0} (h : KeyHash K S) (law : IsLawful h) (k : K → K → 
 
     -- a step that got this reply and left these pairs was taken
     pub taken : (s t : ShardState K V S) (step : ShardStep K V A) (reply : program.Reply K V) → IsShard h s → place_of (kinds_of w s) step ≡ s.number
-        → Answers (kinds_of w s).rules (pairs s) (step_of acts step) (reply_of reply) → Leaves (kinds_of w s) (pairs s) step (pairs t)
+        → Answers (kinds_of w s).rules (pairs s) (step_of acts step) (reply_of reply) → Leaves w s step t
         → SameShard s t → IsShard h t → Takes (kinds_of w s).rules (pairs s) (step_of acts step) (reply_of reply) (pairs t)
     taken s t step reply shard here answers leaves stays new = record {
       in_range = subst (λ n. n < s.amount) (sym here) shard.number;

@@ -1,6 +1,6 @@
 -- When two values are alike, where keys and values say when theirs are: the same numbers, bytes and items.
 pub mod Laws
-use Rattle.std.specs.Prelude.{◌==◌, ◌&&◌, Bool, true, false, List, [], ◌∷◌, Option, Some, None}
+use Rattle.std.specs.Prelude.{◌==◌, ◌&&◌, Bool, true, false, List, [], ◌∷◌, Option, Some, None, IsTrue}
 use Rattle.dash_shard.specs.Steps.{Reply, Pair, Found, Old, Pairs, Number, Done}
 
 abbrev pub alike_bool : Bool → Bool → Bool
@@ -21,6 +21,13 @@ alike_list e _ _ = false
 module _ {K V : Type 0} (k : K → K → Bool) (v : V → V → Bool) where
   abbrev pub alike_pair : K × V → K × V → Bool
   alike_pair p q = k p.0 q.0 && v p.1 q.1
+
+  abbrev pub alike_pairs : List (K × V) → List (K × V) → Bool
+  alike_pairs ps qs = alike_list alike_pair ps qs
+
+  -- alike pairs, or none on both sides
+  abbrev pub AlikeFound : Option (K × V) → Option (K × V) → Type 0
+  AlikeFound o p = IsTrue (alike_option alike_pair o p)
 
   abbrev pub alike_reply : Reply K V → Reply K V → Bool
   alike_reply (Pair o) (Pair p) = alike_option alike_pair o p

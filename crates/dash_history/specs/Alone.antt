@@ -1,18 +1,30 @@
 -- A recorded map of one owner: a row of recorded shards.
-use Rattle.std.specs.Prelude.{ℕ, zero, suc, ◌≡◌, ◌<◌, ◌≤◌, List, [], ◌∷◌, ◌++◌, length, Some, slice_get, slice_set}
+use Rattle.std.specs.Prelude.{ℕ, zero, suc, ◌≡◌, ◌<◌, ◌≤◌, List, [], ◌∷◌, ◌++◌, ◌⊎◌, length, Some, Result, IfOk, slice_get, slice_set}
 use Rattle.std.specs.Option.{option_map_or}
 use Rattle.dash_shard.specs.Hashing.{KeyHash, IsAmount, HashAlike}
 use Rattle.dash_shard.specs.Contents.{keys}
 use Rattle.dash_shard.specs.Shard.{pairs}
 use Rattle.dash_history.specs.Takes.{Known, kinds_at, Kinds}
 use Rattle.dash_history.specs.History.{LogState, RecState, Recorded, place_of}
+use Rattle.dash_history.specs.Refused.{NoStamp}
 use Rattle.dash_history.specs.declared.step.ShardStep.{ShardStep}
 use Rattle.dash_history.specs.declared.step.Reply.{Reply}
+use Rattle.dash_history.specs.declared.record.RecordFault.{RecordFault}
+use Rattle.dash_shard.specs.declared.error.ConstructError.{ConstructError}
+use Rattle.dash_shard.specs.declared.error.ConstructError.TheVariants as error
 
 -- a lawful number of callers
 pub record IsCallers (c : ℕ) : Type 0 where
   pub some : 0 < c
   pub few : c ≤ 65536
+
+-- the amount is lawful, and the number of callers isn't
+abbrev pub BadCallers : ℕ → ℕ → Type 0
+BadCallers n c = IsAmount n × (IsCallers c → ⊥)
+
+-- a recorded map isn't made for these alone
+abbrev pub IsMapError : ConstructError → Type 0
+IsMapError e = (e ≡ error.ShardAmount) ⊎ (e ≡ error.Callers) ⊎ (e ≡ error.Memory)
 
 -- the logs of the callers 0 to c - 1, with no entries
 abbrev pub fresh_logs : {K V A : Type 0} → ℕ → List (LogState K V A)
@@ -32,6 +44,10 @@ module _ {K V A S : Type 0} where
     pub history : s.history ≡ []
     pub last : s.last ≡ 0
 
+  -- so is each shard of the row
+  abbrev pub EachFresh : List (RecState K V A S) → Type 0
+  EachFresh row = (i : ℕ) (s : RecState K V A S) → slice_get row i ≡ Some s → IsFresh s
+
   -- the last stamp of shard i, 0 where there is none
   abbrev pub last_at : AloneState K V A S → ℕ → ℕ
   last_at a i = option_map_or (λ s. s.last) (slice_get a.row i) 0
@@ -43,6 +59,10 @@ module _ {K V A S : Type 0} where
       pub amount : s.shard.amount ≡ n
       pub callers : s.callers ≡ c
       pub hashes : HashAlike h meaning s.shard.hasher
+
+    -- each shard of the row stands in its place, with no pair and no history
+    abbrev pub FreshRow : S → ℕ → ℕ → List (RecState K V A S) → Type 0
+    FreshRow meaning n c row = (i : ℕ) (s : RecState K V A S) → slice_get row i ≡ Some s → IsPlaced meaning n c i s × IsFresh s
 
     -- each shard stands in its place
     pub record IsAlone (a : AloneState K V A S) : Type 0 where
@@ -61,3 +81,16 @@ module _ {K V A S : Type 0} where
     pub here : slice_get a.row (place_of m step) ≡ Some before
     pub recorded : Recorded m before after l l' step reply
     pub others : a' ≡ record a { row = slice_set a.row (place_of m step) after }
+
+  module _ (w : Known K V A S) where
+    -- where it is Ok, the step was taken and recorded on the shard of its place
+    abbrev pub Applies : AloneState K V A S → AloneState K V A S → LogState K V A → LogState K V A → ShardStep K V A → Result (Reply K V) (ShardStep K V A × RecordFault) → Type 0
+    Applies a a' l l' step result = IfOk result (λ reply. Applied (kinds_in w a) a a' l l' step reply)
+
+    -- the map has no shard of the step's place
+    abbrev pub NoShard : AloneState K V A S → ShardStep K V A → Type 0
+    NoShard a step = length a.row ≤ place_of (kinds_in w a) step
+
+    -- it has one, and no stamp is above the shard's last and the log's
+    abbrev pub NoStampIn : AloneState K V A S → LogState K V A → ShardStep K V A → Type 0
+    NoStampIn a l step = (place_of (kinds_in w a) step < length a.row) × NoStamp (last_at a (place_of (kinds_in w a) step)) l.last

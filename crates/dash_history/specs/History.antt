@@ -1,5 +1,5 @@
 -- The history of a shard and the log of a caller, and how both grow.
-use Rattle.std.specs.Prelude.{ℕ, ◌≡◌, ◌+◌, ◌<◌, ◌≤◌, max, Bool, List, [], ◌∷◌, ◌++◌, map, All, ⊤, IsTrue}
+use Rattle.std.specs.Prelude.{ℕ, ◌≡◌, ◌+◌, ◌<◌, ◌≤◌, max, Bool, List, [], ◌∷◌, ◌++◌, map, All, ⊤, IsTrue, Result, IfOk}
 use Rattle.dash_shard.specs.Steps.{place}
 use Rattle.dash_shard.specs.Shard.{ShardState, IsShard, SameShard, pairs}
 use Rattle.dash_history.specs.Alike.{alike_reply}
@@ -8,6 +8,7 @@ use Rattle.dash_history.specs.Takes.{Known, kinds_at, Kinds, rules, Takes, Runs}
 use Rattle.dash_history.specs.declared.step.ShardStep.{ShardStep}
 use Rattle.dash_history.specs.declared.step.Reply.{Reply}
 use Rattle.dash_history.specs.declared.step.Record.{Record}
+use Rattle.dash_history.specs.declared.record.RecordFault.{RecordFault}
 
 -- the stamp of the last record, or the one given where there is none
 abbrev pub last_or : {K V A : Type 0} → ℕ → List (Record K V A) → ℕ
@@ -55,6 +56,10 @@ pub record RecState (K V A S : Type 0) : Type 0 where
   pub last : ℕ
   pub history : List (Record K V A)
 
+-- the stamp of the shard's last record, 0 for none
+abbrev pub IsLast : {K V A S : Type 0} → ℕ → RecState K V A S → Type 0
+IsLast stamp s = stamp ≡ last_or 0 s.history
+
 -- one above the greater of the shard's last and the log's last
 abbrev pub stamp_of : {K V A S : Type 0} → RecState K V A S → LogState K V A → ℕ
 stamp_of s l = max s.last l.last + 1
@@ -90,6 +95,18 @@ module _ {K V A S : Type 0} (w : Known K V A S) where
   -- what the map of a shard knows of its keys, values and actions
   abbrev pub kinds_of : ShardState K V S → Kinds K V A
   kinds_of s = kinds_at w s.hasher s.amount
+
+  -- the step goes to the shard
+  abbrev pub GoesTo : ShardState K V S → ShardStep K V A → Type 0
+  GoesTo s step = place_of (kinds_of s) step ≡ s.number
+
+  -- where it is Ok, the step was taken on the shard at the stamp, and its record stands at the end of the history
+  abbrev pub Adds : RecState K V A S → RecState K V A S → ℕ → ℕ → ShardStep K V A → Result (Reply K V × Record K V A) (ShardStep K V A) → Type 0
+  Adds s s' stamp caller step result = IfOk result (λ p. Grown (kinds_of s.shard) s s' stamp caller step p.0 p.1)
+
+  -- where it is Ok, the step was taken on the shard, and one same record of it stands at the end of the history and of the log
+  abbrev pub Records : RecState K V A S → RecState K V A S → LogState K V A → LogState K V A → ShardStep K V A → Result (Reply K V) (ShardStep K V A × RecordFault) → Type 0
+  Records s s' l l' step result = IfOk result (λ reply. Recorded (kinds_of s.shard) s s' l l' step reply)
 
   -- a recorded shard: its history led to its pairs
   pub record IsRecorded (s : RecState K V A S) : Type 0 where

@@ -8,3 +8,4 @@ pub mod Held
 pub mod Map
 pub mod Plan
 pub mod Sweep
+pub mod Refused

@@ -3,10 +3,13 @@ use Rattle.std.specs.Prelude.{Bool, true, false, List, Option, Some, None, IsTru
 use Rattle.dash_shard.specs.Contents.{at}
 use Rattle.dash_shard.specs.Steps as table
 use Rattle.dash_shard.specs.Steps.{Line, at_key, on_shard, line, after, key_or}
+use Rattle.dash_shard.specs.Hashing.{KeyHash}
+use Rattle.dash_shard.specs.Shard.{ShardState, pairs, keys_of, IsShard}
 use Rattle.dash_history.specs.Alike.{alike_option, alike_pair, alike_reply}
 use Rattle.dash_history.specs.Steps.{step_of, reply_of}
-use Rattle.dash_history.specs.Takes.{Kinds, AlikeAt}
-use Rattle.dash_history.specs.Sweep.{keeping, GivesEach}
+use Rattle.dash_history.specs.Takes.{Known, AlikeAt, Answers}
+use Rattle.dash_history.specs.History.{kinds_of}
+use Rattle.dash_history.specs.Sweep.{keeping, GivesEach, SweptTo}
 use Rattle.dash_history.specs.declared.step.ShardStep.{ShardStep}
 use Rattle.dash_history.specs.declared.step.ShardStep.TheVariants.{RemoveIf, RemoveIfMut, Alter, AlterAll, Retain}
 use Rattle.dash_history.specs.declared.step.Reply.{Reply}
@@ -39,6 +42,18 @@ module _ {K V : Type 0} where
   MakesEach v f P (Each made) = GivesEach v f P made.items
   MakesEach v f P change = ⊥
 
+  -- the change of the pair at a key is made on the shard
+  abbrev pub Makes : {S : Type 0} → KeyHash K S → ShardState K V S → ShardState K V S → K → Change V → Type 0
+  Makes h s t key change = table.Becomes (keys_of h s) (change_step key change) (pairs s) (pairs t)
+
+  -- where the change is what an action makes of each of the pairs P, the sweep with it leaves Q
+  abbrev pub PutsChange : (K → K → Bool) → (K → K → Bool) → (V → V → Bool) → Change V → List (K × V) → List (K × V) → Type 0
+  PutsChange eq k v change P Q = (f : table.Act K V) → MakesEach v f P change → SweptTo eq k v f P Q
+
+  -- a lawful shard stays lawful
+  abbrev pub StaysLawful : {S : Type 0} → KeyHash K S → ShardState K V S → ShardState K V S → Type 0
+  StaysLawful h s t = IsShard h s → IsShard h t
+
   module _ (k : K → K → Bool) (v : V → V → Bool) where
     -- the change is what the line makes of the pair that stands at its key
     pub record Fits (key : K) (becomes : Option (K × V) → Option (K × V)) (o : Option (K × V)) (change : Change V) : Type 0 where
@@ -50,21 +65,33 @@ module _ {K V : Type 0} where
     Plans (at_key key becomes replies) o plan = IsTrue (alike_reply k v (replies o) (reply_of plan.0)) × Fits key becomes o plan.1
     Plans (on_shard i becomes replies) o plan = ⊥
 
+    -- the same of the step with an action, at any key
+    abbrev pub PlansBy : (K → table.Act K V → table.Step K V) → table.Act K V → Option (K × V) → Reply K V × Change V → Type 0
+    PlansBy step act o plan = (key : K) → Plans (line (step key act)) o plan
+
     -- the change is that of a line
     abbrev pub FitsLine : Line K V → Option (K × V) → Change V → Type 0
     FitsLine (at_key key becomes replies) o change = Fits key becomes o change
     FitsLine (on_shard i becomes replies) o change = ⊥
 
-module _ {K V A : Type 0} (m : Kinds K V A) (P : List (K × V)) where
+module _ {K V A S : Type 0} (w : Known K V A S) (s : ShardState K V S) where
+  -- the change of the pair at a key is what the line makes of it
+  abbrev pub FitsAt : K → Line K V → Change V → Type 0
+  FitsAt key line change = FitsLine w.alike_key w.alike_value line (at w.keys.eq (pairs s) key) change
+
   -- the change is what the step's action makes of the pair at its key, or of each pair of its shard
   abbrev pub Decides : ShardStep K V A → Change V → Type 0
-  Decides (RemoveIf k f) change = FitsLine m.rules.alike_key m.rules.alike_value (line (table.RemoveIf k (m.acts f))) (at m.rules.keys.eq P k) change
-  Decides (RemoveIfMut k f) change = FitsLine m.rules.alike_key m.rules.alike_value (line (table.RemoveIfMut k (m.acts f))) (at m.rules.keys.eq P k) change
-  Decides (Alter k f) change = FitsLine m.rules.alike_key m.rules.alike_value (line (table.Alter k (m.acts f))) (at m.rules.keys.eq P k) change
-  Decides (AlterAll i f) change = MakesEach m.rules.alike_value (keeping true (m.acts f)) P change
-  Decides (Retain i f) change = MakesEach m.rules.alike_value (keeping false (m.acts f)) P change
+  Decides (RemoveIf k f) change = FitsAt k (line (table.RemoveIf k (w.acts f))) change
+  Decides (RemoveIfMut k f) change = FitsAt k (line (table.RemoveIfMut k (w.acts f))) change
+  Decides (Alter k f) change = FitsAt k (line (table.Alter k (w.acts f))) change
+  Decides (AlterAll i f) change = MakesEach w.alike_value (keeping true (w.acts f)) (pairs s) change
+  Decides (Retain i f) change = MakesEach w.alike_value (keeping false (w.acts f)) (pairs s) change
   Decides _ change = ⊤
 
-  -- the step leaves Q, up to alike
-  abbrev pub Leaves : ShardStep K V A → List (K × V) → Type 0
-  Leaves step Q = (j : K) → AlikeAt m.rules (after m.rules.keys (step_of m.acts step) j (at m.rules.keys.eq P j)) (at m.rules.keys.eq Q j)
+  -- the step may get this reply, up to alike
+  abbrev pub MayAnswer : ShardStep K V A → Reply K V → Type 0
+  MayAnswer step reply = Answers (kinds_of w s).rules (pairs s) (step_of w.acts step) (reply_of reply)
+
+  -- the step leaves the pairs of t, up to alike
+  abbrev pub Leaves : ShardStep K V A → ShardState K V S → Type 0
+  Leaves step t = (j : K) → AlikeAt (kinds_of w s).rules (after (kinds_of w s).rules.keys (step_of w.acts step) j (at w.keys.eq (pairs s) j)) (at w.keys.eq (pairs t) j)

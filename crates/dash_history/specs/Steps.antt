@@ -1,5 +1,7 @@
 -- The program's steps, replies and records, in the words of the step table.
-use Rattle.std.specs.Prelude.{◌==◌, ◌&&◌, Bool, false}
+use Rattle.std.specs.Prelude.{ℕ, ◌==◌, ◌&&◌, Bool, false, IsTrue}
+use Rattle.dash_shard.specs.Contents.{keys}
+use Rattle.dash_shard.specs.Hashing.{KeyHash, route_by}
 use Rattle.dash_shard.specs.Steps as table
 use Rattle.dash_history.specs.Alike.{alike_reply}
 use Rattle.dash_history.specs.declared.step.ShardStep.{ShardStep}
@@ -17,6 +19,10 @@ reply_of (Pairs l) = table.Pairs l.items
 reply_of (Number n) = table.Number n
 reply_of Done = table.Done
 
+-- alike replies
+abbrev pub AlikeReply : {K V : Type 0} → (K → K → Bool) → (V → V → Bool) → Reply K V → Reply K V → Type 0
+AlikeReply k v r q = IsTrue (alike_reply k v (reply_of r) (reply_of q))
+
 module _ {K V A : Type 0} (acts : A → table.Act K V) where
   -- the step that the table speaks of
   abbrev pub step_of : ShardStep K V A → table.Step K V
@@ -31,6 +37,10 @@ module _ {K V A : Type 0} (acts : A → table.Act K V) where
   step_of (Count i) = table.Count i
   step_of (AlterAll i f) = table.AlterAll i (acts f)
   step_of (Retain i f) = table.Retain i (acts f)
+
+  -- the number of the step's shard among n, by a hasher
+  abbrev pub shard_of : {S : Type 0} → KeyHash K S → S → ℕ → ShardStep K V A → ℕ
+  shard_of h hasher n step = table.place (keys h.eq (route_by h hasher n) n) (step_of step)
 
   -- a record's step with its reply
   abbrev pub done : Record K V A → table.Step K V × table.Reply K V

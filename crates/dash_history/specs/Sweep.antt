@@ -19,6 +19,10 @@ module _ {K V : Type 0} where
   abbrev pub SweptTo : (K → K → Bool) → (K → K → Bool) → (V → V → Bool) → Act K V → List (K × V) → List (K × V) → Type 0
   SweptTo eq k v f P Q = (j : K) → IsTrue (alike_option (alike_pair k v) (option_and_then (λ p. if_yes f p (changed f p)) (at eq P j)) (at eq Q j))
 
+  -- where an action gives these values along the pairs P, the sweep with it leaves Q
+  abbrev pub Puts : (K → K → Bool) → (K → K → Bool) → (V → V → Bool) → List (V × Bool) → List (K × V) → List (K × V) → Type 0
+  Puts eq k v ds P Q = (f : Act K V) → GivesEach v f P ds → SweptTo eq k v f P Q
+
 -- the value is the next of these, and so is the answer, if there is one
 abbrev pub PutsNext : {V : Type 0} → List (V × Bool) → List (V × Bool) → V → Bool → Type 0
 PutsNext [] after v answer = ⊤

@@ -1,17 +1,22 @@
 //! A recorded map of one owner, without locks.
-ghost use Rattle.std.specs.Prelude.{◌≡◌, ◌+◌, ◌-◌, ◌<◌, ◌≤◌, ◌^◌, ◌↔◌, ◌⊎◌, ℕ, max, IsTrue, IsErrOf, IsSomeAnd, IfOk, IfErr, OnOk, length, slice_get};
-ghost use Rattle.dash_shard.specs.Hashing.{by, IsAmount, HashAlike};
-ghost use Rattle.dash_history.specs.History.{last_or, place_of};
-ghost use Rattle.dash_history.specs.Alone.{IsCallers, IsFresh, IsAlone, IsPlaced, Applied, fresh_logs, last_at, kinds_in};
+ghost use Rattle.std.specs.Prelude.{◌≡◌, ◌<◌, ◌↔◌, IsErrOf, IsSomeAnd, IfOk, IfErr, length, slice_get};
+ghost use Rattle.dash_shard.specs.Hashing.{IsAmount, HashAlike};
+ghost use Rattle.dash_history.specs.History.{IsLast};
+ghost use Rattle.dash_history.specs.Alone.{BadCallers, IsMapError, EachFresh, FreshRow, IsAlone, Applies, NoShard, NoStampIn, fresh_logs, last_at};
+ghost use Rattle.dash_history.specs.Refused.{Refuses, HandsBack};
+ghost use Rattle.dash_history.specs.declared.record.RecordFault.TheVariants.{LastStamp, NoSuchShard};
 ghost use Rattle.dash_history.specs.Takes.{known};
 
 use crate::action::KeptAction;
 use crate::kept::{Kept, KeptKey};
+use crate::known::Recorded;
 use crate::record::map::Locked;
 use crate::record::{CallerLog, RecShard, RecordFault};
 use crate::step::{Reply, ShardStep};
 use dash_shard::error::ConstructError;
 use dash_shard::hash::is_shard_amount;
+use dash_shard::keyed::Keyed;
+use dash_shard::shard::Shard;
 use std::alloc::{AllocError, Global};
 use std::hash::BuildHasher;
 use std::marker::Model;
@@ -38,6 +43,18 @@ impl<K: KeptKey, V: Kept, S: BuildHasher, A: KeptAction<K, V>> Model for RecAlon
     ghost invariant = { λ a. IsAlone (key_hash K.eq K.hash_input S.BuildHasher S.Hasher.Hasher) (record { hasher = a.hasher; callers = a.callers; row = a.row.items }) × (a.locks.items ≡ []) × (vec_len a.row ≤ vec_capacity a.locks) };
 }
 
+impl<K: KeptKey, V: Kept, S: BuildHasher, A: KeptAction<K, V>> Recorded for RecAlone<K, V, S, A> {
+    type Key = K;
+
+    type Value = V;
+
+    type Action = A;
+
+    type State = S;
+
+    ghost known = { known K.KeptKey V.alike A.KeptAction S.BuildHasher S.Hasher.Hasher };
+}
+
 // The row of a map with no pairs and no histories.
 fn fresh_row<K: KeptKey + Drop, V: Kept + Drop, S: BuildHasher + Clone, A: KeptAction<K, V> + Drop>(
     alloc: Global,
@@ -46,9 +63,9 @@ fn fresh_row<K: KeptKey + Drop, V: Kept + Drop, S: BuildHasher + Clone, A: KeptA
     callers: u32,
 ) -> Result<Vec<RecShard<K, V, S, A>>, AllocError>
     requires amount { IsAmount amount }
-    requires alike { (s t : S) → S.is_clone s t → HashAlike (by K.Hash S.BuildHasher S.Hasher.Hasher) s t }
+    requires alike { (s t : S) → S.is_clone s t → HashAlike ⟦<Shard<K, V, S> as Keyed>⟧.by s t }
     ensures len { IfOk result (λ row. length row.items ≡ amount) }
-    ensures made { IfOk result (λ row. (i : ℕ) (s : _) → slice_get row.items i ≡ Some s → IsPlaced (by K.Hash S.BuildHasher S.Hasher.Hasher) hasher.now amount callers i s × IsFresh s) }
+    ensures made { IfOk result (λ row. FreshRow ⟦<Shard<K, V, S> as Keyed>⟧.by hasher.now amount callers row.items) }
 {
     let mut row = Vec::with_capacity(alloc, amount)?;
     for number in 0..amount {
@@ -89,18 +106,18 @@ impl<K: KeptKey + Drop, V: Kept + Drop, S: BuildHasher, A: KeptAction<K, V> + Dr
     ) -> Result<(RecAlone<K, V, S, A>, Vec<CallerLog<K, V, A>>), ConstructError>
     where
         S: Clone,
-        requires { (s t : S) → S.is_clone s t → HashAlike (by K.Hash S.BuildHasher S.Hasher.Hasher) s t }
+        requires { (s t : S) → S.is_clone s t → HashAlike ⟦<Self as Recorded>⟧.known.keys s t }
         ensures hasher { IfOk result (λ m. m.0.hasher ≡ hasher) }
         ensures callers { IfOk result (λ m. m.0.callers ≡ callers) }
         ensures amount { IfOk result (λ m. length m.0.row ≡ amount) }
-        ensures fresh { IfOk result (λ m. (i : ℕ) (s : _) → slice_get m.0.row i ≡ Some s → IsFresh s) }
+        ensures fresh { IfOk result (λ m. EachFresh m.0.row) }
         ensures logs { IfOk result (λ m. m.1.items ≡ fresh_logs callers) }
-        ensures lawful { IfOk result (λ m. IsAlone (by K.Hash S.BuildHasher S.Hasher.Hasher) m.0) }
+        ensures lawful { IfOk result (λ m. IsAlone ⟦<Self as Recorded>⟧.known.keys m.0) }
 
         // In the order of the refusals' numbers.
         ensures bad_amount { IsErrOf result ConstructError.ShardAmount ↔ (IsAmount amount → ⊥) }
-        ensures bad_callers { IsErrOf result ConstructError.Callers ↔ (IsAmount amount × (IsCallers callers → ⊥)) }
-        ensures kinds { IfErr result (λ e. (e ≡ ConstructError.ShardAmount) ⊎ (e ≡ ConstructError.Callers) ⊎ (e ≡ ConstructError.Memory)) }
+        ensures bad_callers { IsErrOf result ConstructError.Callers ↔ BadCallers amount callers }
+        ensures kinds { IfErr result IsMapError }
     {
         if !is_shard_amount(amount) {
             return Err(ConstructError::ShardAmount);
@@ -130,7 +147,7 @@ impl<K: KeptKey + Drop, V: Kept + Drop, S: BuildHasher, A: KeptAction<K, V> + Dr
     #[inline]
     pub fn callers(&self) -> u32
         ensures callers { result ≡ self.now.callers }
-        ensures lawful { IsAlone (by K.Hash S.BuildHasher S.Hasher.Hasher) self.now }
+        ensures lawful { IsAlone ⟦<Self as Recorded>⟧.known.keys self.now }
     {
         self.callers
     }
@@ -139,7 +156,7 @@ impl<K: KeptKey + Drop, V: Kept + Drop, S: BuildHasher, A: KeptAction<K, V> + Dr
     #[inline]
     pub fn shard_count(&self) -> usize
         ensures count { result ≡ length self.now.row }
-        ensures lawful { IsAlone (by K.Hash S.BuildHasher S.Hasher.Hasher) self.now }
+        ensures lawful { IsAlone ⟦<Self as Recorded>⟧.known.keys self.now }
     {
         let _ = &self.hasher;
         self.row.len()
@@ -154,12 +171,12 @@ impl<K: KeptKey + Drop, V: Kept + Drop, S: BuildHasher, A: KeptAction<K, V> + Dr
         step: ShardStep<K, V, A>,
     ) -> Result<Reply<K, V>, (ShardStep<K, V, A>, RecordFault)>
         requires { log.old.caller < self.old.callers }
-        ensures ok { IfOk result (λ reply. Applied (kinds_in (known K.KeptKey V.alike A.KeptAction S.BuildHasher S.Hasher.Hasher) self.old) self.old self.new log.old log.new step reply) }
-        ensures refused { IfErr result (λ e. (e.0 ≡ step) × (self.new ≡ self.old) × (log.new ≡ log.old)) }
+        ensures ok { Applies ⟦<Self as Recorded>⟧.known self.old self.new log.old log.new step result }
+        ensures refused { HandsBack step self.old self.new log.old log.new result }
 
         // In this order; else there was no memory.
-        ensures no_such_shard { (result ≡ Err (step, RecordFault.NoSuchShard)) ↔ (length self.old.row ≤ place_of (kinds_in (known K.KeptKey V.alike A.KeptAction S.BuildHasher S.Hasher.Hasher) self.old) step) }
-        ensures last_stamp { (result ≡ Err (step, RecordFault.LastStamp)) ↔ ((place_of (kinds_in (known K.KeptKey V.alike A.KeptAction S.BuildHasher S.Hasher.Hasher) self.old) step < length self.old.row) × (max (last_at self.old (place_of (kinds_in (known K.KeptKey V.alike A.KeptAction S.BuildHasher S.Hasher.Hasher) self.old) step)) log.old.last ≡ 2 ^ 64 - 1)) }
+        ensures no_such_shard { Refuses step NoSuchShard result ↔ NoShard ⟦<Self as Recorded>⟧.known self.old step }
+        ensures last_stamp { Refuses step LastStamp result ↔ NoStampIn ⟦<Self as Recorded>⟧.known self.old log.old step }
     {
         let place = step.place(&self.hasher, self.row.len());
         if place >= self.row.len() {
@@ -171,7 +188,7 @@ impl<K: KeptKey + Drop, V: Kept + Drop, S: BuildHasher, A: KeptAction<K, V> + Dr
     /// The stamp of the last step of a shard, 0 for none.
     pub fn last_of(&self, shard: usize) -> u64
         requires { shard < length self.now.row }
-        ensures last { IsSomeAnd (slice_get self.now.row shard) (λ s. result ≡ last_or 0 s.history) }
+        ensures last { IsSomeAnd (slice_get self.now.row shard) (IsLast result) }
         ensures same { result ≡ last_at self.now shard }
     {
         self.row[shard].last_stamp()

@@ -1,11 +1,12 @@
 //! Steps of callers on a map that threads share.
-ghost use Rattle.std.specs.Prelude.{◌≡◌, ◌-◌, ◌^◌, ◌<◌, ◌≤◌, ◌↔◌, IfOk, IfErr};
-ghost use Rattle.dash_history.specs.History.{place_of};
-ghost use Rattle.dash_history.specs.Map.{Logged, kinds_on};
-ghost use Rattle.dash_history.specs.Takes.{known};
+ghost use Rattle.std.specs.Prelude.{◌≡◌, ◌-◌, ◌^◌, ◌<◌, ◌↔◌, IfErr};
+ghost use Rattle.dash_history.specs.Map.{Logs, HasShard, HasNone};
+ghost use Rattle.dash_history.specs.Refused.{Refuses};
+ghost use Rattle.dash_history.specs.declared.record.RecordFault.TheVariants.{LastStamp, NoSuchShard};
 
 use crate::action::KeptAction;
 use crate::kept::{Kept, KeptKey};
+use crate::known::Recorded;
 use crate::record::map::RecordedMap;
 use crate::record::{CallerLog, RecordFault};
 use crate::step::{Reply, ShardStep};
@@ -30,12 +31,12 @@ impl<K: KeptKey + Drop, V: Kept + Drop, S: BuildHasher, A: KeptAction<K, V> + Dr
         step: ShardStep<K, V, A>,
     ) -> Result<Reply<K, V>, (ShardStep<K, V, A>, RecordFault)>
         requires { log.old.caller < self.now.callers }
-        ensures ok { IfOk result (λ reply. Logged (kinds_on (known K.KeptKey V.alike A.KeptAction S.BuildHasher S.Hasher.Hasher) self.now) log.old log.new step reply) }
+        ensures ok { Logs ⟦<Self as Recorded>⟧.known self.now log.old log.new step result }
         ensures refused { IfErr result (λ e. (e.0 ≡ step) × (log.new ≡ log.old)) }
-        ensures no_such_shard { (result ≡ Err (step, RecordFault.NoSuchShard)) ↔ (self.now.amount ≤ place_of (kinds_on (known K.KeptKey V.alike A.KeptAction S.BuildHasher S.Hasher.Hasher) self.now) step) }
+        ensures no_such_shard { Refuses step NoSuchShard result ↔ HasNone ⟦<Self as Recorded>⟧.known self.now step }
 
         // The shard's last stamp is not known here, the log's is.
-        ensures last_stamp { (place_of (kinds_on (known K.KeptKey V.alike A.KeptAction S.BuildHasher S.Hasher.Hasher) self.now) step < self.now.amount) × (log.old.last ≡ 2 ^ 64 - 1) → result ≡ Err (step, RecordFault.LastStamp) }
+        ensures last_stamp { HasShard ⟦<Self as Recorded>⟧.known self.now step × (log.old.last ≡ 2 ^ 64 - 1) → Refuses step LastStamp result }
     {
         let place = self.place(&step);
         if place >= self.shard_count() {

@@ -2,9 +2,9 @@
 ghost use Rattle.std.specs.Prelude.{◌≡◌, IsTrue, IsSome, IfOk, OnErr};
 ghost use Rattle.std.specs.Option.{option_map};
 ghost use Rattle.std.specs.Map.Iter.{deref_pair};
-ghost use Rattle.dash_shard.specs.Steps.{line, RemoveIf, RemoveIfMut, Alter};
-ghost use Rattle.dash_history.specs.Alike.{alike_option, alike_pair};
-ghost use Rattle.dash_history.specs.Plan.{Plans};
+ghost use Rattle.dash_shard.specs.Steps.{RemoveIf, RemoveIfMut, Alter};
+ghost use Rattle.dash_history.specs.Alike.{AlikeFound};
+ghost use Rattle.dash_history.specs.Plan.{PlansBy};
 
 use crate::action::Action;
 use crate::kept::Kept;
@@ -25,7 +25,7 @@ pub enum Change<V> {
 pub fn copy_found<K: Kept + Drop, V: Kept + Drop>(
     found: Option<(&K, &V)>,
 ) -> Result<Option<(K, V)>, AllocError>
-    ensures copy { IfOk result (λ copy. IsTrue (alike_option (alike_pair K.alike V.alike) (option_map deref_pair found.entry) copy)) }
+    ensures copy { IfOk result (AlikeFound K.alike V.alike (option_map deref_pair found.entry)) }
     ensures memory { OnErr result (IsSome found.entry) }
 {
     match found {
@@ -56,7 +56,7 @@ pub fn plan_remove_if<K: Kept + Drop, V: Kept + Drop, A: Action<K, V>>(
     found: Option<(&K, &V)>,
     action: &A,
 ) -> Result<(Reply<K, V>, Change<V>), AllocError>
-    ensures plan { IfOk result (λ plan. (k : K) → Plans K.alike V.alike (line (RemoveIf k (A.acts action.now))) (option_map deref_pair found.entry) plan) }
+    ensures plan { IfOk result (PlansBy K.alike V.alike RemoveIf (A.acts action.now) (option_map deref_pair found.entry)) }
     ensures memory { OnErr result (IsSome found.entry) }
 {
     let Some((key, value)) = found else {
@@ -75,7 +75,7 @@ pub fn plan_remove_if_mut<K: Kept + Drop, V: Kept + Drop, A: Action<K, V>>(
     found: Option<(&K, &V)>,
     action: &A,
 ) -> Result<(Reply<K, V>, Change<V>), AllocError>
-    ensures plan { IfOk result (λ plan. (k : K) → Plans K.alike V.alike (line (RemoveIfMut k (A.acts action.now))) (option_map deref_pair found.entry) plan) }
+    ensures plan { IfOk result (PlansBy K.alike V.alike RemoveIfMut (A.acts action.now) (option_map deref_pair found.entry)) }
     ensures memory { OnErr result (IsSome found.entry) }
 {
     let Some((key, value)) = found else {
@@ -94,7 +94,7 @@ pub fn plan_alter<K: Kept + Drop, V: Kept + Drop, A: Action<K, V>>(
     found: Option<(&K, &V)>,
     action: &A,
 ) -> Result<(Reply<K, V>, Change<V>), AllocError>
-    ensures plan { IfOk result (λ plan. (k : K) → Plans K.alike V.alike (line (Alter k (A.acts action.now))) (option_map deref_pair found.entry) plan) }
+    ensures plan { IfOk result (PlansBy K.alike V.alike Alter (A.acts action.now) (option_map deref_pair found.entry)) }
     ensures memory { OnErr result (IsSome found.entry) }
 {
     let Some((key, value)) = found else {

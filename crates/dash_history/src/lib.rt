@@ -6,6 +6,7 @@ pub mod alone;
 mod apply;
 pub mod change;
 pub mod kept;
+pub mod known;
 pub mod plain;
 pub mod record;
 pub mod step;

@@ -1,15 +1,11 @@
 //! A plain, slow map whose contract is the step table: a list that is scanned.
-ghost use Rattle.std.specs.Prelude.{◌≡◌, ◌-◌, ◌^◌, ◌<◌, ◌≤◌, ◌==◌, ◌⊎◌, [], None, Some, IsTrue, IsNone, IsSome, IfSome, min, length, IfOk, OnOk, IfErr, OnErr, position};
+ghost use Rattle.std.specs.Prelude.{◌≡◌, ◌-◌, ◌^◌, ◌<◌, ◌==◌, [], None, IsNone, IsSome, IfSome, min, length, IfOk, OnOk, IfErr, OnErr, position};
 ghost use Rattle.std.specs.Option.{option_map};
 ghost use Rattle.std.specs.Map.Iter.{deref_pair};
 ghost use Rattle.dash_shard.specs.Hashing.{by, IsAmount};
-ghost use Rattle.dash_shard.specs.Contents.{at, on, Distinct};
-ghost use Rattle.dash_shard.specs.Steps.{Insert, Remove, Retain, Pair, Old, Pairs, Replies, Becomes, after};
-ghost use Rattle.dash_history.specs.Steps.{step_of, reply_of};
-ghost use Rattle.dash_history.specs.Alike.{alike_reply};
-ghost use Rattle.dash_history.specs.Sweep.{keeping};
-ghost use Rattle.dash_history.specs.Takes.{AlikeAt, Takes};
-ghost use Rattle.dash_history.specs.Plain.{plain_rules, MayRefuse};
+ghost use Rattle.dash_shard.specs.Contents.{at, Distinct};
+ghost use Rattle.dash_shard.specs.Steps.{Insert, Remove, Pair, Old};
+ghost use Rattle.dash_history.specs.Plain.{plain_keys, pairs_on, PlainReplies, PlainBecomes, SamePlain, Reads, SweepsPair, SweepsPlain, TakesPlain, MayFail, MayRefuse};
 ghost use Rattle.dash_history.specs.Plan.{change_step, HasPair};
 
 use crate::action::Action;
@@ -81,14 +77,14 @@ impl<K: KeptKey + Drop, V: Kept + Drop, S: BuildHasher> Plain<K, V, S> {
 
     // Whether a key goes to a shard.
     fn goes_to(&self, key: &K, shard: usize) -> bool
-        ensures { result ≡ ((plain_rules ⟦<Self as Keyed>⟧.by K.alike V.alike self.now).keys.route key.now == shard) }
+        ensures { result ≡ ((plain_keys ⟦<Self as Keyed>⟧.by self.now).route key.now == shard) }
     {
         determine_shard(self.hasher.hash_one(key), self.amount) == shard
     }
 
     // How many pairs go to a shard.
     fn count(&self, shard: usize) -> u64
-        ensures { result ≡ min (length (on (plain_rules ⟦<Self as Keyed>⟧.by K.alike V.alike self.now).keys shard self.now.pairs)) (2 ^ 64 - 1) }
+        ensures { result ≡ min (length (pairs_on ⟦<Self as Keyed>⟧.by self.now shard)) (2 ^ 64 - 1) }
     {
         let mut count: u64 = 0;
         for pair in &self.pairs {
@@ -101,10 +97,10 @@ impl<K: KeptKey + Drop, V: Kept + Drop, S: BuildHasher> Plain<K, V, S> {
 
     // Puts the pair, or the value under the stored key where an equal key is there.
     fn put(&mut self, key: K, value: V) -> Result<Option<V>, (K, V)>
-        ensures old { IfOk result (λ old. Replies (plain_rules ⟦<Self as Keyed>⟧.by K.alike V.alike self.old).keys (Insert key value) self.old.pairs (Old old)) }
-        ensures pairs { OnOk result (Becomes (plain_rules ⟦<Self as Keyed>⟧.by K.alike V.alike self.old).keys (Insert key value) self.old.pairs self.new.pairs) }
+        ensures old { IfOk result (λ old. PlainReplies ⟦<Self as Keyed>⟧.by self.old (Insert key value) (Old old)) }
+        ensures pairs { OnOk result (PlainBecomes ⟦<Self as Keyed>⟧.by self.old self.new (Insert key value)) }
         ensures distinct { OnOk result (Distinct K.eq self.new.pairs) }
-        ensures stays { (self.new.hasher ≡ self.old.hasher) × (self.new.amount ≡ self.old.amount) }
+        ensures stays { SamePlain self.old self.new }
         ensures refused { IfErr result (λ back. (back ≡ (key, value)) × (self.new ≡ self.old)) }
         ensures absent { OnErr result (at K.eq self.old.pairs key ≡ None) }
     {
@@ -120,10 +116,10 @@ impl<K: KeptKey + Drop, V: Kept + Drop, S: BuildHasher> Plain<K, V, S> {
 
     // Takes the pair whose key equals `key` out.
     fn remove(&mut self, key: &K) -> Option<(K, V)>
-        ensures pair { Replies (plain_rules ⟦<Self as Keyed>⟧.by K.alike V.alike self.old).keys (Remove key.now) self.old.pairs (Pair result) }
-        ensures pairs { Becomes (plain_rules ⟦<Self as Keyed>⟧.by K.alike V.alike self.old).keys (Remove key.now) self.old.pairs self.new.pairs }
+        ensures pair { PlainReplies ⟦<Self as Keyed>⟧.by self.old (Remove key.now) (Pair result) }
+        ensures pairs { PlainBecomes ⟦<Self as Keyed>⟧.by self.old self.new (Remove key.now) }
         ensures distinct { Distinct K.eq self.new.pairs }
-        ensures stays { (self.new.hasher ≡ self.old.hasher) × (self.new.amount ≡ self.old.amount) }
+        ensures stays { SamePlain self.old self.new }
     {
         let i = find(&self.pairs, key)?;
         Some(self.pairs.remove(i))
@@ -131,8 +127,8 @@ impl<K: KeptKey + Drop, V: Kept + Drop, S: BuildHasher> Plain<K, V, S> {
 
     // Copies of the pairs that go to a shard, if there is such a shard and memory.
     fn read(&self, shard: usize) -> Option<Reply<K, V>>
-        ensures pairs { IfSome result (λ reply. (shard < self.now.amount) × IsTrue (alike_reply K.alike V.alike (Pairs (on (plain_rules ⟦<Self as Keyed>⟧.by K.alike V.alike self.now).keys shard self.now.pairs)) (reply_of reply))) }
-        ensures refused { IsNone result → (self.now.amount ≤ shard) ⊎ (0 < length self.now.pairs) }
+        ensures pairs { IfSome result (Reads ⟦<Self as Keyed>⟧.by K.alike V.alike self.now shard) }
+        ensures refused { IsNone result → MayFail self.now shard }
     {
         if shard >= self.amount {
             return None;
@@ -154,7 +150,7 @@ impl<K: KeptKey + Drop, V: Kept + Drop, S: BuildHasher> Plain<K, V, S> {
         action: &A,
         all: bool,
     ) -> Result<Option<(K, V)>, AllocError>
-        ensures { IfOk result (λ left. AlikeAt (plain_rules ⟦<Self as Keyed>⟧.by K.alike V.alike self.now) (after (plain_rules ⟦<Self as Keyed>⟧.by K.alike V.alike self.now).keys (Retain shard (keeping all (A.acts action.now))) pair.now.0 (Some pair.now)) left) }
+        ensures { IfOk result (SweepsPair ⟦<Self as Keyed>⟧.by K.alike V.alike self.now shard all (A.acts action.now) pair.now) }
     {
         let key = pair.0.copy()?;
         if !self.goes_to(&pair.0, shard) {
@@ -170,10 +166,10 @@ impl<K: KeptKey + Drop, V: Kept + Drop, S: BuildHasher> Plain<K, V, S> {
     // Lets the action change the values of a shard, if there is such a shard and memory. Where not all stay, the pairs with no go.
     fn sweep<A: Action<K, V>>(&mut self, shard: usize, action: &A, all: bool) -> Option<Reply<K, V>>
         ensures done { IfSome result (λ reply. (reply ≡ Reply.Done) × (shard < self.old.amount)) }
-        ensures leaves { IsSome result → (j : K) → AlikeAt (plain_rules ⟦<Self as Keyed>⟧.by K.alike V.alike self.old) (after (plain_rules ⟦<Self as Keyed>⟧.by K.alike V.alike self.old).keys (Retain shard (keeping all (A.acts action.now))) j (at K.eq self.old.pairs j)) (at K.eq self.new.pairs j) }
+        ensures leaves { IsSome result → SweepsPlain ⟦<Self as Keyed>⟧.by K.alike V.alike self.old self.new shard all (A.acts action.now) }
         ensures distinct { Distinct K.eq self.new.pairs }
-        ensures stays { (self.new.hasher ≡ self.old.hasher) × (self.new.amount ≡ self.old.amount) }
-        ensures refused { IsNone result → (self.new ≡ self.old) × ((self.old.amount ≤ shard) ⊎ (0 < length self.old.pairs)) }
+        ensures stays { SamePlain self.old self.new }
+        ensures refused { IsNone result → (self.new ≡ self.old) × MayFail self.old shard }
     {
         if shard >= self.amount {
             return None;
@@ -191,9 +187,9 @@ impl<K: KeptKey + Drop, V: Kept + Drop, S: BuildHasher> Plain<K, V, S> {
     // Makes of the pair at a key what was decided, and answers the reply.
     fn make_change(&mut self, key: K, change: Change<V>, reply: Reply<K, V>) -> Reply<K, V>
         requires { HasPair change (at K.eq self.old.pairs key) }
-        ensures becomes { Becomes (plain_rules ⟦<Self as Keyed>⟧.by K.alike V.alike self.old).keys (change_step key change) self.old.pairs self.new.pairs }
+        ensures becomes { PlainBecomes ⟦<Self as Keyed>⟧.by self.old self.new (change_step key change) }
         ensures distinct { Distinct K.eq self.new.pairs }
-        ensures stays { (self.new.hasher ≡ self.old.hasher) × (self.new.amount ≡ self.old.amount) }
+        ensures stays { SamePlain self.old self.new }
         ensures reply { result ≡ reply }
     {
         let _ = &self.amount;
@@ -210,10 +206,10 @@ impl<K: KeptKey + Drop, V: Kept + Drop, S: BuildHasher> Plain<K, V, S> {
         &mut self,
         step: ShardStep<K, V, A>,
     ) -> Result<Reply<K, V>, ShardStep<K, V, A>>
-        ensures ok { IfOk result (λ reply. Takes (plain_rules ⟦<Self as Keyed>⟧.by K.alike V.alike self.old) self.old.pairs (step_of A.acts step) (reply_of reply) self.new.pairs) }
-        ensures stays { (self.new.hasher ≡ self.old.hasher) × (self.new.amount ≡ self.old.amount) }
+        ensures ok { IfOk result (TakesPlain ⟦<Self as Keyed>⟧.by K.alike V.alike A.acts self.old self.new step) }
+        ensures stays { SamePlain self.old self.new }
         ensures refused { IfErr result (λ back. (back ≡ step) × (self.new ≡ self.old)) }
-        ensures may_refuse { OnErr result (MayRefuse (plain_rules ⟦<Self as Keyed>⟧.by K.alike V.alike self.old) self.old.pairs step) }
+        ensures may_refuse { OnErr result (MayRefuse K.eq self.old step) }
     {
         let _ = &self.amount;
         match step {

@@ -1,15 +1,17 @@
 //! Recorded shards and callers' logs, and the one call that lengthens both.
-ghost use Rattle.std.specs.Prelude.{◌≡◌, ◌+◌, ◌-◌, ◌<◌, ◌≤◌, ◌^◌, ◌↔◌, ◌⊎◌, max, [], IsTrue, IfOk, IfErr, OnOk, vec_len, vec_capacity};
+ghost use Rattle.std.specs.Prelude.{◌≡◌, ◌<◌, ◌↔◌, [], IsTrue, IfOk, IfErr, vec_len, vec_capacity};
 ghost use Rattle.dash_shard.specs.Hashing.{IsAmount};
-ghost use Rattle.dash_shard.specs.Steps.{Becomes};
-ghost use Rattle.dash_shard.specs.Shard.{pairs, keys_of, IsShard, SameShard};
-ghost use Rattle.dash_history.specs.Steps.{step_of, reply_of, alike_record};
-ghost use Rattle.dash_history.specs.Takes.{known, Answers};
-ghost use Rattle.dash_history.specs.History.{IsLog, IsRecorded, Grown, Recorded, Tells, place_of, kinds_of};
+ghost use Rattle.dash_shard.specs.Shard.{SameShard};
+ghost use Rattle.dash_history.specs.Steps.{alike_record};
+ghost use Rattle.dash_history.specs.Takes.{known};
+ghost use Rattle.dash_history.specs.History.{IsLog, IsRecorded, Tells, GoesTo, Adds, Records};
+ghost use Rattle.dash_history.specs.Refused.{Refuses, HandsBack, NoStamp, IsShardFault};
+ghost use Rattle.dash_history.specs.declared.record.RecordFault.TheVariants.{LastStamp};
 ghost use Rattle.dash_history.specs.Alone.{IsFresh};
 
 use crate::action::KeptAction;
 use crate::kept::{Kept, KeptKey};
+use crate::known::Recorded;
 use crate::step::{Record, Reply, ShardStep};
 use dash_shard::shard::Shard;
 use plan::{carry_out, prepare};
@@ -46,8 +48,6 @@ pub struct CallerLog<K, V, A = ()> {
 
 impl<K, V, A> Model for CallerLog<K, V, A> {
     ghost use Rattle.dash_history.specs.History.{LogState, IsLog};
-    ghost use Rattle.dash_shard.specs.Hashing.{key_hash};
-    ghost use Rattle.dash_history.specs.Takes.{known_by};
 
     ghost Value = { LogState K V A };
 
@@ -108,7 +108,6 @@ pub struct RecShard<K: KeptKey, V: Kept, S: BuildHasher, A: KeptAction<K, V> = (
 
 impl<K: KeptKey, V: Kept, S: BuildHasher, A: KeptAction<K, V>> Model for RecShard<K, V, S, A> {
     ghost use Rattle.dash_history.specs.History.{RecState, IsRecorded};
-    ghost use Rattle.dash_shard.specs.Hashing.{key_hash};
     ghost use Rattle.dash_history.specs.Takes.{known_by};
 
     ghost Value = { RecState K V A S };
@@ -116,6 +115,18 @@ impl<K: KeptKey, V: Kept, S: BuildHasher, A: KeptAction<K, V>> Model for RecShar
     ghost view = { λ s. record { shard = s.shard; callers = s.callers; last = s.last; history = s.history.items } };
 
     ghost invariant = { λ s. IsRecorded (known_by K.eq K.hash_input K.alike V.alike A.alike A.acts S.BuildHasher S.Hasher.Hasher) (record { shard = s.shard; callers = s.callers; last = s.last; history = s.history.items }) };
+}
+
+impl<K: KeptKey, V: Kept, S: BuildHasher, A: KeptAction<K, V>> Recorded for RecShard<K, V, S, A> {
+    type Key = K;
+
+    type Value = V;
+
+    type Action = A;
+
+    type State = S;
+
+    ghost known = { known K.KeptKey V.alike A.KeptAction S.BuildHasher S.Hasher.Hasher };
 }
 
 // The record of a step with its reply, twice.
@@ -204,7 +215,7 @@ impl<K: KeptKey + Drop, V: Kept + Drop, S: BuildHasher, A: KeptAction<K, V> + Dr
     #[inline]
     pub(crate) fn last_stamp(&self) -> u64
         ensures last { result ≡ self.now.last }
-        ensures legal { IsRecorded (known K.KeptKey V.alike A.KeptAction S.BuildHasher S.Hasher.Hasher) self.now }
+        ensures legal { IsRecorded ⟦<Self as Recorded>⟧.known self.now }
     {
         self.last
     }
@@ -216,10 +227,10 @@ impl<K: KeptKey + Drop, V: Kept + Drop, S: BuildHasher, A: KeptAction<K, V> + Dr
         caller: u32,
         step: ShardStep<K, V, A>,
     ) -> Result<(Reply<K, V>, Record<K, V, A>), ShardStep<K, V, A>>
-        requires place { place_of (kinds_of (known K.KeptKey V.alike A.KeptAction S.BuildHasher S.Hasher.Hasher) self.old.shard) step ≡ self.old.shard.number }
+        requires place { GoesTo ⟦<Self as Recorded>⟧.known self.old.shard step }
         requires caller { caller < self.old.callers }
         requires above { self.old.last < stamp }
-        ensures ok { IfOk result (λ p. Grown (kinds_of (known K.KeptKey V.alike A.KeptAction S.BuildHasher S.Hasher.Hasher) self.old.shard) self.old self.new stamp caller step p.0 p.1) }
+        ensures ok { Adds ⟦<Self as Recorded>⟧.known self.old self.new stamp caller step result }
         ensures refused { IfErr result (λ back. (back ≡ step) × (self.new ≡ self.old)) }
         ensures stays { SameShard self.old.shard self.new.shard }
         ensures callers { self.new.callers ≡ self.old.callers }
@@ -257,12 +268,12 @@ impl<K: KeptKey + Drop, V: Kept + Drop, S: BuildHasher, A: KeptAction<K, V> + Dr
         log: &mut CallerLog<K, V, A>,
         step: ShardStep<K, V, A>,
     ) -> Result<Reply<K, V>, (ShardStep<K, V, A>, RecordFault)>
-        requires place { place_of (kinds_of (known K.KeptKey V.alike A.KeptAction S.BuildHasher S.Hasher.Hasher) self.old.shard) step ≡ self.old.shard.number }
+        requires place { GoesTo ⟦<Self as Recorded>⟧.known self.old.shard step }
         requires caller { log.old.caller < self.old.callers }
-        ensures ok { IfOk result (λ reply. Recorded (kinds_of (known K.KeptKey V.alike A.KeptAction S.BuildHasher S.Hasher.Hasher) self.old.shard) self.old self.new log.old log.new step reply) }
-        ensures refused { IfErr result (λ e. (e.0 ≡ step) × (self.new ≡ self.old) × (log.new ≡ log.old)) }
-        ensures last_stamp { (result ≡ Err (step, RecordFault.LastStamp)) ↔ (max self.old.last log.old.last ≡ 2 ^ 64 - 1) }
-        ensures faults { IfErr result (λ e. (e.1 ≡ RecordFault.LastStamp) ⊎ (e.1 ≡ RecordFault.Memory)) }
+        ensures ok { Records ⟦<Self as Recorded>⟧.known self.old self.new log.old log.new step result }
+        ensures refused { HandsBack step self.old self.new log.old log.new result }
+        ensures last_stamp { Refuses step LastStamp result ↔ NoStamp self.old.last log.old.last }
+        ensures faults { IfErr result (λ e. IsShardFault e.1) }
         ensures stays { SameShard self.old.shard self.new.shard }
         ensures callers { self.new.callers ≡ self.old.callers }
     {

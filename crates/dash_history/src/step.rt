@@ -63,10 +63,8 @@ pub struct Record<K, V, A = ()> {
 }
 
 impl<K, V: Kept, A> ShardStep<K, V, A> {
-    ghost use Rattle.dash_shard.specs.Hashing.{IsAmount, route_by};
-    ghost use Rattle.dash_shard.specs.Contents.{keys};
-    ghost use Rattle.dash_shard.specs.Steps.{place};
-    ghost use Rattle.dash_history.specs.Steps.{step_of, alike_step};
+    ghost use Rattle.dash_shard.specs.Hashing.{IsAmount};
+    ghost use Rattle.dash_history.specs.Steps.{shard_of, alike_step};
 
     /// The number of the step's shard: the route of its key among `amount` shards, or the number that it names.
     #[inline]
@@ -75,7 +73,7 @@ impl<K, V: Kept, A> ShardStep<K, V, A> {
         K: Kept + Eq + Hash,
         A: Action<K, V>,
         requires { IsAmount amount }
-        ensures { result ≡ place (keys K.eq (route_by (by K.Hash S.BuildHasher S.Hasher.Hasher) hasher.now amount) amount) (step_of A.acts self.now) }
+        ensures { result ≡ shard_of A.acts (by K.Hash S.BuildHasher S.Hasher.Hasher) hasher.now amount self.now }
     {
         match self {
             ShardStep::Get(key)
@@ -130,12 +128,11 @@ impl<K, V: Kept, A> ShardStep<K, V, A> {
 }
 
 impl<K: Kept + Drop, V: Kept + Drop> Reply<K, V> {
-    ghost use Rattle.dash_history.specs.Alike.{alike_reply};
-    ghost use Rattle.dash_history.specs.Steps.{reply_of};
+    ghost use Rattle.dash_history.specs.Steps.{AlikeReply};
 
     /// A copy of the reply, alike it.
     pub fn copy(&self) -> Result<Reply<K, V>, AllocError>
-        ensures { IfOk result (λ copy. IsTrue (alike_reply K.alike V.alike (reply_of self.now) (reply_of copy))) }
+        ensures { IfOk result (AlikeReply K.alike V.alike self.now) }
     {
         match self {
             Reply::Pair(None) => Ok(Reply::Pair(None)),

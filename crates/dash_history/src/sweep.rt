@@ -1,14 +1,14 @@
 //! What a step makes of all pairs of a shard: copies of them, and what its action makes of copies of their values.
-ghost use Rattle.std.specs.Prelude.{◌≡◌, List, IsTrue, IfOk};
-ghost use Rattle.dash_shard.specs.Hashing.{by};
-ghost use Rattle.dash_shard.specs.Steps.{Act};
-ghost use Rattle.dash_shard.specs.Shard.{pairs, IsShard, SameShard};
-ghost use Rattle.dash_history.specs.Alike.{alike_list, alike_pair};
-ghost use Rattle.dash_history.specs.Sweep.{keeping, GivesEach, SweptTo, PutsNext};
+ghost use Rattle.std.specs.Prelude.{IsTrue, IfOk};
+ghost use Rattle.dash_shard.specs.Shard.{pairs, SameShard};
+ghost use Rattle.dash_history.specs.Alike.{alike_pairs};
+ghost use Rattle.dash_history.specs.Plan.{StaysLawful};
+ghost use Rattle.dash_history.specs.Sweep.{keeping, GivesEach, Puts, PutsNext};
 
 use crate::action::Action;
 use crate::change::ask;
 use crate::kept::{Kept, KeptKey};
+use dash_shard::keyed::Keyed;
 use dash_shard::shard::{Iter, Shard};
 use std::alloc::{AllocError, Global};
 use std::collections::VecDeque;
@@ -19,7 +19,7 @@ pub fn copy_pairs<K: Kept + Drop, V: Kept + Drop>(
     alloc: Global,
     pairs: Iter<'_, K, V>,
 ) -> Result<Vec<(K, V)>, AllocError>
-    ensures { IfOk result (λ copies. IsTrue (alike_list (alike_pair K.alike V.alike) pairs.entry copies.items)) }
+    ensures { IfOk result (λ copies. IsTrue (alike_pairs K.alike V.alike pairs.entry copies.items)) }
 {
     let mut copies = Vec::with_capacity(alloc, pairs.len())?;
     for (key, value) in pairs {
@@ -51,9 +51,9 @@ pub(crate) fn put_each<K: KeptKey + Drop, V: Kept + Drop, S: BuildHasher>(
     shard: &mut Shard<K, V, S>,
     made: Vec<(V, bool)>,
 )
-    ensures leaves { (f : Act K V) → GivesEach V.alike f (pairs shard.old) made.items → SweptTo K.eq K.alike V.alike f (pairs shard.old) (pairs shard.new) }
+    ensures leaves { Puts K.eq K.alike V.alike made.items (pairs shard.old) (pairs shard.new) }
     ensures stays { SameShard shard.old shard.new }
-    ensures lawful { IsShard (by K.Hash S.BuildHasher S.Hasher.Hasher) shard.old → IsShard (by K.Hash S.BuildHasher S.Hasher.Hasher) shard.new }
+    ensures lawful { StaysLawful ⟦<Shard<K, V, S> as Keyed>⟧.by shard.old shard.new }
 {
     let mut made = VecDeque::from(made);
     shard.retain(

@@ -1,14 +1,17 @@
 //! A recorded shard that is held for writing, changed in place behind its lock.
-ghost use Rattle.std.specs.Prelude.{◌≡◌, ◌+◌, ◌-◌, ◌<◌, ◌^◌, ◌↔◌, ◌⊎◌, max, IfOk, IfErr, IsTrue};
+ghost use Rattle.std.specs.Prelude.{◌≡◌, ◌-◌, ◌<◌, ◌^◌, ◌↔◌, IfErr, IsTrue};
 ghost use Rattle.dash_shard.specs.Hashing.{by};
-ghost use Rattle.dash_shard.specs.Shard.{Routes, SameShard};
-ghost use Rattle.dash_history.specs.History.{IsRecorded, Recorded, place_of, kinds_of};
+ghost use Rattle.dash_shard.specs.Shard.{Routes};
+ghost use Rattle.dash_history.specs.History.{IsRecorded, GoesTo, Records};
 ghost use Rattle.dash_history.specs.Held.{FitsPlace, Grows};
+ghost use Rattle.dash_history.specs.Refused.{Refuses, HandsBack, NoStamp, IsShardFault};
 ghost use Rattle.dash_history.specs.Takes.{known};
+ghost use Rattle.dash_history.specs.declared.record.RecordFault.TheVariants.{LastStamp};
 
 use super::{CallerLog, RecShard, RecordFault, make_room};
 use crate::action::KeptAction;
 use crate::kept::{Kept, KeptKey};
+use crate::known::Recorded;
 use crate::step::{Record, Reply, ShardStep};
 use dash_shard::lock::{RwLockWriteGuard, Tagged};
 use std::hash::BuildHasher;
@@ -46,6 +49,19 @@ impl<'a, K: KeptKey, V: Kept, S: BuildHasher, A: KeptAction<K, V>> Model
     ghost view = { λ s. s.guard.value };
 }
 
+impl<K: KeptKey, V: Kept, S: BuildHasher, A: KeptAction<K, V>> Recorded
+    for RecShardMut<'_, K, V, S, A> {
+    type Key = K;
+
+    type Value = V;
+
+    type Action = A;
+
+    type State = S;
+
+    ghost known = { known K.KeptKey V.alike A.KeptAction S.BuildHasher S.Hasher.Hasher };
+}
+
 impl<K: KeptKey, V: Kept, S: BuildHasher, A: KeptAction<K, V>> Drop
     for RecShardMut<'_, K, V, S, A> {
     #[inline]
@@ -60,7 +76,7 @@ impl<'a, K: KeptKey, V: Kept, S: BuildHasher, A: KeptAction<K, V>> RecShardMut<'
     #[inline]
     pub fn of(guard: RwLockWriteGuard<'a, RecShard<K, V, S, A>>) -> RecShardMut<'a, K, V, S, A>
         ensures value { result ≡ guard.entry.value }
-        ensures fits { FitsPlace (by K.Hash S.BuildHasher S.Hasher.Hasher) guard.entry.tag result }
+        ensures fits { FitsPlace ⟦<Self as Recorded>⟧.known.keys guard.entry.tag result }
     {
         RecShardMut { guard }
     }
@@ -77,7 +93,7 @@ impl<K: KeptKey + Drop, V: Kept + Drop, S: BuildHasher, A: KeptAction<K, V> + Dr
     #[inline]
     pub fn number(&self) -> usize
         ensures number { result ≡ self.now.shard.number }
-        ensures legal { IsRecorded (known K.KeptKey V.alike A.KeptAction S.BuildHasher S.Hasher.Hasher) self.now }
+        ensures legal { IsRecorded ⟦<Self as Recorded>⟧.known self.now }
     {
         self.guard.shard.number()
     }
@@ -109,7 +125,7 @@ impl<K: KeptKey + Drop, V: Kept + Drop, S: BuildHasher, A: KeptAction<K, V> + Dr
     /// Whether the key goes to this shard.
     #[inline]
     pub fn routes(&self, key: &K) -> bool
-        ensures { IsTrue result ↔ Routes (by K.Hash S.BuildHasher S.Hasher.Hasher) self.now.shard key.now }
+        ensures { IsTrue result ↔ Routes ⟦<Self as Recorded>⟧.known.keys self.now.shard key.now }
     {
         self.guard.shard.routes(key)
     }
@@ -121,20 +137,20 @@ impl<K: KeptKey + Drop, V: Kept + Drop, S: BuildHasher, A: KeptAction<K, V> + Dr
         caller: u32,
         step: ShardStep<K, V, A>,
     ) -> Result<(Reply<K, V>, Record<K, V, A>), ShardStep<K, V, A>>
-        requires place { place_of (kinds_of (known K.KeptKey V.alike A.KeptAction S.BuildHasher S.Hasher.Hasher) self.old.shard) step ≡ self.old.shard.number }
+        requires place { GoesTo ⟦<Self as Recorded>⟧.known self.old.shard step }
         requires caller { caller < self.old.callers }
         requires above { self.old.last < stamp }
-        ensures { Grows (kinds_of (known K.KeptKey V.alike A.KeptAction S.BuildHasher S.Hasher.Hasher) self.old.shard) self.old self.new stamp caller step result }
+        ensures { Grows ⟦<Self as Recorded>⟧.known self.old self.new stamp caller step result }
     {
         self.guard.change(
             |shard: &mut RecShard<K, V, S, A>| -> Result<
                 (Reply<K, V>, Record<K, V, A>),
                 ShardStep<K, V, A>,
             >
-                requires place { place_of (kinds_of (known K.KeptKey V.alike A.KeptAction S.BuildHasher S.Hasher.Hasher) shard.old.shard) step ≡ shard.old.shard.number }
+                requires place { GoesTo (known K.KeptKey V.alike A.KeptAction S.BuildHasher S.Hasher.Hasher) shard.old.shard step }
                 requires caller { caller < shard.old.callers }
                 requires above { shard.old.last < stamp }
-                ensures { Grows (kinds_of (known K.KeptKey V.alike A.KeptAction S.BuildHasher S.Hasher.Hasher) shard.old.shard) shard.old shard.new stamp caller step result }
+                ensures { Grows (known K.KeptKey V.alike A.KeptAction S.BuildHasher S.Hasher.Hasher) shard.old shard.new stamp caller step result }
             { shard.grow(stamp, caller, step) },
         )
     }
@@ -148,13 +164,13 @@ impl<K: KeptKey + Drop, V: Kept + Drop, S: BuildHasher, A: KeptAction<K, V> + Dr
         log: &mut CallerLog<K, V, A>,
         step: ShardStep<K, V, A>,
     ) -> Result<Reply<K, V>, (ShardStep<K, V, A>, RecordFault)>
-        requires place { place_of (kinds_of (known K.KeptKey V.alike A.KeptAction S.BuildHasher S.Hasher.Hasher) self.old.shard) step ≡ self.old.shard.number }
+        requires place { GoesTo ⟦<Self as Recorded>⟧.known self.old.shard step }
         requires caller { log.old.caller < self.old.callers }
-        ensures ok { IfOk result (λ reply. Recorded (kinds_of (known K.KeptKey V.alike A.KeptAction S.BuildHasher S.Hasher.Hasher) self.old.shard) self.old self.new log.old log.new step reply) }
-        ensures refused { IfErr result (λ e. (e.0 ≡ step) × (self.new ≡ self.old) × (log.new ≡ log.old)) }
-        ensures last_stamp { (result ≡ Err (step, RecordFault.LastStamp)) ↔ (max self.old.last log.old.last ≡ 2 ^ 64 - 1) }
-        ensures log_last { log.old.last ≡ 2 ^ 64 - 1 → result ≡ Err (step, RecordFault.LastStamp) }
-        ensures faults { IfErr result (λ e. (e.1 ≡ RecordFault.LastStamp) ⊎ (e.1 ≡ RecordFault.Memory)) }
+        ensures ok { Records ⟦<Self as Recorded>⟧.known self.old self.new log.old log.new step result }
+        ensures refused { HandsBack step self.old self.new log.old log.new result }
+        ensures last_stamp { Refuses step LastStamp result ↔ NoStamp self.old.last log.old.last }
+        ensures log_last { log.old.last ≡ 2 ^ 64 - 1 → Refuses step LastStamp result }
+        ensures faults { IfErr result (λ e. IsShardFault e.1) }
     {
         let last = self.last_stamp().max(log.last);
         if last == u64::MAX {

@@ -1,11 +1,11 @@
 //! A recorded map that threads share, and its two moves: shards out of their locks, and behind them again.
-ghost use Rattle.std.specs.Prelude.{◌≡◌, ◌<◌, ◌↔◌, ◌⊎◌, IsErrOf, IfOk, IfErr, length};
+ghost use Rattle.std.specs.Prelude.{◌≡◌, ◌<◌, ◌↔◌, IsErrOf, IfOk, IfErr, length};
 ghost use Rattle.crossbeam_utils.specs.Padded.{padded_value};
 ghost use Rattle.dash_shard.specs.Hashing.{by, IsAmount, HashAlike};
-ghost use Rattle.dash_history.specs.Alone.{IsAlone, IsCallers, IsPlaced, fresh_logs};
+ghost use Rattle.dash_history.specs.Alone.{BadCallers, IsMapError, IsAlone, IsCallers, IsPlaced, fresh_logs};
 ghost use Rattle.dash_history.specs.Held.{FitsPlace};
 ghost use Rattle.dash_history.specs.History.{IsRecorded, place_of};
-ghost use Rattle.dash_history.specs.Map.{IsAt, kinds_on};
+ghost use Rattle.dash_history.specs.Map.{map_of, IsAt, IsShardOf, kinds_on};
 ghost use Rattle.dash_history.specs.Takes.{known};
 
 use super::held::{Place, RecShardMut};
@@ -13,6 +13,7 @@ use super::{CallerLog, RecShard};
 use crate::action::KeptAction;
 use crate::alone::RecAlone;
 use crate::kept::{Kept, KeptKey};
+use crate::known::Recorded;
 use crate::step::ShardStep;
 use crossbeam_utils::CachePadded;
 use dash_shard::error::ConstructError;
@@ -51,6 +52,18 @@ impl<K: KeptKey, V: Kept, S: BuildHasher, A: KeptAction<K, V>> Model for Recorde
     ghost invariant = { λ m. IsMap (record { hasher = m.hasher; callers = m.callers; amount = length m.row.items }) m.row.items × (m.shards.items ≡ []) × (vec_len m.row ≤ vec_capacity m.shards) };
 }
 
+impl<K: KeptKey, V: Kept, S: BuildHasher, A: KeptAction<K, V>> Recorded for RecordedMap<K, V, S, A> {
+    type Key = K;
+
+    type Value = V;
+
+    type Action = A;
+
+    type State = S;
+
+    ghost known = { known K.KeptKey V.alike A.KeptAction S.BuildHasher S.Hasher.Hasher };
+}
+
 impl<K: KeptKey + Drop, V: Kept + Drop, S: BuildHasher, A: KeptAction<K, V> + Drop> RecordedMap<
     K,
     V,
@@ -69,14 +82,14 @@ impl<K: KeptKey + Drop, V: Kept + Drop, S: BuildHasher, A: KeptAction<K, V> + Dr
     ) -> Result<(RecordedMap<K, V, S, A>, Vec<CallerLog<K, V, A>>), ConstructError>
     where
         S: Clone,
-        requires { (s t : S) → S.is_clone s t → HashAlike (by K.Hash S.BuildHasher S.Hasher.Hasher) s t }
-        ensures made { IfOk result (λ m. m.0 ≡ record { hasher = hasher; callers = callers; amount = amount }) }
+        requires { (s t : S) → S.is_clone s t → HashAlike ⟦<Self as Recorded>⟧.known.keys s t }
+        ensures made { IfOk result (λ m. m.0 ≡ map_of hasher callers amount) }
         ensures logs { IfOk result (λ m. m.1.items ≡ fresh_logs callers) }
 
         // In the order of the refusals' numbers.
         ensures bad_amount { IsErrOf result ConstructError.ShardAmount ↔ (IsAmount amount → ⊥) }
-        ensures bad_callers { IsErrOf result ConstructError.Callers ↔ (IsAmount amount × (IsCallers callers → ⊥)) }
-        ensures kinds { IfErr result (λ e. (e ≡ ConstructError.ShardAmount) ⊎ (e ≡ ConstructError.Callers) ⊎ (e ≡ ConstructError.Memory)) }
+        ensures bad_callers { IsErrOf result ConstructError.Callers ↔ BadCallers amount callers }
+        ensures kinds { IfErr result IsMapError }
     {
         let (alone, logs) = RecAlone::new(alloc, hasher, amount, callers)?;
         Ok((alone.end(), logs))
@@ -103,7 +116,7 @@ impl<K: KeptKey + Drop, V: Kept + Drop, S: BuildHasher, A: KeptAction<K, V> + Dr
     /// The number of the shard that a step goes to.
     #[inline]
     pub(crate) fn place(&self, step: &ShardStep<K, V, A>) -> usize
-        ensures { result ≡ place_of (kinds_on (known K.KeptKey V.alike A.KeptAction S.BuildHasher S.Hasher.Hasher) self.now) step.now }
+        ensures { result ≡ place_of (kinds_on ⟦<Self as Recorded>⟧.known self.now) step.now }
     {
         step.place(&self.hasher, self.row.len())
     }
@@ -112,8 +125,8 @@ impl<K: KeptKey + Drop, V: Kept + Drop, S: BuildHasher, A: KeptAction<K, V> + Dr
     #[inline]
     pub fn held<R: Wait + Clock>(&self, rt: &R, shard: usize) -> RecShardMut<'_, K, V, S, A>
         requires { shard < self.now.amount }
-        ensures placed { IsPlaced (by K.Hash S.BuildHasher S.Hasher.Hasher) self.now.hasher self.now.amount self.now.callers shard result }
-        ensures legal { IsRecorded (known K.KeptKey V.alike A.KeptAction S.BuildHasher S.Hasher.Hasher) result }
+        ensures placed { IsShardOf ⟦<Self as Recorded>⟧.known.keys self.now shard result }
+        ensures legal { IsRecorded ⟦<Self as Recorded>⟧.known result }
     {
         RecShardMut::of(self.row[shard].write(rt))
     }
@@ -123,7 +136,7 @@ impl<K: KeptKey + Drop, V: Kept + Drop, S: BuildHasher, A: KeptAction<K, V> + Dr
         ensures hasher { result.hasher ≡ self.hasher }
         ensures callers { result.callers ≡ self.callers }
         ensures amount { length result.row ≡ self.amount }
-        ensures lawful { IsAlone (by K.Hash S.BuildHasher S.Hasher.Hasher) result }
+        ensures lawful { IsAlone ⟦<Self as Recorded>⟧.known.keys result }
     {
         let RecordedMap {
             hasher,
@@ -155,7 +168,7 @@ impl<K: KeptKey + Drop, V: Kept + Drop, S: BuildHasher, A: KeptAction<K, V> + Dr
 > {
     /// The map behind its locks again. It takes no memory.
     pub fn end(self) -> RecordedMap<K, V, S, A>
-        ensures { result ≡ record { hasher = self.hasher; callers = self.callers; amount = length self.row } }
+        ensures { result ≡ map_of self.hasher self.callers (length self.row) }
     {
         let RecAlone {
             hasher,
@@ -169,7 +182,7 @@ impl<K: KeptKey + Drop, V: Kept + Drop, S: BuildHasher, A: KeptAction<K, V> + Dr
             &mut locks,
             |number: usize, shard: RecShard<K, V, S, A>| -> Locked<K, V, S, A>
                 requires { IsPlaced (by K.Hash S.BuildHasher S.Hasher.Hasher) hasher amount callers number shard }
-                ensures { IsAt (record { hasher = hasher; callers = callers; amount = amount }) number result }
+                ensures { IsAt (map_of hasher callers amount) number result }
             {
                 let place = Place {
                     number,

@@ -1,20 +1,18 @@
 //! What a step will do to a shard: it is made first, since it takes memory, and carried out once all copies are there.
-ghost use Rattle.std.specs.Prelude.{◌≡◌, IfOk, IfErr, OnOk, IsTrue};
-ghost use Rattle.dash_shard.specs.Hashing.{by};
+ghost use Rattle.std.specs.Prelude.{◌≡◌, IfOk, IfErr, OnOk};
 ghost use Rattle.dash_shard.specs.Contents.{at};
-ghost use Rattle.dash_shard.specs.Steps.{Act, Becomes};
-ghost use Rattle.dash_shard.specs.Shard.{pairs, keys_of, Routes, IsShard, SameShard};
-ghost use Rattle.dash_history.specs.Steps.{step_of, reply_of};
-ghost use Rattle.dash_history.specs.Takes.{known, Answers};
-ghost use Rattle.dash_history.specs.History.{kinds_of, place_of};
-ghost use Rattle.dash_history.specs.Sweep.{SweptTo};
-ghost use Rattle.dash_history.specs.Plan.{change_step, Decides, HasPair, Leaves, MakesEach};
+ghost use Rattle.dash_shard.specs.Shard.{pairs, Routes, SameShard};
+ghost use Rattle.dash_history.specs.History.{GoesTo};
+ghost use Rattle.dash_history.specs.Plan.{MayAnswer, Decides, HasPair, Makes, PutsChange, StaysLawful, Leaves};
 
 use crate::action::KeptAction;
 use crate::change::{Change, copy_found, plan_alter, plan_remove_if, plan_remove_if_mut};
 use crate::kept::{Kept, KeptKey};
+use crate::known::Recorded;
+use crate::record::RecShard;
 use crate::step::{Reply, ShardStep};
 use crate::sweep::{ask_each, copy_pairs, put_each};
+use dash_shard::keyed::Keyed;
 use dash_shard::shard::{InsertRefused, Shard};
 use std::alloc::{AllocError, Global};
 use std::hash::BuildHasher;
@@ -30,9 +28,9 @@ pub(super) fn prepare<
     shard: &Shard<K, V, S>,
     step: &ShardStep<K, V, A>,
 ) -> Result<(Reply<K, V>, Change<V>), AllocError>
-    requires { place_of (kinds_of (known K.KeptKey V.alike A.KeptAction S.BuildHasher S.Hasher.Hasher) shard.now) step.now ≡ shard.now.number }
-    ensures answers { IfOk result (λ plan. Answers (kinds_of (known K.KeptKey V.alike A.KeptAction S.BuildHasher S.Hasher.Hasher) shard.now).rules (pairs shard.now) (step_of A.acts step.now) (reply_of plan.0)) }
-    ensures decides { IfOk result (λ plan. Decides (kinds_of (known K.KeptKey V.alike A.KeptAction S.BuildHasher S.Hasher.Hasher) shard.now) (pairs shard.now) step.now plan.1) }
+    requires { GoesTo ⟦<RecShard<K, V, S, A> as Recorded>⟧.known shard.now step.now }
+    ensures answers { IfOk result (λ plan. MayAnswer ⟦<RecShard<K, V, S, A> as Recorded>⟧.known shard.now step.now plan.0) }
+    ensures decides { IfOk result (λ plan. Decides ⟦<RecShard<K, V, S, A> as Recorded>⟧.known shard.now step.now plan.1) }
 {
     match step {
         ShardStep::Get(key) | ShardStep::Remove(key) => {
@@ -68,11 +66,11 @@ fn make_change<K: KeptKey + Drop, V: Kept + Drop, S: BuildHasher>(
     key: K,
     change: Change<V>,
 )
-    requires route { Routes (by K.Hash S.BuildHasher S.Hasher.Hasher) shard.old key }
+    requires route { Routes ⟦<Shard<K, V, S> as Keyed>⟧.by shard.old key }
     requires there { HasPair change (at K.eq (pairs shard.old) key) }
-    ensures becomes { Becomes (keys_of (by K.Hash S.BuildHasher S.Hasher.Hasher) shard.old) (change_step key change) (pairs shard.old) (pairs shard.new) }
+    ensures becomes { Makes ⟦<Shard<K, V, S> as Keyed>⟧.by shard.old shard.new key change }
     ensures stays { SameShard shard.old shard.new }
-    ensures lawful { IsShard (by K.Hash S.BuildHasher S.Hasher.Hasher) shard.old → IsShard (by K.Hash S.BuildHasher S.Hasher.Hasher) shard.new }
+    ensures lawful { StaysLawful ⟦<Shard<K, V, S> as Keyed>⟧.by shard.old shard.new }
 {
     match change {
         Change::Stays | Change::Each(_) => (),
@@ -86,9 +84,9 @@ fn change_each<K: KeptKey + Drop, V: Kept + Drop, S: BuildHasher>(
     shard: &mut Shard<K, V, S>,
     change: Change<V>,
 )
-    ensures leaves { (f : Act K V) → MakesEach V.alike f (pairs shard.old) change → SweptTo K.eq K.alike V.alike f (pairs shard.old) (pairs shard.new) }
+    ensures leaves { PutsChange K.eq K.alike V.alike change (pairs shard.old) (pairs shard.new) }
     ensures stays { SameShard shard.old shard.new }
-    ensures lawful { IsShard (by K.Hash S.BuildHasher S.Hasher.Hasher) shard.old → IsShard (by K.Hash S.BuildHasher S.Hasher.Hasher) shard.new }
+    ensures lawful { StaysLawful ⟦<Shard<K, V, S> as Keyed>⟧.by shard.old shard.new }
 {
     let Change::Each(made) = change else {
         return;
@@ -107,11 +105,11 @@ pub(super) fn carry_out<
     step: ShardStep<K, V, A>,
     decided: Change<V>,
 ) -> Result<(), ShardStep<K, V, A>>
-    requires place { place_of (kinds_of (known K.KeptKey V.alike A.KeptAction S.BuildHasher S.Hasher.Hasher) shard.old) step ≡ shard.old.number }
-    requires decides { Decides (kinds_of (known K.KeptKey V.alike A.KeptAction S.BuildHasher S.Hasher.Hasher) shard.old) (pairs shard.old) step decided }
-    ensures ok { OnOk result (Leaves (kinds_of (known K.KeptKey V.alike A.KeptAction S.BuildHasher S.Hasher.Hasher) shard.old) (pairs shard.old) step (pairs shard.new)) }
+    requires place { GoesTo ⟦<RecShard<K, V, S, A> as Recorded>⟧.known shard.old step }
+    requires decides { Decides ⟦<RecShard<K, V, S, A> as Recorded>⟧.known shard.old step decided }
+    ensures ok { OnOk result (Leaves ⟦<RecShard<K, V, S, A> as Recorded>⟧.known shard.old step shard.new) }
     ensures stays { SameShard shard.old shard.new }
-    ensures lawful { IsShard (by K.Hash S.BuildHasher S.Hasher.Hasher) shard.old → IsShard (by K.Hash S.BuildHasher S.Hasher.Hasher) shard.new }
+    ensures lawful { StaysLawful ⟦<Shard<K, V, S> as Keyed>⟧.by shard.old shard.new }
     ensures err { IfErr result (λ back. (back ≡ step) × (shard.new ≡ shard.old)) }
 {
     match step {

@@ -1,0 +1,24 @@
+-- Why a step is refused, and what is left then.
+use Rattle.std.specs.Prelude.{ℕ, ◌≡◌, ◌-◌, ◌^◌, ◌⊎◌, max, Result, Err, IfErr}
+use Rattle.dash_history.specs.History.{LogState}
+use Rattle.dash_history.specs.declared.step.ShardStep.{ShardStep}
+use Rattle.dash_history.specs.declared.step.Reply.{Reply}
+use Rattle.dash_history.specs.declared.record.RecordFault.{RecordFault}
+use Rattle.dash_history.specs.declared.record.RecordFault.TheVariants.{LastStamp, Memory}
+
+-- no stamp is above both
+abbrev pub NoStamp : ℕ → ℕ → Type 0
+NoStamp last other = max last other ≡ 2 ^ 64 - 1
+
+-- a shard refuses a step for these alone
+abbrev pub IsShardFault : RecordFault → Type 0
+IsShardFault fault = (fault ≡ LastStamp) ⊎ (fault ≡ Memory)
+
+module _ {K V A : Type 0} (step : ShardStep K V A) where
+  -- the step is refused for this fault, and handed back
+  abbrev pub Refuses : RecordFault → Result (Reply K V) (ShardStep K V A × RecordFault) → Type 0
+  Refuses fault result = result ≡ Err (step, fault)
+
+  -- where it is refused, the step is handed back, and the state and the log are as they were
+  abbrev pub HandsBack : {X : Type 0} → X → X → LogState K V A → LogState K V A → Result (Reply K V) (ShardStep K V A × RecordFault) → Type 0
+  HandsBack old new l l' result = IfErr result (λ e. (e.0 ≡ step) × (new ≡ old) × (l' ≡ l))
