@@ -1,7 +1,8 @@
 //! The map that threads share.
-ghost use Rattle.std.specs.Prelude.{◌≡◌, ◌⊎◌, ℕ, ◌<◌, ◌↔◌, IsErrOf, IfOk, IfErr, OnOk};
+ghost use Rattle.std.specs.Prelude.{◌≡◌, ◌<◌, ◌↔◌, ◌∷◌, [], IsErrOf, IfOk, IfErr, OnOk};
 ghost use Rattle.dash_shard.specs.Hashing.{by, IsAmount, HashAlike, hash_of, route_of_hash, route_by};
-ghost use Rattle.dash_map.specs.Amounts.{IsParallelism, IsDefault, Overflows};
+ghost use Rattle.dash_shard.specs.declared.error.ConstructError.TheVariants.{CapacityOverflow, Memory, Parallelism, ShardAmount};
+ghost use Rattle.dash_map.specs.Amounts.{IsParallelism, IsDefault, Overflows, OverflowsDefault, IsOneOf};
 
 use crate::alone::Alone;
 use crossbeam_utils::CachePadded;
@@ -52,8 +53,8 @@ fn default_shard_amount(parallelism: usize) -> Result<usize, ConstructError>
     ensures default { IfOk result (IsDefault parallelism) }
     ensures lawful { IfOk result IsAmount }
     ensures good { OnOk result (IsParallelism parallelism) }
-    ensures bad { IsErrOf result ConstructError.Parallelism ↔ (IsParallelism parallelism → ⊥) }
-    ensures kinds { IfErr result (λ e. e ≡ ConstructError.Parallelism) }
+    ensures bad { IsErrOf result Parallelism ↔ (IsParallelism parallelism → ⊥) }
+    ensures kinds { IfErr result (λ e. e ≡ Parallelism) }
 {
     if parallelism == 0 || parallelism > 1 << 61 {
         return Err(ConstructError::Parallelism);
@@ -68,8 +69,8 @@ impl<K: Eq + Hash + Drop, V: Drop> DashMap<K, V, FixedState> {
     /// from the system.
     pub fn new(alloc: Global, parallelism: usize) -> Result<Self, ConstructError>
         ensures amount { IfOk result (λ m. IsDefault parallelism m.amount) }
-        ensures bad_parallelism { IsErrOf result ConstructError.Parallelism ↔ (IsParallelism parallelism → ⊥) }
-        ensures kinds { IfErr result (λ e. (e ≡ ConstructError.Parallelism) ⊎ (e ≡ ConstructError.Memory)) }
+        ensures bad_parallelism { IsErrOf result Parallelism ↔ (IsParallelism parallelism → ⊥) }
+        ensures kinds { IfErr result (IsOneOf (Parallelism ∷ Memory ∷ [])) }
     {
         Self::with_hasher(alloc, FixedState, parallelism)
     }
@@ -81,9 +82,9 @@ impl<K: Eq + Hash + Drop, V: Drop> DashMap<K, V, FixedState> {
         parallelism: usize,
     ) -> Result<Self, ConstructError>
         ensures amount { IfOk result (λ m. IsDefault parallelism m.amount) }
-        ensures bad_parallelism { IsErrOf result ConstructError.Parallelism ↔ (IsParallelism parallelism → ⊥) }
-        ensures overflow { IsErrOf result ConstructError.CapacityOverflow ↔ (IsParallelism parallelism × (n : ℕ) × IsDefault parallelism n × Overflows capacity n) }
-        ensures kinds { IfErr result (λ e. (e ≡ ConstructError.Parallelism) ⊎ (e ≡ ConstructError.CapacityOverflow) ⊎ (e ≡ ConstructError.Memory)) }
+        ensures bad_parallelism { IsErrOf result Parallelism ↔ (IsParallelism parallelism → ⊥) }
+        ensures overflow { IsErrOf result CapacityOverflow ↔ OverflowsDefault parallelism capacity }
+        ensures kinds { IfErr result (IsOneOf (Parallelism ∷ CapacityOverflow ∷ Memory ∷ [])) }
     {
         Self::with_capacity_and_hasher(alloc, capacity, FixedState, parallelism)
     }
@@ -93,8 +94,8 @@ impl<K: Eq + Hash + Drop, V: Drop> DashMap<K, V, FixedState> {
     /// It is refused where the amount is no power of two above 1 (5), then where there is no memory (8).
     pub fn with_shard_amount(alloc: Global, amount: usize) -> Result<Self, ConstructError>
         ensures amount { IfOk result (λ m. m.amount ≡ amount) }
-        ensures bad_amount { IsErrOf result ConstructError.ShardAmount ↔ (IsAmount amount → ⊥) }
-        ensures kinds { IfErr result (λ e. (e ≡ ConstructError.ShardAmount) ⊎ (e ≡ ConstructError.Memory)) }
+        ensures bad_amount { IsErrOf result ShardAmount ↔ (IsAmount amount → ⊥) }
+        ensures kinds { IfErr result (IsOneOf (ShardAmount ∷ Memory ∷ [])) }
     {
         Self::with_hasher_and_shard_amount(alloc, FixedState, amount)
     }
@@ -107,9 +108,9 @@ impl<K: Eq + Hash + Drop, V: Drop> DashMap<K, V, FixedState> {
         amount: usize,
     ) -> Result<Self, ConstructError>
         ensures amount { IfOk result (λ m. m.amount ≡ amount) }
-        ensures bad_amount { IsErrOf result ConstructError.ShardAmount ↔ (IsAmount amount → ⊥) }
-        ensures overflow { IsErrOf result ConstructError.CapacityOverflow ↔ (IsAmount amount × Overflows capacity amount) }
-        ensures kinds { IfErr result (λ e. (e ≡ ConstructError.ShardAmount) ⊎ (e ≡ ConstructError.CapacityOverflow) ⊎ (e ≡ ConstructError.Memory)) }
+        ensures bad_amount { IsErrOf result ShardAmount ↔ (IsAmount amount → ⊥) }
+        ensures overflow { IsErrOf result CapacityOverflow ↔ (IsAmount amount × Overflows capacity amount) }
+        ensures kinds { IfErr result (IsOneOf (ShardAmount ∷ CapacityOverflow ∷ Memory ∷ [])) }
     {
         Self::with_capacity_and_hasher_and_shard_amount(alloc, capacity, FixedState, amount)
     }
@@ -117,8 +118,8 @@ impl<K: Eq + Hash + Drop, V: Drop> DashMap<K, V, FixedState> {
     /// As `new`.
     pub fn default(alloc: Global, parallelism: usize) -> Result<Self, ConstructError>
         ensures amount { IfOk result (λ m. IsDefault parallelism m.amount) }
-        ensures bad_parallelism { IsErrOf result ConstructError.Parallelism ↔ (IsParallelism parallelism → ⊥) }
-        ensures kinds { IfErr result (λ e. (e ≡ ConstructError.Parallelism) ⊎ (e ≡ ConstructError.Memory)) }
+        ensures bad_parallelism { IsErrOf result Parallelism ↔ (IsParallelism parallelism → ⊥) }
+        ensures kinds { IfErr result (IsOneOf (Parallelism ∷ Memory ∷ [])) }
     {
         Self::new(alloc, parallelism)
     }
@@ -133,8 +134,8 @@ impl<K: Eq + Hash + Drop, V: Drop, S: BuildHasher + Clone + Drop> DashMap<K, V, 
         requires { (s t : S) → S.is_clone s t → HashAlike ⟦<Self as Keyed>⟧.by s t }
         ensures hasher { IfOk result (λ m. m.hasher ≡ hasher) }
         ensures amount { IfOk result (λ m. IsDefault parallelism m.amount) }
-        ensures bad_parallelism { IsErrOf result ConstructError.Parallelism ↔ (IsParallelism parallelism → ⊥) }
-        ensures kinds { IfErr result (λ e. (e ≡ ConstructError.Parallelism) ⊎ (e ≡ ConstructError.Memory)) }
+        ensures bad_parallelism { IsErrOf result Parallelism ↔ (IsParallelism parallelism → ⊥) }
+        ensures kinds { IfErr result (IsOneOf (Parallelism ∷ Memory ∷ [])) }
     {
         Self::with_capacity_and_hasher(alloc, 0, hasher, parallelism)
     }
@@ -149,9 +150,9 @@ impl<K: Eq + Hash + Drop, V: Drop, S: BuildHasher + Clone + Drop> DashMap<K, V, 
         requires { (s t : S) → S.is_clone s t → HashAlike ⟦<Self as Keyed>⟧.by s t }
         ensures hasher { IfOk result (λ m. m.hasher ≡ hasher) }
         ensures amount { IfOk result (λ m. IsDefault parallelism m.amount) }
-        ensures bad_parallelism { IsErrOf result ConstructError.Parallelism ↔ (IsParallelism parallelism → ⊥) }
-        ensures overflow { IsErrOf result ConstructError.CapacityOverflow ↔ (IsParallelism parallelism × (n : ℕ) × IsDefault parallelism n × Overflows capacity n) }
-        ensures kinds { IfErr result (λ e. (e ≡ ConstructError.Parallelism) ⊎ (e ≡ ConstructError.CapacityOverflow) ⊎ (e ≡ ConstructError.Memory)) }
+        ensures bad_parallelism { IsErrOf result Parallelism ↔ (IsParallelism parallelism → ⊥) }
+        ensures overflow { IsErrOf result CapacityOverflow ↔ OverflowsDefault parallelism capacity }
+        ensures kinds { IfErr result (IsOneOf (Parallelism ∷ CapacityOverflow ∷ Memory ∷ [])) }
     {
         let amount = default_shard_amount(parallelism)?;
         Self::with_capacity_and_hasher_and_shard_amount(alloc, capacity, hasher, amount)
@@ -167,8 +168,8 @@ impl<K: Eq + Hash + Drop, V: Drop, S: BuildHasher + Clone + Drop> DashMap<K, V, 
     ) -> Result<Self, ConstructError>
         requires { (s t : S) → S.is_clone s t → HashAlike ⟦<Self as Keyed>⟧.by s t }
         ensures made { IfOk result (λ m. m ≡ record { hasher = hasher; amount = amount }) }
-        ensures bad_amount { IsErrOf result ConstructError.ShardAmount ↔ (IsAmount amount → ⊥) }
-        ensures kinds { IfErr result (λ e. (e ≡ ConstructError.ShardAmount) ⊎ (e ≡ ConstructError.Memory)) }
+        ensures bad_amount { IsErrOf result ShardAmount ↔ (IsAmount amount → ⊥) }
+        ensures kinds { IfErr result (IsOneOf (ShardAmount ∷ Memory ∷ [])) }
     {
         Self::with_capacity_and_hasher_and_shard_amount(alloc, 0, hasher, amount)
     }
@@ -185,9 +186,9 @@ impl<K: Eq + Hash + Drop, V: Drop, S: BuildHasher + Clone + Drop> DashMap<K, V, 
     ) -> Result<Self, ConstructError>
         requires { (s t : S) → S.is_clone s t → HashAlike ⟦<Self as Keyed>⟧.by s t }
         ensures made { IfOk result (λ m. m ≡ record { hasher = hasher; amount = amount }) }
-        ensures bad_amount { IsErrOf result ConstructError.ShardAmount ↔ (IsAmount amount → ⊥) }
-        ensures overflow { IsErrOf result ConstructError.CapacityOverflow ↔ (IsAmount amount × Overflows capacity amount) }
-        ensures kinds { IfErr result (λ e. (e ≡ ConstructError.ShardAmount) ⊎ (e ≡ ConstructError.CapacityOverflow) ⊎ (e ≡ ConstructError.Memory)) }
+        ensures bad_amount { IsErrOf result ShardAmount ↔ (IsAmount amount → ⊥) }
+        ensures overflow { IsErrOf result CapacityOverflow ↔ (IsAmount amount × Overflows capacity amount) }
+        ensures kinds { IfErr result (IsOneOf (ShardAmount ∷ CapacityOverflow ∷ Memory ∷ [])) }
     {
         Ok(Alone::new(alloc, capacity, hasher, amount)?.end())
     }
