@@ -1,5 +1,6 @@
 //! Calls of a map of one owner, as worked by hand.
 use crate::map::map_of_four;
+use crate::places::is;
 use dash_map::alone::Alone;
 use dash_map::map::DashMap;
 use dash_shard::error::TryReserveError;
@@ -16,18 +17,18 @@ fn alone_of_four(alloc: Global) -> Result<Numbers, Fail> {
 #[test]
 fn a_pair_comes_and_goes(rt: HostRuntime) -> Result<(), Fail> {
     let mut alone = alone_of_four(rt.alloc())?;
-    assert_eq!(rt; alone.insert(1, 10)?, None);
-    assert_eq!(rt; alone.insert(5, 50)?, None);
-    assert_eq!(rt; alone.get(&1), Some((&1, &10)));
-    assert_eq!(rt; alone.remove(&1), Some((1, 10)));
-    assert_eq!(rt; alone.get(&1), None);
-    assert_eq!(rt; alone.remove(&1), None);
+    is(&rt, alone.insert(1, 10)?, None);
+    is(&rt, alone.insert(5, 50)?, None);
+    is(&rt, alone.get(&1), Some((&1, &10)));
+    is(&rt, alone.remove(&1), Some((1, 10)));
+    is(&rt, alone.get(&1), None);
+    is(&rt, alone.remove(&1), None);
     assert!(rt; !alone.contains_key(&1));
     assert!(rt; alone.contains_key(&5));
-    assert_eq!(rt; alone.len(), 1);
+    is(&rt, alone.len(), 1);
 
     let alone = alone.end().alone();
-    assert_eq!(rt; alone.get(&5), Some((&5, &50)));
+    is(&rt, alone.get(&5), Some((&5, &50)));
     Ok(())
 }
 
@@ -39,10 +40,10 @@ fn a_hundred_keys(rt: HostRuntime) -> Result<(), Fail> {
         alone.insert(i, i)?;
     }
     let alone = alone.end().alone();
-    assert_eq!(rt; alone.len(), 100);
-    assert_eq!(rt; alone.get(&0), Some((&0, &99)));
+    is(&rt, alone.len(), 100);
+    is(&rt, alone.get(&0), Some((&0, &99)));
     for i in 1..100 {
-        assert_eq!(rt; alone.get(&i), Some((&i, &i)));
+        is(&rt, alone.get(&i), Some((&i, &i)));
     }
     Ok(())
 }
@@ -57,9 +58,9 @@ fn a_pair_is_viewed(rt: HostRuntime) -> Result<(), Fail> {
         *name,
         "Salad" | "Beans" | "Potato" | "Tomato"
     );
-    assert_eq!(rt; alone.view(&9, is_eaten_warm), Some(true));
-    assert_eq!(rt; alone.view(&12, is_eaten_warm), Some(false));
-    assert_eq!(rt; alone.view(&30, |_, _| false), None);
+    is(&rt, alone.view(&9, is_eaten_warm), Some(true));
+    is(&rt, alone.view(&12, is_eaten_warm), Some(false));
+    is(&rt, alone.view(&30, |_, _| false), None);
     Ok(())
 }
 
@@ -67,10 +68,14 @@ fn a_pair_is_viewed(rt: HostRuntime) -> Result<(), Fail> {
 fn a_removal_asks_first(rt: HostRuntime) -> Result<(), Fail> {
     let mut alone = DashMap::<&str, &str, FixedState>::with_shard_amount(rt.alloc(), 4)?.alone();
     alone.insert("Sam", "Forward")?;
-    assert_eq!(rt; alone.remove_if(&"Sam", |_, role| *role == "Goalie"), None);
+    is(
+        &rt,
+        alone.remove_if(&"Sam", |_, role| *role == "Goalie"),
+        None,
+    );
     assert!(rt; alone.contains_key(&"Sam"));
     let gone = alone.remove_if(&"Sam", |_, role| *role == "Forward");
-    assert_eq!(rt; gone, Some(("Sam", "Forward")));
+    is(&rt, gone, Some(("Sam", "Forward")));
     assert!(rt; alone.is_empty());
     Ok(())
 }
@@ -83,7 +88,7 @@ fn room_is_made(rt: HostRuntime) -> Result<(), Fail> {
         PlaceState,
         4,
     )?.alone();
-    assert_eq!(rt; alone.capacity(), 0);
+    is(&rt, alone.capacity(), 0);
     assert!(rt; alone.is_empty());
     assert!(rt; alone.try_reserve(10).is_ok());
     assert!(rt; alone.capacity() >= 10);
@@ -91,9 +96,9 @@ fn room_is_made(rt: HostRuntime) -> Result<(), Fail> {
     assert!(rt; !alone.is_empty());
 
     let refused = alone.try_reserve(usize::MAX).err();
-    assert_eq!(rt; refused, Some(TryReserveError {}));
-    assert_eq!(rt; alone.len(), 1);
-    assert_eq!(rt; alone.get(&1), Some((&1, &1)));
+    is(&rt, refused, Some(TryReserveError {}));
+    is(&rt, alone.len(), 1);
+    is(&rt, alone.get(&1), Some((&1, &1)));
     Ok(())
 }
 
@@ -105,19 +110,19 @@ fn the_list_for_shared_calls(rt: HostRuntime) -> Result<(), Fail> {
         alone.insert(key, value)?;
     }
     alone.alter(&4, |_, v| v.saturating_add(1));
-    assert_eq!(rt; alone.remove_if(&0, |_, v| *v < 5), None);
+    is(&rt, alone.remove_if(&0, |_, v| *v < 5), None);
     let counts_up = |_: &u64, v: &mut u64| -> bool {
         *v = v.saturating_add(1);
         false
     };
-    assert_eq!(rt; alone.remove_if_mut(&1, counts_up), None);
-    assert_eq!(rt; alone.get(&1), Some((&1, &3)));
+    is(&rt, alone.remove_if_mut(&1, counts_up), None);
+    is(&rt, alone.get(&1), Some((&1, &3)));
     alone.alter_all(|_, v| v.saturating_add(1));
     alone.retain(|_, v| *v > 5);
-    assert_eq!(rt; alone.len(), 2);
+    is(&rt, alone.len(), 2);
     assert!(rt; !alone.contains_key(&1));
-    assert_eq!(rt; alone.remove(&4), Some((4, 11)));
-    assert_eq!(rt; alone.get(&0), Some((&0, &6)));
+    is(&rt, alone.remove(&4), Some((4, 11)));
+    is(&rt, alone.get(&0), Some((&0, &6)));
     alone.clear();
     assert!(rt; alone.is_empty());
     Ok(())
@@ -132,13 +137,13 @@ fn a_value_is_lent_and_room_goes_back(rt: HostRuntime) -> Result<(), Fail> {
     *alone.get_mut(&4).ok_or("no pair")? = 1;
     assert!(rt; alone.get_mut(&8).is_none());
     alone.shrink_to_fit();
-    assert_eq!(rt; alone.capacity(), 2);
-    assert_eq!(rt; alone.get(&4), Some((&4, &1)));
-    assert_eq!(rt; alone.get(&0), Some((&0, &5)));
-    assert_eq!(rt; alone.remove(&0), Some((0, 5)));
-    assert_eq!(rt; alone.remove(&4), Some((4, 1)));
+    is(&rt, alone.capacity(), 2);
+    is(&rt, alone.get(&4), Some((&4, &1)));
+    is(&rt, alone.get(&0), Some((&0, &5)));
+    is(&rt, alone.remove(&0), Some((0, 5)));
+    is(&rt, alone.remove(&4), Some((4, 1)));
     alone.shrink_to_fit();
-    assert_eq!(rt; alone.len(), 0);
-    assert_eq!(rt; alone.capacity(), 0);
+    is(&rt, alone.len(), 0);
+    is(&rt, alone.capacity(), 0);
     Ok(())
 }

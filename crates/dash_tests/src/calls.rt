@@ -1,5 +1,6 @@
 //! The calls of a map that threads share: what is put is found, taken once, and changed in its place.
 use crate::map::map_of_four;
+use crate::places::{is, is_at};
 use dash_map::map::DashMap;
 use dash_shard::error::TryReserveError;
 use dash_shard::hash::{FixedState, PlaceState, ZeroState};
@@ -18,7 +19,7 @@ fn value_at<R: Abort + Wait + Clock, S: BuildHasher>(
     key: u64,
 ) -> Option<u64> {
     let found = map.get(rt, &key)?;
-    assert_eq!(rt; *found.key(), key);
+    is(rt, *found.key(), key);
     Some(*found.value())
 }
 
@@ -29,15 +30,15 @@ fn a_hundred_keys(rt: HostRuntime) -> Result<(), Fail> {
         map.insert(&rt, 0, i)?;
         map.insert(&rt, i, i)?;
     }
-    assert_eq!(rt; value_at(&rt, &map, 0), Some(99));
+    is(&rt, value_at(&rt, &map, 0), Some(99));
     for i in 1..100 {
-        assert_eq!(rt; value_at(&rt, &map, i), Some(i));
+        is(&rt, value_at(&rt, &map, i), Some(i));
     }
-    assert_eq!(rt; map.remove(&rt, &7), Some((7, 7)));
-    assert_eq!(rt; map.remove(&rt, &7), None);
-    assert_eq!(rt; value_at(&rt, &map, 7), None);
+    is(&rt, map.remove(&rt, &7), Some((7, 7)));
+    is(&rt, map.remove(&rt, &7), None);
+    is(&rt, value_at(&rt, &map, 7), None);
     let alone = map.alone();
-    assert_eq!(rt; alone.get(&8), Some((&8, &8)));
+    is(&rt, alone.get(&8), Some((&8, &8)));
     assert!(rt; !alone.contains_key(&7));
     Ok(())
 }
@@ -52,12 +53,12 @@ fn views(rt: HostRuntime) -> Result<(), Fail> {
         *name,
         "Salad" | "Beans" | "Potato" | "Tomato"
     );
-    assert_eq!(rt; map.view(&rt, &9, is_eaten_warm), Some(true));
-    assert_eq!(rt; map.view(&rt, &12, is_eaten_warm), Some(false));
-    assert_eq!(rt; map.view(&rt, &30, |_, _| false), None);
+    is(&rt, map.view(&rt, &9, is_eaten_warm), Some(true));
+    is(&rt, map.view(&rt, &12, is_eaten_warm), Some(false));
+    is(&rt, map.view(&rt, &30, |_, _| false), None);
     assert!(rt; map.contains_key(&rt, &4));
     assert!(rt; !map.contains_key(&rt, &8));
-    assert_eq!(rt; map.len(&rt), 4);
+    is(&rt, map.len(&rt), 4);
     assert!(rt; map.capacity(&rt) >= 4);
     assert!(rt; !map.is_empty(&rt));
     Ok(())
@@ -68,10 +69,10 @@ fn a_removal_asks_first(rt: HostRuntime) -> Result<(), Fail> {
     let map = DashMap::<&str, &str, FixedState>::with_shard_amount(rt.alloc(), 4)?;
     map.insert(&rt, "Sam", "Forward")?;
     let gone = map.remove_if(&rt, &"Sam", |_, role| *role == "Goalie");
-    assert_eq!(rt; gone, None);
+    is(&rt, gone, None);
     assert!(rt; map.contains_key(&rt, &"Sam"));
     let gone = map.remove_if(&rt, &"Sam", |_, role| *role == "Forward");
-    assert_eq!(rt; gone, Some(("Sam", "Forward")));
+    is(&rt, gone, Some(("Sam", "Forward")));
     assert!(rt; !map.contains_key(&rt, &"Sam"));
     Ok(())
 }
@@ -79,15 +80,15 @@ fn a_removal_asks_first(rt: HostRuntime) -> Result<(), Fail> {
 #[test]
 fn room_is_made(rt: HostRuntime) -> Result<(), Fail> {
     let mut map = map_of_four::<u64>(rt.alloc())?;
-    assert_eq!(rt; map.capacity(&rt), 0);
+    is(&rt, map.capacity(&rt), 0);
     assert!(rt; map.is_empty(&rt));
     assert!(rt; map.try_reserve(10).is_ok());
     assert!(rt; map.capacity(&rt) >= 10);
     map.insert(&rt, 1, 1)?;
     let refused = map.try_reserve(usize::MAX).err();
-    assert_eq!(rt; refused, Some(TryReserveError {}));
-    assert_eq!(rt; map.len(&rt), 1);
-    assert_eq!(rt; value_at(&rt, &map, 1), Some(1));
+    is(&rt, refused, Some(TryReserveError {}));
+    is(&rt, map.len(&rt), 1);
+    is(&rt, value_at(&rt, &map, 1), Some(1));
     assert!(rt; map.alone().capacity() >= 10);
     Ok(())
 }
@@ -100,31 +101,31 @@ fn one_shard_may_have_all_keys(rt: HostRuntime) -> Result<(), Fail> {
         4,
     )?;
     for key in 0..200u64 {
-        assert_eq!(rt; map.determine_map(&key), 0, "{key}");
-        assert_eq!(rt; map.insert(&rt, key, key)?, None, "{key}");
+        is_at(&rt, map.determine_map(&key), 0, key);
+        is_at(&rt, map.insert(&rt, key, key)?, None, key);
     }
     for key in 0..200u64 {
-        assert_eq!(rt; value_at(&rt, &map, key), Some(key), "{key}");
+        is_at(&rt, value_at(&rt, &map, key), Some(key), key);
     }
-    assert_eq!(rt; map.len(&rt), 200);
+    is(&rt, map.len(&rt), 200);
     for half in 0..100u64 {
         let key = 2 * half;
-        assert_eq!(rt; map.remove(&rt, &key), Some((key, key)), "{key}");
+        is_at(&rt, map.remove(&rt, &key), Some((key, key)), key);
     }
     for half in 0..100u64 {
         let key = 2 * half;
-        assert_eq!(rt; value_at(&rt, &map, key), None, "{key}");
-        assert_eq!(rt; value_at(&rt, &map, key + 1), Some(key + 1), "{key} + 1");
+        is_at(&rt, value_at(&rt, &map, key), None, key);
+        is_at(&rt, value_at(&rt, &map, key + 1), Some(key + 1), key);
     }
-    assert_eq!(rt; map.len(&rt), 100);
+    is(&rt, map.len(&rt), 100);
     Ok(())
 }
 
 #[test]
 fn zero_is_a_key_and_a_value(rt: HostRuntime) -> Result<(), Fail> {
     let map = DashMap::<u64, u64, FixedState>::new(rt.alloc(), 1)?;
-    assert_eq!(rt; map.insert(&rt, 0, 0)?, None);
-    assert_eq!(rt; value_at(&rt, &map, 0), Some(0));
+    is(&rt, map.insert(&rt, 0, 0)?, None);
+    is(&rt, value_at(&rt, &map, 0), Some(0));
     Ok(())
 }
 
@@ -161,7 +162,7 @@ fn a_random_hasher_finds_each_key(rt: HostRuntime) -> Result<(), Fail> {
         map.insert(&rt, i, i)?;
     }
     for i in 0..10 {
-        assert_eq!(rt; value_at(&rt, &map, i), Some(i), "at {i}");
+        is_at(&rt, value_at(&rt, &map, i), Some(i), i);
     }
     Ok(())
 }
@@ -194,11 +195,11 @@ fn four_threads_share_a_map(rt: HostRuntime) -> Result<(), Fail> {
         &|_, thread: &mut u64| { insert_all(&rt, &map, *thread) },
     );
     for key in 0..64 {
-        assert_eq!(rt; value_at(&rt, &map, key), Some(key / 16), "at {key}");
+        is_at(&rt, value_at(&rt, &map, key), Some(key / 16), key);
     }
-    assert_eq!(rt; value_at(&rt, &map, 37), Some(2));
-    assert_eq!(rt; value_at(&rt, &map, 64), None);
-    assert_eq!(rt; map.len(&rt), 64);
+    is(&rt, value_at(&rt, &map, 37), Some(2));
+    is(&rt, value_at(&rt, &map, 64), None);
+    is(&rt, map.len(&rt), 64);
     Ok(())
 }
 
@@ -207,10 +208,10 @@ fn a_held_shard_leaves_the_others_free(rt: HostRuntime) -> Result<(), Fail> {
     let map = map_of_four::<u64>(rt.alloc())?;
     map.insert(&rt, 0, 5)?;
     let held = map.get(&rt, &0).ok_or("no pair")?;
-    assert_eq!(rt; map.insert(&rt, 1, 10)?, None);
-    assert_eq!(rt; value_at(&rt, &map, 1), Some(10));
-    assert_eq!(rt; value_at(&rt, &map, 0), Some(5));
-    assert_eq!(rt; *held.value(), 5);
+    is(&rt, map.insert(&rt, 1, 10)?, None);
+    is(&rt, value_at(&rt, &map, 1), Some(10));
+    is(&rt, value_at(&rt, &map, 0), Some(5));
+    is(&rt, *held.value(), 5);
     Ok(())
 }
 
@@ -222,26 +223,26 @@ fn the_list_for_shared_calls(rt: HostRuntime) -> Result<(), Fail> {
     }
     map.alter(&rt, &4, |_, value| value.wrapping_add(1));
     map.alter(&rt, &8, |_, value| value.wrapping_add(1));
-    assert_eq!(rt; map.remove_if(&rt, &0, |_, value| *value < 5), None);
+    is(&rt, map.remove_if(&rt, &0, |_, value| *value < 5), None);
     let more_but_no = |_: &u64, value: &mut u64| {
         *value = value.wrapping_add(1);
         false
     };
-    assert_eq!(rt; map.remove_if_mut(&rt, &1, more_but_no), None);
-    assert_eq!(rt; map.view(&rt, &1, |_, value| *value), Some(3));
+    is(&rt, map.remove_if_mut(&rt, &1, more_but_no), None);
+    is(&rt, map.view(&rt, &1, |_, value| *value), Some(3));
     map.alter_all(&rt, |_, value| value.wrapping_add(1));
     map.retain(&rt, |_, value| *value > 5);
-    assert_eq!(rt; map.len(&rt), 2);
+    is(&rt, map.len(&rt), 2);
     assert!(rt; !map.contains_key(&rt, &1));
-    assert_eq!(rt; map.remove(&rt, &4), Some((4, 11)));
-    assert_eq!(rt; map.view(&rt, &0, |_, value| *value), Some(6));
+    is(&rt, map.remove(&rt, &4), Some((4, 11)));
+    is(&rt, map.view(&rt, &0, |_, value| *value), Some(6));
     map.shrink_to_fit(&rt);
-    assert_eq!(rt; map.capacity(&rt), 1);
+    is(&rt, map.capacity(&rt), 1);
     map.clear(&rt);
     assert!(rt; map.is_empty(&rt));
-    assert_eq!(rt; map.capacity(&rt), 1);
+    is(&rt, map.capacity(&rt), 1);
     map.shrink_to_fit(&rt);
-    assert_eq!(rt; map.capacity(&rt), 0);
+    is(&rt, map.capacity(&rt), 0);
     Ok(())
 }
 
@@ -255,7 +256,7 @@ fn each_value_is_altered(rt: HostRuntime) -> Result<(), Fail> {
     map.alter(&rt, &"Goals", |_, goals| goals.wrapping_mul(2));
     for (key, value) in [("Wins", 5), ("Losses", 3), ("Goals", 8)] {
         let found = map.get(&rt, &key).ok_or("no pair")?;
-        assert_eq!(rt; *found.value(), value);
+        is(&rt, *found.value(), value);
     }
     Ok(())
 }
@@ -267,7 +268,7 @@ fn who_is_young_is_not_kept(rt: HostRuntime) -> Result<(), Fail> {
     map.insert(&rt, "Jones", 22)?;
     map.insert(&rt, "Charlie", 27)?;
     map.retain(&rt, |_, age| *age > 20);
-    assert_eq!(rt; map.len(&rt), 2);
+    is(&rt, map.len(&rt), 2);
     assert!(rt; !map.contains_key(&rt, &"Albin"));
     Ok(())
 }
@@ -277,9 +278,9 @@ fn an_empty_map_gives_its_room_back(rt: HostRuntime) -> Result<(), Fail> {
     let map = DashMap::<&str, u64, FixedState>::new(rt.alloc(), 1)?;
     map.insert(&rt, "Johnny", 21)?;
     assert!(rt; map.capacity(&rt) >= 1);
-    assert_eq!(rt; map.remove(&rt, &"Johnny"), Some(("Johnny", 21)));
+    is(&rt, map.remove(&rt, &"Johnny"), Some(("Johnny", 21)));
     map.shrink_to_fit(&rt);
-    assert_eq!(rt; map.len(&rt), 0);
-    assert_eq!(rt; map.capacity(&rt), 0);
+    is(&rt, map.len(&rt), 0);
+    is(&rt, map.capacity(&rt), 0);
     Ok(())
 }

@@ -2,6 +2,7 @@
 ghost use Rattle.std.specs.Prelude.{◌≡◌, ◌<◌, IfOk};
 ghost use Rattle.std.specs.Arc.{arc_value};
 
+use crate::places::is;
 use dash_shard::lock::{RwLock, Tagged};
 use std::alloc::{AllocError, Global};
 use std::mem;
@@ -32,8 +33,8 @@ fn readers_share_and_keep_writers_out(rt: HostRuntime) -> Result<(), Fail> {
     let lock = locked(7);
     let first = lock.read(&rt);
     let second = lock.read(&rt);
-    assert_eq!(rt; first.number, 7);
-    assert_eq!(rt; second.number, 7);
+    is(&rt, first.number, 7);
+    is(&rt, second.number, 7);
     assert!(rt; lock.try_write().is_none(), "two readers have the lock");
     drop(first);
     assert!(rt; lock.try_write().is_none(), "a reader has the lock");
@@ -58,11 +59,11 @@ fn the_lock_is_free_once_a_writer_has_gone(rt: HostRuntime) -> Result<(), Fail> 
     let lock = locked(7);
     drop(lock.write(&rt));
     let mut guard = lock.try_write().ok_or("a writer after a writer")?;
-    assert_eq!(rt; guard.replace(Bounded { number: 8 }).number, 7);
+    is(&rt, guard.replace(Bounded { number: 8 }).number, 7);
     assert!(rt; lock.try_read().is_none(), "a writer has the lock");
     drop(guard);
     let guard = lock.try_read().ok_or("a reader after a writer")?;
-    assert_eq!(rt; guard.number, 8);
+    is(&rt, guard.number, 8);
     Ok(())
 }
 
@@ -70,12 +71,12 @@ fn the_lock_is_free_once_a_writer_has_gone(rt: HostRuntime) -> Result<(), Fail> 
 fn what_is_replaced_is_read_back(rt: HostRuntime) -> Result<(), Fail> {
     let mut lock = locked(7);
     let mut guard = lock.write(&rt);
-    assert_eq!(rt; guard.replace(Bounded { number: 8 }).number, 7);
-    assert_eq!(rt; guard.number, 8);
+    is(&rt, guard.replace(Bounded { number: 8 }).number, 7);
+    is(&rt, guard.number, 8);
     drop(guard);
-    assert_eq!(rt; lock.read(&rt).number, 8);
-    assert_eq!(rt; lock.get().number, 8);
-    assert_eq!(rt; lock.into_inner().number, 8);
+    is(&rt, lock.read(&rt).number, 8);
+    is(&rt, lock.get().number, 8);
+    is(&rt, lock.into_inner().number, 8);
     Ok(())
 }
 
@@ -101,7 +102,7 @@ fn leaked_guards_leave_a_lock_that_can_be_dropped(rt: HostRuntime) -> Result<(),
     let lock = locked(8);
     mem::forget(lock.read(&rt));
     assert!(rt; lock.try_write().is_none(), "the reader is never gone");
-    assert_eq!(rt; lock.into_inner().number, 8);
+    is(&rt, lock.into_inner().number, 8);
     Ok(())
 }
 

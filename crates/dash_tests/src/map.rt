@@ -1,4 +1,5 @@
 //! Amounts, capacities and routes of a map, as worked by hand.
+use crate::places::{is, is_at};
 use dash_map::map::DashMap;
 use dash_map::t::Map as _;
 use dash_shard::error::ConstructError;
@@ -40,7 +41,7 @@ fn amounts_that_are_refused(rt: HostRuntime) {
 #[test]
 fn amounts_that_are_taken(rt: HostRuntime) -> Result<(), Fail> {
     let map = Map::with_shard_amount(rt.alloc(), 2)?;
-    assert_eq!(rt; map.alone().shard_count(), 2);
+    is(&rt, map.alone().shard_count(), 2);
     for (parallelism, amount) in [(1, 4), (3, 16)] {
         let map = Map::new(rt.alloc(), parallelism)?;
         assert_eq!(rt;
@@ -75,9 +76,9 @@ fn capacities(rt: HostRuntime) -> Result<(), Fail> {
     assert!(rt; least_room(&rt, &map) >= 2);
     let most = usize::MAX;
     let refused = Map::with_capacity_and_shard_amount(rt.alloc(), most, 4).err();
-    assert_eq!(rt; refused, Some(ConstructError::CapacityOverflow));
+    is(&rt, refused, Some(ConstructError::CapacityOverflow));
     let refused = Map::with_capacity_and_shard_amount(rt.alloc(), most - 3, 4).err();
-    assert_eq!(rt; refused, Some(ConstructError::Memory));
+    is(&rt, refused, Some(ConstructError::Memory));
     Ok(())
 }
 
@@ -85,15 +86,15 @@ fn capacities(rt: HostRuntime) -> Result<(), Fail> {
 fn routes(rt: HostRuntime) -> Result<(), Fail> {
     let four = Map::with_shard_amount(rt.alloc(), 4)?;
     for (hash, shard) in [(1 << 55, 1), (1 << 56, 2), (1 << 57, 0), (usize::MAX, 3)] {
-        assert_eq!(rt; four.determine_shard(hash), shard, "of {hash}");
+        is_at(&rt, four.determine_shard(hash), shard, hash);
     }
     let two = Map::with_shard_amount(rt.alloc(), 2)?;
-    assert_eq!(rt; two.determine_shard((1 << 56) - 1), 0);
-    assert_eq!(rt; two.determine_shard(1 << 56), 1);
+    is(&rt, two.determine_shard((1 << 56) - 1), 0);
+    is(&rt, two.determine_shard(1 << 56), 1);
 
     let places = map_of_four::<u64>(rt.alloc())?;
     for key in 0..16u64 {
-        assert_eq!(rt; places.determine_map(&key) as u64, key % 4, "of {key}");
+        is_at(&rt, places.determine_map(&key) as u64, key % 4, key);
     }
     Ok(())
 }

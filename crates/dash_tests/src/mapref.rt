@@ -1,5 +1,5 @@
 //! References into one shard behind its lock, as worked by hand.
-use crate::places::lock_of_one;
+use crate::places::{is, is_at, lock_of_one};
 use dash_ref::mapref::one::Ref;
 use dash_shard::hash::PlaceState;
 use dash_shard::lock::RwLock;
@@ -26,10 +26,10 @@ fn lends_the_pair_of_a_key(rt: HostRuntime) -> Result<(), Fail> {
     let lock = lock_of_one(&rt, rt.alloc(), [(1, 10), (5, 50), (9, 90)])?;
     for (key, value) in [(1, 10), (5, 50), (9, 90)] {
         let found = find(&rt, &lock, key).ok_or("no pair")?;
-        assert_eq!(rt; found.key(), &key);
-        assert_eq!(rt; found.value(), &value, "{key}");
-        assert_eq!(rt; found.pair(), (&key, &value));
-        assert_eq!(rt; *found, value, "{key}");
+        is(&rt, found.key(), &key);
+        is_at(&rt, found.value(), &value, key);
+        is(&rt, found.pair(), (&key, &value));
+        is_at(&rt, *found, value, key);
     }
     // Of this shard, and of another one.
     for absent in [13, 4] {
@@ -46,12 +46,12 @@ fn holds_the_shard_for_reading(rt: HostRuntime) -> Result<(), Fail> {
     let position = guard.position_of(&5).ok_or("no place")?;
     let five = Ref::new(guard, position);
     let one = find(&rt, &lock, 1).ok_or("no pair")?;
-    assert_eq!(rt; five.pair(), (&5, &50));
-    assert_eq!(rt; one.pair(), (&1, &10));
+    is(&rt, five.pair(), (&5, &50));
+    is(&rt, one.pair(), (&1, &10));
     assert!(rt; lock.try_write().is_none(), "two have it");
     drop(five);
     assert!(rt; lock.try_write().is_none(), "one has it");
-    assert_eq!(rt; *one, 10);
+    is(&rt, *one, 10);
     drop(one);
     assert!(rt; lock.try_write().is_some(), "nobody has it");
     Ok(())
@@ -62,14 +62,14 @@ fn prints_key_and_value(rt: HostRuntime) -> Result<(), Fail> {
     let lock = lock_of_one(&rt, rt.alloc(), [(1, 2)])?;
     let found = find(&rt, &lock, 1).ok_or("no pair")?;
     let text = format!(in rt.alloc(); "{found:?}")?;
-    assert_eq!(rt; text.as_str(), "Ref { k: 1, v: 2 }");
+    is(&rt, text.as_str(), "Ref { k: 1, v: 2 }");
     drop(found);
 
     let name = String::from_str(rt.alloc(), "five")?;
     let lock = lock_of_one(&rt, rt.alloc(), [(5, name)])?;
     let found = find(&rt, &lock, 5).ok_or("no pair")?;
-    assert_eq!(rt; found.as_str(), "five");
+    is(&rt, found.as_str(), "five");
     let text = format!(in rt.alloc(); "{found:?}")?;
-    assert_eq!(rt; text.as_str(), "Ref { k: 5, v: \"five\" }");
+    is(&rt, text.as_str(), "Ref { k: 5, v: \"five\" }");
     Ok(())
 }

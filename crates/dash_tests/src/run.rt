@@ -1,5 +1,6 @@
 //! Runs of a few steps, as worked by hand.
 use crate::map::map_of_four;
+use crate::places::is;
 use dash_history::action::Action;
 use dash_history::kept::Kept;
 use dash_history::step::{Reply, ShardStep};
@@ -45,7 +46,7 @@ fn six_steps_on_a_map(rt: HostRuntime) -> Result<(), Fail> {
     let outcome = map.run(six_steps(rt.alloc())?);
     assert_replies(&rt, &outcome);
     let found = map.get(&rt, &5).ok_or("no pair")?;
-    assert_eq!(rt; found.pair(), (&5, &50));
+    is(&rt, found.pair(), (&5, &50));
     assert!(rt; map.get(&rt, &1).is_none());
     Ok(())
 }
@@ -55,9 +56,9 @@ fn six_steps_of_one_owner(rt: HostRuntime) -> Result<(), Fail> {
     let mut alone = map_of_four(rt.alloc())?.alone();
     let outcome = alone.run(six_steps(rt.alloc())?);
     assert_replies(&rt, &outcome);
-    assert_eq!(rt; alone.get(&5), Some((&5, &50)));
-    assert_eq!(rt; alone.get(&1), None);
-    assert_eq!(rt; alone.len(), 1);
+    is(&rt, alone.get(&5), Some((&5, &50)));
+    is(&rt, alone.get(&1), None);
+    is(&rt, alone.len(), 1);
     Ok(())
 }
 
@@ -97,14 +98,14 @@ fn a_refused_step_comes_back(rt: HostRuntime) -> Result<(), Fail> {
         )
     );
     let (rest, fault) = outcome.stopped.ok_or("no stop")?;
-    assert_eq!(rt; fault, Fault::Memory);
+    is(&rt, fault, Fault::Memory);
     assert!(rt;
         matches!(
             rest.as_slice(),
             [ShardStep::Get(1), ShardStep::Insert(5, Uncopied(50))]
         )
     );
-    assert_eq!(rt; alone.len(), 1);
+    is(&rt, alone.len(), 1);
     Ok(())
 }
 
@@ -159,14 +160,14 @@ fn a_shard_that_is_not_there(rt: HostRuntime) -> Result<(), Fail> {
         ShardStep::Count(4),
         ShardStep::Insert(2, 20),
     ]?);
-    assert_eq!(rt; replies(rt.alloc(), &outcome)?.as_str(), "[Old(None)]");
+    is(&rt, replies(rt.alloc(), &outcome)?.as_str(), "[Old(None)]");
     let (rest, fault) = outcome.stopped.ok_or("no stop")?;
-    assert_eq!(rt; fault, Fault::NoSuchShard);
+    is(&rt, fault, Fault::NoSuchShard);
     let rest = format!(in rt.alloc(); "{rest:?}")?;
-    assert_eq!(rt; rest.as_str(), "[Count(4), Insert(2, 20)]");
+    is(&rt, rest.as_str(), "[Count(4), Insert(2, 20)]");
     let alone = map.alone();
-    assert_eq!(rt; alone.get(&1), Some((&1, &10)));
-    assert_eq!(rt; alone.len(), 1);
+    is(&rt, alone.get(&1), Some((&1, &10)));
+    is(&rt, alone.len(), 1);
     Ok(())
 }
 
@@ -212,9 +213,9 @@ fn steps_on_each_pair_of_a_shard(rt: HostRuntime) -> Result<(), Fail> {
         "[Old(None), Old(None), Old(None), Done, Pairs([(2, 20)]), Pair(Some((1, 11))), Pair(Some((5, 52))), Done, Pairs([(5, 54)]), Pairs([]), Number(1)]"
     );
     let (rest, fault) = outcome.stopped.ok_or("no stop")?;
-    assert_eq!(rt; fault, Fault::NoSuchShard);
+    is(&rt, fault, Fault::NoSuchShard);
     let rest = format!(in rt.alloc(); "{rest:?}")?;
-    assert_eq!(rt; rest.as_str(), "[Read(4), Retain(4, Adds(1))]");
+    is(&rt, rest.as_str(), "[Read(4), Retain(4, Adds(1))]");
     Ok(())
 }
 
@@ -225,6 +226,6 @@ fn no_steps(rt: HostRuntime) -> Result<(), Fail> {
     let outcome = map.run::<()>(Vec::new(rt.alloc()));
     assert!(rt; outcome.stopped.is_none());
     assert!(rt; outcome.replies.is_empty());
-    assert_eq!(rt; map.alone().get(&7), Some((&7, &70)));
+    is(&rt, map.alone().get(&7), Some((&7, &70)));
     Ok(())
 }

@@ -1,5 +1,5 @@
 //! One shard's calls, as worked by hand.
-use crate::places::{here, new_shard, put, shard_one};
+use crate::places::{here, is, is_at, new_shard, put, shard_one};
 use dash_shard::hash::PlaceState;
 use dash_shard::shard::Shard;
 use std::process::Abort;
@@ -12,18 +12,18 @@ type Numbers = Shard<u64, u64, PlaceState>;
 #[test]
 fn one_key_after_another(rt: HostRuntime) -> Result<(), Fail> {
     let mut shard: Numbers = shard_one(&rt, rt.alloc(), [])?;
-    assert_eq!(rt; shard.number(), 1);
-    assert_eq!(rt; shard.amount(), 4);
+    is(&rt, shard.number(), 1);
+    is(&rt, shard.amount(), 4);
     assert!(rt; !shard.routes(&4));
-    assert_eq!(rt; shard.get(&1), None);
+    is(&rt, shard.get(&1), None);
 
     for (key, value, old) in [(1, 10, None), (5, 50, None), (1, 11, Some(10))] {
-        assert_eq!(rt; put(&rt, &mut shard, key, value)?, old, "{key}");
+        is_at(&rt, put(&rt, &mut shard, key, value)?, old, key);
     }
     for (key, pair) in [(1, Some((&1, &11))), (5, Some((&5, &50))), (9, None)] {
-        assert_eq!(rt; shard.get(&key), pair, "{key}");
+        is_at(&rt, shard.get(&key), pair, key);
     }
-    assert_eq!(rt; shard.len(), 2);
+    is(&rt, shard.len(), 2);
     Ok(())
 }
 
@@ -38,30 +38,30 @@ fn put_new(rt: &impl Abort, shard: &mut Numbers, key: u64) -> usize {
 fn a_walk_by_places_passes_over_what_is_free(rt: HostRuntime) -> Result<(), Fail> {
     let mut shard = new_shard(&rt, rt.alloc(), PlaceState, 1, 4, 4)?;
     let first = put_new(&rt, &mut shard, 1);
-    assert_eq!(rt; shard.get(&1), Some((&1, &1)));
+    is(&rt, shard.get(&1), Some((&1, &1)));
     let second = put_new(&rt, &mut shard, 5);
     assert!(rt; first != second);
     assert!(rt; shard.contains_key(&5));
     shard.remove(&here(&rt, &shard, 1));
-    assert_eq!(rt; shard.next_taken(0), Some(second));
-    assert_eq!(rt; shard.next_taken(second), Some(second));
-    assert_eq!(rt; shard.next_taken(shard.capacity()), None);
+    is(&rt, shard.next_taken(0), Some(second));
+    is(&rt, shard.next_taken(second), Some(second));
+    is(&rt, shard.next_taken(shard.capacity()), None);
     Ok(())
 }
 
 #[test]
 fn grows(rt: HostRuntime) -> Result<(), Fail> {
     let mut shard = shard_one(&rt, rt.alloc(), [])?;
-    assert_eq!(rt; shard.capacity(), 0);
+    is(&rt, shard.capacity(), 0);
     for i in 0..1000u64 {
         let key = 4 * i + 1;
-        assert_eq!(rt; put(&rt, &mut shard, key, i)?, None, "{key}");
+        is_at(&rt, put(&rt, &mut shard, key, i)?, None, key);
         assert!(rt; shard.capacity() >= shard.len(), "{key}");
     }
-    assert_eq!(rt; shard.len(), 1000);
+    is(&rt, shard.len(), 1000);
     for i in 0..1000u64 {
         let key = 4 * i + 1;
-        assert_eq!(rt; shard.get(&key), Some((&key, &i)));
+        is(&rt, shard.get(&key), Some((&key, &i)));
     }
     Ok(())
 }
@@ -70,14 +70,14 @@ fn grows(rt: HostRuntime) -> Result<(), Fail> {
 fn makes_room_ahead(rt: HostRuntime) -> Result<(), Fail> {
     let shard: Shard<u64, u64, _> = new_shard(&rt, rt.alloc(), PlaceState, 0, 2, 100)?;
     assert!(rt; shard.capacity() >= 100);
-    assert_eq!(rt; shard.len(), 0);
+    is(&rt, shard.len(), 0);
 
     let mut shard = shard_one(&rt, rt.alloc(), [(1, 10u64)])?;
     shard.try_reserve(10)?;
     assert!(rt; shard.capacity() >= 11);
-    assert_eq!(rt; shard.get(&1), Some((&1, &10)));
+    is(&rt, shard.get(&1), Some((&1, &10)));
     assert!(rt; shard.try_reserve(usize::MAX).is_err());
-    assert_eq!(rt; shard.len(), 1);
+    is(&rt, shard.len(), 1);
     Ok(())
 }
 
@@ -95,12 +95,12 @@ fn the_stored_key_stays(rt: HostRuntime) -> Result<(), Fail> {
     let mut shard = new_shard(&rt, rt.alloc(), PlaceState, 1, 4, 0)?;
     for (note, value, old) in [(1, 100, None), (2, 200, Some(100))] {
         let key = Noted { name: 5, note };
-        assert_eq!(rt; put(&rt, &mut shard, key, value)?, old, "{note}");
+        is_at(&rt, put(&rt, &mut shard, key, value)?, old, note);
     }
     let key = Noted { name: 5, note: 3 };
     let (key, value) = shard.get(&key).ok_or("no pair")?;
-    assert_eq!(rt; (key.note, *value), (1, 200));
-    assert_eq!(rt; shard.len(), 1);
+    is(&rt, (key.note, *value), (1, 200));
+    is(&rt, shard.len(), 1);
     Ok(())
 }
 
@@ -110,18 +110,18 @@ fn a_place_is_taken_again(rt: HostRuntime) -> Result<(), Fail> {
     let room = shard.capacity();
     for i in 0..1000u64 {
         let key = 4 * i + 1;
-        assert_eq!(rt; put(&rt, &mut shard, key, i)?, None, "{key}");
+        is_at(&rt, put(&rt, &mut shard, key, i)?, None, key);
         if i < 3 {
             continue;
         }
         let old = 4 * (i - 3) + 1;
         let gone = shard.remove(&here(&rt, &shard, old));
-        assert_eq!(rt; gone, Some((old, i - 3)), "{old}");
+        is_at(&rt, gone, Some((old, i - 3)), old);
         let gone = shard.remove(&here(&rt, &shard, old));
-        assert_eq!(rt; gone, None, "{old}");
+        is_at(&rt, gone, None, old);
     }
-    assert_eq!(rt; shard.len(), 3);
-    assert_eq!(rt; shard.capacity(), room);
+    is(&rt, shard.len(), 3);
+    is(&rt, shard.capacity(), room);
     Ok(())
 }
 
@@ -132,17 +132,17 @@ fn shrink_to_fit_gives_places_back(rt: HostRuntime) -> Result<(), Fail> {
         rt.alloc(),
         [(1, 15u64), (5, 22), (9, 27), (13, 30), (17, 36)],
     )?;
-    assert_eq!(rt; shard.capacity(), 8);
+    is(&rt, shard.capacity(), 8);
     shard.retain(|_, value| *value % 3 == 0);
     shard.shrink_to_fit();
-    assert_eq!(rt; shard.len(), 4);
-    assert_eq!(rt; shard.capacity(), 4);
-    assert_eq!(rt; shard.get(&5), None);
+    is(&rt, shard.len(), 4);
+    is(&rt, shard.capacity(), 4);
+    is(&rt, shard.get(&5), None);
     for (key, value) in [(1, 15), (9, 27), (13, 30), (17, 36)] {
-        assert_eq!(rt; shard.get(&key), Some((&key, &value)));
+        is(&rt, shard.get(&key), Some((&key, &value)));
     }
     shard.clear();
     shard.shrink_to_fit();
-    assert_eq!(rt; shard.capacity(), 0);
+    is(&rt, shard.capacity(), 0);
     Ok(())
 }

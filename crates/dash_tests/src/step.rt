@@ -1,4 +1,5 @@
 //! Copies of steps and replies, and the places of steps.
+use crate::places::is;
 use dash_history::step::{Reply, ShardStep};
 use dash_shard::hash::{PlaceState, is_shard_amount};
 use std::test::Fail;
@@ -13,7 +14,7 @@ fn copies(rt: HostRuntime) -> Result<(), Fail> {
         (Step::Remove(1), "Remove(1)"),
     ] {
         let copy = step.copy()?;
-        assert_eq!(rt; format!(in rt.alloc(); "{copy:?}")?.as_str(), text);
+        is(&rt, format!(in rt.alloc(); "{copy:?}")?.as_str(), text);
     }
     for (reply, text) in [
         (Reply::Pair(None), "Pair(None)"),
@@ -22,7 +23,7 @@ fn copies(rt: HostRuntime) -> Result<(), Fail> {
         (Reply::Old(Some(10)), "Old(Some(10))"),
     ] {
         let copy = reply.copy()?;
-        assert_eq!(rt; format!(in rt.alloc(); "{copy:?}")?.as_str(), text);
+        is(&rt, format!(in rt.alloc(); "{copy:?}")?.as_str(), text);
     }
     Ok(())
 }

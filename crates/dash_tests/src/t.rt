@@ -1,5 +1,6 @@
 //! Code for any map that threads share, called with a `DashMap`.
 use crate::map::map_of_four;
+use crate::places::{is, is_at};
 use dash_map::t::Map;
 use dash_shard::hash::PlaceState;
 use std::hash::BuildHasher;
@@ -13,29 +14,29 @@ fn calls_on_pairs<R: Abort + Wait + Clock, M: Map<u64, u64, PlaceState>>(
     rt: &R,
     map: &M,
 ) -> Result<(), Fail> {
-    assert_eq!(rt; map._insert(rt, 1, 10)?, None);
-    assert_eq!(rt; map._insert(rt, 5, 50)?, None);
+    is(rt, map._insert(rt, 1, 10)?, None);
+    is(rt, map._insert(rt, 5, 50)?, None);
     let amount = map._shard_count();
-    assert_eq!(rt; amount, 4);
+    is(rt, amount, 4);
     for i in 0..amount {
         let shard = map._yield_write_shard(rt, i);
-        assert_eq!(rt; shard.len(), if i == 1 { 2 } else { 0 }, "at {i}");
+        is_at(rt, shard.len(), if i == 1 { 2 } else { 0 }, i);
     }
     assert!(rt; map._contains_key(rt, &5));
     assert!(rt; !map._contains_key(rt, &9));
-    assert_eq!(rt; map._view(rt, &5, |_, value| *value), Some(50));
+    is(rt, map._view(rt, &5, |_, value| *value), Some(50));
     map._alter(rt, &5, |_, value| value.wrapping_add(5));
-    assert_eq!(rt; map._remove_if(rt, &5, |_, value| *value < 55), None);
+    is(rt, map._remove_if(rt, &5, |_, value| *value < 55), None);
     let less = |_: &u64, value: &mut u64| {
         *value = value.wrapping_sub(1);
         *value < 9
     };
-    assert_eq!(rt; map._remove_if_mut(rt, &1, less), None);
+    is(rt, map._remove_if_mut(rt, &1, less), None);
     let found = map._get(rt, &1).ok_or("no pair")?;
-    assert_eq!(rt; *found.value(), 9);
+    is(rt, *found.value(), 9);
     drop(found);
-    assert_eq!(rt; map._remove(rt, &1), Some((1, 9)));
-    assert_eq!(rt; map._remove(rt, &1), None);
+    is(rt, map._remove(rt, &1), Some((1, 9)));
+    is(rt, map._remove(rt, &1), None);
     Ok(())
 }
 
@@ -44,20 +45,20 @@ fn calls_on_all<R: Abort + Wait + Clock, M: Map<u64, u64, PlaceState>>(
     rt: &R,
     map: &M,
 ) -> Result<(), Fail> {
-    assert_eq!(rt; map._insert(rt, 2, 20)?, None);
-    assert_eq!(rt; map._len(rt), 2);
+    is(rt, map._insert(rt, 2, 20)?, None);
+    is(rt, map._len(rt), 2);
     map._alter_all(rt, |_, value| value.wrapping_add(1));
-    assert_eq!(rt; map._view(rt, &5, |_, value| *value), Some(56));
-    assert_eq!(rt; map._view(rt, &2, |_, value| *value), Some(21));
+    is(rt, map._view(rt, &5, |_, value| *value), Some(56));
+    is(rt, map._view(rt, &2, |_, value| *value), Some(21));
     map._retain(rt, |_, value| *value > 21);
-    assert_eq!(rt; map._len(rt), 1);
+    is(rt, map._len(rt), 1);
     assert!(rt; !map._is_empty(rt));
     map._clear(rt);
     assert!(rt; map._is_empty(rt));
     assert!(rt; map._capacity(rt) > 0);
     map._shrink_to_fit(rt);
-    assert_eq!(rt; map._capacity(rt), 0);
-    assert_eq!(rt; map._hasher()?.hash_one(&2u64), 1 << 56);
+    is(rt, map._capacity(rt), 0);
+    is(rt, map._hasher()?.hash_one(&2u64), 1 << 56);
     Ok(())
 }
 

@@ -1,4 +1,5 @@
 //! A recorded map's refusals, its stamps and its replies, as worked by hand.
+use crate::places::{is, is_at};
 use dash_history::alone::RecAlone;
 use dash_history::plain::Plain;
 use dash_history::record::{CallerLog, RecordFault};
@@ -59,25 +60,25 @@ fn refuses_amounts_and_then_callers(rt: HostRuntime) {
 #[test]
 fn first_steps(rt: HostRuntime) -> Result<(), Fail> {
     let (mut alone, mut log) = alone_of_one(rt.alloc())?;
-    assert_eq!(rt; alone.shard_count(), 4);
-    assert_eq!(rt; alone.callers(), 1);
-    assert_eq!(rt; log.caller(), 0);
+    is(&rt, alone.shard_count(), 4);
+    is(&rt, alone.callers(), 1);
+    is(&rt, log.caller(), 0);
     for (step, text) in [
         (Step::Insert(1, 10), "Old(None)"),
         (Step::Insert(1, 11), "Old(Some(10))"),
         (Step::Get(1), "Pair(Some((1, 11)))"),
     ] {
         let reply = apply(&rt, &mut alone, &mut log, step)?;
-        assert_eq!(rt; format!(in rt.alloc(); "{reply:?}")?.as_str(), text);
+        is(&rt, format!(in rt.alloc(); "{reply:?}")?.as_str(), text);
     }
-    assert_eq!(rt; log.last_stamp(), 3);
-    assert_eq!(rt; last_of(&rt, &alone, 1), 3);
-    assert_eq!(rt; last_of(&rt, &alone, 0), 0);
-    assert_eq!(rt; log.entries().len(), 3);
+    is(&rt, log.last_stamp(), 3);
+    is(&rt, last_of(&rt, &alone, 1), 3);
+    is(&rt, last_of(&rt, &alone, 0), 0);
+    is(&rt, log.entries().len(), 3);
     for (record, stamp) in log.entries().iter().zip([1, 2, 3]) {
-        assert_eq!(rt; record.stamp, stamp);
-        assert_eq!(rt; record.caller, 0, "at {stamp}");
-        assert_eq!(rt; record.shard, 1, "at {stamp}");
+        is(&rt, record.stamp, stamp);
+        is_at(&rt, record.caller, 0, stamp);
+        is_at(&rt, record.shard, 1, stamp);
     }
     Ok(())
 }
@@ -87,21 +88,21 @@ fn stamps_follow_shard_and_caller(rt: HostRuntime) -> Result<(), Fail> {
     let (mut alone, mut logs) = Alone::new(rt.alloc(), PlaceState, 4, 2)?;
     let mut second = logs.pop().ok_or("no log")?;
     let mut first = logs.pop().ok_or("no log")?;
-    assert_eq!(rt; first.caller(), 0);
-    assert_eq!(rt; second.caller(), 1);
+    is(&rt, first.caller(), 0);
+    is(&rt, second.caller(), 1);
     for i in 0..7 {
         apply(&rt, &mut alone, &mut first, Step::Insert(4 * i, i))?;
     }
-    assert_eq!(rt; first.last_stamp(), 7);
+    is(&rt, first.last_stamp(), 7);
     for i in 0..4 {
         apply(&rt, &mut alone, &mut second, Step::Insert(4 * i + 1, i))?;
     }
-    assert_eq!(rt; second.last_stamp(), 4);
-    assert_eq!(rt; last_of(&rt, &alone, 1), 4);
+    is(&rt, second.last_stamp(), 4);
+    is(&rt, last_of(&rt, &alone, 1), 4);
 
     apply(&rt, &mut alone, &mut first, Step::Get(1))?;
-    assert_eq!(rt; first.last_stamp(), 8);
-    assert_eq!(rt; last_of(&rt, &alone, 1), 8);
+    is(&rt, first.last_stamp(), 8);
+    is(&rt, last_of(&rt, &alone, 1), 8);
     Ok(())
 }
 
@@ -125,8 +126,8 @@ fn a_removed_pair_is_gone(rt: HostRuntime) -> Result<(), Fail> {
             "at {stamp}"
         );
     }
-    assert_eq!(rt; last_of(&rt, &alone, 1), 7);
-    assert_eq!(rt; log.entries().len(), 7);
+    is(&rt, last_of(&rt, &alone, 1), 7);
+    is(&rt, log.entries().len(), 7);
     Ok(())
 }
 
@@ -143,13 +144,13 @@ fn reads_and_sweeps_a_shard(rt: HostRuntime) -> Result<(), Fail> {
         (Step::Read(2), "Pairs([(6, 60)])"),
     ] {
         let reply = apply(&rt, &mut alone, &mut log, step)?;
-        assert_eq!(rt; format!(in rt.alloc(); "{reply:?}")?.as_str(), text);
+        is(&rt, format!(in rt.alloc(); "{reply:?}")?.as_str(), text);
     }
-    assert_eq!(rt; log.entries().len(), 7);
+    is(&rt, log.entries().len(), 7);
     assert!(rt; log.caller() < alone.callers());
     match alone.apply(&mut log, Step::Read(4)) {
         Ok(reply) => assert!(rt; false, "{reply:?}"),
-        Err(refused) => assert_eq!(rt; refused.1, RecordFault::NoSuchShard),
+        Err(refused) => is(&rt, refused.1, RecordFault::NoSuchShard),
     }
     Ok(())
 }
@@ -180,7 +181,7 @@ fn replies_as_the_plain_map(rt: HostRuntime) -> Result<(), Fail> {
         let want = format!(in rt.alloc(); "{want:?}")?;
         let reply = apply(&rt, &mut alone, &mut log, step)?;
         let reply = format!(in rt.alloc(); "{reply:?}")?;
-        assert_eq!(rt; reply.as_str(), want.as_str(), "at {i}");
+        is_at(&rt, reply.as_str(), want.as_str(), i);
     }
     Ok(())
 }

@@ -1,6 +1,7 @@
 //! A recorded map behind its locks: as worked by hand, shared by threads, and moved out of its locks and back.
 ghost use Rattle.std.specs.Prelude.{◌≡◌, ◌<◌};
 
+use crate::places::{is, is_at};
 use dash_history::alone::RecAlone;
 use dash_history::record::CallerLog;
 use dash_history::record::map::RecordedMap;
@@ -50,8 +51,8 @@ fn last_of(rt: &impl Abort, alone: &Alone, shard: usize) -> u64 {
 #[test]
 fn first_steps(rt: HostRuntime) -> Result<(), Fail> {
     let (map, mut logs) = Map::new(rt.alloc(), PlaceState, 4, 1)?;
-    assert_eq!(rt; map.shard_count(), 4);
-    assert_eq!(rt; map.callers(), 1);
+    is(&rt, map.shard_count(), 4);
+    is(&rt, map.callers(), 1);
     let mut log = logs.pop().ok_or("no log")?;
     let reply = apply(&rt, &map, &mut log, ShardStep::Insert(1, 10))?;
     assert!(rt; matches!(reply, Reply::Old(None)));
@@ -59,8 +60,8 @@ fn first_steps(rt: HostRuntime) -> Result<(), Fail> {
     assert!(rt; matches!(reply, Reply::Old(Some(10))));
     let reply = apply(&rt, &map, &mut log, ShardStep::Get(1))?;
     assert!(rt; matches!(reply, Reply::Pair(Some((1, 11)))));
-    assert_eq!(rt; log.last_stamp(), 3);
-    assert_eq!(rt; map.alone().last_of(1), 3);
+    is(&rt, log.last_stamp(), 3);
+    is(&rt, map.alone().last_of(1), 3);
     Ok(())
 }
 
@@ -71,7 +72,7 @@ fn a_held_shard_leaves_the_others_free(rt: HostRuntime) -> Result<(), Fail> {
     let held = map.held(&rt, 0);
     let reply = apply(&rt, &map, &mut log, ShardStep::Insert(1, 10))?;
     assert!(rt; matches!(reply, Reply::Old(None)));
-    assert_eq!(rt; held.last_stamp(), 0);
+    is(&rt, held.last_stamp(), 0);
     Ok(())
 }
 
@@ -115,12 +116,12 @@ fn four_threads_record_on_one_map(rt: HostRuntime) -> Result<(), Fail> {
         &|_, log: &mut Log| { record_steps(&rt, &map, log) },
     );
     for log in &logs {
-        assert_eq!(rt; log.entries().len(), 10_000, "of {}", log.caller());
+        is_at(&rt, log.entries().len(), 10_000, log.caller());
     }
     let mut alone = map.alone();
     for shard in 0..4 {
         let mut stamps = stamps_of(rt.alloc(), &logs, shard)?;
-        assert_eq!(rt; stamps.len(), 10_000, "of shard {shard}");
+        is_at(&rt, stamps.len(), 10_000, shard);
         assert_eq!(rt;
             stamps.last(),
             Some(&last_of(&rt, &alone, shard)),
@@ -159,7 +160,7 @@ fn assert_pairs(rt: &impl Abort, alone: &mut Alone, log: &mut Log) -> Result<(),
         let Reply::Pair(pair) = reply else {
             return Err(Fail::from("no pair"));
         };
-        assert_eq!(rt; pair, Some((key, value)));
+        is(rt, pair, Some((key, value)));
     }
     Ok(())
 }
@@ -187,9 +188,9 @@ fn alone_and_end_carry_all_over(rt: HostRuntime) -> Result<(), Fail> {
     assert_pairs(&rt, &mut alone, &mut log)?;
     let lasts = lasts_of(&rt, &alone);
     let map = alone.end();
-    assert_eq!(rt; map.shard_count(), 4);
+    is(&rt, map.shard_count(), 4);
     let mut alone = map.alone();
-    assert_eq!(rt; lasts_of(&rt, &alone), lasts);
+    is(&rt, lasts_of(&rt, &alone), lasts);
     assert_pairs(&rt, &mut alone, &mut log)
 }
 
@@ -200,7 +201,7 @@ fn a_leaked_hold_leaves_a_map_that_can_be_dropped(rt: HostRuntime) -> Result<(),
     apply(&rt, &map, &mut log, ShardStep::Insert(1, 10))?;
     mem::forget(map.held(&rt, 1));
     let alone = map.alone();
-    assert_eq!(rt; alone.last_of(1), 1);
+    is(&rt, alone.last_of(1), 1);
     let map = alone.end();
     mem::forget(map.held(&rt, 1));
     drop(map);
@@ -217,7 +218,7 @@ fn stamped<R: Abort + Wait + Clock>(
     for &(caller, key, stamp) in rows {
         let log = logs.get_mut(caller).ok_or("no log")?;
         apply(rt, &map, log, ShardStep::Insert(key, 10))?;
-        assert_eq!(rt; log.last_stamp(), stamp, "of key {key}");
+        is_at(rt, log.last_stamp(), stamp, key);
     }
     Ok(map.alone())
 }
@@ -225,8 +226,8 @@ fn stamped<R: Abort + Wait + Clock>(
 #[test]
 fn stamps_rise_above_the_shards_and_the_callers_last(rt: HostRuntime) -> Result<(), Fail> {
     let alone = stamped(&rt, rt.alloc(), &[(0, 1, 1), (1, 4, 1), (0, 0, 2)])?;
-    assert_eq!(rt; last_of(&rt, &alone, 0), 2);
-    assert_eq!(rt; last_of(&rt, &alone, 1), 1);
+    is(&rt, last_of(&rt, &alone, 0), 2);
+    is(&rt, last_of(&rt, &alone, 1), 1);
     let rows = [
         (0, 0, 1),
         (0, 4, 2),
@@ -242,6 +243,6 @@ fn stamps_rise_above_the_shards_and_the_callers_last(rt: HostRuntime) -> Result<
         (0, 1, 8),
     ];
     let alone = stamped(&rt, rt.alloc(), &rows)?;
-    assert_eq!(rt; last_of(&rt, &alone, 1), 8);
+    is(&rt, last_of(&rt, &alone, 1), 8);
     Ok(())
 }

@@ -1,5 +1,5 @@
 //! One shard behind its lock, as worked by hand.
-use crate::places::{here_held, lock_of_one, put_held};
+use crate::places::{here_held, is, is_at, lock_of_one, put_held};
 use dash_shard::hash::PlaceState;
 use dash_shard::lock::RwLock;
 use dash_shard::shard::Shard;
@@ -12,18 +12,18 @@ type Locked = RwLock<Shard<u64, u64, PlaceState>>;
 fn a_held_shard_is_changed_in_place(rt: HostRuntime) -> Result<(), Fail> {
     let lock: Locked = lock_of_one(&rt, rt.alloc(), [])?;
     let mut held = lock.write(&rt).shard();
-    assert_eq!(rt; held.number(), 1);
-    assert_eq!(rt; held.amount(), 4);
-    assert_eq!(rt; held.capacity(), 0);
+    is(&rt, held.number(), 1);
+    is(&rt, held.amount(), 4);
+    is(&rt, held.capacity(), 0);
     for (key, value, old) in [(1, 10, None), (1, 11, Some(10)), (5, 50, None)] {
-        assert_eq!(rt; put_held(&rt, &mut held, key, value)?, old, "{key}");
+        is_at(&rt, put_held(&rt, &mut held, key, value)?, old, key);
     }
-    assert_eq!(rt; held.get(&1), Some((&1, &11)));
-    assert_eq!(rt; held.remove(&here_held(&rt, &held, 5)), Some((5, 50)));
-    assert_eq!(rt; held.len(), 1);
+    is(&rt, held.get(&1), Some((&1, &11)));
+    is(&rt, held.remove(&here_held(&rt, &held, 5)), Some((5, 50)));
+    is(&rt, held.len(), 1);
     assert!(rt; lock.try_read().is_none(), "a writer has the shard");
     drop(held);
-    assert_eq!(rt; lock.into_inner().get(&1), Some((&1, &11)));
+    is(&rt, lock.into_inner().get(&1), Some((&1, &11)));
     Ok(())
 }
 
@@ -35,20 +35,20 @@ fn a_held_value_is_lent(rt: HostRuntime) -> Result<(), Fail> {
     *value = value.wrapping_mul(2);
     assert!(rt; held.get_mut(&9).is_none());
     // What was lent is seen before the table is back, and after it.
-    assert_eq!(rt; held.get(&1), Some((&1, &20)));
-    assert_eq!(rt; held.len(), 2);
+    is(&rt, held.get(&1), Some((&1, &20)));
+    is(&rt, held.len(), 2);
     let position = held.position_of(&5).ok_or("no place")?;
     let (key, value) = held.at_mut(position);
     *value = value.wrapping_add(*key);
-    assert_eq!(rt; held.at(position), (&5, &55));
-    assert_eq!(rt; put_held(&rt, &mut held, 9, 90)?, None);
-    assert_eq!(rt; held.get(&5), Some((&5, &55)));
+    is(&rt, held.at(position), (&5, &55));
+    is(&rt, put_held(&rt, &mut held, 9, 90)?, None);
+    is(&rt, held.get(&5), Some((&5, &55)));
     *held.get_mut(&9).ok_or("no pair")? = 91;
     drop(held);
     let shard = lock.into_inner();
-    assert_eq!(rt; shard.len(), 3);
+    is(&rt, shard.len(), 3);
     for (key, value) in [(1, 20), (5, 55), (9, 91)] {
-        assert_eq!(rt; shard.get(&key), Some((&key, &value)), "{key}");
+        is_at(&rt, shard.get(&key), Some((&key, &value)), key);
     }
     Ok(())
 }
@@ -57,20 +57,20 @@ fn a_held_value_is_lent(rt: HostRuntime) -> Result<(), Fail> {
 fn a_leaked_hold_leaves_a_shard(rt: HostRuntime) -> Result<(), Fail> {
     let lock = lock_of_one(&rt, rt.alloc(), [(1, 10u64)])?;
     let mut held = lock.write(&rt).shard();
-    assert_eq!(rt; put_held(&rt, &mut held, 5, 50)?, None);
+    is(&rt, put_held(&rt, &mut held, 5, 50)?, None);
     mem::forget(held);
     assert!(rt; lock.try_write().is_none(), "the writer is never gone");
-    assert_eq!(rt; lock.into_inner().get(&5), Some((&5, &50)));
+    is(&rt, lock.into_inner().get(&5), Some((&5, &50)));
 
     let lock = lock_of_one(&rt, rt.alloc(), [(5, 50u64)])?;
     let mut held = lock.write(&rt).shard();
     assert!(rt; held.get_mut(&5).is_some());
     mem::forget(held);
     // The pairs are leaked with the hold that lent one.
-    assert_eq!(rt; lock.into_inner().len(), 0);
+    is(&rt, lock.into_inner().len(), 0);
 
     let lock = lock_of_one(&rt, rt.alloc(), [(5, 50u64)])?;
     mem::forget(lock.write(&rt));
-    assert_eq!(rt; lock.into_inner().number(), 1);
+    is(&rt, lock.into_inner().number(), 1);
     Ok(())
 }
