@@ -1,10 +1,12 @@
 //! Calls of a map of one owner, as worked by hand.
 use crate::map::map_of_four;
+use crate::places::{is, is_at};
 use dash_map::alone::Alone;
 use dash_map::map::DashMap;
 use dash_shard::error::TryReserveError;
-use dash_shard::hash::{FixedState, PlaceState};
+use dash_shard::hash::PlaceState;
 use std::alloc::Global;
+use std::process::Abort;
 use std::test::Fail;
 
 type Numbers = Alone<u64, u64, PlaceState>;
@@ -13,132 +15,118 @@ fn alone_of_four(alloc: Global) -> Result<Numbers, Fail> {
     Ok(map_of_four(alloc)?.alone())
 }
 
+// Puts pairs of new keys.
+fn put_all(rt: &impl Abort, alone: &mut Numbers, pairs: &[(u64, u64)]) -> Result<(), Fail> {
+    for &(key, value) in pairs {
+        is_at(rt, alone.insert(key, value)?, None, key);
+    }
+    Ok(())
+}
+
+// The value at a key.
+fn value_at(rt: &impl Abort, alone: &Numbers, key: u64) -> Option<u64> {
+    let (found, value) = alone.get(&key)?;
+    is(rt, *found, key);
+    Some(*value)
+}
+
+// These keys have these values.
+fn assert_values(rt: &impl Abort, alone: &Numbers, rows: &[(u64, Option<u64>)]) {
+    for &(key, wanted) in rows {
+        is_at(rt, value_at(rt, alone, key), wanted, key);
+        is_at(rt, alone.contains_key(&key), wanted.is_some(), key);
+    }
+}
+
+// The removals of these keys give these pairs.
+fn remove_all(rt: &impl Abort, alone: &mut Numbers, rows: &[(u64, Option<(u64, u64)>)]) {
+    for &(key, wanted) in rows {
+        is_at(rt, alone.remove(&key), wanted, key);
+    }
+}
+
 #[test]
 fn a_pair_comes_and_goes(rt: HostRuntime) -> Result<(), Fail> {
     let mut alone = alone_of_four(rt.alloc())?;
-    assert_eq!(rt; alone.insert(1, 10)?, None);
-    assert_eq!(rt; alone.insert(5, 50)?, None);
-    assert_eq!(rt; alone.get(&1), Some((&1, &10)));
-    assert_eq!(rt; alone.remove(&1), Some((1, 10)));
-    assert_eq!(rt; alone.get(&1), None);
-    assert_eq!(rt; alone.remove(&1), None);
-    assert!(rt; !alone.contains_key(&1));
-    assert!(rt; alone.contains_key(&5));
-    assert_eq!(rt; alone.len(), 1);
+    put_all(&rt, &mut alone, &[(1, 10), (5, 50)])?;
+    assert_values(&rt, &alone, &[(1, Some(10))]);
+    remove_all(&rt, &mut alone, &[(1, Some((1, 10)))]);
+    assert_values(&rt, &alone, &[(1, None)]);
+    remove_all(&rt, &mut alone, &[(1, None)]);
+    assert_values(&rt, &alone, &[(1, None), (5, Some(50))]);
+    is(&rt, alone.len(), 1);
 
-    let alone = alone.end().alone();
-    assert_eq!(rt; alone.get(&5), Some((&5, &50)));
+    assert_values(&rt, &alone.end().alone(), &[(5, Some(50))]);
     Ok(())
 }
 
-#[test]
-fn a_hundred_keys(rt: HostRuntime) -> Result<(), Fail> {
-    let mut alone = DashMap::<u64, u64, FixedState>::new(rt.alloc(), 1)?.alone();
-    for i in 0..100 {
-        alone.insert(0, i)?;
-        alone.insert(i, i)?;
-    }
-    let alone = alone.end().alone();
-    assert_eq!(rt; alone.len(), 100);
-    assert_eq!(rt; alone.get(&0), Some((&0, &99)));
-    for i in 1..100 {
-        assert_eq!(rt; alone.get(&i), Some((&i, &i)));
-    }
-    Ok(())
-}
-
-#[test]
-fn a_pair_is_viewed(rt: HostRuntime) -> Result<(), Fail> {
-    let mut alone = map_of_four(rt.alloc())?.alone();
-    for (number, name) in [(0, "Banana"), (4, "Pear"), (9, "Potato"), (12, "Chicken")] {
-        alone.insert(number, name)?;
-    }
-    let is_eaten_warm = |_: &u64, name: &&str| matches!(
-        *name,
-        "Salad" | "Beans" | "Potato" | "Tomato"
-    );
-    assert_eq!(rt; alone.view(&9, is_eaten_warm), Some(true));
-    assert_eq!(rt; alone.view(&12, is_eaten_warm), Some(false));
-    assert_eq!(rt; alone.view(&30, |_, _| false), None);
-    Ok(())
-}
-
-#[test]
-fn a_removal_asks_first(rt: HostRuntime) -> Result<(), Fail> {
-    let mut alone = DashMap::<&str, &str, FixedState>::with_shard_amount(rt.alloc(), 4)?.alone();
-    alone.insert("Sam", "Forward")?;
-    assert_eq!(rt; alone.remove_if(&"Sam", |_, role| *role == "Goalie"), None);
-    assert!(rt; alone.contains_key(&"Sam"));
-    let gone = alone.remove_if(&"Sam", |_, role| *role == "Forward");
-    assert_eq!(rt; gone, Some(("Sam", "Forward")));
-    assert!(rt; alone.is_empty());
-    Ok(())
+// The refusal of too much room.
+fn refusal(alone: &mut Numbers) -> Option<TryReserveError> {
+    alone.try_reserve(usize::MAX).err()
 }
 
 #[test]
 fn room_is_made(rt: HostRuntime) -> Result<(), Fail> {
-    let mut alone: Numbers = DashMap::with_capacity_and_hasher_and_shard_amount(
-        rt.alloc(),
-        0,
-        PlaceState,
-        4,
-    )?.alone();
-    assert_eq!(rt; alone.capacity(), 0);
-    assert!(rt; alone.is_empty());
-    assert!(rt; alone.try_reserve(10).is_ok());
+    let alone = DashMap::with_capacity_and_hasher_and_shard_amount(rt.alloc(), 0, PlaceState, 4);
+    let mut alone: Numbers = alone?.alone();
+    is(&rt, (alone.capacity(), alone.is_empty()), (0, true));
+    alone.try_reserve(10)?;
     assert!(rt; alone.capacity() >= 10);
-    alone.insert(1, 1)?;
-    assert!(rt; !alone.is_empty());
-
-    let refused = alone.try_reserve(usize::MAX).err();
-    assert_eq!(rt; refused, Some(TryReserveError {}));
-    assert_eq!(rt; alone.len(), 1);
-    assert_eq!(rt; alone.get(&1), Some((&1, &1)));
+    put_all(&rt, &mut alone, &[(1, 1)])?;
+    is(&rt, refusal(&mut alone), Some(TryReserveError {}));
+    is(&rt, (alone.len(), alone.is_empty()), (1, false));
+    assert_values(&rt, &alone, &[(1, Some(1))]);
     Ok(())
+}
+
+// The removals of a list that ask first, and give no pair.
+fn ask_for_two(rt: &impl Abort, alone: &mut Numbers) {
+    let gone = alone.remove_if(&0, |_, v| *v < 5);
+    is(rt, gone, None);
+    let gone = alone.remove_if_mut(&1, |_, v| {
+        *v = v.saturating_add(1);
+        false
+    });
+    is(rt, gone, None);
 }
 
 // The list that the shared calls answer alike.
 #[test]
 fn the_list_for_shared_calls(rt: HostRuntime) -> Result<(), Fail> {
     let mut alone = alone_of_four(rt.alloc())?;
-    for (key, value) in [(0, 5), (4, 9), (1, 2)] {
-        alone.insert(key, value)?;
-    }
+    put_all(&rt, &mut alone, &[(0, 5), (4, 9), (1, 2)])?;
     alone.alter(&4, |_, v| v.saturating_add(1));
-    assert_eq!(rt; alone.remove_if(&0, |_, v| *v < 5), None);
-    let counts_up = |_: &u64, v: &mut u64| -> bool {
-        *v = v.saturating_add(1);
-        false
-    };
-    assert_eq!(rt; alone.remove_if_mut(&1, counts_up), None);
-    assert_eq!(rt; alone.get(&1), Some((&1, &3)));
+    ask_for_two(&rt, &mut alone);
+    assert_values(&rt, &alone, &[(1, Some(3))]);
     alone.alter_all(|_, v| v.saturating_add(1));
     alone.retain(|_, v| *v > 5);
-    assert_eq!(rt; alone.len(), 2);
-    assert!(rt; !alone.contains_key(&1));
-    assert_eq!(rt; alone.remove(&4), Some((4, 11)));
-    assert_eq!(rt; alone.get(&0), Some((&0, &6)));
+    is(&rt, alone.len(), 2);
+    assert_values(&rt, &alone, &[(1, None)]);
+    remove_all(&rt, &mut alone, &[(4, Some((4, 11)))]);
+    assert_values(&rt, &alone, &[(0, Some(6))]);
     alone.clear();
     assert!(rt; alone.is_empty());
+    Ok(())
+}
+
+// Lends the value at 4 to be changed, and none at 8.
+fn change_one(rt: &impl Abort, alone: &mut Numbers) -> Result<(), Fail> {
+    *alone.get_mut(&4).ok_or("no pair")? = 1;
+    assert!(rt; alone.get_mut(&8).is_none());
     Ok(())
 }
 
 #[test]
 fn a_value_is_lent_and_room_goes_back(rt: HostRuntime) -> Result<(), Fail> {
     let mut alone = alone_of_four(rt.alloc())?;
-    assert!(rt; alone.try_reserve(100).is_ok());
-    alone.insert(0, 5)?;
-    alone.insert(4, 9)?;
-    *alone.get_mut(&4).ok_or("no pair")? = 1;
-    assert!(rt; alone.get_mut(&8).is_none());
+    alone.try_reserve(100)?;
+    put_all(&rt, &mut alone, &[(0, 5), (4, 9)])?;
+    change_one(&rt, &mut alone)?;
     alone.shrink_to_fit();
-    assert_eq!(rt; alone.capacity(), 2);
-    assert_eq!(rt; alone.get(&4), Some((&4, &1)));
-    assert_eq!(rt; alone.get(&0), Some((&0, &5)));
-    assert_eq!(rt; alone.remove(&0), Some((0, 5)));
-    assert_eq!(rt; alone.remove(&4), Some((4, 1)));
+    is(&rt, alone.capacity(), 2);
+    assert_values(&rt, &alone, &[(4, Some(1)), (0, Some(5))]);
+    remove_all(&rt, &mut alone, &[(0, Some((0, 5))), (4, Some((4, 1)))]);
     alone.shrink_to_fit();
-    assert_eq!(rt; alone.len(), 0);
-    assert_eq!(rt; alone.capacity(), 0);
+    is(&rt, (alone.len(), alone.capacity()), (0, 0));
     Ok(())
 }

@@ -1,5 +1,6 @@
 //! The calls of a map that threads share: what is put is found, taken once, and changed in its place.
 use crate::map::map_of_four;
+use crate::places::{is, is_at};
 use dash_map::map::DashMap;
 use dash_shard::error::TryReserveError;
 use dash_shard::hash::{FixedState, PlaceState, ZeroState};
@@ -18,28 +19,81 @@ fn value_at<R: Abort + Wait + Clock, S: BuildHasher>(
     key: u64,
 ) -> Option<u64> {
     let found = map.get(rt, &key)?;
-    assert_eq!(rt; *found.key(), key);
+    is(rt, *found.key(), key);
     Some(*found.value())
+}
+
+// Puts pairs of new keys.
+fn put_all<R: Abort + Wait + Clock, S: BuildHasher>(
+    rt: &R,
+    map: &DashMap<u64, u64, S>,
+    pairs: &[(u64, u64)],
+) -> Result<(), Fail> {
+    for &(key, value) in pairs {
+        is_at(rt, map.insert(rt, key, value)?, None, key);
+    }
+    Ok(())
+}
+
+// These keys have these values.
+fn assert_values<R: Abort + Wait + Clock, S: BuildHasher>(
+    rt: &R,
+    map: &DashMap<u64, u64, S>,
+    rows: &[(u64, Option<u64>)],
+) {
+    for &(key, wanted) in rows {
+        is_at(rt, value_at(rt, map, key), wanted, key);
+        is_at(rt, map.contains_key(rt, &key), wanted.is_some(), key);
+    }
+}
+
+// The removals of these keys give these pairs.
+fn remove_all<R: Abort + Wait + Clock>(
+    rt: &R,
+    map: &DashMap<u64, u64, FixedState>,
+    rows: &[(u64, Option<(u64, u64)>)],
+) {
+    for &(key, wanted) in rows {
+        is_at(rt, map.remove(rt, &key), wanted, key);
+    }
+}
+
+// Puts the keys below a hundred, and each time the key 0 once more.
+fn put_a_hundred<R: Wait + Clock>(rt: &R, map: &DashMap<u64, u64, FixedState>) -> Result<(), Fail> {
+    for i in 0..100 {
+        map.insert(rt, 0, i)?;
+        map.insert(rt, i, i)?;
+    }
+    Ok(())
 }
 
 #[test]
 fn a_hundred_keys(rt: HostRuntime) -> Result<(), Fail> {
     let map = DashMap::<u64, u64, FixedState>::new(rt.alloc(), 1)?;
-    for i in 0..100 {
-        map.insert(&rt, 0, i)?;
-        map.insert(&rt, i, i)?;
-    }
-    assert_eq!(rt; value_at(&rt, &map, 0), Some(99));
+    put_a_hundred(&rt, &map)?;
+    is(&rt, value_at(&rt, &map, 0), Some(99));
     for i in 1..100 {
-        assert_eq!(rt; value_at(&rt, &map, i), Some(i));
+        is(&rt, value_at(&rt, &map, i), Some(i));
     }
-    assert_eq!(rt; map.remove(&rt, &7), Some((7, 7)));
-    assert_eq!(rt; map.remove(&rt, &7), None);
-    assert_eq!(rt; value_at(&rt, &map, 7), None);
+    remove_all(&rt, &map, &[(7, Some((7, 7))), (7, None)]);
+    assert_values(&rt, &map, &[(7, None)]);
     let alone = map.alone();
-    assert_eq!(rt; alone.get(&8), Some((&8, &8)));
+    is(&rt, alone.get(&8), Some((&8, &8)));
     assert!(rt; !alone.contains_key(&7));
     Ok(())
+}
+
+// What is eaten warm of some food.
+fn is_eaten_warm<R: Wait + Clock>(
+    rt: &R,
+    map: &DashMap<u64, &'static str, PlaceState>,
+    number: u64,
+) -> Option<bool> {
+    map.view(
+        rt,
+        &number,
+        |_, name| matches!(*name, "Salad" | "Beans" | "Potato" | "Tomato"),
+    )
 }
 
 #[test]
@@ -48,83 +102,96 @@ fn views(rt: HostRuntime) -> Result<(), Fail> {
     for (number, name) in [(0, "Banana"), (4, "Pear"), (9, "Potato"), (12, "Chicken")] {
         map.insert(&rt, number, name)?;
     }
-    let is_eaten_warm = |_: &u64, name: &&str| matches!(
-        *name,
-        "Salad" | "Beans" | "Potato" | "Tomato"
-    );
-    assert_eq!(rt; map.view(&rt, &9, is_eaten_warm), Some(true));
-    assert_eq!(rt; map.view(&rt, &12, is_eaten_warm), Some(false));
-    assert_eq!(rt; map.view(&rt, &30, |_, _| false), None);
-    assert!(rt; map.contains_key(&rt, &4));
-    assert!(rt; !map.contains_key(&rt, &8));
-    assert_eq!(rt; map.len(&rt), 4);
+    for (number, warm) in [(9, Some(true)), (12, Some(false)), (30, None)] {
+        is_at(&rt, is_eaten_warm(&rt, &map, number), warm, number);
+    }
+    for (number, is_food) in [(4, true), (8, false)] {
+        is_at(&rt, map.contains_key(&rt, &number), is_food, number);
+    }
+    is(&rt, (map.len(&rt), map.is_empty(&rt)), (4, false));
     assert!(rt; map.capacity(&rt) >= 4);
-    assert!(rt; !map.is_empty(&rt));
     Ok(())
+}
+
+// Takes Sam away, if he has this role, and says whom it took and whether he is still there.
+fn remove_sam<R: Wait + Clock>(
+    rt: &R,
+    map: &DashMap<&'static str, &'static str, FixedState>,
+    asked: &str,
+) -> (Option<(&'static str, &'static str)>, bool) {
+    let gone = map.remove_if(rt, &"Sam", |_, role| *role == asked);
+    (gone, map.contains_key(rt, &"Sam"))
 }
 
 #[test]
 fn a_removal_asks_first(rt: HostRuntime) -> Result<(), Fail> {
-    let map = DashMap::<&str, &str, FixedState>::with_shard_amount(rt.alloc(), 4)?;
+    let map = DashMap::with_shard_amount(rt.alloc(), 4)?;
     map.insert(&rt, "Sam", "Forward")?;
-    let gone = map.remove_if(&rt, &"Sam", |_, role| *role == "Goalie");
-    assert_eq!(rt; gone, None);
-    assert!(rt; map.contains_key(&rt, &"Sam"));
-    let gone = map.remove_if(&rt, &"Sam", |_, role| *role == "Forward");
-    assert_eq!(rt; gone, Some(("Sam", "Forward")));
-    assert!(rt; !map.contains_key(&rt, &"Sam"));
+    for (asked, wanted) in [
+        ("Goalie", (None, true)),
+        ("Forward", (Some(("Sam", "Forward")), false)),
+    ] {
+        is_at(&rt, remove_sam(&rt, &map, asked), wanted, asked);
+    }
     Ok(())
 }
 
 #[test]
 fn room_is_made(rt: HostRuntime) -> Result<(), Fail> {
     let mut map = map_of_four::<u64>(rt.alloc())?;
-    assert_eq!(rt; map.capacity(&rt), 0);
-    assert!(rt; map.is_empty(&rt));
-    assert!(rt; map.try_reserve(10).is_ok());
+    is(&rt, (map.capacity(&rt), map.is_empty(&rt)), (0, true));
+    map.try_reserve(10)?;
     assert!(rt; map.capacity(&rt) >= 10);
-    map.insert(&rt, 1, 1)?;
+    put_all(&rt, &map, &[(1, 1)])?;
     let refused = map.try_reserve(usize::MAX).err();
-    assert_eq!(rt; refused, Some(TryReserveError {}));
-    assert_eq!(rt; map.len(&rt), 1);
-    assert_eq!(rt; value_at(&rt, &map, 1), Some(1));
+    is(&rt, refused, Some(TryReserveError {}));
+    is(&rt, map.len(&rt), 1);
+    assert_values(&rt, &map, &[(1, Some(1))]);
     assert!(rt; map.alone().capacity() >= 10);
     Ok(())
 }
 
+type Zeros = DashMap<u64, u64, ZeroState>;
+
+// Puts so many keys, all of which go to shard 0.
+fn fill<R: Abort + Wait + Clock>(rt: &R, map: &Zeros, amount: u64) -> Result<(), Fail> {
+    for key in 0..amount {
+        is_at(rt, map.determine_map(&key), 0, key);
+        is_at(rt, map.insert(rt, key, key)?, None, key);
+    }
+    Ok(())
+}
+
+// Takes each second key of two hundred.
+fn remove_evens<R: Abort + Wait + Clock>(rt: &R, map: &Zeros) {
+    for half in 0..100u64 {
+        let key = 2 * half;
+        is_at(rt, map.remove(rt, &key), Some((key, key)), key);
+    }
+}
+
 #[test]
 fn one_shard_may_have_all_keys(rt: HostRuntime) -> Result<(), Fail> {
-    let map = DashMap::<u64, u64, ZeroState>::with_hasher_and_shard_amount(
-        rt.alloc(),
-        ZeroState,
-        4,
-    )?;
+    let map = Zeros::with_hasher_and_shard_amount(rt.alloc(), ZeroState, 4)?;
+    fill(&rt, &map, 200)?;
     for key in 0..200u64 {
-        assert_eq!(rt; map.determine_map(&key), 0, "{key}");
-        assert_eq!(rt; map.insert(&rt, key, key)?, None, "{key}");
+        is_at(&rt, value_at(&rt, &map, key), Some(key), key);
     }
-    for key in 0..200u64 {
-        assert_eq!(rt; value_at(&rt, &map, key), Some(key), "{key}");
-    }
-    assert_eq!(rt; map.len(&rt), 200);
+    is(&rt, map.len(&rt), 200);
+    remove_evens(&rt, &map);
     for half in 0..100u64 {
-        let key = 2 * half;
-        assert_eq!(rt; map.remove(&rt, &key), Some((key, key)), "{key}");
+        let (even, odd) = (2 * half, 2 * half + 1);
+        assert_values(&rt, &map, &[(even, None), (odd, Some(odd))]);
     }
-    for half in 0..100u64 {
-        let key = 2 * half;
-        assert_eq!(rt; value_at(&rt, &map, key), None, "{key}");
-        assert_eq!(rt; value_at(&rt, &map, key + 1), Some(key + 1), "{key} + 1");
-    }
-    assert_eq!(rt; map.len(&rt), 100);
+    is(&rt, map.len(&rt), 100);
     Ok(())
 }
 
 #[test]
 fn zero_is_a_key_and_a_value(rt: HostRuntime) -> Result<(), Fail> {
     let map = DashMap::<u64, u64, FixedState>::new(rt.alloc(), 1)?;
-    assert_eq!(rt; map.insert(&rt, 0, 0)?, None);
-    assert_eq!(rt; value_at(&rt, &map, 0), Some(0));
+    put_all(&rt, &map, &[(0, 0)])?;
+    assert_values(&rt, &map, &[(0, Some(0))]);
     Ok(())
 }
 
@@ -140,15 +207,26 @@ fn note_of(alloc: Global, number: u64) -> Result<Note, AllocError> {
     Ok(Note { text, number })
 }
 
+// Notes of the numbers below ten.
+fn put_notes<R: Wait + Clock>(
+    rt: &R,
+    alloc: Global,
+    map: &DashMap<u64, Note, FixedState>,
+) -> Result<(), Fail> {
+    for i in 0..10 {
+        map.insert(rt, i, note_of(alloc, i)?)?;
+    }
+    Ok(())
+}
+
 #[test]
 fn structs_are_found_as_they_were_put(rt: HostRuntime) -> Result<(), Fail> {
     let map = DashMap::<u64, Note, FixedState>::new(rt.alloc(), 1)?;
+    put_notes(&rt, rt.alloc(), &map)?;
     for i in 0..10 {
-        map.insert(&rt, i, note_of(rt.alloc(), i)?)?;
-    }
-    for i in 0..10 {
+        let wanted = note_of(rt.alloc(), i)?;
         let found = map.get(&rt, &i).ok_or("no pair")?;
-        assert_eq!(rt; *found.value(), note_of(rt.alloc(), i)?);
+        is(&rt, found.value(), &wanted);
     }
     Ok(())
 }
@@ -158,10 +236,10 @@ fn a_random_hasher_finds_each_key(rt: HostRuntime) -> Result<(), Fail> {
     let hasher = RandomState::new(&rt)?;
     let map = DashMap::<u64, u64, RandomState>::with_hasher(rt.alloc(), hasher, 1)?;
     for i in 0..10 {
-        map.insert(&rt, i, i)?;
+        put_all(&rt, &map, &[(i, i)])?;
     }
     for i in 0..10 {
-        assert_eq!(rt; value_at(&rt, &map, i), Some(i), "at {i}");
+        assert_values(&rt, &map, &[(i, Some(i))]);
     }
     Ok(())
 }
@@ -194,92 +272,127 @@ fn four_threads_share_a_map(rt: HostRuntime) -> Result<(), Fail> {
         &|_, thread: &mut u64| { insert_all(&rt, &map, *thread) },
     );
     for key in 0..64 {
-        assert_eq!(rt; value_at(&rt, &map, key), Some(key / 16), "at {key}");
+        is_at(&rt, value_at(&rt, &map, key), Some(key / 16), key);
     }
-    assert_eq!(rt; value_at(&rt, &map, 37), Some(2));
-    assert_eq!(rt; value_at(&rt, &map, 64), None);
-    assert_eq!(rt; map.len(&rt), 64);
+    assert_values(&rt, &map, &[(37, Some(2)), (64, None)]);
+    is(&rt, map.len(&rt), 64);
     Ok(())
 }
 
 #[test]
 fn a_held_shard_leaves_the_others_free(rt: HostRuntime) -> Result<(), Fail> {
     let map = map_of_four::<u64>(rt.alloc())?;
-    map.insert(&rt, 0, 5)?;
+    put_all(&rt, &map, &[(0, 5)])?;
     let held = map.get(&rt, &0).ok_or("no pair")?;
-    assert_eq!(rt; map.insert(&rt, 1, 10)?, None);
-    assert_eq!(rt; value_at(&rt, &map, 1), Some(10));
-    assert_eq!(rt; value_at(&rt, &map, 0), Some(5));
-    assert_eq!(rt; *held.value(), 5);
+    put_all(&rt, &map, &[(1, 10)])?;
+    assert_values(&rt, &map, &[(1, Some(10)), (0, Some(5))]);
+    is(&rt, *held.value(), 5);
     Ok(())
+}
+
+type Places = DashMap<u64, u64, PlaceState>;
+
+// Alters the value at 4, and none at 8.
+fn alter_one<R: Wait + Clock>(rt: &R, map: &Places) {
+    for key in [4, 8] {
+        map.alter(rt, &key, |_, value| value.wrapping_add(1));
+    }
+}
+
+// The removals of a list that ask first, and give no pair.
+fn ask_for_two<R: Abort + Wait + Clock>(rt: &R, map: &Places) {
+    let gone = map.remove_if(rt, &0, |_, value| *value < 5);
+    is(rt, gone, None);
+    let gone = map.remove_if_mut(rt, &1, |_, value| {
+        *value = value.wrapping_add(1);
+        false
+    });
+    is(rt, gone, None);
+}
+
+// The value at a key, as a view gives it.
+fn viewed<R: Wait + Clock>(rt: &R, map: &Places, key: u64) -> Option<u64> {
+    map.view(rt, &key, |_, value| *value)
+}
+
+// Empties a map of one pair.
+fn empty<R: Abort + Wait + Clock>(rt: &R, map: &Places) {
+    map.shrink_to_fit(rt);
+    is(rt, map.capacity(rt), 1);
+    map.clear(rt);
+    is(rt, (map.is_empty(rt), map.capacity(rt)), (true, 1));
+    map.shrink_to_fit(rt);
+    is(rt, map.capacity(rt), 0);
 }
 
 #[test]
 fn the_list_for_shared_calls(rt: HostRuntime) -> Result<(), Fail> {
     let map = map_of_four(rt.alloc())?;
-    for (key, value) in [(0, 5u64), (4, 9), (1, 2)] {
-        map.insert(&rt, key, value)?;
-    }
-    map.alter(&rt, &4, |_, value| value.wrapping_add(1));
-    map.alter(&rt, &8, |_, value| value.wrapping_add(1));
-    assert_eq!(rt; map.remove_if(&rt, &0, |_, value| *value < 5), None);
-    let more_but_no = |_: &u64, value: &mut u64| {
-        *value = value.wrapping_add(1);
-        false
-    };
-    assert_eq!(rt; map.remove_if_mut(&rt, &1, more_but_no), None);
-    assert_eq!(rt; map.view(&rt, &1, |_, value| *value), Some(3));
+    put_all(&rt, &map, &[(0, 5), (4, 9), (1, 2)])?;
+    alter_one(&rt, &map);
+    ask_for_two(&rt, &map);
+    is(&rt, viewed(&rt, &map, 1), Some(3));
     map.alter_all(&rt, |_, value| value.wrapping_add(1));
     map.retain(&rt, |_, value| *value > 5);
-    assert_eq!(rt; map.len(&rt), 2);
-    assert!(rt; !map.contains_key(&rt, &1));
-    assert_eq!(rt; map.remove(&rt, &4), Some((4, 11)));
-    assert_eq!(rt; map.view(&rt, &0, |_, value| *value), Some(6));
-    map.shrink_to_fit(&rt);
-    assert_eq!(rt; map.capacity(&rt), 1);
-    map.clear(&rt);
-    assert!(rt; map.is_empty(&rt));
-    assert_eq!(rt; map.capacity(&rt), 1);
-    map.shrink_to_fit(&rt);
-    assert_eq!(rt; map.capacity(&rt), 0);
+    is(&rt, map.len(&rt), 2);
+    assert_values(&rt, &map, &[(1, None)]);
+    is(&rt, map.remove(&rt, &4), Some((4, 11)));
+    is(&rt, viewed(&rt, &map, 0), Some(6));
+    empty(&rt, &map);
     Ok(())
+}
+
+type Named = DashMap<&'static str, u64, FixedState>;
+
+// A map of these pairs.
+fn named<R: Wait + Clock>(
+    rt: &R,
+    alloc: Global,
+    pairs: &[(&'static str, u64)],
+) -> Result<Named, Fail> {
+    let map = Named::new(alloc, 1)?;
+    for &(name, number) in pairs {
+        map.insert(rt, name, number)?;
+    }
+    Ok(map)
 }
 
 #[test]
 fn each_value_is_altered(rt: HostRuntime) -> Result<(), Fail> {
-    let map = DashMap::<&str, u64, FixedState>::new(rt.alloc(), 1)?;
-    map.insert(&rt, "Wins", 4)?;
-    map.insert(&rt, "Losses", 2)?;
+    let map = named(&rt, rt.alloc(), &[("Wins", 4), ("Losses", 2)])?;
     map.alter_all(&rt, |_, value| value.wrapping_add(1));
     map.insert(&rt, "Goals", 4)?;
     map.alter(&rt, &"Goals", |_, goals| goals.wrapping_mul(2));
     for (key, value) in [("Wins", 5), ("Losses", 3), ("Goals", 8)] {
-        let found = map.get(&rt, &key).ok_or("no pair")?;
-        assert_eq!(rt; *found.value(), value);
+        is_at(
+            &rt,
+            map.view(&rt, &key, |_, value| *value),
+            Some(value),
+            key,
+        );
     }
     Ok(())
 }
 
 #[test]
 fn who_is_young_is_not_kept(rt: HostRuntime) -> Result<(), Fail> {
-    let map = DashMap::<&str, u64, FixedState>::new(rt.alloc(), 1)?;
-    map.insert(&rt, "Albin", 15)?;
-    map.insert(&rt, "Jones", 22)?;
-    map.insert(&rt, "Charlie", 27)?;
+    let map = named(
+        &rt,
+        rt.alloc(),
+        &[("Albin", 15), ("Jones", 22), ("Charlie", 27)],
+    )?;
     map.retain(&rt, |_, age| *age > 20);
-    assert_eq!(rt; map.len(&rt), 2);
+    is(&rt, map.len(&rt), 2);
     assert!(rt; !map.contains_key(&rt, &"Albin"));
     Ok(())
 }
 
 #[test]
 fn an_empty_map_gives_its_room_back(rt: HostRuntime) -> Result<(), Fail> {
-    let map = DashMap::<&str, u64, FixedState>::new(rt.alloc(), 1)?;
-    map.insert(&rt, "Johnny", 21)?;
+    let map = named(&rt, rt.alloc(), &[("Johnny", 21)])?;
     assert!(rt; map.capacity(&rt) >= 1);
-    assert_eq!(rt; map.remove(&rt, &"Johnny"), Some(("Johnny", 21)));
+    is(&rt, map.remove(&rt, &"Johnny"), Some(("Johnny", 21)));
     map.shrink_to_fit(&rt);
-    assert_eq!(rt; map.len(&rt), 0);
-    assert_eq!(rt; map.capacity(&rt), 0);
+    is(&rt, (map.len(&rt), map.capacity(&rt)), (0, 0));
     Ok(())
 }

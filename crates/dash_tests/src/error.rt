@@ -1,4 +1,5 @@
 //! The texts of all refusals.
+use crate::places::is;
 use dash_history::record::RecordFault;
 use dash_map::run::Fault;
 use dash_shard::error::{ConstructError, TryReserveError};
@@ -13,7 +14,7 @@ fn assert_text(
     error: &impl fmt::Display,
     text: &str,
 ) -> Result<(), Fail> {
-    assert_eq!(rt; format!(in alloc; "{error}")?.as_str(), text);
+    is(rt, format!(in alloc; "{error}")?.as_str(), text);
     Ok(())
 }
 

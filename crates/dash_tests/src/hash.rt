@@ -2,7 +2,7 @@
 ghost use Rattle.std.specs.Prelude.{◌≡◌, IfOk};
 ghost use Rattle.dash_shard.specs.Hashing.{by, HashAlike};
 
-use crate::places::{new_shard, put};
+use crate::places::{is, is_at, new_shard, put};
 use dash_shard::hash::{FixedState, PlaceState, ZeroState, determine_shard, is_shard_amount};
 use std::alloc::{AllocError, Global};
 use std::hash::{BuildHasher, Hash, Hasher, RandomState};
@@ -19,7 +19,7 @@ fn fixed_bytes(rt: HostRuntime) {
     ] {
         let mut hasher = FixedState.build_hasher();
         hasher.write(text.as_bytes());
-        assert_eq!(rt; hasher.finish(), hash, "{text}");
+        is_at(&rt, hasher.finish(), hash, text);
     }
 }
 
@@ -32,16 +32,16 @@ fn fixed_numbers(rt: HostRuntime) {
         (0x0102_0304_0506_0708, 0x0c6d_4496_e178_59d5),
         (u64::MAX, 0x8cf5_1a8b_fca3_883d),
     ] {
-        assert_eq!(rt; FixedState.hash_one(&number), hash, "the number {number}");
+        is_at(&rt, FixedState.hash_one(&number), hash, number);
     }
 }
 
 #[test]
 fn zero(rt: HostRuntime) {
     for number in [1u64, u64::MAX] {
-        assert_eq!(rt; ZeroState.hash_one(&number), 0, "the number {number}");
+        is_at(&rt, ZeroState.hash_one(&number), 0, number);
     }
-    assert_eq!(rt; ZeroState.hash_one(&"a"), 0);
+    is(&rt, ZeroState.hash_one(&"a"), 0);
 }
 
 // By a clone, as the shards of a map hash.
@@ -58,11 +58,14 @@ fn hash_by_clone<K: Eq + Hash, S: BuildHasher + Clone + Drop>(
 
 #[test]
 fn clones(rt: HostRuntime) -> Result<(), Fail> {
-    assert_eq!(rt; hash_by_clone(&FixedState, &1u64)?, 0x89cd_3129_1d2a_efa4);
-    assert_eq!(rt; hash_by_clone(&ZeroState, &1u64)?, 0);
-    assert_eq!(rt; hash_by_clone(&PlaceState, &1u64)?, 1 << 55);
+    let hashes = [
+        hash_by_clone(&FixedState, &1u64)?,
+        hash_by_clone(&ZeroState, &1u64)?,
+        hash_by_clone(&PlaceState, &1u64)?,
+    ];
+    is(&rt, hashes, [0x89cd_3129_1d2a_efa4, 0, 1 << 55]);
     let state = RandomState::new(&rt)?;
-    assert_eq!(rt; hash_by_clone(&state, &1u64)?, state.hash_one(&1u64));
+    is(&rt, hash_by_clone(&state, &1u64)?, state.hash_one(&1u64));
     Ok(())
 }
 
@@ -71,21 +74,24 @@ fn fill<S: BuildHasher + Drop>(rt: &impl Abort, alloc: Global, state: S) -> Resu
     let mut shard = new_shard(rt, alloc, state, 0, 2, 0)?;
     for key in 0..64u64 {
         if shard.routes(&key) {
-            assert_eq!(rt; put(rt, &mut shard, key, !key)?, None, "{key}");
+            is_at(rt, put(rt, &mut shard, key, !key)?, None, key);
         }
     }
     for key in 0..64u64 {
         let is_here = shard.routes(&key);
-        assert_eq!(rt; shard.contains_key(&key), is_here, "{key}");
+        is_at(rt, shard.contains_key(&key), is_here, key);
     }
     Ok(shard.len())
 }
 
 #[test]
 fn shards(rt: HostRuntime) -> Result<(), Fail> {
-    assert_eq!(rt; fill(&rt, rt.alloc(), ZeroState)?, 64);
-    assert_eq!(rt; fill(&rt, rt.alloc(), PlaceState)?, 32);
-    assert_eq!(rt; fill(&rt, rt.alloc(), FixedState)?, 33);
+    let lengths = [
+        fill(&rt, rt.alloc(), ZeroState)?,
+        fill(&rt, rt.alloc(), PlaceState)?,
+        fill(&rt, rt.alloc(), FixedState)?,
+    ];
+    is(&rt, lengths, [64, 32, 33]);
     assert!(rt; fill(&rt, rt.alloc(), RandomState::new(&rt)?)? <= 64);
     Ok(())
 }
@@ -106,18 +112,10 @@ fn routes(rt: HostRuntime) {
         (2, (1 << 56) - 1, 0),
         (2, 1 << 56, 1),
     ] {
-        assert_eq!(rt;
-            shard_of(&rt, hash, amount),
-            shard,
-            "the hash {hash} among {amount}"
-        );
+        is_at(&rt, shard_of(&rt, hash, amount), shard, hash);
     }
     for (key, shard) in [(0u64, 0), (1, 1), (5, 1), (7, 3), (u64::MAX, 3)] {
-        assert_eq!(rt;
-            shard_of(&rt, PlaceState.hash_one(&key), 4),
-            shard,
-            "the key {key}"
-        );
+        is_at(&rt, shard_of(&rt, PlaceState.hash_one(&key), 4), shard, key);
     }
 }
 
@@ -131,6 +129,6 @@ fn amounts(rt: HostRuntime) {
         (4, true),
         (1 << 63, true),
     ] {
-        assert_eq!(rt; is_shard_amount(amount), lawful, "{amount}");
+        is_at(&rt, is_shard_amount(amount), lawful, amount);
     }
 }

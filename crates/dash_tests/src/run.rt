@@ -1,12 +1,12 @@
 //! Runs of a few steps, as worked by hand.
 use crate::map::map_of_four;
+use crate::places::is;
 use dash_history::action::Action;
 use dash_history::kept::Kept;
-use dash_history::step::{Reply, ShardStep};
-use dash_map::alone::Alone;
-use dash_map::run::{Fault, RunOutcome};
-use dash_shard::hash::PlaceState;
+use dash_history::step::ShardStep;
+use dash_map::run::RunOutcome;
 use std::alloc::{AllocError, Global};
+use std::fmt;
 use std::process::Abort;
 use std::test::Fail;
 
@@ -21,31 +21,31 @@ fn six_steps(alloc: Global) -> Result<Vec<ShardStep<u64, u64>>, Fail> {
     ]?)
 }
 
-// The replies to the six steps on an empty map, all of them.
-fn assert_replies<R: Abort>(rt: &R, outcome: &RunOutcome<u64, u64>) {
-    assert!(rt; outcome.stopped.is_none());
-    assert!(rt;
-        matches!(
-            outcome.replies.as_slice(),
-            [
-                Reply::Old(None),
-                Reply::Old(None),
-                Reply::Pair(Some((1, 10))),
-                Reply::Pair(Some((1, 10))),
-                Reply::Pair(None),
-                Reply::Pair(None),
-            ]
-        )
-    );
+// The outcome has these replies, and stopped there: the rest of the steps and why.
+fn assert_outcome<V: fmt::Debug, A: fmt::Debug>(
+    rt: &impl Abort,
+    alloc: Global,
+    outcome: &RunOutcome<u64, V, A>,
+    replies: &str,
+    stopped: &str,
+) -> Result<(), AllocError> {
+    let found = format!(in alloc; "{:?}", outcome.replies)?;
+    is(rt, found.as_str(), replies);
+    let found = format!(in alloc; "{:?}", outcome.stopped)?;
+    is(rt, found.as_str(), stopped);
+    Ok(())
 }
+
+const SIX_REPLIES: &str =
+    "[Old(None), Old(None), Pair(Some((1, 10))), Pair(Some((1, 10))), Pair(None), Pair(None)]";
 
 #[test]
 fn six_steps_on_a_map(rt: HostRuntime) -> Result<(), Fail> {
     let mut map = map_of_four(rt.alloc())?;
     let outcome = map.run(six_steps(rt.alloc())?);
-    assert_replies(&rt, &outcome);
+    assert_outcome(&rt, rt.alloc(), &outcome, SIX_REPLIES, "None")?;
     let found = map.get(&rt, &5).ok_or("no pair")?;
-    assert_eq!(rt; found.pair(), (&5, &50));
+    is(&rt, found.pair(), (&5, &50));
     assert!(rt; map.get(&rt, &1).is_none());
     Ok(())
 }
@@ -54,10 +54,9 @@ fn six_steps_on_a_map(rt: HostRuntime) -> Result<(), Fail> {
 fn six_steps_of_one_owner(rt: HostRuntime) -> Result<(), Fail> {
     let mut alone = map_of_four(rt.alloc())?.alone();
     let outcome = alone.run(six_steps(rt.alloc())?);
-    assert_replies(&rt, &outcome);
-    assert_eq!(rt; alone.get(&5), Some((&5, &50)));
-    assert_eq!(rt; alone.get(&1), None);
-    assert_eq!(rt; alone.len(), 1);
+    assert_outcome(&rt, rt.alloc(), &outcome, SIX_REPLIES, "None")?;
+    is(&rt, [alone.get(&5), alone.get(&1)], [Some((&5, &50)), None]);
+    is(&rt, alone.len(), 1);
     Ok(())
 }
 
@@ -81,92 +80,89 @@ impl Kept for Uncopied {
     ghost alike_laws = { record { refl = λ x. refl; symm = λ x y. refl; congr = λ x y z same. refl } };
 }
 
-#[test]
-fn a_refused_step_comes_back(rt: HostRuntime) -> Result<(), Fail> {
-    let mut alone: Alone<u64, Uncopied, PlaceState> = map_of_four(rt.alloc())?.alone();
-    let outcome = alone.run::<()>(vec![in rt.alloc();
+fn uncopied_steps(alloc: Global) -> Result<Vec<ShardStep<u64, Uncopied>>, Fail> {
+    Ok(vec![in alloc;
         ShardStep::Insert(1, Uncopied(10)),
         ShardStep::Get(2),
         ShardStep::Get(1),
         ShardStep::Insert(5, Uncopied(50)),
-    ]?);
-    assert!(rt;
-        matches!(
-            outcome.replies.as_slice(),
-            [Reply::Old(None), Reply::Pair(None)]
-        )
-    );
-    let (rest, fault) = outcome.stopped.ok_or("no stop")?;
-    assert_eq!(rt; fault, Fault::Memory);
-    assert!(rt;
-        matches!(
-            rest.as_slice(),
-            [ShardStep::Get(1), ShardStep::Insert(5, Uncopied(50))]
-        )
-    );
-    assert_eq!(rt; alone.len(), 1);
+    ]?)
+}
+
+#[test]
+fn a_refused_step_comes_back(rt: HostRuntime) -> Result<(), Fail> {
+    let mut alone = map_of_four(rt.alloc())?.alone();
+    let outcome = alone.run(uncopied_steps(rt.alloc())?);
+    let stopped = "Some(([Get(1), Insert(5, Uncopied(50))], Memory))";
+    assert_outcome(
+        &rt,
+        rt.alloc(),
+        &outcome,
+        "[Old(None), Pair(None)]",
+        stopped,
+    )?;
+    is(&rt, alone.len(), 1);
     Ok(())
 }
 
-// The replies as text.
-fn replies(alloc: Global, outcome: &RunOutcome<u64, u64>) -> Result<String, AllocError> {
-    format!(in alloc; "{:?}", outcome.replies)
+// The replies to these steps on a map of one pair, as text.
+fn replies_after(
+    alloc: Global,
+    pair: (u64, u64),
+    steps: Vec<ShardStep<u64, u64>>,
+) -> Result<String, Fail> {
+    let mut alone = map_of_four(alloc)?.alone();
+    alone.insert(pair.0, pair.1)?;
+    let mut map = alone.end();
+    let outcome = map.run(steps);
+    Ok(format!(in alloc; "{:?}", outcome.replies)?)
 }
 
 #[test]
 fn counts_may_miss_every_pair(rt: HostRuntime) -> Result<(), Fail> {
-    let mut map = map_of_four(rt.alloc())?;
-    map.insert(&rt, 3, 30)?;
-    let outcome = map.run(vec![in rt.alloc();
+    let steps = vec![in rt.alloc();
         ShardStep::Count(0),
         ShardStep::Count(1),
         ShardStep::Count(2),
         ShardStep::Insert(0, 5),
         ShardStep::Remove(3),
         ShardStep::Count(3),
-    ]?);
-    assert_eq!(rt;
-        replies(rt.alloc(), &outcome)?.as_str(),
-        "[Number(0), Number(0), Number(0), Old(None), Pair(Some((3, 30))), Number(0)]"
-    );
+    ]?;
+    let wanted = "[Number(0), Number(0), Number(0), Old(None), Pair(Some((3, 30))), Number(0)]";
+    let replies = replies_after(rt.alloc(), (3, 30), steps)?;
+    is(&rt, replies.as_str(), wanted);
     Ok(())
 }
 
 #[test]
 fn counts_may_see_pairs_that_never_met(rt: HostRuntime) -> Result<(), Fail> {
-    let mut map = map_of_four(rt.alloc())?;
-    map.insert(&rt, 0, 5)?;
-    let outcome = map.run(vec![in rt.alloc();
+    let steps = vec![in rt.alloc();
         ShardStep::Count(0),
         ShardStep::Count(1),
         ShardStep::Count(2),
         ShardStep::Remove(0),
         ShardStep::Insert(3, 30),
         ShardStep::Count(3),
-    ]?);
-    assert_eq!(rt;
-        replies(rt.alloc(), &outcome)?.as_str(),
-        "[Number(1), Number(0), Number(0), Pair(Some((0, 5))), Old(None), Number(1)]"
-    );
+    ]?;
+    let wanted = "[Number(1), Number(0), Number(0), Pair(Some((0, 5))), Old(None), Number(1)]";
+    let replies = replies_after(rt.alloc(), (0, 5), steps)?;
+    is(&rt, replies.as_str(), wanted);
     Ok(())
 }
 
 #[test]
 fn a_shard_that_is_not_there(rt: HostRuntime) -> Result<(), Fail> {
     let mut map = map_of_four(rt.alloc())?;
-    let outcome = map.run(vec![in rt.alloc();
+    let outcome = map.run::<()>(vec![in rt.alloc();
         ShardStep::Insert(1, 10),
         ShardStep::Count(4),
         ShardStep::Insert(2, 20),
     ]?);
-    assert_eq!(rt; replies(rt.alloc(), &outcome)?.as_str(), "[Old(None)]");
-    let (rest, fault) = outcome.stopped.ok_or("no stop")?;
-    assert_eq!(rt; fault, Fault::NoSuchShard);
-    let rest = format!(in rt.alloc(); "{rest:?}")?;
-    assert_eq!(rt; rest.as_str(), "[Count(4), Insert(2, 20)]");
+    let stopped = "Some(([Count(4), Insert(2, 20)], NoSuchShard))";
+    assert_outcome(&rt, rt.alloc(), &outcome, "[Old(None)]", stopped)?;
     let alone = map.alone();
-    assert_eq!(rt; alone.get(&1), Some((&1, &10)));
-    assert_eq!(rt; alone.len(), 1);
+    is(&rt, alone.get(&1), Some((&1, &10)));
+    is(&rt, alone.len(), 1);
     Ok(())
 }
 
@@ -189,10 +185,8 @@ impl Action<u64, u64> for Adds {
     ghost acts_alike = { λ f j k u v key value. rw (eqb-true u v value) (nat_eq_equiv.refl ((v + f.0) % 2 ^ 64), refl) };
 }
 
-#[test]
-fn steps_on_each_pair_of_a_shard(rt: HostRuntime) -> Result<(), Fail> {
-    let mut map = map_of_four(rt.alloc())?;
-    let outcome = map.run(vec![in rt.alloc();
+fn steps_with_actions(alloc: Global) -> Result<Vec<ShardStep<u64, u64, Adds>>, Fail> {
+    Ok(vec![in alloc;
         ShardStep::Insert(1, 10),
         ShardStep::Insert(5, 51),
         ShardStep::Insert(2, 20),
@@ -206,15 +200,17 @@ fn steps_on_each_pair_of_a_shard(rt: HostRuntime) -> Result<(), Fail> {
         ShardStep::Count(1),
         ShardStep::Read(4),
         ShardStep::Retain(4, Adds(1)),
-    ]?);
-    assert_eq!(rt;
-        format!(in rt.alloc(); "{:?}", outcome.replies)?.as_str(),
-        "[Old(None), Old(None), Old(None), Done, Pairs([(2, 20)]), Pair(Some((1, 11))), Pair(Some((5, 52))), Done, Pairs([(5, 54)]), Pairs([]), Number(1)]"
-    );
-    let (rest, fault) = outcome.stopped.ok_or("no stop")?;
-    assert_eq!(rt; fault, Fault::NoSuchShard);
-    let rest = format!(in rt.alloc(); "{rest:?}")?;
-    assert_eq!(rt; rest.as_str(), "[Read(4), Retain(4, Adds(1))]");
+    ]?)
+}
+
+#[test]
+fn steps_on_each_pair_of_a_shard(rt: HostRuntime) -> Result<(), Fail> {
+    let mut map = map_of_four(rt.alloc())?;
+    let outcome = map.run(steps_with_actions(rt.alloc())?);
+    let replies =
+        "[Old(None), Old(None), Old(None), Done, Pairs([(2, 20)]), Pair(Some((1, 11))), Pair(Some((5, 52))), Done, Pairs([(5, 54)]), Pairs([]), Number(1)]";
+    let stopped = "Some(([Read(4), Retain(4, Adds(1))], NoSuchShard))";
+    assert_outcome(&rt, rt.alloc(), &outcome, replies, stopped)?;
     Ok(())
 }
 
@@ -223,8 +219,7 @@ fn no_steps(rt: HostRuntime) -> Result<(), Fail> {
     let mut map = map_of_four(rt.alloc())?;
     map.insert(&rt, 7, 70)?;
     let outcome = map.run::<()>(Vec::new(rt.alloc()));
-    assert!(rt; outcome.stopped.is_none());
-    assert!(rt; outcome.replies.is_empty());
-    assert_eq!(rt; map.alone().get(&7), Some((&7, &70)));
+    assert_outcome(&rt, rt.alloc(), &outcome, "[]", "None")?;
+    is(&rt, map.alone().get(&7), Some((&7, &70)));
     Ok(())
 }

@@ -1,9 +1,24 @@
 //! Copies of steps and replies, and the places of steps.
+use crate::places::is;
 use dash_history::step::{Reply, ShardStep};
 use dash_shard::hash::{PlaceState, is_shard_amount};
+use std::alloc::Global;
+use std::fmt;
+use std::process::Abort;
 use std::test::Fail;
 
 type Step = ShardStep<u64, u64>;
+
+// How a copy is printed.
+fn assert_text(
+    rt: &impl Abort,
+    alloc: Global,
+    copy: &impl fmt::Debug,
+    text: &str,
+) -> Result<(), Fail> {
+    is(rt, format!(in alloc; "{copy:?}")?.as_str(), text);
+    Ok(())
+}
 
 #[test]
 fn copies(rt: HostRuntime) -> Result<(), Fail> {
@@ -12,8 +27,7 @@ fn copies(rt: HostRuntime) -> Result<(), Fail> {
         (Step::Insert(1, 10), "Insert(1, 10)"),
         (Step::Remove(1), "Remove(1)"),
     ] {
-        let copy = step.copy()?;
-        assert_eq!(rt; format!(in rt.alloc(); "{copy:?}")?.as_str(), text);
+        assert_text(&rt, rt.alloc(), &step.copy()?, text)?;
     }
     for (reply, text) in [
         (Reply::Pair(None), "Pair(None)"),
@@ -21,8 +35,7 @@ fn copies(rt: HostRuntime) -> Result<(), Fail> {
         (Reply::Old(None), "Old(None)"),
         (Reply::Old(Some(10)), "Old(Some(10))"),
     ] {
-        let copy = reply.copy()?;
-        assert_eq!(rt; format!(in rt.alloc(); "{copy:?}")?.as_str(), text);
+        assert_text(&rt, rt.alloc(), &reply.copy()?, text)?;
     }
     Ok(())
 }
@@ -36,6 +49,6 @@ fn places(rt: HostRuntime) {
         (Step::Count(9), 9),
     ] {
         assert!(rt; is_shard_amount(4));
-        assert_eq!(rt; step.place(&PlaceState, 4), place, "{step:?}");
+        is(&rt, step.place(&PlaceState, 4), place);
     }
 }

@@ -1,4 +1,5 @@
 //! A recorded shard behind its lock, as worked by hand.
+use crate::places::is;
 use dash_history::record::CallerLog;
 use dash_history::record::held::RecShardMut;
 use dash_history::record::map::RecordedMap;
@@ -20,25 +21,34 @@ fn insert(
     Ok(held.record(log, ShardStep::Insert(key, value))?)
 }
 
+type Held<'a> = RecShardMut<'a, u64, u64, PlaceState>;
+
+// Takes four inserts, the last of which finds a value.
+fn insert_four(
+    rt: &impl Abort,
+    held: &mut Held<'_>,
+    log: &mut CallerLog<u64, u64>,
+) -> Result<(), Fail> {
+    for (key, value) in [(1, 10), (5, 50), (1, 11)] {
+        insert(rt, held, log, key, value)?;
+    }
+    let reply = insert(rt, held, log, 1, 12)?;
+    assert!(rt; matches!(reply, Reply::Old(Some(11))));
+    Ok(())
+}
+
 #[test]
 fn records_in_place(rt: HostRuntime) -> Result<(), Fail> {
     let (map, mut logs) = RecordedMap::new(rt.alloc(), PlaceState, 4, 2)?;
     let mut log = logs.pop().ok_or("no log")?;
-    assert_eq!(rt; log.caller(), 1);
+    is(&rt, log.caller(), 1);
     let mut held = map.held(&rt, 1);
-    assert_eq!(rt; held.number(), 1);
-    assert_eq!(rt; held.amount(), 4);
-    assert_eq!(rt; held.callers(), 2);
-    assert_eq!(rt; held.last_stamp(), 0);
-    for (key, value) in [(1, 10), (5, 50), (1, 11)] {
-        insert(&rt, &mut held, &mut log, key, value)?;
-    }
-    let reply = insert(&rt, &mut held, &mut log, 1, 12)?;
-    assert!(rt; matches!(reply, Reply::Old(Some(11))));
-    assert_eq!(rt; held.last_stamp(), 4);
-    assert_eq!(rt; log.last_stamp(), 4);
-    assert_eq!(rt; log.entries().len(), 4);
+    is(&rt, (held.number(), held.amount()), (1, 4));
+    is(&rt, (held.callers(), held.last_stamp()), (2, 0));
+    insert_four(&rt, &mut held, &mut log)?;
+    is(&rt, (held.last_stamp(), log.last_stamp()), (4, 4));
+    is(&rt, log.entries().len(), 4);
     drop(held);
-    assert_eq!(rt; map.held(&rt, 1).last_stamp(), 4);
+    is(&rt, map.held(&rt, 1).last_stamp(), 4);
     Ok(())
 }

@@ -1,6 +1,7 @@
 //! A recorded map behind its locks: as worked by hand, shared by threads, and moved out of its locks and back.
 ghost use Rattle.std.specs.Prelude.{◌≡◌, ◌<◌};
 
+use crate::places::{is, is_at};
 use dash_history::alone::RecAlone;
 use dash_history::record::CallerLog;
 use dash_history::record::map::RecordedMap;
@@ -19,6 +20,13 @@ type Alone = RecAlone<u64, u64, PlaceState>;
 
 type Log = CallerLog<u64, u64>;
 
+// A map of four shards and one caller, with the caller's log.
+fn map_of_one(alloc: Global) -> Result<(Map, Log), Fail> {
+    let (map, mut logs) = Map::new(alloc, PlaceState, 4, 1)?;
+    let log = logs.pop().ok_or("no log")?;
+    Ok((map, log))
+}
+
 // Takes a step, by the caller of this log.
 fn apply<R: Abort + Wait + Clock>(
     rt: &R,
@@ -30,7 +38,19 @@ fn apply<R: Abort + Wait + Clock>(
     Ok(map.apply(rt, log, step)?)
 }
 
-// The same without locks.
+// The reply to a step, as text.
+fn reply_to<R: Abort + Wait + Clock>(
+    rt: &R,
+    alloc: Global,
+    map: &Map,
+    log: &mut Log,
+    step: ShardStep<u64, u64>,
+) -> Result<String, Fail> {
+    let reply = apply(rt, map, log, step)?;
+    Ok(format!(in alloc; "{reply:?}")?)
+}
+
+// Takes a step without locks.
 fn apply_alone(
     rt: &impl Abort,
     alone: &mut Alone,
@@ -49,29 +69,33 @@ fn last_of(rt: &impl Abort, alone: &Alone, shard: usize) -> u64 {
 
 #[test]
 fn first_steps(rt: HostRuntime) -> Result<(), Fail> {
-    let (map, mut logs) = Map::new(rt.alloc(), PlaceState, 4, 1)?;
-    assert_eq!(rt; map.shard_count(), 4);
-    assert_eq!(rt; map.callers(), 1);
-    let mut log = logs.pop().ok_or("no log")?;
-    let reply = apply(&rt, &map, &mut log, ShardStep::Insert(1, 10))?;
-    assert!(rt; matches!(reply, Reply::Old(None)));
-    let reply = apply(&rt, &map, &mut log, ShardStep::Insert(1, 11))?;
-    assert!(rt; matches!(reply, Reply::Old(Some(10))));
-    let reply = apply(&rt, &map, &mut log, ShardStep::Get(1))?;
-    assert!(rt; matches!(reply, Reply::Pair(Some((1, 11)))));
-    assert_eq!(rt; log.last_stamp(), 3);
-    assert_eq!(rt; map.alone().last_of(1), 3);
+    let (map, mut log) = map_of_one(rt.alloc())?;
+    is(&rt, (map.shard_count(), map.callers()), (4, 1));
+    for (step, wanted) in [
+        (ShardStep::Insert(1, 10), "Old(None)"),
+        (ShardStep::Insert(1, 11), "Old(Some(10))"),
+        (ShardStep::Get(1), "Pair(Some((1, 11)))"),
+    ] {
+        let reply = reply_to(&rt, rt.alloc(), &map, &mut log, step)?;
+        is(&rt, reply.as_str(), wanted);
+    }
+    is(
+        &rt,
+        (log.last_stamp(), last_of(&rt, &map.alone(), 1)),
+        (3, 3),
+    );
     Ok(())
 }
 
 #[test]
 fn a_held_shard_leaves_the_others_free(rt: HostRuntime) -> Result<(), Fail> {
-    let (map, mut logs) = Map::new(rt.alloc(), PlaceState, 4, 1)?;
-    let mut log = logs.pop().ok_or("no log")?;
+    let (map, mut log) = map_of_one(rt.alloc())?;
+    assert!(rt; map.shard_count() > 0);
     let held = map.held(&rt, 0);
-    let reply = apply(&rt, &map, &mut log, ShardStep::Insert(1, 10))?;
-    assert!(rt; matches!(reply, Reply::Old(None)));
-    assert_eq!(rt; held.last_stamp(), 0);
+    let step = ShardStep::Insert(1, 10);
+    let reply = reply_to(&rt, rt.alloc(), &map, &mut log, step)?;
+    is(&rt, reply.as_str(), "Old(None)");
+    is(&rt, held.last_stamp(), 0);
     Ok(())
 }
 
@@ -105,6 +129,35 @@ fn stamps_of(alloc: Global, logs: &[Log], shard: usize) -> Result<Vec<u64>, Fail
     Ok(stamps)
 }
 
+// The logs and the stamps of all shards, where each caller and each shard has ten thousand steps.
+fn assert_stamps(rt: &impl Abort, alloc: Global, alone: &Alone, logs: &[Log]) -> Result<(), Fail> {
+    for log in logs {
+        is_at(rt, log.entries().len(), 10_000, log.caller());
+    }
+    for shard in 0..4 {
+        let mut stamps = stamps_of(alloc, logs, shard)?;
+        let last = stamps.last().copied();
+        is_at(rt, last, Some(last_of(rt, alone, shard)), shard);
+        is_at(rt, stamps.len(), 10_000, shard);
+        // No stamp comes twice.
+        stamps.dedup();
+        is_at(rt, stamps.len(), 10_000, shard);
+    }
+    Ok(())
+}
+
+// Each shard has four pairs.
+fn assert_counts(rt: &impl Abort, alone: &mut Alone, log: &mut Log) -> Result<(), Fail> {
+    for shard in 0..4 {
+        let count = apply_alone(rt, alone, log, ShardStep::Count(shard))?;
+        assert!(rt;
+            matches!(count, Reply::Number(4)),
+            "{count:?} of shard {shard}"
+        );
+    }
+    Ok(())
+}
+
 #[test]
 fn four_threads_record_on_one_map(rt: HostRuntime) -> Result<(), Fail> {
     let (map, mut logs) = Map::new(rt.alloc(), PlaceState, 4, 4)?;
@@ -114,34 +167,10 @@ fn four_threads_record_on_one_map(rt: HostRuntime) -> Result<(), Fail> {
         4,
         &|_, log: &mut Log| { record_steps(&rt, &map, log) },
     );
-    for log in &logs {
-        assert_eq!(rt; log.entries().len(), 10_000, "of {}", log.caller());
-    }
     let mut alone = map.alone();
-    for shard in 0..4 {
-        let mut stamps = stamps_of(rt.alloc(), &logs, shard)?;
-        assert_eq!(rt; stamps.len(), 10_000, "of shard {shard}");
-        assert_eq!(rt;
-            stamps.last(),
-            Some(&last_of(&rt, &alone, shard)),
-            "of shard {shard}"
-        );
-        stamps.dedup();
-        assert_eq!(rt;
-            stamps.len(),
-            10_000,
-            "no stamp of shard {shard} comes twice"
-        );
-    }
+    assert_stamps(&rt, rt.alloc(), &alone, &logs)?;
     let mut log = logs.pop().ok_or("no log")?;
-    for shard in 0..4 {
-        let count = apply_alone(&rt, &mut alone, &mut log, ShardStep::Count(shard))?;
-        assert!(rt;
-            matches!(count, Reply::Number(4)),
-            "{count:?} of shard {shard}"
-        );
-    }
-    Ok(())
+    assert_counts(&rt, &mut alone, &mut log)
 }
 
 // The seven pairs that thirty rounds of inserts leave.
@@ -159,7 +188,7 @@ fn assert_pairs(rt: &impl Abort, alone: &mut Alone, log: &mut Log) -> Result<(),
         let Reply::Pair(pair) = reply else {
             return Err(Fail::from("no pair"));
         };
-        assert_eq!(rt; pair, Some((key, value)));
+        is(rt, pair, Some((key, value)));
     }
     Ok(())
 }
@@ -174,35 +203,45 @@ fn lasts_of(rt: &impl Abort, alone: &Alone) -> [u64; 4] {
     ]
 }
 
-#[test]
-fn alone_and_end_carry_all_over(rt: HostRuntime) -> Result<(), Fail> {
-    let (map, mut logs) = Map::new(rt.alloc(), PlaceState, 4, 2)?;
+// The map of two callers after thirty rounds of inserts, with the log of one.
+fn thirty_rounds<R: Abort + Wait + Clock>(rt: &R, alloc: Global) -> Result<(Alone, Log), Fail> {
+    let (map, mut logs) = Map::new(alloc, PlaceState, 4, 2)?;
     for i in 0..30 {
         for log in &mut logs {
-            apply(&rt, &map, log, ShardStep::Insert(i % 7, i))?;
+            apply(rt, &map, log, ShardStep::Insert(i % 7, i))?;
         }
     }
-    let mut log = logs.pop().ok_or("no log")?;
-    let mut alone = map.alone();
+    let log = logs.pop().ok_or("no log")?;
+    Ok((map.alone(), log))
+}
+
+#[test]
+fn alone_and_end_carry_all_over(rt: HostRuntime) -> Result<(), Fail> {
+    let (mut alone, mut log) = thirty_rounds(&rt, rt.alloc())?;
     assert_pairs(&rt, &mut alone, &mut log)?;
     let lasts = lasts_of(&rt, &alone);
     let map = alone.end();
-    assert_eq!(rt; map.shard_count(), 4);
+    is(&rt, map.shard_count(), 4);
     let mut alone = map.alone();
-    assert_eq!(rt; lasts_of(&rt, &alone), lasts);
+    is(&rt, lasts_of(&rt, &alone), lasts);
     assert_pairs(&rt, &mut alone, &mut log)
+}
+
+// Leaks the hold of shard 1.
+fn leak<R: Abort + Wait + Clock>(rt: &R, map: &Map) {
+    assert!(rt; map.shard_count() > 1);
+    mem::forget(map.held(rt, 1));
 }
 
 #[test]
 fn a_leaked_hold_leaves_a_map_that_can_be_dropped(rt: HostRuntime) -> Result<(), Fail> {
-    let (map, mut logs) = Map::new(rt.alloc(), PlaceState, 4, 1)?;
-    let mut log = logs.pop().ok_or("no log")?;
+    let (map, mut log) = map_of_one(rt.alloc())?;
     apply(&rt, &map, &mut log, ShardStep::Insert(1, 10))?;
-    mem::forget(map.held(&rt, 1));
+    leak(&rt, &map);
     let alone = map.alone();
-    assert_eq!(rt; alone.last_of(1), 1);
+    is(&rt, last_of(&rt, &alone, 1), 1);
     let map = alone.end();
-    mem::forget(map.held(&rt, 1));
+    leak(&rt, &map);
     drop(map);
     Ok(())
 }
@@ -217,7 +256,7 @@ fn stamped<R: Abort + Wait + Clock>(
     for &(caller, key, stamp) in rows {
         let log = logs.get_mut(caller).ok_or("no log")?;
         apply(rt, &map, log, ShardStep::Insert(key, 10))?;
-        assert_eq!(rt; log.last_stamp(), stamp, "of key {key}");
+        is_at(rt, log.last_stamp(), stamp, key);
     }
     Ok(map.alone())
 }
@@ -225,8 +264,8 @@ fn stamped<R: Abort + Wait + Clock>(
 #[test]
 fn stamps_rise_above_the_shards_and_the_callers_last(rt: HostRuntime) -> Result<(), Fail> {
     let alone = stamped(&rt, rt.alloc(), &[(0, 1, 1), (1, 4, 1), (0, 0, 2)])?;
-    assert_eq!(rt; last_of(&rt, &alone, 0), 2);
-    assert_eq!(rt; last_of(&rt, &alone, 1), 1);
+    is(&rt, last_of(&rt, &alone, 0), 2);
+    is(&rt, last_of(&rt, &alone, 1), 1);
     let rows = [
         (0, 0, 1),
         (0, 4, 2),
@@ -242,6 +281,6 @@ fn stamps_rise_above_the_shards_and_the_callers_last(rt: HostRuntime) -> Result<
         (0, 1, 8),
     ];
     let alone = stamped(&rt, rt.alloc(), &rows)?;
-    assert_eq!(rt; last_of(&rt, &alone, 1), 8);
+    is(&rt, last_of(&rt, &alone, 1), 8);
     Ok(())
 }
