@@ -12,3 +12,4 @@ mod Refusals
 pub mod Planning
 mod Sweeping
 mod PlainSweeps
+mod PlainTakes
