@@ -13,3 +13,4 @@ pub mod Planning
 mod Sweeping
 mod PlainSweeps
 mod PlainTakes
+mod Preparing

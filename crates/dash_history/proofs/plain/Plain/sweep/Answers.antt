@@ -56,19 +56,13 @@ pub returns-in_err-ok-clause-stays : goal.returns-in_err-ok-clause-stays
 returns-in_err-ok-clause-stays g c = (refl, refl)
 
 pub returns-then-shard-self-clause-refused : goal.returns-then-shard-self-clause-refused
-returns-then-shard-self-clause-refused g c =
-    let At : Type 0 = PlainState g.row.K.Denot g.row.V.Denot g.row.S.Denot in
-    λ _. (refl, inl (omega (arith, c.if-shard-self.true, ap (λ (x : At). x.amount) c.self.view_is)))
+returns-then-shard-self-clause-refused g c = λ _. (refl, inl (omega (arith, c.if-shard-self.true, ap (λ (x : PlainState g.row.K.Denot g.row.V.Denot g.row.S.Denot). x.amount) c.self.view_is)))
 
 pub returns-in_err-left-clause-refused : goal.returns-in_err-left-clause-refused
-returns-in_err-left-clause-refused g c =
-    let At : Type 0 = PlainState g.row.K.Denot g.row.V.Denot g.row.S.Denot in
-    λ _. (refl, inr (omega (arith, c.loop-pair-test.true, ap length c.deref-pair-items.ensures.value, ap (λ (x : At). length x.pairs) c.self.view_is)))
+returns-in_err-left-clause-refused g c = λ _. (refl, inr (omega (arith, c.loop-pair-test.true, ap length c.deref-pair-items.ensures.value, ap (λ (x : PlainState g.row.K.Denot g.row.V.Denot g.row.S.Denot). length x.pairs) c.self.view_is)))
 
 pub returns-in_err-ok-clause-refused : goal.returns-in_err-ok-clause-refused
-returns-in_err-ok-clause-refused g c =
-    let At : Type 0 = PlainState g.row.K.Denot g.row.V.Denot g.row.S.Denot in
-    λ _. (refl, inr (omega (arith, c.loop-pair-test.true, ap length c.deref-pair-items.ensures.value, ap (λ (x : At). length x.pairs) c.self.view_is)))
+returns-in_err-ok-clause-refused g c = λ _. (refl, inr (omega (arith, c.loop-pair-test.true, ap length c.deref-pair-items.ensures.value, ap (λ (x : PlainState g.row.K.Denot g.row.V.Denot g.row.S.Denot). length x.pairs) c.self.view_is)))
 
 pub returns-clause-leaves : goal.returns-clause-leaves
 returns-clause-leaves g c e =
