@@ -4,7 +4,7 @@ use Rattle.std.specs.Prelude.{IfSome, IfOk}
 use Rattle.std.specs.Cmp.{IsEquivalence}
 use Rattle.std.specs.Option.{option_map, option_and_then, ok_or}
 use Rattle.dash_shard.specs.Hashing.{KeyHash, IsLawful}
-use Rattle.dash_shard.specs.Contents.{at, on, Distinct, EachOnce}
+use Rattle.dash_shard.specs.Contents.{at, Distinct, EachOnce}
 use Rattle.dash_shard.specs.Steps as table
 use Rattle.dash_shard.specs.Steps.{Act, Line, at_key, line, Reply, Pair, Found, Old, Pairs, Number, Done, Replies, Becomes, after}
 use Rattle.dash_shard.proofs.Routing.{route_below}

@@ -1,5 +1,5 @@
 -- What a step replies on a shard, before anything changes.
-use Rattle.std.proofs.Common.{◌≡◌, ◌⊎◌, ℕ, IsTrue, List, Option, refl, sym, subst, inl, inr}
+use Rattle.std.proofs.Common.{◌≡◌, ◌⊎◌, ℕ, IsTrue, List, Option, sym, subst, inl, inr}
 use Rattle.std.specs.Cmp.{IsEquivalence}
 use Rattle.dash_shard.specs.Hashing.{KeyHash}
 use Rattle.dash_shard.specs.Contents.{at, on, EachOnce, IsOnShard}

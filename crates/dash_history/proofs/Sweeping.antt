@@ -1,5 +1,5 @@
 -- What was made for each pair of a shard, and put in its place, is what the step leaves there.
-use Rattle.std.proofs.Common.{◌≡◌, ◌≢◌, ℕ, ◌==◌, Bool, true, false, cond, List, [], ◌∷◌, Some, None, IsTrue, refl, sym, ap, subst, ◌∙◌, inl, inr, eq-eqb}
+use Rattle.std.proofs.Common.{◌≡◌, ◌≢◌, ℕ, Bool, true, false, cond, List, [], ◌∷◌, Some, None, IsTrue, refl, sym, ap, subst, ◌∙◌, inl, inr, eq-eqb}
 use Rattle.std.specs.Option.{option_and_then}
 use Rattle.std.proofs.lemmas.Bool.{cases_Bool, cases_eq, ne_eqb, and_from}
 use Rattle.dash_shard.specs.Contents.{at}
@@ -56,6 +56,6 @@ module _ {K V : Type 0} (m : Rules K V) where
         → SweptTo m.keys.eq m.alike_key m.alike_value made (pairs old) (pairs new)
     swept laws made ds e gives next j =
         let here : at m.keys.eq (pairs new) j ≡ option_and_then (λ p. if_yes r.act p (changed r.act p)) (at m.keys.eq (pairs old) j) =
-            r.does.taken.table.becomes j ∙ ap (λ b. cond b (option_and_then (λ p. if_yes r.act p (changed r.act p)) (at m.keys.eq (pairs old) j)) (at m.keys.eq (pairs old) j)) (eq-eqb old.number old.number refl) in
+        r.does.taken.table.becomes j ∙ ap (λ b. cond b (option_and_then (λ p. if_yes r.act p (changed r.act p)) (at m.keys.eq (pairs old) j)) (at m.keys.eq (pairs old) j)) (eq-eqb old.number old.number refl) in
         subst (λ o. AlikeAt m (option_and_then (λ p. if_yes made p (changed made p)) (at m.keys.eq (pairs old) j)) o) (sym here)
         (made-at m laws made r.act (pairs old) j (agree T left m.alike_value made r.act (pairs old) ds f r.last e gives r.called next))

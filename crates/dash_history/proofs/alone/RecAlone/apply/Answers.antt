@@ -1,4 +1,4 @@
-use Rattle.std.proofs.Common.{◌≡◌, ◌<◌, ◌≤◌, max, length, refl, sym, ap, ◌∙◌, arith}
+use Rattle.std.proofs.Common.{◌<◌, ◌≤◌, max, length, refl, sym, ap, ◌∙◌, arith}
 use Rattle.std.proofs.lemmas.Result.{IfOk-weaker, MatchResult-weaker}
 use Rattle.dash_history.specs.History.{Recorded, kinds_of}
 use Rattle.dash_history.proofs.Alones.{here, alone-set, goes_there, callers_are, past_row, place_is, count_is, last_is, applied, unchanged}

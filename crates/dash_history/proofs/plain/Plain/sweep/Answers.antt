@@ -1,4 +1,4 @@
-use Rattle.std.proofs.Common.{◌≡◌, ◌+◌, ◌++◌, ◌∷◌, [], Some, true, is_some, take, inl, inr, length, arith, refl, sym, ap, subst, ◌∙◌, append-nil}
+use Rattle.std.proofs.Common.{◌≡◌, ◌+◌, ◌++◌, ◌∷◌, [], true, is_some, take, inl, inr, length, arith, refl, sym, ap, subst, ◌∙◌, append-nil}
 use Rattle.std.proofs.lemmas.List.{take_more, take_all}
 use Rattle.std.specs.Result.{is_ok}
 use Rattle.dash_shard.specs.Hashing.{key_hash}
@@ -19,7 +19,7 @@ loop-pair-preserved g c =
     let next : take (i + 1) items ≡ take i items ++ p ∷ [] = take_more items i p c.loop-pair-test.true ∙ ap (λ x. take i items ++ x ∷ []) (sym c.pair-item.is) in
     let more = swept-more m c.args.shard (keeping c.args.all (g.A.Action.acts c.args.action.now)) (take i items) c.loop-pair.next.items p in
     let left = c.in_ok-left.field-0 in
-    let makes = ok-is c.swept.result left 
+    let makes = ok-is c.swept.result left
     (SweepsPair (key_hash g.K.PartialEq.eq g.K.Hash.hash_input g.S.BuildHasher g.S.Hasher.Hasher) g.K.Kept.alike g.V.Kept.alike c.args.self.now c.args.shard c.args.all (g.A.Action.acts c.args.action.now) p) (sym c.ok.ensures.value ∙ c.in_ok-left.was) c.swept.ensures in
     rw next (subst (λ l. Swept m c.args.shard (keeping c.args.all (g.A.Action.acts c.args.action.now)) (take i items ++ p ∷ []) l) (sym pushed) (more left c.loop-pair.invariant makes))
   where
