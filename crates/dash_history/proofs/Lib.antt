@@ -12,3 +12,5 @@ mod Refusals
 pub mod Planning
 mod Sweeping
 mod PlainSweeps
+mod PlainTakes
+mod Preparing

@@ -1,5 +1,5 @@
 -- What was decided for a step is what the step leaves.
-use Rattle.std.proofs.Common.{◌≡◌, ℕ, ◌==◌, IsTrue, cond, List, [], ◌∷◌, ◌++◌, ◌<◌, Option, Some, None, refl, sym, ap, subst, ◌∙◌, inl, inr}
+use Rattle.std.proofs.Common.{◌≡◌, ℕ, ◌==◌, IsTrue, cond, List, [], ◌∷◌, ◌++◌, ◌<◌, Option, Some, None, refl, sym, ap, subst, inl, inr}
 use Rattle.std.specs.Cmp.{IsEquivalence}
 use Rattle.std.proofs.lemmas.Bool.{cases_Bool}
 use Rattle.std.proofs.lemmas.List.Elements.{filter-append}

@@ -2,7 +2,6 @@
 use Rattle.std.specs.Prelude.{ℕ, zero, suc, ◌≡◌, ◌<◌, ◌≤◌, List, [], ◌∷◌, ◌++◌, ◌⊎◌, length, Some, Result, IfOk, slice_get, slice_set}
 use Rattle.std.specs.Option.{option_map_or}
 use Rattle.dash_shard.specs.Hashing.{KeyHash, IsAmount, HashAlike}
-use Rattle.dash_shard.specs.Contents.{keys}
 use Rattle.dash_shard.specs.Shard.{pairs}
 use Rattle.dash_history.specs.Takes.{Known, kinds_at, Kinds}
 use Rattle.dash_history.specs.History.{LogState, RecState, Recorded, place_of}

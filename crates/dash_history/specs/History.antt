@@ -4,7 +4,7 @@ use Rattle.dash_shard.specs.Steps.{place}
 use Rattle.dash_shard.specs.Shard.{ShardState, IsShard, SameShard, pairs}
 use Rattle.dash_history.specs.Alike.{alike_reply}
 use Rattle.dash_history.specs.Steps.{step_of, reply_of, done, alike_step, alike_record}
-use Rattle.dash_history.specs.Takes.{Known, kinds_at, Kinds, rules, Takes, Runs}
+use Rattle.dash_history.specs.Takes.{Known, kinds_at, Kinds, Takes, Runs}
 use Rattle.dash_history.specs.declared.step.ShardStep.{ShardStep}
 use Rattle.dash_history.specs.declared.step.Reply.{Reply}
 use Rattle.dash_history.specs.declared.step.Record.{Record}

@@ -1,5 +1,5 @@
 -- What contracts see of the plain map.
-use Rattle.std.specs.Prelude.{◌≡◌, ◌<◌, ◌≤◌, ◌⊎◌, ℕ, List, length, Bool, Option, Some, None, IsTrue, IsSome}
+use Rattle.std.specs.Prelude.{◌≡◌, ◌<◌, ◌≤◌, ◌⊎◌, ◌-◌, ◌^◌, ℕ, List, length, min, Bool, Option, Some, None, IsTrue, IsSome}
 use Rattle.dash_shard.specs.Contents.{Keys, keys, at, on, Distinct}
 use Rattle.dash_shard.specs.Hashing.{KeyHash, IsAmount, route_by}
 use Rattle.dash_shard.specs.Steps as table
@@ -34,6 +34,10 @@ module _ {K V S : Type 0} (h : KeyHash K S) where
   -- the pairs of shard i
   abbrev pub pairs_on : PlainState K V S → ℕ → List (K × V)
   pairs_on m i = on (plain_keys m) i m.pairs
+
+  -- how many they are, at most 2^64 - 1
+  abbrev pub count_on : PlainState K V S → ℕ → ℕ
+  count_on m i = min (length (pairs_on m i)) (2 ^ 64 - 1)
 
   -- the step may get this reply
   abbrev pub PlainReplies : PlainState K V S → table.Step K V → table.Reply K V → Type 0

@@ -1,5 +1,8 @@
 -- What a step will do to the pairs of a shard: it is decided before anything changes.
 use Rattle.std.specs.Prelude.{Bool, true, false, List, Option, Some, None, IsTrue, IsSome, ⊤}
+use Rattle.std.specs.Option.{option_map}
+use Rattle.std.specs.Map.Iter.{deref_pair}
+use denote.Ref.{Bor}
 use Rattle.dash_shard.specs.Contents.{at}
 use Rattle.dash_shard.specs.Steps as table
 use Rattle.dash_shard.specs.Steps.{Line, at_key, on_shard, line, after, key_or}
@@ -65,9 +68,9 @@ module _ {K V : Type 0} where
     Plans (at_key key becomes replies) o plan = IsTrue (alike_reply k v (replies o) (reply_of plan.0)) × Fits key becomes o plan.1
     Plans (on_shard i becomes replies) o plan = ⊥
 
-    -- the same of the step with an action, at any key
-    abbrev pub PlansBy : (K → table.Act K V → table.Step K V) → table.Act K V → Option (K × V) → Reply K V × Change V → Type 0
-    PlansBy step act o plan = (key : K) → Plans (line (step key act)) o plan
+    -- the same of the step with an action, at any key, where a look-up found this pair
+    abbrev pub PlansBy : (K → table.Act K V → table.Step K V) → table.Act K V → Option (Bor K × Bor V) → Reply K V × Change V → Type 0
+    PlansBy step act found plan = (key : K) → Plans (line (step key act)) (option_map deref_pair found) plan
 
     -- the change is that of a line
     abbrev pub FitsLine : Line K V → Option (K × V) → Change V → Type 0

@@ -37,7 +37,7 @@ pub fn copy_found<K: Kept + Drop, V: Kept + Drop>(
     }
 }
 
-// What the action makes of a copy of the value, and what it answers.
+// What the action makes of a copy of the value, and its answer.
 pub(crate) fn ask<K: Kept, V: Kept + Drop, A: Action<K, V>>(
     key: &K,
     value: &V,
@@ -56,7 +56,7 @@ pub fn plan_remove_if<K: Kept + Drop, V: Kept + Drop, A: Action<K, V>>(
     found: Option<(&K, &V)>,
     action: &A,
 ) -> Result<(Reply<K, V>, Change<V>), AllocError>
-    ensures plan { IfOk result (PlansBy K.alike V.alike RemoveIf (A.acts action.now) (option_map deref_pair found.entry)) }
+    ensures plan { IfOk result (PlansBy K.alike V.alike RemoveIf (A.acts action.now) found.entry) }
     ensures memory { OnErr result (IsSome found.entry) }
 {
     let Some((key, value)) = found else {
@@ -75,7 +75,7 @@ pub fn plan_remove_if_mut<K: Kept + Drop, V: Kept + Drop, A: Action<K, V>>(
     found: Option<(&K, &V)>,
     action: &A,
 ) -> Result<(Reply<K, V>, Change<V>), AllocError>
-    ensures plan { IfOk result (PlansBy K.alike V.alike RemoveIfMut (A.acts action.now) (option_map deref_pair found.entry)) }
+    ensures plan { IfOk result (PlansBy K.alike V.alike RemoveIfMut (A.acts action.now) found.entry) }
     ensures memory { OnErr result (IsSome found.entry) }
 {
     let Some((key, value)) = found else {
@@ -94,7 +94,7 @@ pub fn plan_alter<K: Kept + Drop, V: Kept + Drop, A: Action<K, V>>(
     found: Option<(&K, &V)>,
     action: &A,
 ) -> Result<(Reply<K, V>, Change<V>), AllocError>
-    ensures plan { IfOk result (PlansBy K.alike V.alike Alter (A.acts action.now) (option_map deref_pair found.entry)) }
+    ensures plan { IfOk result (PlansBy K.alike V.alike Alter (A.acts action.now) found.entry) }
     ensures memory { OnErr result (IsSome found.entry) }
 {
     let Some((key, value)) = found else {

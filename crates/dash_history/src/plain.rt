@@ -1,11 +1,11 @@
 //! A plain, slow map whose contract is the step table: a list that is scanned.
-ghost use Rattle.std.specs.Prelude.{◌≡◌, ◌-◌, ◌^◌, ◌<◌, ◌==◌, [], None, IsNone, IsSome, IfSome, min, length, IfOk, OnOk, IfErr, OnErr, position};
+ghost use Rattle.std.specs.Prelude.{◌≡◌, ◌<◌, ◌==◌, [], None, IsNone, IsSome, IfSome, IfOk, OnOk, IfErr, OnErr, position};
 ghost use Rattle.std.specs.Option.{option_map};
 ghost use Rattle.std.specs.Map.Iter.{deref_pair};
 ghost use Rattle.dash_shard.specs.Hashing.{by, IsAmount};
 ghost use Rattle.dash_shard.specs.Contents.{at, Distinct};
 ghost use Rattle.dash_shard.specs.Steps.{Insert, Remove, Pair, Old};
-ghost use Rattle.dash_history.specs.Plain.{plain_keys, pairs_on, PlainReplies, PlainBecomes, SamePlain, Reads, SweepsPair, SweepsPlain, TakesPlain, MayFail, MayRefuse};
+ghost use Rattle.dash_history.specs.Plain.{plain_keys, count_on, PlainReplies, PlainBecomes, SamePlain, Reads, SweepsPair, SweepsPlain, TakesPlain, MayFail, MayRefuse};
 ghost use Rattle.dash_history.specs.Plan.{change_step, HasPair};
 
 use crate::action::Action;
@@ -46,7 +46,7 @@ impl<K: KeptKey, V: Kept, S: BuildHasher> Keyed for Plain<K, V, S> {
     ghost by = { by K.Hash S.BuildHasher S.Hasher.Hasher };
 }
 
-// The place of the pair whose key equals `key`.
+// The index of the pair whose key equals `key`.
 fn find<K: Eq, V>(pairs: &[(K, V)], key: &K) -> Option<usize>
     ensures { result ≡ position (λ p. K.eq p.0 key.now) pairs.now }
 {
@@ -84,7 +84,7 @@ impl<K: KeptKey + Drop, V: Kept + Drop, S: BuildHasher> Plain<K, V, S> {
 
     // How many pairs go to a shard.
     fn count(&self, shard: usize) -> u64
-        ensures { result ≡ min (length (pairs_on ⟦<Self as Keyed>⟧.by self.now shard)) (2 ^ 64 - 1) }
+        ensures { result ≡ count_on ⟦<Self as Keyed>⟧.by self.now shard }
     {
         let mut count: u64 = 0;
         for pair in &self.pairs {
@@ -184,7 +184,7 @@ impl<K: KeptKey + Drop, V: Kept + Drop, S: BuildHasher> Plain<K, V, S> {
         Some(Reply::Done)
     }
 
-    // Makes of the pair at a key what was decided, and answers the reply.
+    // Makes of the pair at a key what was decided, and returns the reply.
     fn make_change(&mut self, key: K, change: Change<V>, reply: Reply<K, V>) -> Reply<K, V>
         requires { HasPair change (at K.eq self.old.pairs key) }
         ensures becomes { PlainBecomes ⟦<Self as Keyed>⟧.by self.old self.new (change_step key change) }

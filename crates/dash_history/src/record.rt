@@ -220,7 +220,7 @@ impl<K: KeptKey + Drop, V: Kept + Drop, S: BuildHasher, A: KeptAction<K, V> + Dr
         self.last
     }
 
-    // Takes a step at a stamp, and adds a record of it at the end of the history. Answers the same record beside the reply, for the log.
+    // Takes a step at a stamp, and adds a record of it at the end of the history. It returns the reply, and the same record for the log.
     fn grow(
         &mut self,
         stamp: u64,

@@ -35,7 +35,7 @@ pub enum ShardStep<K, V, A = ()> {
     Retain(usize, A),
 }
 
-/// What a step answers.
+/// What a step returns.
 #[derive(Debug, Drop)]
 pub enum Reply<K, V> {
     /// The pair that stood at the key, or that was taken out.
@@ -48,7 +48,7 @@ pub enum Reply<K, V> {
     Pairs(Vec<(K, V)>),
     /// How many pairs, held at 2^64 - 1.
     Number(u64),
-    /// The step answers nothing.
+    /// The step returns nothing.
     Done,
 }
 

@@ -19,7 +19,7 @@ pub fn copy_pairs<K: Kept + Drop, V: Kept + Drop>(
     alloc: Global,
     pairs: Iter<'_, K, V>,
 ) -> Result<Vec<(K, V)>, AllocError>
-    ensures { IfOk result (λ copies. IsTrue (alike_pairs K.alike V.alike pairs.entry copies.items)) }
+    ensures { IfOk result (λ made. IsTrue (alike_pairs K.alike V.alike pairs.entry made.items)) }
 {
     let mut copies = Vec::with_capacity(alloc, pairs.len())?;
     for (key, value) in pairs {
@@ -29,7 +29,7 @@ pub fn copy_pairs<K: Kept + Drop, V: Kept + Drop>(
     Ok(copies)
 }
 
-/// What the action makes of copies of the values, and what it answers: yes where all pairs stay.
+/// What the action makes of copies of the values, and its answers: yes where all pairs stay.
 pub fn ask_each<K: Kept, V: Kept + Drop, A: Action<K, V>>(
     alloc: Global,
     pairs: Iter<'_, K, V>,
@@ -46,7 +46,7 @@ pub fn ask_each<K: Kept, V: Kept + Drop, A: Action<K, V>>(
     Ok(made)
 }
 
-/// Puts these values in the place of the shard's, in rising order of places, and takes out the pairs that have no yes beside theirs.
+/// Puts these values in place of the shard's, in rising order of slots, and takes out each pair that has no yes beside its value.
 pub(crate) fn put_each<K: KeptKey + Drop, V: Kept + Drop, S: BuildHasher>(
     shard: &mut Shard<K, V, S>,
     made: Vec<(V, bool)>,

@@ -52,7 +52,8 @@ impl<K: KeptKey, V: Kept, S: BuildHasher, A: KeptAction<K, V>> Model for Recorde
     ghost invariant = { λ m. IsMap (record { hasher = m.hasher; callers = m.callers; amount = length m.row.items }) m.row.items × (m.shards.items ≡ []) × (vec_len m.row ≤ vec_capacity m.shards) };
 }
 
-impl<K: KeptKey, V: Kept, S: BuildHasher, A: KeptAction<K, V>> Recorded for RecordedMap<K, V, S, A> {
+impl<K: KeptKey, V: Kept, S: BuildHasher, A: KeptAction<K, V>> Recorded
+    for RecordedMap<K, V, S, A> {
     type Key = K;
 
     type Value = V;

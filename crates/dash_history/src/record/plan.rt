@@ -130,7 +130,7 @@ pub(super) fn carry_out<
         }
         ShardStep::Read(_) | ShardStep::Count(_) => Ok(()),
         ShardStep::AlterAll(_shard, _action) | ShardStep::Retain(_shard, _action) => {
-            // Its pairs go to it.
+            // The number's contract says that all pairs go to the shard.
             let _ = shard.number();
             change_each(shard, decided);
             Ok(())

@@ -1,53 +1,30 @@
-use Rattle.std.proofs.Common.{◌≡◌, ◌⊎◌, ℕ, IsTrue, List, Option, Some, None, refl, ap, sym, subst, arith, inl, inr}
-use Rattle.std.specs.Cmp.{IsEquivalence}
-use Rattle.dash_shard.specs.Contents.{Keys, at, on, EachOnce, IsOnShard}
-use Rattle.dash_shard.specs.Steps.{Act, Reply, Pair, Found, Old, Pairs, Number, Done, value, line, RemoveIf, RemoveIfMut, Alter}
-use Rattle.dash_shard.specs.Shard.{pairs, keys_of}
-use Rattle.dash_history.specs.declared.step.ShardStep.{ShardStep}
-use Rattle.dash_history.specs.declared.step.ShardStep.TheVariants.{Get, Remove}
-use Rattle.dash_history.specs.Alike.{alike_option, alike_list, alike_pair}
-use Rattle.dash_history.specs.Steps.{step_of}
-use Rattle.dash_history.specs.Takes.{Rules, Answers}
-use Rattle.dash_history.proofs.AlikeLaws.{reply_equiv}
+use Rattle.std.proofs.Common.{IsTrue, Some, None, refl, ap, subst, arith}
 use Rattle.std.proofs.lemmas.Result.{IfOk-weaker}
+use Rattle.dash_shard.specs.Steps.{Found, Old, Pairs, Number, Done, line, RemoveIf, RemoveIfMut, Alter}
+use Rattle.dash_shard.specs.Shard.{pairs}
+use Rattle.dash_history.specs.Alike.{alike_list, alike_pair}
 use Rattle.dash_history.specs.Plan.{FitsLine}
+use Rattle.dash_history.proofs.AlikeLaws.{reply_equiv}
 use Rattle.dash_history.proofs.Planning.{answers-found, same_found}
-use Rattle.dash_shard.proofs.Remade.{each-once}
+use Rattle.dash_history.proofs.Preparing.{copied, old_of, all-once}
 use Rattle.dash_history.proofs.record.plan.prepare.Goals as goal
-use Rattle.dash_shard.specs.Hashing.{key_hash}
-
--- a copy of the pair at the key
-copied : {K V A : Type 0} (acts : A → Act K V) (m : Rules K V) (P : List (K × V)) (step : ShardStep K V A) (k : K) (o p : Option (K × V)) → (step ≡ Get k) ⊎ (step ≡ Remove k)
-    → Pair o ≡ Pair (at m.keys.eq P k) → IsTrue (alike_option (alike_pair m.alike_key m.alike_value) o p) → Answers m P (step_of acts step) (Pair p)
-copied acts m P step k o p (inl is) replies alike = rw is (record { told = Pair o; replies = replies; alike = alike })
-copied acts m P step k o p (inr is) replies alike = rw is (record { told = Pair o; replies = replies; alike = alike })
-
--- the old value, of the pair that a look-up answers
-old_of : {K V : Type 0} → Reply K V → Reply K V
-old_of (Pair o) = Old (value o)
-old_of r = r
 
 pub returns-in-Contains-clause-answers : goal.returns-in-Contains-clause-answers
 returns-in-Contains-clause-answers g c =
     rw c.in-Contains.is (record { told = Found c.contains_key.result; replies = c.contains_key.ensures.found; alike = (reply_equiv g.met.K.Kept.alike_laws g.met.V.Kept.alike_laws).refl (Found c.contains_key.result) })
 
 pub returns-in_ok-copy-in-Some-clause-answers : goal.returns-in_ok-copy-in-Some-clause-answers
-unfolding old_of
 returns-in_ok-copy-in-Some-clause-answers g c =
     rw c.in-Insert.is (record { told = Old (Some c.in-Some.value.now); replies = ap old_of c.in-Some.ensures.pair; alike = c.in_ok-copy-in-Some.ensures })
 
 pub returns-in-None-clause-answers : goal.returns-in-None-clause-answers
-unfolding old_of
 returns-in-None-clause-answers g c = rw c.in-Insert.is (record { told = Old None; replies = ap old_of c.in-None.ensures.pair; alike = refl })
 
 pub returns-in-Count-clause-answers : goal.returns-in-Count-clause-answers
 returns-in-Count-clause-answers g c =
-    let s = c.args.shard.now in
-    let w = keys_of (key_hash g.K.PartialEq.eq g.K.Hash.hash_input g.S.BuildHasher g.S.Hasher.Hasher) s in
-    let here : c.in-Count.field-0 ≡ s.number = rw c.in-Count.is at c.requires in
     rw c.in-Count.is (record {
       told = Number c.len.result;
-      replies = (pairs s, each-once w g.met.K.Eq.laws c.in-Count.field-0 (pairs s) (subst (λ i. IsOnShard w i (pairs s)) (sym here) c.len.ensures.lawful.contents), ap Number (omega (arith, c.len.ensures.len, c.len.type_inv)));
+      replies = (pairs c.args.shard.now, all-once _ g.met.K.Eq.laws c.args.shard.now c.len.ensures.lawful c.in-Count.field-0 (rw c.in-Count.is at c.requires), ap Number (omega (arith, c.len.ensures.len, c.len.type_inv)));
       alike = (reply_equiv g.met.K.Kept.alike_laws g.met.V.Kept.alike_laws).refl (Number c.len.result);
     })
 
@@ -81,29 +58,19 @@ returns-in-Alter-clause-decides g c =
     let same = same_found _ _ c.get-in-Alter.ensures.pair in
     rw c.in-Alter.is (IfOk-weaker c.plan_alter.result _ _ (λ plan p. subst (λ o. FitsLine g.K.Kept.alike g.V.Kept.alike (line (Alter c.in-Alter.key (g.A.Action.acts c.in-Alter.action))) o plan.1) same (p c.in-Alter.key).1) c.plan_alter.ensures.plan)
 
--- the pairs of the step's shard
-own : {K V : Type 0} (w : Keys K) (laws : IsEquivalence w.eq) (i n : ℕ) (P : List (K × V)) → i ≡ n → IsOnShard w n P → EachOnce w.eq (on w i P) P
-own w laws i n P here h = each-once w laws i P (subst (λ x. IsOnShard w x P) (sym here) h)
-
 pub returns-in_ok-copy_pairs-in-Read-clause-answers : goal.returns-in_ok-copy_pairs-in-Read-clause-answers
 returns-in_ok-copy_pairs-in-Read-clause-answers g c =
-    let s = c.args.shard.now in
-    let w = keys_of (key_hash g.K.PartialEq.eq g.K.Hash.hash_input g.S.BuildHasher g.S.Hasher.Hasher) s in
     let copies = c.in_ok-copy_pairs-in-Read.field-0.items in
     rw c.in-Read.is (record {
-      told = Pairs (pairs s);
-      replies = (pairs s, own w g.met.K.Eq.laws c.in-Read.field-0 s.number (pairs s) (rw c.in-Read.is at c.requires) c.iter.ensures.lawful.contents, refl);
+      told = Pairs (pairs c.args.shard.now);
+      replies = (pairs c.args.shard.now, all-once _ g.met.K.Eq.laws c.args.shard.now c.iter.ensures.lawful c.in-Read.field-0 (rw c.in-Read.is at c.requires), refl);
       alike = subst (λ l. IsTrue (alike_list (alike_pair g.K.Kept.alike g.V.Kept.alike) l copies)) c.iter.ensures.pairs c.in_ok-copy_pairs-in-Read.ensures;
     })
 
 pub returns-in_ok-made-in-AlterAll-clause-answers : goal.returns-in_ok-made-in-AlterAll-clause-answers
 returns-in_ok-made-in-AlterAll-clause-answers g c =
-    let s = c.args.shard.now in
-    let w = keys_of (key_hash g.K.PartialEq.eq g.K.Hash.hash_input g.S.BuildHasher g.S.Hasher.Hasher) s in
-    rw c.in-AlterAll.is (record { told = Done; replies = (pairs s, own w g.met.K.Eq.laws c.in-AlterAll.field-0 s.number (pairs s) (rw c.in-AlterAll.is at c.requires) c.iter-in-AlterAll.ensures.lawful.contents, refl); alike = refl })
+    rw c.in-AlterAll.is (record { told = Done; replies = (pairs c.args.shard.now, all-once _ g.met.K.Eq.laws c.args.shard.now c.iter-in-AlterAll.ensures.lawful c.in-AlterAll.field-0 (rw c.in-AlterAll.is at c.requires), refl); alike = refl })
 
 pub returns-in_ok-made-in-Retain-clause-answers : goal.returns-in_ok-made-in-Retain-clause-answers
 returns-in_ok-made-in-Retain-clause-answers g c =
-    let s = c.args.shard.now in
-    let w = keys_of (key_hash g.K.PartialEq.eq g.K.Hash.hash_input g.S.BuildHasher g.S.Hasher.Hasher) s in
-    rw c.in-Retain.is (record { told = Done; replies = (pairs s, own w g.met.K.Eq.laws c.in-Retain.field-0 s.number (pairs s) (rw c.in-Retain.is at c.requires) c.iter-in-Retain.ensures.lawful.contents, refl); alike = refl })
+    rw c.in-Retain.is (record { told = Done; replies = (pairs c.args.shard.now, all-once _ g.met.K.Eq.laws c.args.shard.now c.iter-in-Retain.ensures.lawful c.in-Retain.field-0 (rw c.in-Retain.is at c.requires), refl); alike = refl })
