@@ -60,6 +60,11 @@ fn a_pair_comes_and_goes(rt: HostRuntime) -> Result<(), Fail> {
     Ok(())
 }
 
+fn alone_without_room(alloc: Global) -> Result<Numbers, Fail> {
+    let map = DashMap::with_capacity_and_hasher_and_shard_amount(alloc, 0, PlaceState, 4)?;
+    Ok(map.alone())
+}
+
 // The refusal of too much room.
 fn refusal(alone: &mut Numbers) -> Option<TryReserveError> {
     alone.try_reserve(usize::MAX).err()
@@ -67,8 +72,7 @@ fn refusal(alone: &mut Numbers) -> Option<TryReserveError> {
 
 #[test]
 fn room_is_made(rt: HostRuntime) -> Result<(), Fail> {
-    let alone = DashMap::with_capacity_and_hasher_and_shard_amount(rt.alloc(), 0, PlaceState, 4);
-    let mut alone: Numbers = alone?.alone();
+    let mut alone = alone_without_room(rt.alloc())?;
     is(&rt, (alone.capacity(), alone.is_empty()), (0, true));
     alone.try_reserve(10)?;
     assert!(rt; alone.capacity() >= 10);
@@ -90,6 +94,13 @@ fn ask_for_two(rt: &impl Abort, alone: &mut Numbers) {
     is(rt, gone, None);
 }
 
+// Alters all values of three, and keeps two.
+fn change_all(rt: &impl Abort, alone: &mut Numbers) {
+    alone.alter_all(|_, v| v.saturating_add(1));
+    alone.retain(|_, v| *v > 5);
+    is(rt, alone.len(), 2);
+}
+
 // The list that the shared calls answer alike.
 #[test]
 fn the_list_for_shared_calls(rt: HostRuntime) -> Result<(), Fail> {
@@ -98,9 +109,7 @@ fn the_list_for_shared_calls(rt: HostRuntime) -> Result<(), Fail> {
     alone.alter(&4, |_, v| v.saturating_add(1));
     ask_for_two(&rt, &mut alone);
     assert_values(&rt, &alone, &[(1, Some(3))]);
-    alone.alter_all(|_, v| v.saturating_add(1));
-    alone.retain(|_, v| *v > 5);
-    is(&rt, alone.len(), 2);
+    change_all(&rt, &mut alone);
     assert_values(&rt, &alone, &[(1, None)]);
     remove_all(&rt, &mut alone, &[(4, Some((4, 11)))]);
     assert_values(&rt, &alone, &[(0, Some(6))]);

@@ -12,6 +12,10 @@ use std::sync::{Arc, Wait};
 use std::test::Fail;
 use std::thread;
 
+type Places = DashMap<u64, u64, PlaceState>;
+
+type Fixed = DashMap<u64, u64, FixedState>;
+
 // The value at a key.
 fn value_at<R: Abort + Wait + Clock, S: BuildHasher>(
     rt: &R,
@@ -47,19 +51,30 @@ fn assert_values<R: Abort + Wait + Clock, S: BuildHasher>(
     }
 }
 
-// The removals of these keys give these pairs.
-fn remove_all<R: Abort + Wait + Clock>(
+// Puts the keys below an amount, each its own value, and finds them all.
+fn put_below<R: Abort + Wait + Clock, S: BuildHasher>(
     rt: &R,
-    map: &DashMap<u64, u64, FixedState>,
-    rows: &[(u64, Option<(u64, u64)>)],
-) {
+    map: &DashMap<u64, u64, S>,
+    amount: u64,
+) -> Result<(), Fail> {
+    for key in 0..amount {
+        is_at(rt, map.insert(rt, key, key)?, None, key);
+    }
+    for key in 0..amount {
+        is_at(rt, value_at(rt, map, key), Some(key), key);
+    }
+    Ok(())
+}
+
+// The removals of these keys give these pairs.
+fn remove_all<R: Abort + Wait + Clock>(rt: &R, map: &Fixed, rows: &[(u64, Option<(u64, u64)>)]) {
     for &(key, wanted) in rows {
         is_at(rt, map.remove(rt, &key), wanted, key);
     }
 }
 
 // Puts the keys below a hundred, and each time the key 0 once more.
-fn put_a_hundred<R: Wait + Clock>(rt: &R, map: &DashMap<u64, u64, FixedState>) -> Result<(), Fail> {
+fn put_a_hundred<R: Wait + Clock>(rt: &R, map: &Fixed) -> Result<(), Fail> {
     for i in 0..100 {
         map.insert(rt, 0, i)?;
         map.insert(rt, i, i)?;
@@ -67,14 +82,19 @@ fn put_a_hundred<R: Wait + Clock>(rt: &R, map: &DashMap<u64, u64, FixedState>) -
     Ok(())
 }
 
+// The keys from 1 to 99 are there, and 0 with the last value.
+fn assert_a_hundred<R: Abort + Wait + Clock>(rt: &R, map: &Fixed) {
+    is(rt, value_at(rt, map, 0), Some(99));
+    for i in 1..100 {
+        is(rt, value_at(rt, map, i), Some(i));
+    }
+}
+
 #[test]
 fn a_hundred_keys(rt: HostRuntime) -> Result<(), Fail> {
-    let map = DashMap::<u64, u64, FixedState>::new(rt.alloc(), 1)?;
+    let map = Fixed::new(rt.alloc(), 1)?;
     put_a_hundred(&rt, &map)?;
-    is(&rt, value_at(&rt, &map, 0), Some(99));
-    for i in 1..100 {
-        is(&rt, value_at(&rt, &map, i), Some(i));
-    }
+    assert_a_hundred(&rt, &map);
     remove_all(&rt, &map, &[(7, Some((7, 7))), (7, None)]);
     assert_values(&rt, &map, &[(7, None)]);
     let alone = map.alone();
@@ -83,12 +103,17 @@ fn a_hundred_keys(rt: HostRuntime) -> Result<(), Fail> {
     Ok(())
 }
 
-// What is eaten warm of some food.
-fn is_eaten_warm<R: Wait + Clock>(
-    rt: &R,
-    map: &DashMap<u64, &'static str, PlaceState>,
-    number: u64,
-) -> Option<bool> {
+type Food = DashMap<u64, &'static str, PlaceState>;
+
+fn food<R: Wait + Clock>(rt: &R, alloc: Global) -> Result<Food, Fail> {
+    let map = map_of_four(alloc)?;
+    for (number, name) in [(0, "Banana"), (4, "Pear"), (9, "Potato"), (12, "Chicken")] {
+        map.insert(rt, number, name)?;
+    }
+    Ok(map)
+}
+
+fn is_eaten_warm<R: Wait + Clock>(rt: &R, map: &Food, number: u64) -> Option<bool> {
     map.view(
         rt,
         &number,
@@ -96,55 +121,68 @@ fn is_eaten_warm<R: Wait + Clock>(
     )
 }
 
+// Which numbers there are, among four.
+fn assert_food<R: Abort + Wait + Clock>(rt: &R, map: &Food, rows: &[(u64, bool)]) {
+    for &(number, is_there) in rows {
+        is_at(rt, map.contains_key(rt, &number), is_there, number);
+    }
+    is(rt, (map.len(rt), map.is_empty(rt)), (4, false));
+    assert!(rt; map.capacity(rt) >= 4);
+}
+
 #[test]
 fn views(rt: HostRuntime) -> Result<(), Fail> {
-    let map = map_of_four(rt.alloc())?;
-    for (number, name) in [(0, "Banana"), (4, "Pear"), (9, "Potato"), (12, "Chicken")] {
-        map.insert(&rt, number, name)?;
-    }
+    let map = food(&rt, rt.alloc())?;
     for (number, warm) in [(9, Some(true)), (12, Some(false)), (30, None)] {
         is_at(&rt, is_eaten_warm(&rt, &map, number), warm, number);
     }
-    for (number, is_food) in [(4, true), (8, false)] {
-        is_at(&rt, map.contains_key(&rt, &number), is_food, number);
-    }
-    is(&rt, (map.len(&rt), map.is_empty(&rt)), (4, false));
-    assert!(rt; map.capacity(&rt) >= 4);
+    assert_food(&rt, &map, &[(4, true), (8, false)]);
     Ok(())
 }
 
-// Takes Sam away, if he has this role, and says whom it took and whether he is still there.
-fn remove_sam<R: Wait + Clock>(
+type Roles = DashMap<&'static str, &'static str, FixedState>;
+
+// Takes Sam away, if he has this role.
+fn remove_sam<R: Abort + Wait + Clock>(
     rt: &R,
-    map: &DashMap<&'static str, &'static str, FixedState>,
+    map: &Roles,
     asked: &str,
-) -> (Option<(&'static str, &'static str)>, bool) {
+    wanted: Option<(&'static str, &'static str)>,
+) {
+    let stays = wanted.is_none();
     let gone = map.remove_if(rt, &"Sam", |_, role| *role == asked);
-    (gone, map.contains_key(rt, &"Sam"))
+    is(rt, gone, wanted);
+    is(rt, map.contains_key(rt, &"Sam"), stays);
 }
 
 #[test]
 fn a_removal_asks_first(rt: HostRuntime) -> Result<(), Fail> {
-    let map = DashMap::with_shard_amount(rt.alloc(), 4)?;
+    let map = Roles::with_shard_amount(rt.alloc(), 4)?;
     map.insert(&rt, "Sam", "Forward")?;
-    for (asked, wanted) in [
-        ("Goalie", (None, true)),
-        ("Forward", (Some(("Sam", "Forward")), false)),
-    ] {
-        is_at(&rt, remove_sam(&rt, &map, asked), wanted, asked);
-    }
+    remove_sam(&rt, &map, "Goalie", None);
+    remove_sam(&rt, &map, "Forward", Some(("Sam", "Forward")));
     Ok(())
+}
+
+// Makes room for ten pairs, where there is none.
+fn make_room<R: Abort + Wait + Clock>(rt: &R, map: &mut Places) -> Result<(), Fail> {
+    is(rt, (map.capacity(rt), map.is_empty(rt)), (0, true));
+    map.try_reserve(10)?;
+    assert!(rt; map.capacity(rt) >= 10);
+    Ok(())
+}
+
+// The refusal of too much room.
+fn refusal(map: &mut Places) -> Option<TryReserveError> {
+    map.try_reserve(usize::MAX).err()
 }
 
 #[test]
 fn room_is_made(rt: HostRuntime) -> Result<(), Fail> {
-    let mut map = map_of_four::<u64>(rt.alloc())?;
-    is(&rt, (map.capacity(&rt), map.is_empty(&rt)), (0, true));
-    map.try_reserve(10)?;
-    assert!(rt; map.capacity(&rt) >= 10);
+    let mut map = map_of_four(rt.alloc())?;
+    make_room(&rt, &mut map)?;
     put_all(&rt, &map, &[(1, 1)])?;
-    let refused = map.try_reserve(usize::MAX).err();
-    is(&rt, refused, Some(TryReserveError {}));
+    is(&rt, refusal(&mut map), Some(TryReserveError {}));
     is(&rt, map.len(&rt), 1);
     assert_values(&rt, &map, &[(1, Some(1))]);
     assert!(rt; map.alone().capacity() >= 10);
@@ -153,43 +191,42 @@ fn room_is_made(rt: HostRuntime) -> Result<(), Fail> {
 
 type Zeros = DashMap<u64, u64, ZeroState>;
 
-// Puts so many keys, all of which go to shard 0.
-fn fill<R: Abort + Wait + Clock>(rt: &R, map: &Zeros, amount: u64) -> Result<(), Fail> {
-    for key in 0..amount {
-        is_at(rt, map.determine_map(&key), 0, key);
-        is_at(rt, map.insert(rt, key, key)?, None, key);
-    }
-    Ok(())
-}
-
-// Takes each second key of two hundred.
+// Takes each second key of two hundred, all of which are in shard 0.
 fn remove_evens<R: Abort + Wait + Clock>(rt: &R, map: &Zeros) {
     for half in 0..100u64 {
         let key = 2 * half;
         is_at(rt, map.remove(rt, &key), Some((key, key)), key);
+        is_at(
+            rt,
+            (map.determine_map(&key), map.determine_map(&(key + 1))),
+            (0, 0),
+            key,
+        );
+    }
+}
+
+// Each second key of two hundred is there.
+fn assert_odds<R: Abort + Wait + Clock>(rt: &R, map: &Zeros) {
+    for half in 0..100u64 {
+        let (even, odd) = (2 * half, 2 * half + 1);
+        assert_values(rt, map, &[(even, None), (odd, Some(odd))]);
     }
 }
 
 #[test]
 fn one_shard_may_have_all_keys(rt: HostRuntime) -> Result<(), Fail> {
     let map = Zeros::with_hasher_and_shard_amount(rt.alloc(), ZeroState, 4)?;
-    fill(&rt, &map, 200)?;
-    for key in 0..200u64 {
-        is_at(&rt, value_at(&rt, &map, key), Some(key), key);
-    }
+    put_below(&rt, &map, 200)?;
     is(&rt, map.len(&rt), 200);
     remove_evens(&rt, &map);
-    for half in 0..100u64 {
-        let (even, odd) = (2 * half, 2 * half + 1);
-        assert_values(&rt, &map, &[(even, None), (odd, Some(odd))]);
-    }
+    assert_odds(&rt, &map);
     is(&rt, map.len(&rt), 100);
     Ok(())
 }
 
 #[test]
 fn zero_is_a_key_and_a_value(rt: HostRuntime) -> Result<(), Fail> {
-    let map = DashMap::<u64, u64, FixedState>::new(rt.alloc(), 1)?;
+    let map = Fixed::new(rt.alloc(), 1)?;
     put_all(&rt, &map, &[(0, 0)])?;
     assert_values(&rt, &map, &[(0, Some(0))]);
     Ok(())
@@ -207,26 +244,35 @@ fn note_of(alloc: Global, number: u64) -> Result<Note, AllocError> {
     Ok(Note { text, number })
 }
 
-// Notes of the numbers below ten.
-fn put_notes<R: Wait + Clock>(
-    rt: &R,
-    alloc: Global,
-    map: &DashMap<u64, Note, FixedState>,
-) -> Result<(), Fail> {
+type Notes = DashMap<u64, Note, FixedState>;
+
+// Puts a note of each number below ten.
+fn put_notes<R: Wait + Clock>(rt: &R, alloc: Global, map: &Notes) -> Result<(), Fail> {
     for i in 0..10 {
         map.insert(rt, i, note_of(alloc, i)?)?;
     }
     Ok(())
 }
 
+// The note of a number is found.
+fn assert_note<R: Abort + Wait + Clock>(
+    rt: &R,
+    alloc: Global,
+    map: &Notes,
+    number: u64,
+) -> Result<(), Fail> {
+    let wanted = note_of(alloc, number)?;
+    let found = map.get(rt, &number).ok_or("no pair")?;
+    is(rt, found.value(), &wanted);
+    Ok(())
+}
+
 #[test]
 fn structs_are_found_as_they_were_put(rt: HostRuntime) -> Result<(), Fail> {
-    let map = DashMap::<u64, Note, FixedState>::new(rt.alloc(), 1)?;
+    let map = Notes::new(rt.alloc(), 1)?;
     put_notes(&rt, rt.alloc(), &map)?;
     for i in 0..10 {
-        let wanted = note_of(rt.alloc(), i)?;
-        let found = map.get(&rt, &i).ok_or("no pair")?;
-        is(&rt, found.value(), &wanted);
+        assert_note(&rt, rt.alloc(), &map, i)?;
     }
     Ok(())
 }
@@ -234,14 +280,8 @@ fn structs_are_found_as_they_were_put(rt: HostRuntime) -> Result<(), Fail> {
 #[test]
 fn a_random_hasher_finds_each_key(rt: HostRuntime) -> Result<(), Fail> {
     let hasher = RandomState::new(&rt)?;
-    let map = DashMap::<u64, u64, RandomState>::with_hasher(rt.alloc(), hasher, 1)?;
-    for i in 0..10 {
-        put_all(&rt, &map, &[(i, i)])?;
-    }
-    for i in 0..10 {
-        assert_values(&rt, &map, &[(i, Some(i))]);
-    }
-    Ok(())
+    let map = DashMap::with_hasher(rt.alloc(), hasher, 1)?;
+    put_below(&rt, &map, 10)
 }
 
 // Sixteen keys of its own for each thread.
@@ -290,8 +330,6 @@ fn a_held_shard_leaves_the_others_free(rt: HostRuntime) -> Result<(), Fail> {
     Ok(())
 }
 
-type Places = DashMap<u64, u64, PlaceState>;
-
 // Alters the value at 4, and none at 8.
 fn alter_one<R: Wait + Clock>(rt: &R, map: &Places) {
     for key in [4, 8] {
@@ -325,6 +363,13 @@ fn empty<R: Abort + Wait + Clock>(rt: &R, map: &Places) {
     is(rt, map.capacity(rt), 0);
 }
 
+// Alters all values of three, and keeps two.
+fn change_all<R: Abort + Wait + Clock>(rt: &R, map: &Places) {
+    map.alter_all(rt, |_, value| value.wrapping_add(1));
+    map.retain(rt, |_, value| *value > 5);
+    is(rt, map.len(rt), 2);
+}
+
 #[test]
 fn the_list_for_shared_calls(rt: HostRuntime) -> Result<(), Fail> {
     let map = map_of_four(rt.alloc())?;
@@ -332,9 +377,7 @@ fn the_list_for_shared_calls(rt: HostRuntime) -> Result<(), Fail> {
     alter_one(&rt, &map);
     ask_for_two(&rt, &map);
     is(&rt, viewed(&rt, &map, 1), Some(3));
-    map.alter_all(&rt, |_, value| value.wrapping_add(1));
-    map.retain(&rt, |_, value| *value > 5);
-    is(&rt, map.len(&rt), 2);
+    change_all(&rt, &map);
     assert_values(&rt, &map, &[(1, None)]);
     is(&rt, map.remove(&rt, &4), Some((4, 11)));
     is(&rt, viewed(&rt, &map, 0), Some(6));
@@ -357,19 +400,25 @@ fn named<R: Wait + Clock>(
     Ok(map)
 }
 
+// Alters all values, and then that of one more name.
+fn alter_values<R: Wait + Clock>(rt: &R, map: &Named) -> Result<(), Fail> {
+    map.alter_all(rt, |_, value| value.wrapping_add(1));
+    map.insert(rt, "Goals", 4)?;
+    map.alter(rt, &"Goals", |_, goals| goals.wrapping_mul(2));
+    Ok(())
+}
+
+fn number_of<R: Wait + Clock>(rt: &R, map: &Named, name: &'static str) -> Option<u64> {
+    let found = map.get(rt, &name)?;
+    Some(*found.value())
+}
+
 #[test]
 fn each_value_is_altered(rt: HostRuntime) -> Result<(), Fail> {
     let map = named(&rt, rt.alloc(), &[("Wins", 4), ("Losses", 2)])?;
-    map.alter_all(&rt, |_, value| value.wrapping_add(1));
-    map.insert(&rt, "Goals", 4)?;
-    map.alter(&rt, &"Goals", |_, goals| goals.wrapping_mul(2));
-    for (key, value) in [("Wins", 5), ("Losses", 3), ("Goals", 8)] {
-        is_at(
-            &rt,
-            map.view(&rt, &key, |_, value| *value),
-            Some(value),
-            key,
-        );
+    alter_values(&rt, &map)?;
+    for (name, number) in [("Wins", 5), ("Losses", 3), ("Goals", 8)] {
+        is_at(&rt, number_of(&rt, &map, name), Some(number), name);
     }
     Ok(())
 }
@@ -387,12 +436,17 @@ fn who_is_young_is_not_kept(rt: HostRuntime) -> Result<(), Fail> {
     Ok(())
 }
 
+// Takes the last pair, and gives its room back.
+fn remove_johnny<R: Abort + Wait + Clock>(rt: &R, map: &Named) {
+    is(rt, map.remove(rt, &"Johnny"), Some(("Johnny", 21)));
+    map.shrink_to_fit(rt);
+}
+
 #[test]
 fn an_empty_map_gives_its_room_back(rt: HostRuntime) -> Result<(), Fail> {
     let map = named(&rt, rt.alloc(), &[("Johnny", 21)])?;
     assert!(rt; map.capacity(&rt) >= 1);
-    is(&rt, map.remove(&rt, &"Johnny"), Some(("Johnny", 21)));
-    map.shrink_to_fit(&rt);
+    remove_johnny(&rt, &map);
     is(&rt, (map.len(&rt), map.capacity(&rt)), (0, 0));
     Ok(())
 }

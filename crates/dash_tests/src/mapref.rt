@@ -56,6 +56,12 @@ fn lends_the_pair_of_a_key(rt: HostRuntime) -> Result<(), Fail> {
     Ok(())
 }
 
+// The pair that is lent.
+fn pair_of(found: &Ref<'_, u64, u64, PlaceState>) -> (u64, u64) {
+    let (key, value) = found.pair();
+    (*key, *value)
+}
+
 // The pair at 5, by its place.
 fn find_five<'a, R: Wait + Clock>(
     rt: &R,
@@ -71,7 +77,7 @@ fn holds_the_shard_for_reading(rt: HostRuntime) -> Result<(), Fail> {
     let lock = lock_of_one(&rt, rt.alloc(), [(1, 10), (5, 50)])?;
     let five = find_five(&rt, &lock).ok_or("no place")?;
     let one = find(&rt, &lock, 1).ok_or("no pair")?;
-    is(&rt, [five.pair(), one.pair()], [(&5, &50), (&1, &10)]);
+    is(&rt, [pair_of(&five), pair_of(&one)], [(5, 50), (1, 10)]);
     assert!(rt; !may_write(&lock), "two have it");
     drop(five);
     assert!(rt; !may_write(&lock), "one has it");

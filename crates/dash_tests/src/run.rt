@@ -4,7 +4,9 @@ use crate::places::is;
 use dash_history::action::Action;
 use dash_history::kept::Kept;
 use dash_history::step::ShardStep;
+use dash_map::alone::Alone;
 use dash_map::run::RunOutcome;
+use dash_shard::hash::PlaceState;
 use std::alloc::{AllocError, Global};
 use std::fmt;
 use std::process::Abort;
@@ -36,6 +38,12 @@ fn assert_outcome<V: fmt::Debug, A: fmt::Debug>(
     Ok(())
 }
 
+// The pair at a key.
+fn pair_at(alone: &Alone<u64, u64, PlaceState>, key: u64) -> Option<(u64, u64)> {
+    let (found, value) = alone.get(&key)?;
+    Some((*found, *value))
+}
+
 const SIX_REPLIES: &str =
     "[Old(None), Old(None), Pair(Some((1, 10))), Pair(Some((1, 10))), Pair(None), Pair(None)]";
 
@@ -55,7 +63,8 @@ fn six_steps_of_one_owner(rt: HostRuntime) -> Result<(), Fail> {
     let mut alone = map_of_four(rt.alloc())?.alone();
     let outcome = alone.run(six_steps(rt.alloc())?);
     assert_outcome(&rt, rt.alloc(), &outcome, SIX_REPLIES, "None")?;
-    is(&rt, [alone.get(&5), alone.get(&1)], [Some((&5, &50)), None]);
+    let pairs = [pair_at(&alone, 5), pair_at(&alone, 1)];
+    is(&rt, pairs, [Some((5, 50)), None]);
     is(&rt, alone.len(), 1);
     Ok(())
 }
@@ -161,7 +170,7 @@ fn a_shard_that_is_not_there(rt: HostRuntime) -> Result<(), Fail> {
     let stopped = "Some(([Count(4), Insert(2, 20)], NoSuchShard))";
     assert_outcome(&rt, rt.alloc(), &outcome, "[Old(None)]", stopped)?;
     let alone = map.alone();
-    is(&rt, alone.get(&1), Some((&1, &10)));
+    is(&rt, pair_at(&alone, 1), Some((1, 10)));
     is(&rt, alone.len(), 1);
     Ok(())
 }
@@ -220,6 +229,6 @@ fn no_steps(rt: HostRuntime) -> Result<(), Fail> {
     map.insert(&rt, 7, 70)?;
     let outcome = map.run::<()>(Vec::new(rt.alloc()));
     assert_outcome(&rt, rt.alloc(), &outcome, "[]", "None")?;
-    is(&rt, map.alone().get(&7), Some((&7, &70)));
+    is(&rt, pair_at(&map.alone(), 7), Some((7, 70)));
     Ok(())
 }

@@ -31,6 +31,12 @@ fn viewed<R: Wait + Clock, M: Map<u64, u64, PlaceState>>(rt: &R, map: &M, key: u
     map._view(rt, &key, |_, value| *value)
 }
 
+// The value at a key, as a reference lends it.
+fn got<R: Wait + Clock, M: Map<u64, u64, PlaceState>>(rt: &R, map: &M, key: u64) -> Option<u64> {
+    let found = map._get(rt, &key)?;
+    Some(*found.value())
+}
+
 // Removals of the pairs (1, 10) and (5, 55) that ask first, and give no pair.
 fn ask_for_two<R: Abort + Wait + Clock, M: Map<u64, u64, PlaceState>>(rt: &R, map: &M) {
     is(rt, map._remove_if(rt, &5, |_, value| *value < 55), None);
@@ -42,23 +48,17 @@ fn ask_for_two<R: Abort + Wait + Clock, M: Map<u64, u64, PlaceState>>(rt: &R, ma
 }
 
 // The calls on a pair, on a map with the pairs (1, 10) and (5, 50). They leave the pair (5, 55).
-fn calls_on_pairs<R: Abort + Wait + Clock, M: Map<u64, u64, PlaceState>>(
-    rt: &R,
-    map: &M,
-) -> Result<(), Fail> {
+fn calls_on_pairs<R: Abort + Wait + Clock, M: Map<u64, u64, PlaceState>>(rt: &R, map: &M) {
     for (key, is_there) in [(5, true), (9, false)] {
         is_at(rt, map._contains_key(rt, &key), is_there, key);
     }
     is(rt, viewed(rt, map, 5), Some(50));
     map._alter(rt, &5, |_, value| value.wrapping_add(5));
     ask_for_two(rt, map);
-    let found = map._get(rt, &1).ok_or("no pair")?;
-    is(rt, *found.value(), 9);
-    drop(found);
+    is(rt, got(rt, map, 1), Some(9));
     for gone in [Some((1, 9)), None] {
         is(rt, map._remove(rt, &1), gone);
     }
-    Ok(())
 }
 
 // Changes all pairs, on a map of four shards with the pair (5, 55). It leaves one pair.
@@ -95,7 +95,7 @@ fn empty<R: Abort + Wait + Clock, M: Map<u64, u64, PlaceState>>(
 fn every_call(rt: HostRuntime) -> Result<(), Fail> {
     let map = map_of_four(rt.alloc())?;
     calls_on_shards(&rt, &map)?;
-    calls_on_pairs(&rt, &map)?;
+    calls_on_pairs(&rt, &map);
     changes_of_all(&rt, &map)?;
     empty(&rt, &map)
 }

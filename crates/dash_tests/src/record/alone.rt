@@ -47,16 +47,16 @@ fn reply_to(
 }
 
 // Takes steps, whose replies are these.
-fn assert_replies<const N: usize>(
+fn assert_replies(
     rt: &impl Abort,
     alloc: Global,
     alone: &mut Alone,
     log: &mut Log,
-    rows: [(Step, &str); N],
+    rows: &[(Step, &str)],
 ) -> Result<(), Fail> {
     for (step, wanted) in rows {
-        let reply = reply_to(rt, alloc, alone, log, step)?;
-        is_at(rt, reply.as_str(), wanted, log.last_stamp());
+        let reply = reply_to(rt, alloc, alone, log, step.copy()?)?;
+        is_at(rt, reply.as_str(), *wanted, log.last_stamp());
     }
     Ok(())
 }
@@ -107,7 +107,7 @@ fn first_steps(rt: HostRuntime) -> Result<(), Fail> {
         (Step::Insert(1, 11), "Old(Some(10))"),
         (Step::Get(1), "Pair(Some((1, 11)))"),
     ];
-    assert_replies(&rt, rt.alloc(), &mut alone, &mut log, rows)?;
+    assert_replies(&rt, rt.alloc(), &mut alone, &mut log, &rows)?;
     is(&rt, log.last_stamp(), 3);
     for (shard, stamp) in [(1, 3), (0, 0)] {
         is_at(&rt, last_of(&rt, &alone, shard), stamp, shard);
@@ -116,30 +116,40 @@ fn first_steps(rt: HostRuntime) -> Result<(), Fail> {
     Ok(())
 }
 
-// Inserts pairs, and answers the caller's last stamp.
+// A map of four shards and two callers, with the callers' logs.
+fn alone_of_two(alloc: Global) -> Result<(Alone, Log, Log), Fail> {
+    let (alone, mut logs) = Alone::new(alloc, PlaceState, 4, 2)?;
+    let second = logs.pop().ok_or("no log")?;
+    let first = logs.pop().ok_or("no log")?;
+    Ok((alone, first, second))
+}
+
 fn insert_all(
     rt: &impl Abort,
     alone: &mut Alone,
     log: &mut Log,
     pairs: &[(u64, u64)],
-) -> Result<u64, Fail> {
+) -> Result<(), Fail> {
     for &(key, value) in pairs {
         apply(rt, alone, log, Step::Insert(key, value))?;
     }
-    Ok(log.last_stamp())
+    Ok(())
 }
 
 #[test]
 fn stamps_follow_shard_and_caller(rt: HostRuntime) -> Result<(), Fail> {
-    let (mut alone, mut logs) = Alone::new(rt.alloc(), PlaceState, 4, 2)?;
-    let mut second = logs.pop().ok_or("no log")?;
-    let mut first = logs.pop().ok_or("no log")?;
+    let (mut alone, mut first, mut second) = alone_of_two(rt.alloc())?;
     is(&rt, (first.caller(), second.caller()), (0, 1));
     let pairs = [(0, 0), (4, 1), (8, 2), (12, 3), (16, 4), (20, 5), (24, 6)];
-    is(&rt, insert_all(&rt, &mut alone, &mut first, &pairs)?, 7);
-    let pairs = [(1, 0), (5, 1), (9, 2), (13, 3)];
-    is(&rt, insert_all(&rt, &mut alone, &mut second, &pairs)?, 4);
-    is(&rt, last_of(&rt, &alone, 1), 4);
+    insert_all(&rt, &mut alone, &mut first, &pairs)?;
+    is(&rt, first.last_stamp(), 7);
+    insert_all(
+        &rt,
+        &mut alone,
+        &mut second,
+        &[(1, 0), (5, 1), (9, 2), (13, 3)],
+    )?;
+    is(&rt, (second.last_stamp(), last_of(&rt, &alone, 1)), (4, 4));
 
     apply(&rt, &mut alone, &mut first, Step::Get(1))?;
     is(&rt, (first.last_stamp(), last_of(&rt, &alone, 1)), (8, 8));
@@ -167,7 +177,7 @@ fn reads_and_sweeps_a_shard(rt: HostRuntime) -> Result<(), Fail> {
         (Step::Retain(2, ()), "Done"),
         (Step::Read(2), "Pairs([(6, 60)])"),
     ];
-    assert_replies(&rt, rt.alloc(), &mut alone, &mut log, rows)?;
+    assert_replies(&rt, rt.alloc(), &mut alone, &mut log, &rows)?;
     is(&rt, log.entries().len(), 7);
     let fault = fault_of(&rt, &mut alone, &mut log, Step::Read(4));
     is(&rt, fault, Some(RecordFault::NoSuchShard));

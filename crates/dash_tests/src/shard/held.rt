@@ -40,20 +40,25 @@ fn take(rt: &impl Abort, held: &mut Held<'_>, key: u64) -> Option<(u64, u64)> {
     held.remove(&key)
 }
 
+// Puts two pairs, one of them twice, and takes one.
+fn put_and_take(rt: &impl Abort, held: &mut Held<'_>) -> Result<(), Fail> {
+    put_all(rt, held, &[(1, 10, None), (1, 11, Some(10)), (5, 50, None)])?;
+    is(rt, pair_at(held, 1), Some((1, 11)));
+    is(rt, take(rt, held, 5), Some((5, 50)));
+    is(rt, held.len(), 1);
+    Ok(())
+}
+
 #[test]
 fn a_held_shard_is_changed_in_place(rt: HostRuntime) -> Result<(), Fail> {
     let lock: Locked = lock_of_one(&rt, rt.alloc(), [])?;
     let mut held = lock.write(&rt).shard();
     is(
         &rt,
-        [held.number(), held.amount(), held.capacity()],
-        [1, 4, 0],
+        (held.number(), held.amount(), held.capacity()),
+        (1, 4, 0),
     );
-    let rows = [(1, 10, None), (1, 11, Some(10)), (5, 50, None)];
-    put_all(&rt, &mut held, &rows)?;
-    is(&rt, pair_at(&held, 1), Some((1, 11)));
-    is(&rt, take(&rt, &mut held, 5), Some((5, 50)));
-    is(&rt, held.len(), 1);
+    put_and_take(&rt, &mut held)?;
     assert!(rt; !may_read(&lock), "a writer has the shard");
     drop(held);
     assert_values(&rt, &lock.into_inner(), &[(1, Some(11))]);
@@ -65,6 +70,9 @@ fn double_one(rt: &impl Abort, held: &mut Held<'_>) -> Result<(), Fail> {
     let value = held.get_mut(&1).ok_or("no pair")?;
     *value = value.wrapping_mul(2);
     assert!(rt; held.get_mut(&9).is_none());
+    // What was lent is seen before the table is back.
+    is(rt, pair_at(held, 1), Some((1, 20)));
+    is(rt, held.len(), 2);
     Ok(())
 }
 
@@ -77,18 +85,22 @@ fn add_in_place(held: &mut Held<'_>) -> Result<(u64, u64), Fail> {
     Ok((*key, *value))
 }
 
+// Puts a pair at 9, and changes its value.
+fn put_one_more(rt: &impl Abort, held: &mut Held<'_>) -> Result<(), Fail> {
+    put_all(rt, held, &[(9, 90, None)])?;
+    // What was lent is seen after the table is back.
+    is(rt, pair_at(held, 5), Some((5, 55)));
+    *held.get_mut(&9).ok_or("no pair")? = 91;
+    Ok(())
+}
+
 #[test]
 fn a_held_value_is_lent(rt: HostRuntime) -> Result<(), Fail> {
     let lock: Locked = lock_of_one(&rt, rt.alloc(), [(1, 10), (5, 50)])?;
     let mut held = lock.write(&rt).shard();
     double_one(&rt, &mut held)?;
-    // What was lent is seen before the table is back, and after it.
-    is(&rt, pair_at(&held, 1), Some((1, 20)));
-    is(&rt, held.len(), 2);
     is(&rt, add_in_place(&mut held)?, (5, 55));
-    put_all(&rt, &mut held, &[(9, 90, None)])?;
-    is(&rt, pair_at(&held, 5), Some((5, 55)));
-    *held.get_mut(&9).ok_or("no pair")? = 91;
+    put_one_more(&rt, &mut held)?;
     drop(held);
     let shard = lock.into_inner();
     is(&rt, shard.len(), 3);
@@ -97,32 +109,28 @@ fn a_held_value_is_lent(rt: HostRuntime) -> Result<(), Fail> {
 }
 
 // Leaks a hold that put one more pair.
-fn leak_after_put<R: Abort + Wait + Clock>(rt: &R, lock: &Locked) -> Result<(), Fail> {
+fn leak_after_put<R: Abort + Wait + Clock>(rt: &R, lock: Locked) -> Result<(), Fail> {
     let mut held = lock.write(rt).shard();
     put_all(rt, &mut held, &[(5, 50, None)])?;
     mem::forget(held);
-    assert!(rt; !may_write(lock), "the writer is never gone");
+    assert!(rt; !may_write(&lock), "the writer is never gone");
+    assert_values(rt, &lock.into_inner(), &[(5, Some(50))]);
     Ok(())
 }
 
 // Leaks a hold that lent a value.
-fn leak_what_is_lent<R: Abort + Wait + Clock>(rt: &R, lock: &Locked) {
+fn leak_what_is_lent<R: Abort + Wait + Clock>(rt: &R, lock: Locked) {
     let mut held = lock.write(rt).shard();
     assert!(rt; held.get_mut(&5).is_some());
     mem::forget(held);
+    // The pairs are leaked with the hold that lent one.
+    is(rt, lock.into_inner().len(), 0);
 }
 
 #[test]
 fn a_leaked_hold_leaves_a_shard(rt: HostRuntime) -> Result<(), Fail> {
-    let lock = lock_of_one(&rt, rt.alloc(), [(1, 10)])?;
-    leak_after_put(&rt, &lock)?;
-    assert_values(&rt, &lock.into_inner(), &[(5, Some(50))]);
-
-    let lock = lock_of_one(&rt, rt.alloc(), [(5, 50)])?;
-    leak_what_is_lent(&rt, &lock);
-    // The pairs are leaked with the hold that lent one.
-    is(&rt, lock.into_inner().len(), 0);
-
+    leak_after_put(&rt, lock_of_one(&rt, rt.alloc(), [(1, 10)])?)?;
+    leak_what_is_lent(&rt, lock_of_one(&rt, rt.alloc(), [(5, 50)])?);
     let lock: Locked = lock_of_one(&rt, rt.alloc(), [(5, 50)])?;
     mem::forget(lock.write(&rt));
     is(&rt, lock.into_inner().number(), 1);
