@@ -2,7 +2,8 @@
 use Rattle.std.specs.Prelude.{ℕ, ◌≡◌, Bool, List, length, Result}
 use Rattle.std.specs.Map.Calls.{CallableOnEachPair}
 use Rattle.dash_shard.specs.Hashing.{KeyHash, route_by}
-use Rattle.dash_shard.specs.Shard.{ShardState, IsPlaced}
+use Rattle.dash_shard.specs.Steps.{Act, Step, Reply}
+use Rattle.dash_shard.specs.Shard.{ShardState, IsPlaced, TakesBy}
 use Rattle.dash_map.specs.Alone.{AloneState, IsAlone}
 use Rattle.dash_map.specs.Map.{MapState}
 
@@ -23,6 +24,10 @@ module _ {K V S : Type 0} (h : KeyHash K S) where
   -- R of a shard that stood where the key goes, and of the one that was left there
   abbrev pub LeavesShard : MapState S → K → (ShardState K V S → ShardState K V S → Type 0) → Type 0
   LeavesShard m key R = (s : ShardState K V S) × (t : ShardState K V S) × StandsAt h m key s × StandsAt h m key t × R s t
+
+  -- the same of a step in place, by some action that may do on the pair with an equal key what it does
+  abbrev pub LeavesBy : MapState S → (K → Act K V → Step K V) → K → Reply K V → (K × V → V × Bool → Type 0) → Type 0
+  LeavesBy m step key reply may = LeavesShard m key (λ s t. TakesBy h.eq s t step key reply may)
 
   -- shards that may stand behind the locks of this map
   pub record IsBehind (m : MapState S) (a : AloneState K V S) : Type 0 where

@@ -5,12 +5,12 @@ ghost use Rattle.dash_shard.specs.Closures.{MayAsk, Viewed, MayChange, ChangesOn
 ghost use Rattle.dash_shard.specs.Each.{CalledOnPair, TakesOnPair};
 ghost use Rattle.dash_shard.specs.Hashing.{by};
 ghost use Rattle.dash_map.specs.Alone.{AloneState, contents};
-ghost use Rattle.dash_map.specs.Behind.{SawShards, LeavesShard, LeavesShards, CallableOnPairs, SawShard, StandsAt};
+ghost use Rattle.dash_map.specs.Behind.{SawShards, LeavesShard, LeavesShards, CallableOnPairs, SawShard, StandsAt, LeavesBy};
 ghost use Rattle.dash_map.specs.Map.{MapState};
 ghost use Rattle.dash_map.specs.Whole.{ClearsAlone, ShrinksAlone, RetainsAlone, AltersAllAlone};
 ghost use Rattle.dash_ref.specs.Ref.{Stands, pair_of};
 ghost use Rattle.dash_shard.specs.Contents.{at};
-ghost use Rattle.dash_shard.specs.Shard.{RepliesOn, TakesInPlace, TakesBy, IsPlaced, ShardState, pairs};
+ghost use Rattle.dash_shard.specs.Shard.{RepliesOn, TakesInPlace, IsPlaced, ShardState, pairs};
 ghost use Rattle.dash_shard.specs.Held.{Inserts};
 ghost use Rattle.dash_shard.specs.Steps.{Remove, RemoveIf, RemoveIfMut, Alter, Done, Pair, Found, Get, Contains};
 
@@ -64,7 +64,7 @@ pub trait Map<K: Eq + Hash, V, S: BuildHasher> {
         f: F,
     ) -> Option<(K, V)>
         requires { (p : K × V) → IsTrue (K.eq p.0 key.now) → MayAsk F.FnOnce f p }
-        ensures { LeavesShard (by K.Hash S.BuildHasher S.Hasher.Hasher) (state self.now) key.now (λ s t. TakesBy K.eq s t RemoveIf key.now (Pair result) (Answered F.FnOnce f)) };
+        ensures { LeavesBy (by K.Hash S.BuildHasher S.Hasher.Hasher) (state self.now) RemoveIf key.now (Pair result) (Answered F.FnOnce f) };
 
     /// As `DashMap::remove_if_mut`.
     fn _remove_if_mut<R: Wait + Clock, F: FnOnce(&K, &mut V) -> bool>(
@@ -74,7 +74,7 @@ pub trait Map<K: Eq + Hash, V, S: BuildHasher> {
         f: F,
     ) -> Option<(K, V)>
         requires { (p : K × V) → IsTrue (K.eq p.0 key.now) → MayChange F.FnOnce f p }
-        ensures { LeavesShard (by K.Hash S.BuildHasher S.Hasher.Hasher) (state self.now) key.now (λ s t. TakesBy K.eq s t RemoveIfMut key.now (Pair result) (ChangesOn F.FnOnce f)) };
+        ensures { LeavesBy (by K.Hash S.BuildHasher S.Hasher.Hasher) (state self.now) RemoveIfMut key.now (Pair result) (ChangesOn F.FnOnce f) };
 
     /// As `DashMap::get`.
     fn _get<R: Wait + Clock>(&self, rt: &R, key: &K) -> Option<Ref<'_, K, V, S>>
@@ -109,7 +109,7 @@ pub trait Map<K: Eq + Hash, V, S: BuildHasher> {
     /// As `DashMap::alter`.
     fn _alter<R: Wait + Clock, F: FnOnce(&K, V) -> V>(&self, rt: &R, key: &K, f: F)
         requires { (p : K × V) → IsTrue (K.eq p.0 key.now) → MayGive F.FnOnce f p }
-        ensures { LeavesShard (by K.Hash S.BuildHasher S.Hasher.Hasher) (state self.now) key.now (λ s t. TakesBy K.eq s t Alter key.now Done (Given F.FnOnce f)) };
+        ensures { LeavesBy (by K.Hash S.BuildHasher S.Hasher.Hasher) (state self.now) Alter key.now Done (Given F.FnOnce f) };
 
     /// As `DashMap::alter_all`.
     fn _alter_all<R: Wait + Clock, F: FnMut(&K, V) -> V>(&self, rt: &R, f: F)

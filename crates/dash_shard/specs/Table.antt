@@ -93,6 +93,13 @@ module _ {K V : Type 0} where
   abbrev pub hashes_of : List (Node K V) → List ℕ
   hashes_of nodes = map (λ n. n.hash) nodes
 
+  -- the same of a table
+  abbrev pub pairs_in : Table K V → List (Option (K × V))
+  pairs_in t = pairs_of t.nodes.items
+
+  abbrev pub hashes_in : Table K V → List ℕ
+  hashes_in t = hashes_of t.nodes.items
+
   -- the node with another value in its pair
   abbrev pub with_value : Node K V → V → Node K V
   with_value n w = record n { pair = option_map (λ p. (p.0, w)) n.pair }
@@ -170,6 +177,10 @@ module _ {K V S : Type 0} (h : KeyHash K S) where
     pub table : IsTable t
     pub hashed : IsHashed (λ k. h.hash s.hasher k) s.places (hashes_of t.nodes.items)
     pub counted : t.len ≡ shard_len s
+
+  -- a lawful shard may have this table
+  abbrev pub MayHave : ShardState K V S → Table K V → Type 0
+  MayHave s t = IsShard h s → IsInside t (with_table s t)
 
   -- a shard's table was exchanged for t, and was r
   pub record SwapsTable (old new : ShardState K V S) (t r : Table K V) : Type 0 where

@@ -1,6 +1,6 @@
 //! A table of pairs, found by the buckets of their hashes.
 ghost use Rattle.std.specs.Prelude.{ℕ, ◌≡◌, ◌+◌, ◌-◌, ◌<◌, ◌≤◌, ◌==◌, ◌++◌, IfSome, IfNone, IsOk, IfOk, OnOk, OnErr, IsSome, IsNone, length, map, false, [], ◌∷◌, if◌then◌else◌, vec_len, vec_capacity, slice_set, replicate, max};
-ghost use Rattle.dash_shard.specs.Table.{IsTable, Holds, IsAbsent, blank, pairs_of, hashes_of, next_place, IsGrown};
+ghost use Rattle.dash_shard.specs.Table.{IsTable, Holds, IsAbsent, blank, pairs_of, next_place, IsGrown, pairs_in, hashes_in};
 ghost use Rattle.dash_shard.specs.Shard.{place, taken, IsNextTaken};
 ghost use Rattle.std.specs.Option.{option_map};
 ghost use Rattle.std.specs.Map.Iter.{deref_pair};
@@ -137,8 +137,8 @@ impl<K, V> Table<K, V> {
     /// The pair of a taken place.
     #[inline(always)]
     pub fn at(&self, position: usize) -> (&K, &V)
-        requires { IsSome (place (pairs_of self.now.nodes.items) position) }
-        ensures { Some (deref_pair result) ≡ place (pairs_of self.now.nodes.items) position }
+        requires { IsSome (place (pairs_in self.now) position) }
+        ensures { Some (deref_pair result) ≡ place (pairs_in self.now) position }
     {
         match &self.nodes[position].pair {
             Some((key, value)) => (key, value),
@@ -150,11 +150,11 @@ impl<K, V> Table<K, V> {
     #[inline(always)]
     pub fn replace(&mut self, position: usize, value: V) -> V
         requires within { position < length self.old.nodes.items }
-        requires taken { IsSome (place (pairs_of self.old.nodes.items) position) }
+        requires taken { IsSome (place (pairs_in self.old) position) }
         requires table { IsTable self.old }
-        ensures old { Some result ≡ option_map (λ p. p.1) (place (pairs_of self.old.nodes.items) position) }
-        ensures pairs { pairs_of self.new.nodes.items ≡ slice_set (pairs_of self.old.nodes.items) position (option_map (λ p. (p.0, value)) (place (pairs_of self.old.nodes.items) position)) }
-        ensures hashes { hashes_of self.new.nodes.items ≡ hashes_of self.old.nodes.items }
+        ensures old { Some result ≡ option_map (λ p. p.1) (place (pairs_in self.old) position) }
+        ensures pairs { pairs_in self.new ≡ slice_set (pairs_in self.old) position (option_map (λ p. (p.0, value)) (place (pairs_in self.old) position)) }
+        ensures hashes { hashes_in self.new ≡ hashes_in self.old }
         ensures len { self.new.len ≡ self.old.len }
         ensures places { length self.new.nodes.items ≡ length self.old.nodes.items }
         ensures table { IsTable self.new }
@@ -174,8 +174,8 @@ impl<K, V> Table<K, V> {
         requires table { IsTable self.old }
         requires room { self.old.len < length self.old.nodes.items }
         ensures place { result ≡ next_place self.old }
-        ensures pairs { pairs_of self.new.nodes.items ≡ slice_set (pairs_of self.old.nodes.items) (next_place self.old) (Some (key, value)) }
-        ensures hashes { hashes_of self.new.nodes.items ≡ slice_set (hashes_of self.old.nodes.items) (next_place self.old) hash }
+        ensures pairs { pairs_in self.new ≡ slice_set (pairs_in self.old) (next_place self.old) (Some (key, value)) }
+        ensures hashes { hashes_in self.new ≡ slice_set (hashes_in self.old) (next_place self.old) hash }
         ensures len { self.new.len ≡ self.old.len + 1 }
         ensures places { length self.new.nodes.items ≡ length self.old.nodes.items }
         ensures table { IsTable self.new }
@@ -191,11 +191,11 @@ impl<K, V> Table<K, V> {
     #[inline(always)]
     pub fn take(&mut self, position: usize) -> (K, V)
         requires table { IsTable self.old }
-        requires taken { IsSome (place (pairs_of self.old.nodes.items) position) }
+        requires taken { IsSome (place (pairs_in self.old) position) }
         requires some { 0 < self.old.len }
-        ensures old { place (pairs_of self.old.nodes.items) position ≡ Some result }
-        ensures pairs { pairs_of self.new.nodes.items ≡ slice_set (pairs_of self.old.nodes.items) position None }
-        ensures hashes { hashes_of self.new.nodes.items ≡ hashes_of self.old.nodes.items }
+        ensures old { place (pairs_in self.old) position ≡ Some result }
+        ensures pairs { pairs_in self.new ≡ slice_set (pairs_in self.old) position None }
+        ensures hashes { hashes_in self.new ≡ hashes_in self.old }
         ensures len { self.new.len + 1 ≡ self.old.len }
         ensures places { length self.new.nodes.items ≡ length self.old.nodes.items }
         ensures table { IsTable self.new }
@@ -209,7 +209,7 @@ impl<K, V> Table<K, V> {
     /// The lowest taken place not below `position`.
     #[inline]
     pub fn next_taken(&self, position: usize) -> Option<usize>
-        ensures { IsNextTaken (pairs_of self.now.nodes.items) position result }
+        ensures { IsNextTaken (pairs_in self.now) position result }
     {
         for place in position..self.nodes.len() {
             if self.nodes[place].pair.is_some() {

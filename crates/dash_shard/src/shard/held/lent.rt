@@ -7,7 +7,7 @@ ghost use Rattle.core.specs.Mem.{manually_drop_value};
 ghost use Rattle.dash_shard.specs.Hashing.{by};
 ghost use Rattle.dash_shard.specs.Contents.{at};
 ghost use Rattle.dash_shard.specs.Shard.{place, pairs, IsShard};
-ghost use Rattle.dash_shard.specs.Table.{IsInside, IsHeld, SwapsTable, with_table, held_state};
+ghost use Rattle.dash_shard.specs.Table.{IsHeld, MayHave, SwapsTable, with_table, held_state};
 
 use super::ShardMut;
 use crate::keyed::Keyed;
@@ -20,7 +20,7 @@ use std::mem::{self, ManuallyDrop};
 impl<K: Eq + Hash, V, S: BuildHasher> Shard<K, V, S> {
     // Puts `table` in place, and answers the one that was there.
     fn swap_table(&mut self, table: Table<K, V>) -> Table<K, V>
-        requires { IsShard ⟦<Self as Keyed>⟧.by self.old → IsInside ⟦<Self as Keyed>⟧.by table (with_table self.old table) }
+        requires { MayHave ⟦<Self as Keyed>⟧.by self.old table }
         ensures { SwapsTable ⟦<Self as Keyed>⟧.by self.old self.new table result }
     {
         mem::replace(&mut self.table, table)
@@ -32,7 +32,7 @@ pub(super) fn swap_tables<K: Eq + Hash, V, S: BuildHasher>(
     guard: &mut RwLockWriteGuard<'_, Shard<K, V, S>>,
     table: &mut Table<K, V>,
 )
-    requires { IsShard ⟦<Shard<K, V, S> as Keyed>⟧.by guard.old.value → IsInside ⟦<Shard<K, V, S> as Keyed>⟧.by table.old (with_table guard.old.value table.old) }
+    requires { MayHave ⟦<Shard<K, V, S> as Keyed>⟧.by guard.old.value table.old }
     ensures tag { guard.new.tag ≡ guard.old.tag }
     ensures swapped { SwapsTable ⟦<Shard<K, V, S> as Keyed>⟧.by guard.old.value guard.new.value table.old table.new }
 {
@@ -41,7 +41,7 @@ pub(super) fn swap_tables<K: Eq + Hash, V, S: BuildHasher>(
     let mine = unsafe { ManuallyDrop::new_unchecked(mem::replace(table, blank)) };
     let theirs = guard.change(
         |shard: &mut Shard<K, V, S>| -> Table<K, V>
-            requires { IsShard (by K.Hash S.BuildHasher S.Hasher.Hasher) shard.old → IsInside (by K.Hash S.BuildHasher S.Hasher.Hasher) (manually_drop_value mine) (with_table shard.old (manually_drop_value mine)) }
+            requires { MayHave (by K.Hash S.BuildHasher S.Hasher.Hasher) shard.old (manually_drop_value mine) }
             ensures { SwapsTable (by K.Hash S.BuildHasher S.Hasher.Hasher) shard.old shard.new (manually_drop_value mine) result }
         { shard.swap_table(ManuallyDrop::into_inner(mine)) },
     );

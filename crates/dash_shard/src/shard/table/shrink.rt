@@ -1,6 +1,6 @@
 //! A table that gives memory back.
 ghost use Rattle.std.specs.Prelude.{◌≡◌, ◌+◌, ◌<◌, ◌≤◌, [], length};
-ghost use Rattle.dash_shard.specs.Table.{IsTable, CarriesOnce, IsCarried, pairs_of};
+ghost use Rattle.dash_shard.specs.Table.{IsTable, CarriesOnce, IsCarried, pairs_of, pairs_in};
 ghost use Rattle.dash_shard.specs.Shard.{taken};
 
 use super::{Node, Table};
@@ -8,13 +8,13 @@ use super::{Node, Table};
 // Moves the pairs, with their hashes, to a table that has room for them.
 fn move_pairs<K: Drop, V: Drop>(nodes: &mut Vec<Node<K, V>>, table: &mut Table<K, V>)
     requires table { IsTable table.old }
-    requires empty { taken (pairs_of table.old.nodes.items) ≡ [] }
+    requires empty { taken (pairs_in table.old) ≡ [] }
     requires len { table.old.len ≡ 0 }
     requires room { length (taken (pairs_of nodes.old.items)) ≤ length table.old.nodes.items }
     ensures once { CarriesOnce nodes.old.items table.new.nodes.items }
     ensures carried { IsCarried nodes.old.items table.new.nodes.items }
     ensures len { table.new.len ≡ length (taken (pairs_of nodes.old.items)) }
-    ensures counted { table.new.len ≡ length (taken (pairs_of table.new.nodes.items)) }
+    ensures counted { table.new.len ≡ length (taken (pairs_in table.new)) }
     ensures places { length table.new.nodes.items ≡ length table.old.nodes.items }
     ensures table { IsTable table.new }
 {
@@ -33,11 +33,11 @@ impl<K, V> Table<K, V> {
         K: Drop,
         V: Drop,
         requires table { IsTable self.old }
-        requires counted { self.old.len ≡ length (taken (pairs_of self.old.nodes.items)) }
+        requires counted { self.old.len ≡ length (taken (pairs_in self.old)) }
         ensures once { CarriesOnce self.old.nodes.items self.new.nodes.items }
         ensures carried { IsCarried self.old.nodes.items self.new.nodes.items }
         ensures len { self.new.len ≡ self.old.len }
-        ensures counted { self.new.len ≡ length (taken (pairs_of self.new.nodes.items)) }
+        ensures counted { self.new.len ≡ length (taken (pairs_in self.new)) }
         ensures places { length self.new.nodes.items ≤ length self.old.nodes.items }
         ensures none { self.old.len ≡ 0 → length self.new.nodes.items ≡ 0 }
         ensures table { IsTable self.new }

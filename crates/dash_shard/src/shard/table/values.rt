@@ -1,7 +1,7 @@
 //! The values of a table's pairs, changed in their places. No link is written.
 ghost use Rattle.std.specs.Prelude.{◌≡◌, Some, IsSome, IfSome};
 ghost use Rattle.std.specs.Borrow.{sem, follows};
-ghost use Rattle.dash_shard.specs.Table.{IsTable, IsRewritten, pairs_of, with_value, with_value_at};
+ghost use Rattle.dash_shard.specs.Table.{IsTable, IsRewritten, with_value, with_value_at, pairs_in};
 ghost use Rattle.dash_shard.specs.Shard.{place};
 ghost use Rattle.dash_shard.specs.Closures.{MayGive, GivesOn};
 
@@ -46,9 +46,9 @@ impl<K, V> Table<K, V> {
     #[inline(always)]
     pub fn pair_mut(&mut self, position: usize) -> (&K, &mut V)
         requires table { IsTable self.old }
-        requires taken { IsSome (place (pairs_of self.old.nodes.items) position) }
+        requires taken { IsSome (place (pairs_in self.old) position) }
         ensures* writes_back { sem 𝓛 (follows (the_row K.row V.row) V.row self.entry.ghost_name result.1.ghost_name (with_value_at self.old position)) }
-        ensures pair { place (pairs_of self.old.nodes.items) position ≡ Some (result.0.now, result.1.now) }
+        ensures pair { place (pairs_in self.old) position ≡ Some (result.0.now, result.1.now) }
     {
         self.nodes[position].pair_mut()
     }
@@ -57,8 +57,8 @@ impl<K, V> Table<K, V> {
     #[inline(always)]
     pub fn exchange(&mut self, position: usize, key: K, value: V) -> (K, V)
         requires table { IsTable self.old }
-        requires taken { IsSome (place (pairs_of self.old.nodes.items) position) }
-        ensures old { place (pairs_of self.old.nodes.items) position ≡ Some result }
+        requires taken { IsSome (place (pairs_in self.old) position) }
+        ensures old { place (pairs_in self.old) position ≡ Some result }
         ensures new { IsRewritten position (key, value) self.old self.new }
     {
         match self.nodes[position].pair.replace((key, value)) {
@@ -71,9 +71,9 @@ impl<K, V> Table<K, V> {
     #[inline(always)]
     pub fn alter<F: FnOnce(&K, V) -> V>(&mut self, position: usize, f: F)
         requires table { IsTable self.old }
-        requires taken { IsSome (place (pairs_of self.old.nodes.items) position) }
-        requires callable { IfSome (place (pairs_of self.old.nodes.items) position) (MayGive F.FnOnce f) }
-        ensures { IfSome (place (pairs_of self.old.nodes.items) position) (λ p. (w : V) × IsRewritten position (p.0, w) self.old self.new × GivesOn F.FnOnce f p w) }
+        requires taken { IsSome (place (pairs_in self.old) position) }
+        requires callable { IfSome (place (pairs_in self.old) position) (MayGive F.FnOnce f) }
+        ensures { IfSome (place (pairs_in self.old) position) (λ p. (w : V) × IsRewritten position (p.0, w) self.old self.new × GivesOn F.FnOnce f p w) }
     {
         alter(&mut self.nodes[position].pair, f);
     }

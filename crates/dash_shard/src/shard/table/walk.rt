@@ -2,7 +2,7 @@
 ghost use Rattle.std.specs.Prelude.{◌≡◌, length, ⊤};
 ghost use Rattle.std.specs.Iterator.{at_most};
 ghost use Rattle.std.specs.Map.Iter.{TakesFirst, deref_pair};
-ghost use Rattle.dash_shard.specs.Table.{pairs_of};
+ghost use Rattle.dash_shard.specs.Table.{pairs_of, pairs_in};
 ghost use Rattle.dash_shard.specs.Shard.{taken};
 
 use super::{Node, Table};
@@ -33,8 +33,8 @@ impl<K, V> Table<K, V> {
     /// The pairs, in rising order of places.
     #[inline]
     pub fn iter(&self) -> Iter<'_, K, V>
-        requires { self.now.len ≡ length (taken (pairs_of self.now.nodes.items)) }
-        ensures { result ≡ taken (pairs_of self.now.nodes.items) }
+        requires { self.now.len ≡ length (taken (pairs_in self.now)) }
+        ensures { result ≡ taken (pairs_in self.now) }
     {
         Iter {
             nodes: &self.nodes,

@@ -1,7 +1,7 @@
 //! What goes over all pairs of a table, in rising order of places.
 ghost use Rattle.std.specs.Prelude.{ℕ, ◌≡◌, ◌<◌, Option, Some, None, IfSome, true, length, map, slice_set};
 ghost use Rattle.std.specs.Map.Calls.{CalledAtPair, TakesPair, CallableOnEachPair};
-ghost use Rattle.dash_shard.specs.Table.{IsTable, pairs_of, hashes_of};
+ghost use Rattle.dash_shard.specs.Table.{IsTable, pairs_in, hashes_in};
 ghost use Rattle.dash_shard.specs.Shard.{place, taken};
 ghost use Rattle.dash_shard.specs.Each.{Asks, CalledOnPair, TakesOnPair, Visits, Sweeps, if_kept, altered};
 
@@ -12,10 +12,10 @@ impl<K, V> Table<K, V> {
     fn ask_at<F: FnMut(&K, &mut V) -> bool>(&mut self, position: usize, f: &mut F) -> bool
         requires within { position < length self.old.nodes.items }
         requires table { IsTable self.old }
-        requires callable { IfSome (place (pairs_of self.old.nodes.items) position) (λ p. TakesPair F.FnMut f.old p.0 p.1) }
-        ensures asks { Asks (CalledAtPair F.FnMut) f.old (place (pairs_of self.old.nodes.items) position) result (place (pairs_of self.new.nodes.items) position) f.new }
-        ensures pairs { pairs_of self.new.nodes.items ≡ slice_set (pairs_of self.old.nodes.items) position (place (pairs_of self.new.nodes.items) position) }
-        ensures hashes { hashes_of self.new.nodes.items ≡ hashes_of self.old.nodes.items }
+        requires callable { IfSome (place (pairs_in self.old) position) (λ p. TakesPair F.FnMut f.old p.0 p.1) }
+        ensures asks { Asks (CalledAtPair F.FnMut) f.old (place (pairs_in self.old) position) result (place (pairs_in self.new) position) f.new }
+        ensures pairs { pairs_in self.new ≡ slice_set (pairs_in self.old) position (place (pairs_in self.new) position) }
+        ensures hashes { hashes_in self.new ≡ hashes_in self.old }
         ensures len { self.new.len ≡ self.old.len }
         ensures places { length self.new.nodes.items ≡ length self.old.nodes.items }
         ensures table { IsTable self.new }
@@ -32,11 +32,11 @@ impl<K, V> Table<K, V> {
         K: Drop,
         V: Drop,
         requires table { IsTable self.old }
-        requires counted { self.old.len ≡ length (taken (pairs_of self.old.nodes.items)) }
-        requires callable { CallableOnEachPair (CalledAtPair F.FnMut) (TakesPair F.FnMut) f.old (taken (pairs_of self.old.nodes.items)) }
-        ensures swept { Sweeps (CalledAtPair F.FnMut) if_kept f.old (pairs_of self.old.nodes.items) (pairs_of self.new.nodes.items) f.new }
-        ensures hashes { hashes_of self.new.nodes.items ≡ hashes_of self.old.nodes.items }
-        ensures counted { self.new.len ≡ length (taken (pairs_of self.new.nodes.items)) }
+        requires counted { self.old.len ≡ length (taken (pairs_in self.old)) }
+        requires callable { CallableOnEachPair (CalledAtPair F.FnMut) (TakesPair F.FnMut) f.old (taken (pairs_in self.old)) }
+        ensures swept { Sweeps (CalledAtPair F.FnMut) if_kept f.old (pairs_in self.old) (pairs_in self.new) f.new }
+        ensures hashes { hashes_in self.new ≡ hashes_in self.old }
+        ensures counted { self.new.len ≡ length (taken (pairs_in self.new)) }
         ensures places { length self.new.nodes.items ≡ length self.old.nodes.items }
         ensures table { IsTable self.new }
     {
@@ -51,10 +51,10 @@ impl<K, V> Table<K, V> {
     fn alter_at<F: FnMut(&K, V) -> V>(&mut self, position: usize, f: &mut F)
         requires within { position < length self.old.nodes.items }
         requires table { IsTable self.old }
-        requires callable { IfSome (place (pairs_of self.old.nodes.items) position) (λ p. TakesOnPair F.FnMut f.old p.0 p.1) }
-        ensures visits { Visits (CalledOnPair F.FnMut) altered f.old (place (pairs_of self.old.nodes.items) position) (place (pairs_of self.new.nodes.items) position) f.new }
-        ensures pairs { pairs_of self.new.nodes.items ≡ slice_set (pairs_of self.old.nodes.items) position (place (pairs_of self.new.nodes.items) position) }
-        ensures hashes { hashes_of self.new.nodes.items ≡ hashes_of self.old.nodes.items }
+        requires callable { IfSome (place (pairs_in self.old) position) (λ p. TakesOnPair F.FnMut f.old p.0 p.1) }
+        ensures visits { Visits (CalledOnPair F.FnMut) altered f.old (place (pairs_in self.old) position) (place (pairs_in self.new) position) f.new }
+        ensures pairs { pairs_in self.new ≡ slice_set (pairs_in self.old) position (place (pairs_in self.new) position) }
+        ensures hashes { hashes_in self.new ≡ hashes_in self.old }
         ensures len { self.new.len ≡ self.old.len }
         ensures places { length self.new.nodes.items ≡ length self.old.nodes.items }
         ensures table { IsTable self.new }
@@ -78,9 +78,9 @@ impl<K, V> Table<K, V> {
     /// Puts what `f` makes of each value in its place.
     pub fn alter_all<F: FnMut(&K, V) -> V>(&mut self, f: &mut F)
         requires table { IsTable self.old }
-        requires callable { CallableOnEachPair (CalledOnPair F.FnMut) (TakesOnPair F.FnMut) f.old (taken (pairs_of self.old.nodes.items)) }
-        ensures swept { Sweeps (CalledOnPair F.FnMut) altered f.old (pairs_of self.old.nodes.items) (pairs_of self.new.nodes.items) f.new }
-        ensures hashes { hashes_of self.new.nodes.items ≡ hashes_of self.old.nodes.items }
+        requires callable { CallableOnEachPair (CalledOnPair F.FnMut) (TakesOnPair F.FnMut) f.old (taken (pairs_in self.old)) }
+        ensures swept { Sweeps (CalledOnPair F.FnMut) altered f.old (pairs_in self.old) (pairs_in self.new) f.new }
+        ensures hashes { hashes_in self.new ≡ hashes_in self.old }
         ensures len { self.new.len ≡ self.old.len }
         ensures places { length self.new.nodes.items ≡ length self.old.nodes.items }
         ensures table { IsTable self.new }
@@ -96,9 +96,9 @@ impl<K, V> Table<K, V> {
         K: Drop,
         V: Drop,
         requires table { IsTable self.old }
-        requires counted { self.old.len ≡ length (taken (pairs_of self.old.nodes.items)) }
-        ensures pairs { pairs_of self.new.nodes.items ≡ map (λ _. None) (pairs_of self.old.nodes.items) }
-        ensures hashes { hashes_of self.new.nodes.items ≡ hashes_of self.old.nodes.items }
+        requires counted { self.old.len ≡ length (taken (pairs_in self.old)) }
+        ensures pairs { pairs_in self.new ≡ map (λ _. None) (pairs_in self.old) }
+        ensures hashes { hashes_in self.new ≡ hashes_in self.old }
         ensures len { self.new.len ≡ 0 }
         ensures places { length self.new.nodes.items ≡ length self.old.nodes.items }
         ensures table { IsTable self.new }
