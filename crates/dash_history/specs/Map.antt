@@ -65,5 +65,5 @@ module _ {K V A S : Type 0} (w : Known K V A S) (m : MapState S) where
   abbrev pub HasShard : ShardStep K V A → Type 0
   HasShard step = place_of (kinds_on w m) step < m.amount
 
-  abbrev pub HasNone : ShardStep K V A → Type 0
-  HasNone step = m.amount ≤ place_of (kinds_on w m) step
+  abbrev pub NoShard : ShardStep K V A → Type 0
+  NoShard step = m.amount ≤ place_of (kinds_on w m) step

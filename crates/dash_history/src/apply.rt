@@ -1,6 +1,6 @@
 //! Steps of callers on a map that threads share.
 ghost use Rattle.std.specs.Prelude.{◌≡◌, ◌-◌, ◌^◌, ◌<◌, ◌↔◌, IfErr};
-ghost use Rattle.dash_history.specs.Map.{Logs, HasShard, HasNone};
+ghost use Rattle.dash_history.specs.Map.{Logs, HasShard, NoShard};
 ghost use Rattle.dash_history.specs.Refused.{Refuses};
 ghost use Rattle.dash_history.specs.declared.record.RecordFault.TheVariants.{LastStamp, NoSuchShard};
 
@@ -33,7 +33,7 @@ impl<K: KeptKey + Drop, V: Kept + Drop, S: BuildHasher, A: KeptAction<K, V> + Dr
         requires { log.old.caller < self.now.callers }
         ensures ok { Logs ⟦<Self as Recorded>⟧.known self.now log.old log.new step result }
         ensures refused { IfErr result (λ e. (e.0 ≡ step) × (log.new ≡ log.old)) }
-        ensures no_such_shard { Refuses step NoSuchShard result ↔ HasNone ⟦<Self as Recorded>⟧.known self.now step }
+        ensures no_such_shard { Refuses step NoSuchShard result ↔ NoShard ⟦<Self as Recorded>⟧.known self.now step }
 
         // The shard's last stamp is not known here, the log's is.
         ensures last_stamp { HasShard ⟦<Self as Recorded>⟧.known self.now step × (log.old.last ≡ 2 ^ 64 - 1) → Refuses step LastStamp result }
