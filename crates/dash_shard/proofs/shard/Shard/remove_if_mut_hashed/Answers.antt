@@ -30,57 +30,49 @@ take-requires-clause-taken g c = ap is_some (valued-place c.self.inside.table c.
 pub invariant_of-self : goal.invariant_of-self
 invariant_of-self g c =
     let t = c.self.inside.table in
-    let i = c.in_ok-place.place in
     let there = c.pair_mut-value.ensures.pair in
-    let v = c.f.new.arg3 in
-    let found = holds-pair g.K.PartialEq.eq t.nodes.items c.args.key.now i _ there (subst (λ s. HasKey g.K.PartialEq.eq s c.args.key.now i) (sym c.self.view_is) ((c.in_ok-place.ensures.finds.position i).0 refl)) in
+    let found = holds-pair g.K.PartialEq.eq t.nodes.items c.args.key.now c.in_ok-place.place _ there (subst (λ s. HasKey g.K.PartialEq.eq s c.args.key.now c.in_ok-place.place) (sym c.self.view_is) ((c.in_ok-place.ensures.finds.position c.in_ok-place.place).0 refl)) in
     let r = c.take.ensures in
-    gone-inside _ (lawful-of g.S.BuildHasher g.S.Hasher.Hasher g.met.K.Eq.laws g.met.K.Hash.respects_eq) _ _ _ _ _ c.self.invariant _ i found _ c.self.view_is c.requires.route v _ (valued-rewritten t i _ v c.self.invariant.table there) r.pairs r.hashes r.len r.table
+    gone-inside _ (lawful-of g.S.BuildHasher g.S.Hasher.Hasher g.met.K.Eq.laws g.met.K.Hash.respects_eq) _ _ _ _ _ c.self.invariant _ c.in_ok-place.place found _ c.self.view_is c.requires.route c.f.new.arg3 _ (valued-rewritten t c.in_ok-place.place _ c.f.new.arg3 c.self.invariant.table there) r.pairs r.hashes r.len r.table
 
 pub returns-then-f : goal.returns-then-f
 returns-then-f g c =
     let t = c.self.inside.table in
-    let i = c.in_ok-place.place in
     let there = c.pair_mut-value.ensures.pair in
-    let v = c.f.new.arg3 in
-    let found = holds-pair g.K.PartialEq.eq t.nodes.items c.args.key.now i _ there (subst (λ s. HasKey g.K.PartialEq.eq s c.args.key.now i) (sym c.self.view_is) ((c.in_ok-place.ensures.finds.position i).0 refl)) in
+    let found = holds-pair g.K.PartialEq.eq t.nodes.items c.args.key.now c.in_ok-place.place _ there (subst (λ s. HasKey g.K.PartialEq.eq s c.args.key.now c.in_ok-place.place) (sym c.self.view_is) ((c.in_ok-place.ensures.finds.position c.in_ok-place.place).0 refl)) in
     let r = c.take.ensures in
-    let gone = gone-changed _ (lawful-of g.S.BuildHasher g.S.Hasher.Hasher g.met.K.Eq.laws g.met.K.Hash.respects_eq) _ _ _ _ _ c.self.invariant _ i found _ c.self.view_is c.requires.route v _ (valued-rewritten t i _ v c.self.invariant.table there) r.pairs r.hashes r.len r.table in
+    let gone = gone-changed _ (lawful-of g.S.BuildHasher g.S.Hasher.Hasher g.met.K.Eq.laws g.met.K.Hash.respects_eq) _ _ _ _ _ c.self.invariant _ c.in_ok-place.place found _ c.self.view_is c.requires.route c.f.new.arg3 _ (valued-rewritten t c.in_ok-place.place _ c.f.new.arg3 c.self.invariant.table there) r.pairs r.hashes r.len r.table in
     record {
       removes = (
-        to v true,
-        rw (sym r.old ∙ valued-place t i _ v c.self.invariant.table there) gone,
-        stood _ (lawful-of g.S.BuildHasher g.S.Hasher.Hasher g.met.K.Eq.laws g.met.K.Hash.respects_eq) _ _ _ _ t c.self.invariant _ i found _ c.self.view_is (λ p. ChangesOn g.F.FnOnce c.args.f p (v, true))
+        to c.f.new.arg3 true,
+        rw (sym r.old ∙ valued-place t c.in_ok-place.place _ c.f.new.arg3 c.self.invariant.table there) gone,
+        stood _ (lawful-of g.S.BuildHasher g.S.Hasher.Hasher g.met.K.Eq.laws g.met.K.Hash.respects_eq) _ _ _ _ t c.self.invariant _ c.in_ok-place.place found _ c.self.view_is (λ p. ChangesOn g.F.FnOnce c.args.f p (c.f.new.arg3, true))
             (record { key = c.pair_mut-value.result.0; value = c.pair_mut-value.result.1; shows = (refl, refl); left = _; leaves = refl; says = c.if-f.ensures }),
       );
-      len = gone-len _ (lawful-of g.S.BuildHasher g.S.Hasher.Hasher g.met.K.Eq.laws g.met.K.Hash.respects_eq) _ _ _ _ _ c.self.invariant _ i found _ c.self.view_is c.requires.route v _ (valued-rewritten t i _ v c.self.invariant.table there) r.pairs r.hashes r.len r.table;
-      lawful = (gone-inside _ (lawful-of g.S.BuildHasher g.S.Hasher.Hasher g.met.K.Eq.laws g.met.K.Hash.respects_eq) _ _ _ _ _ c.self.invariant _ i found _ c.self.view_is c.requires.route v _ (valued-rewritten t i _ v c.self.invariant.table there) r.pairs r.hashes r.len r.table).shard;
+      len = gone-len _ (lawful-of g.S.BuildHasher g.S.Hasher.Hasher g.met.K.Eq.laws g.met.K.Hash.respects_eq) _ _ _ _ _ c.self.invariant _ c.in_ok-place.place found _ c.self.view_is c.requires.route c.f.new.arg3 _ (valued-rewritten t c.in_ok-place.place _ c.f.new.arg3 c.self.invariant.table there) r.pairs r.hashes r.len r.table;
+      lawful = (gone-inside _ (lawful-of g.S.BuildHasher g.S.Hasher.Hasher g.met.K.Eq.laws g.met.K.Hash.respects_eq) _ _ _ _ _ c.self.invariant _ c.in_ok-place.place found _ c.self.view_is c.requires.route c.f.new.arg3 _ (valued-rewritten t c.in_ok-place.place _ c.f.new.arg3 c.self.invariant.table there) r.pairs r.hashes r.len r.table).shard;
     }
 
 pub invariant_of-self-else-f : goal.invariant_of-self-else-f
 invariant_of-self-else-f g c =
     let t = c.self.inside.table in
-    let i = c.in_ok-place.place in
     let there = c.pair_mut-value.ensures.pair in
-    let v = c.f.new.arg3 in
-    let found = holds-pair g.K.PartialEq.eq t.nodes.items c.args.key.now i _ there (subst (λ s. HasKey g.K.PartialEq.eq s c.args.key.now i) (sym c.self.view_is) ((c.in_ok-place.ensures.finds.position i).0 refl)) in
-    altered-inside _ (lawful-of g.S.BuildHasher g.S.Hasher.Hasher g.met.K.Eq.laws g.met.K.Hash.respects_eq) _ _ _ _ _ c.self.invariant _ i found _ c.self.view_is v (valued-rewritten t i _ v c.self.invariant.table there)
+    let found = holds-pair g.K.PartialEq.eq t.nodes.items c.args.key.now c.in_ok-place.place _ there (subst (λ s. HasKey g.K.PartialEq.eq s c.args.key.now c.in_ok-place.place) (sym c.self.view_is) ((c.in_ok-place.ensures.finds.position c.in_ok-place.place).0 refl)) in
+    altered-inside _ (lawful-of g.S.BuildHasher g.S.Hasher.Hasher g.met.K.Eq.laws g.met.K.Hash.respects_eq) _ _ _ _ _ c.self.invariant _ c.in_ok-place.place found _ c.self.view_is c.f.new.arg3 (valued-rewritten t c.in_ok-place.place _ c.f.new.arg3 c.self.invariant.table there)
 
 pub returns : goal.returns
 returns g c =
     let t = c.self.inside.table in
-    let i = c.in_ok-place.place in
     let there = c.pair_mut-value.ensures.pair in
-    let v = c.f.new.arg3 in
-    let found = holds-pair g.K.PartialEq.eq t.nodes.items c.args.key.now i _ there (subst (λ s. HasKey g.K.PartialEq.eq s c.args.key.now i) (sym c.self.view_is) ((c.in_ok-place.ensures.finds.position i).0 refl)) in
-    let r = valued-rewritten t i _ v c.self.invariant.table there in
+    let found = holds-pair g.K.PartialEq.eq t.nodes.items c.args.key.now c.in_ok-place.place _ there (subst (λ s. HasKey g.K.PartialEq.eq s c.args.key.now c.in_ok-place.place) (sym c.self.view_is) ((c.in_ok-place.ensures.finds.position c.in_ok-place.place).0 refl)) in
+    let r = valued-rewritten t c.in_ok-place.place _ c.f.new.arg3 c.self.invariant.table there in
     record {
       removes = (
-        to v false,
-        stays-changed _ (lawful-of g.S.BuildHasher g.S.Hasher.Hasher g.met.K.Eq.laws g.met.K.Hash.respects_eq) _ _ _ _ _ c.self.invariant _ i found _ c.self.view_is v r,
-        stood _ (lawful-of g.S.BuildHasher g.S.Hasher.Hasher g.met.K.Eq.laws g.met.K.Hash.respects_eq) _ _ _ _ t c.self.invariant _ i found _ c.self.view_is (λ p. ChangesOn g.F.FnOnce c.args.f p (v, false))
+        to c.f.new.arg3 false,
+        stays-changed _ (lawful-of g.S.BuildHasher g.S.Hasher.Hasher g.met.K.Eq.laws g.met.K.Hash.respects_eq) _ _ _ _ _ c.self.invariant _ c.in_ok-place.place found _ c.self.view_is c.f.new.arg3 r,
+        stood _ (lawful-of g.S.BuildHasher g.S.Hasher.Hasher g.met.K.Eq.laws g.met.K.Hash.respects_eq) _ _ _ _ t c.self.invariant _ c.in_ok-place.place found _ c.self.view_is (λ p. ChangesOn g.F.FnOnce c.args.f p (c.f.new.arg3, false))
             (record { key = c.pair_mut-value.result.0; value = c.pair_mut-value.result.1; shows = (refl, refl); left = _; leaves = refl; says = c.if-f.ensures }),
       );
-      len = sym (as-many _ (lawful-of g.S.BuildHasher g.S.Hasher.Hasher g.met.K.Eq.laws g.met.K.Hash.respects_eq) _ _ _ _ _ c.self.invariant _ i found _ c.self.view_is v r) ∙ sym (add-zero _);
-      lawful = (altered-inside _ (lawful-of g.S.BuildHasher g.S.Hasher.Hasher g.met.K.Eq.laws g.met.K.Hash.respects_eq) _ _ _ _ _ c.self.invariant _ i found _ c.self.view_is v r).shard;
+      len = sym (as-many _ (lawful-of g.S.BuildHasher g.S.Hasher.Hasher g.met.K.Eq.laws g.met.K.Hash.respects_eq) _ _ _ _ _ c.self.invariant _ c.in_ok-place.place found _ c.self.view_is c.f.new.arg3 r) ∙ sym (add-zero _);
+      lawful = (altered-inside _ (lawful-of g.S.BuildHasher g.S.Hasher.Hasher g.met.K.Eq.laws g.met.K.Hash.respects_eq) _ _ _ _ _ c.self.invariant _ c.in_ok-place.place found _ c.self.view_is c.f.new.arg3 r).shard;
     }
