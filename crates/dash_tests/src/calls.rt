@@ -12,10 +12,6 @@ use std::sync::{Arc, Wait};
 use std::test::Fail;
 use std::thread;
 
-type Places = DashMap<u64, u64, PlaceState>;
-
-type Fixed = DashMap<u64, u64, FixedState>;
-
 // The value at a key.
 fn value_at<R: Abort + Wait + Clock, S: BuildHasher>(
     rt: &R,
@@ -27,208 +23,109 @@ fn value_at<R: Abort + Wait + Clock, S: BuildHasher>(
     Some(*found.value())
 }
 
-// Puts pairs of new keys.
-fn put_all<R: Abort + Wait + Clock, S: BuildHasher>(
-    rt: &R,
-    map: &DashMap<u64, u64, S>,
-    pairs: &[(u64, u64)],
-) -> Result<(), Fail> {
-    for &(key, value) in pairs {
-        is_at(rt, map.insert(rt, key, value)?, None, key);
-    }
-    Ok(())
-}
-
-// These keys have these values.
-fn assert_values<R: Abort + Wait + Clock, S: BuildHasher>(
-    rt: &R,
-    map: &DashMap<u64, u64, S>,
-    rows: &[(u64, Option<u64>)],
-) {
-    for &(key, wanted) in rows {
-        is_at(rt, value_at(rt, map, key), wanted, key);
-        is_at(rt, map.contains_key(rt, &key), wanted.is_some(), key);
-    }
-}
-
-// Puts the keys below an amount, each its own value, and finds them all.
-fn put_below<R: Abort + Wait + Clock, S: BuildHasher>(
-    rt: &R,
-    map: &DashMap<u64, u64, S>,
-    amount: u64,
-) -> Result<(), Fail> {
-    for key in 0..amount {
-        is_at(rt, map.insert(rt, key, key)?, None, key);
-    }
-    for key in 0..amount {
-        is_at(rt, value_at(rt, map, key), Some(key), key);
-    }
-    Ok(())
-}
-
-// The removals of these keys give these pairs.
-fn remove_all<R: Abort + Wait + Clock>(rt: &R, map: &Fixed, rows: &[(u64, Option<(u64, u64)>)]) {
-    for &(key, wanted) in rows {
-        is_at(rt, map.remove(rt, &key), wanted, key);
-    }
-}
-
-// Puts the keys below a hundred, and each time the key 0 once more.
-fn put_a_hundred<R: Wait + Clock>(rt: &R, map: &Fixed) -> Result<(), Fail> {
-    for i in 0..100 {
-        map.insert(rt, 0, i)?;
-        map.insert(rt, i, i)?;
-    }
-    Ok(())
-}
-
-// The keys from 1 to 99 are there, and 0 with the last value.
-fn assert_a_hundred<R: Abort + Wait + Clock>(rt: &R, map: &Fixed) {
-    is(rt, value_at(rt, map, 0), Some(99));
-    for i in 1..100 {
-        is(rt, value_at(rt, map, i), Some(i));
-    }
-}
-
 #[test]
 fn a_hundred_keys(rt: HostRuntime) -> Result<(), Fail> {
-    let map = Fixed::new(rt.alloc(), 1)?;
-    put_a_hundred(&rt, &map)?;
-    assert_a_hundred(&rt, &map);
-    remove_all(&rt, &map, &[(7, Some((7, 7))), (7, None)]);
-    assert_values(&rt, &map, &[(7, None)]);
+    let map = DashMap::<u64, u64, FixedState>::new(rt.alloc(), 1)?;
+    for i in 0..100 {
+        map.insert(&rt, 0, i)?;
+        map.insert(&rt, i, i)?;
+    }
+    is(&rt, value_at(&rt, &map, 0), Some(99));
+    for i in 1..100 {
+        is(&rt, value_at(&rt, &map, i), Some(i));
+    }
+    is(&rt, map.remove(&rt, &7), Some((7, 7)));
+    is(&rt, map.remove(&rt, &7), None);
+    is(&rt, value_at(&rt, &map, 7), None);
     let alone = map.alone();
     is(&rt, alone.get(&8), Some((&8, &8)));
     assert!(rt; !alone.contains_key(&7));
     Ok(())
 }
 
-type Food = DashMap<u64, &'static str, PlaceState>;
-
-fn food<R: Wait + Clock>(rt: &R, alloc: Global) -> Result<Food, Fail> {
-    let map = map_of_four(alloc)?;
-    for (number, name) in [(0, "Banana"), (4, "Pear"), (9, "Potato"), (12, "Chicken")] {
-        map.insert(rt, number, name)?;
-    }
-    Ok(map)
-}
-
-fn is_eaten_warm<R: Wait + Clock>(rt: &R, map: &Food, number: u64) -> Option<bool> {
-    map.view(
-        rt,
-        &number,
-        |_, name| matches!(*name, "Salad" | "Beans" | "Potato" | "Tomato"),
-    )
-}
-
-// Which numbers there are, among four.
-fn assert_food<R: Abort + Wait + Clock>(rt: &R, map: &Food, rows: &[(u64, bool)]) {
-    for &(number, is_there) in rows {
-        is_at(rt, map.contains_key(rt, &number), is_there, number);
-    }
-    is(rt, (map.len(rt), map.is_empty(rt)), (4, false));
-    assert!(rt; map.capacity(rt) >= 4);
-}
-
 #[test]
 fn views(rt: HostRuntime) -> Result<(), Fail> {
-    let map = food(&rt, rt.alloc())?;
-    for (number, warm) in [(9, Some(true)), (12, Some(false)), (30, None)] {
-        is_at(&rt, is_eaten_warm(&rt, &map, number), warm, number);
+    let map = map_of_four(rt.alloc())?;
+    for (number, name) in [(0, "Banana"), (4, "Pear"), (9, "Potato"), (12, "Chicken")] {
+        map.insert(&rt, number, name)?;
     }
-    assert_food(&rt, &map, &[(4, true), (8, false)]);
+    let is_eaten_warm = |_: &u64, name: &&str| matches!(
+        *name,
+        "Salad" | "Beans" | "Potato" | "Tomato"
+    );
+    is(&rt, map.view(&rt, &9, is_eaten_warm), Some(true));
+    is(&rt, map.view(&rt, &12, is_eaten_warm), Some(false));
+    is(&rt, map.view(&rt, &30, |_, _| false), None);
+    assert!(rt; map.contains_key(&rt, &4));
+    assert!(rt; !map.contains_key(&rt, &8));
+    is(&rt, map.len(&rt), 4);
+    assert!(rt; map.capacity(&rt) >= 4);
+    assert!(rt; !map.is_empty(&rt));
     Ok(())
-}
-
-type Roles = DashMap<&'static str, &'static str, FixedState>;
-
-// Takes Sam away, if he has this role.
-fn remove_sam<R: Abort + Wait + Clock>(
-    rt: &R,
-    map: &Roles,
-    asked: &str,
-    wanted: Option<(&'static str, &'static str)>,
-) {
-    let stays = wanted.is_none();
-    let gone = map.remove_if(rt, &"Sam", |_, role| *role == asked);
-    is(rt, gone, wanted);
-    is(rt, map.contains_key(rt, &"Sam"), stays);
 }
 
 #[test]
 fn a_removal_asks_first(rt: HostRuntime) -> Result<(), Fail> {
-    let map = Roles::with_shard_amount(rt.alloc(), 4)?;
+    let map = DashMap::<&str, &str, FixedState>::with_shard_amount(rt.alloc(), 4)?;
     map.insert(&rt, "Sam", "Forward")?;
-    remove_sam(&rt, &map, "Goalie", None);
-    remove_sam(&rt, &map, "Forward", Some(("Sam", "Forward")));
+    let gone = map.remove_if(&rt, &"Sam", |_, role| *role == "Goalie");
+    is(&rt, gone, None);
+    assert!(rt; map.contains_key(&rt, &"Sam"));
+    let gone = map.remove_if(&rt, &"Sam", |_, role| *role == "Forward");
+    is(&rt, gone, Some(("Sam", "Forward")));
+    assert!(rt; !map.contains_key(&rt, &"Sam"));
     Ok(())
-}
-
-// Makes room for ten pairs, where there is none.
-fn make_room<R: Abort + Wait + Clock>(rt: &R, map: &mut Places) -> Result<(), Fail> {
-    is(rt, (map.capacity(rt), map.is_empty(rt)), (0, true));
-    map.try_reserve(10)?;
-    assert!(rt; map.capacity(rt) >= 10);
-    Ok(())
-}
-
-// The refusal of too much room.
-fn refusal(map: &mut Places) -> Option<TryReserveError> {
-    map.try_reserve(usize::MAX).err()
 }
 
 #[test]
 fn room_is_made(rt: HostRuntime) -> Result<(), Fail> {
-    let mut map = map_of_four(rt.alloc())?;
-    make_room(&rt, &mut map)?;
-    put_all(&rt, &map, &[(1, 1)])?;
-    is(&rt, refusal(&mut map), Some(TryReserveError {}));
+    let mut map = map_of_four::<u64>(rt.alloc())?;
+    is(&rt, map.capacity(&rt), 0);
+    assert!(rt; map.is_empty(&rt));
+    assert!(rt; map.try_reserve(10).is_ok());
+    assert!(rt; map.capacity(&rt) >= 10);
+    map.insert(&rt, 1, 1)?;
+    let refused = map.try_reserve(usize::MAX).err();
+    is(&rt, refused, Some(TryReserveError {}));
     is(&rt, map.len(&rt), 1);
-    assert_values(&rt, &map, &[(1, Some(1))]);
+    is(&rt, value_at(&rt, &map, 1), Some(1));
     assert!(rt; map.alone().capacity() >= 10);
     Ok(())
 }
 
-type Zeros = DashMap<u64, u64, ZeroState>;
-
-// Takes each second key of two hundred, all of which are in shard 0.
-fn remove_evens<R: Abort + Wait + Clock>(rt: &R, map: &Zeros) {
-    for half in 0..100u64 {
-        let key = 2 * half;
-        is_at(rt, map.remove(rt, &key), Some((key, key)), key);
-        is_at(
-            rt,
-            (map.determine_map(&key), map.determine_map(&(key + 1))),
-            (0, 0),
-            key,
-        );
-    }
-}
-
-// Each second key of two hundred is there.
-fn assert_odds<R: Abort + Wait + Clock>(rt: &R, map: &Zeros) {
-    for half in 0..100u64 {
-        let (even, odd) = (2 * half, 2 * half + 1);
-        assert_values(rt, map, &[(even, None), (odd, Some(odd))]);
-    }
-}
-
 #[test]
 fn one_shard_may_have_all_keys(rt: HostRuntime) -> Result<(), Fail> {
-    let map = Zeros::with_hasher_and_shard_amount(rt.alloc(), ZeroState, 4)?;
-    put_below(&rt, &map, 200)?;
+    let map = DashMap::<u64, u64, ZeroState>::with_hasher_and_shard_amount(
+        rt.alloc(),
+        ZeroState,
+        4,
+    )?;
+    for key in 0..200u64 {
+        is_at(&rt, map.determine_map(&key), 0, key);
+        is_at(&rt, map.insert(&rt, key, key)?, None, key);
+    }
+    for key in 0..200u64 {
+        is_at(&rt, value_at(&rt, &map, key), Some(key), key);
+    }
     is(&rt, map.len(&rt), 200);
-    remove_evens(&rt, &map);
-    assert_odds(&rt, &map);
+    for half in 0..100u64 {
+        let key = 2 * half;
+        is_at(&rt, map.remove(&rt, &key), Some((key, key)), key);
+    }
+    for half in 0..100u64 {
+        let key = 2 * half;
+        is_at(&rt, value_at(&rt, &map, key), None, key);
+        is_at(&rt, value_at(&rt, &map, key + 1), Some(key + 1), key);
+    }
     is(&rt, map.len(&rt), 100);
     Ok(())
 }
 
 #[test]
 fn zero_is_a_key_and_a_value(rt: HostRuntime) -> Result<(), Fail> {
-    let map = Fixed::new(rt.alloc(), 1)?;
-    put_all(&rt, &map, &[(0, 0)])?;
-    assert_values(&rt, &map, &[(0, Some(0))]);
+    let map = DashMap::<u64, u64, FixedState>::new(rt.alloc(), 1)?;
+    is(&rt, map.insert(&rt, 0, 0)?, None);
+    is(&rt, value_at(&rt, &map, 0), Some(0));
     Ok(())
 }
 
@@ -244,35 +141,15 @@ fn note_of(alloc: Global, number: u64) -> Result<Note, AllocError> {
     Ok(Note { text, number })
 }
 
-type Notes = DashMap<u64, Note, FixedState>;
-
-// Puts a note of each number below ten.
-fn put_notes<R: Wait + Clock>(rt: &R, alloc: Global, map: &Notes) -> Result<(), Fail> {
-    for i in 0..10 {
-        map.insert(rt, i, note_of(alloc, i)?)?;
-    }
-    Ok(())
-}
-
-// The note of a number is found.
-fn assert_note<R: Abort + Wait + Clock>(
-    rt: &R,
-    alloc: Global,
-    map: &Notes,
-    number: u64,
-) -> Result<(), Fail> {
-    let wanted = note_of(alloc, number)?;
-    let found = map.get(rt, &number).ok_or("no pair")?;
-    is(rt, found.value(), &wanted);
-    Ok(())
-}
-
 #[test]
 fn structs_are_found_as_they_were_put(rt: HostRuntime) -> Result<(), Fail> {
-    let map = Notes::new(rt.alloc(), 1)?;
-    put_notes(&rt, rt.alloc(), &map)?;
+    let map = DashMap::<u64, Note, FixedState>::new(rt.alloc(), 1)?;
     for i in 0..10 {
-        assert_note(&rt, rt.alloc(), &map, i)?;
+        map.insert(&rt, i, note_of(rt.alloc(), i)?)?;
+    }
+    for i in 0..10 {
+        let found = map.get(&rt, &i).ok_or("no pair")?;
+        assert_eq!(rt; *found.value(), note_of(rt.alloc(), i)?);
     }
     Ok(())
 }
@@ -280,8 +157,14 @@ fn structs_are_found_as_they_were_put(rt: HostRuntime) -> Result<(), Fail> {
 #[test]
 fn a_random_hasher_finds_each_key(rt: HostRuntime) -> Result<(), Fail> {
     let hasher = RandomState::new(&rt)?;
-    let map = DashMap::with_hasher(rt.alloc(), hasher, 1)?;
-    put_below(&rt, &map, 10)
+    let map = DashMap::<u64, u64, RandomState>::with_hasher(rt.alloc(), hasher, 1)?;
+    for i in 0..10 {
+        map.insert(&rt, i, i)?;
+    }
+    for i in 0..10 {
+        is_at(&rt, value_at(&rt, &map, i), Some(i), i);
+    }
+    Ok(())
 }
 
 // Sixteen keys of its own for each thread.
@@ -314,7 +197,8 @@ fn four_threads_share_a_map(rt: HostRuntime) -> Result<(), Fail> {
     for key in 0..64 {
         is_at(&rt, value_at(&rt, &map, key), Some(key / 16), key);
     }
-    assert_values(&rt, &map, &[(37, Some(2)), (64, None)]);
+    is(&rt, value_at(&rt, &map, 37), Some(2));
+    is(&rt, value_at(&rt, &map, 64), None);
     is(&rt, map.len(&rt), 64);
     Ok(())
 }
@@ -322,131 +206,81 @@ fn four_threads_share_a_map(rt: HostRuntime) -> Result<(), Fail> {
 #[test]
 fn a_held_shard_leaves_the_others_free(rt: HostRuntime) -> Result<(), Fail> {
     let map = map_of_four::<u64>(rt.alloc())?;
-    put_all(&rt, &map, &[(0, 5)])?;
+    map.insert(&rt, 0, 5)?;
     let held = map.get(&rt, &0).ok_or("no pair")?;
-    put_all(&rt, &map, &[(1, 10)])?;
-    assert_values(&rt, &map, &[(1, Some(10)), (0, Some(5))]);
+    is(&rt, map.insert(&rt, 1, 10)?, None);
+    is(&rt, value_at(&rt, &map, 1), Some(10));
+    is(&rt, value_at(&rt, &map, 0), Some(5));
     is(&rt, *held.value(), 5);
     Ok(())
-}
-
-// Alters the value at 4, and none at 8.
-fn alter_one<R: Wait + Clock>(rt: &R, map: &Places) {
-    for key in [4, 8] {
-        map.alter(rt, &key, |_, value| value.wrapping_add(1));
-    }
-}
-
-// The removals of a list that ask first, and give no pair.
-fn ask_for_two<R: Abort + Wait + Clock>(rt: &R, map: &Places) {
-    let gone = map.remove_if(rt, &0, |_, value| *value < 5);
-    is(rt, gone, None);
-    let gone = map.remove_if_mut(rt, &1, |_, value| {
-        *value = value.wrapping_add(1);
-        false
-    });
-    is(rt, gone, None);
-}
-
-// The value at a key, as a view gives it.
-fn viewed<R: Wait + Clock>(rt: &R, map: &Places, key: u64) -> Option<u64> {
-    map.view(rt, &key, |_, value| *value)
-}
-
-// Empties a map of one pair.
-fn empty<R: Abort + Wait + Clock>(rt: &R, map: &Places) {
-    map.shrink_to_fit(rt);
-    is(rt, map.capacity(rt), 1);
-    map.clear(rt);
-    is(rt, (map.is_empty(rt), map.capacity(rt)), (true, 1));
-    map.shrink_to_fit(rt);
-    is(rt, map.capacity(rt), 0);
-}
-
-// Alters all values of three, and keeps two.
-fn change_all<R: Abort + Wait + Clock>(rt: &R, map: &Places) {
-    map.alter_all(rt, |_, value| value.wrapping_add(1));
-    map.retain(rt, |_, value| *value > 5);
-    is(rt, map.len(rt), 2);
 }
 
 #[test]
 fn the_list_for_shared_calls(rt: HostRuntime) -> Result<(), Fail> {
     let map = map_of_four(rt.alloc())?;
-    put_all(&rt, &map, &[(0, 5), (4, 9), (1, 2)])?;
-    alter_one(&rt, &map);
-    ask_for_two(&rt, &map);
-    is(&rt, viewed(&rt, &map, 1), Some(3));
-    change_all(&rt, &map);
-    assert_values(&rt, &map, &[(1, None)]);
-    is(&rt, map.remove(&rt, &4), Some((4, 11)));
-    is(&rt, viewed(&rt, &map, 0), Some(6));
-    empty(&rt, &map);
-    Ok(())
-}
-
-type Named = DashMap<&'static str, u64, FixedState>;
-
-// A map of these pairs.
-fn named<R: Wait + Clock>(
-    rt: &R,
-    alloc: Global,
-    pairs: &[(&'static str, u64)],
-) -> Result<Named, Fail> {
-    let map = Named::new(alloc, 1)?;
-    for &(name, number) in pairs {
-        map.insert(rt, name, number)?;
+    for (key, value) in [(0, 5u64), (4, 9), (1, 2)] {
+        map.insert(&rt, key, value)?;
     }
-    Ok(map)
-}
-
-// Alters all values, and then that of one more name.
-fn alter_values<R: Wait + Clock>(rt: &R, map: &Named) -> Result<(), Fail> {
-    map.alter_all(rt, |_, value| value.wrapping_add(1));
-    map.insert(rt, "Goals", 4)?;
-    map.alter(rt, &"Goals", |_, goals| goals.wrapping_mul(2));
+    map.alter(&rt, &4, |_, value| value.wrapping_add(1));
+    map.alter(&rt, &8, |_, value| value.wrapping_add(1));
+    is(&rt, map.remove_if(&rt, &0, |_, value| *value < 5), None);
+    let more_but_no = |_: &u64, value: &mut u64| {
+        *value = value.wrapping_add(1);
+        false
+    };
+    is(&rt, map.remove_if_mut(&rt, &1, more_but_no), None);
+    is(&rt, map.view(&rt, &1, |_, value| *value), Some(3));
+    map.alter_all(&rt, |_, value| value.wrapping_add(1));
+    map.retain(&rt, |_, value| *value > 5);
+    is(&rt, map.len(&rt), 2);
+    assert!(rt; !map.contains_key(&rt, &1));
+    is(&rt, map.remove(&rt, &4), Some((4, 11)));
+    is(&rt, map.view(&rt, &0, |_, value| *value), Some(6));
+    map.shrink_to_fit(&rt);
+    is(&rt, map.capacity(&rt), 1);
+    map.clear(&rt);
+    assert!(rt; map.is_empty(&rt));
+    is(&rt, map.capacity(&rt), 1);
+    map.shrink_to_fit(&rt);
+    is(&rt, map.capacity(&rt), 0);
     Ok(())
-}
-
-fn number_of<R: Wait + Clock>(rt: &R, map: &Named, name: &'static str) -> Option<u64> {
-    let found = map.get(rt, &name)?;
-    Some(*found.value())
 }
 
 #[test]
 fn each_value_is_altered(rt: HostRuntime) -> Result<(), Fail> {
-    let map = named(&rt, rt.alloc(), &[("Wins", 4), ("Losses", 2)])?;
-    alter_values(&rt, &map)?;
-    for (name, number) in [("Wins", 5), ("Losses", 3), ("Goals", 8)] {
-        is_at(&rt, number_of(&rt, &map, name), Some(number), name);
+    let map = DashMap::<&str, u64, FixedState>::new(rt.alloc(), 1)?;
+    map.insert(&rt, "Wins", 4)?;
+    map.insert(&rt, "Losses", 2)?;
+    map.alter_all(&rt, |_, value| value.wrapping_add(1));
+    map.insert(&rt, "Goals", 4)?;
+    map.alter(&rt, &"Goals", |_, goals| goals.wrapping_mul(2));
+    for (key, value) in [("Wins", 5), ("Losses", 3), ("Goals", 8)] {
+        let found = map.get(&rt, &key).ok_or("no pair")?;
+        is(&rt, *found.value(), value);
     }
     Ok(())
 }
 
 #[test]
 fn who_is_young_is_not_kept(rt: HostRuntime) -> Result<(), Fail> {
-    let map = named(
-        &rt,
-        rt.alloc(),
-        &[("Albin", 15), ("Jones", 22), ("Charlie", 27)],
-    )?;
+    let map = DashMap::<&str, u64, FixedState>::new(rt.alloc(), 1)?;
+    map.insert(&rt, "Albin", 15)?;
+    map.insert(&rt, "Jones", 22)?;
+    map.insert(&rt, "Charlie", 27)?;
     map.retain(&rt, |_, age| *age > 20);
     is(&rt, map.len(&rt), 2);
     assert!(rt; !map.contains_key(&rt, &"Albin"));
     Ok(())
 }
 
-// Takes the last pair, and gives its room back.
-fn remove_johnny<R: Abort + Wait + Clock>(rt: &R, map: &Named) {
-    is(rt, map.remove(rt, &"Johnny"), Some(("Johnny", 21)));
-    map.shrink_to_fit(rt);
-}
-
 #[test]
 fn an_empty_map_gives_its_room_back(rt: HostRuntime) -> Result<(), Fail> {
-    let map = named(&rt, rt.alloc(), &[("Johnny", 21)])?;
+    let map = DashMap::<&str, u64, FixedState>::new(rt.alloc(), 1)?;
+    map.insert(&rt, "Johnny", 21)?;
     assert!(rt; map.capacity(&rt) >= 1);
-    remove_johnny(&rt, &map);
-    is(&rt, (map.len(&rt), map.capacity(&rt)), (0, 0));
+    is(&rt, map.remove(&rt, &"Johnny"), Some(("Johnny", 21)));
+    map.shrink_to_fit(&rt);
+    is(&rt, map.len(&rt), 0);
+    is(&rt, map.capacity(&rt), 0);
     Ok(())
 }

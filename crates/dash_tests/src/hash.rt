@@ -58,12 +58,13 @@ fn hash_by_clone<K: Eq + Hash, S: BuildHasher + Clone + Drop>(
 
 #[test]
 fn clones(rt: HostRuntime) -> Result<(), Fail> {
-    let hashes = [
+    is(
+        &rt,
         hash_by_clone(&FixedState, &1u64)?,
-        hash_by_clone(&ZeroState, &1u64)?,
-        hash_by_clone(&PlaceState, &1u64)?,
-    ];
-    is(&rt, hashes, [0x89cd_3129_1d2a_efa4, 0, 1 << 55]);
+        0x89cd_3129_1d2a_efa4,
+    );
+    is(&rt, hash_by_clone(&ZeroState, &1u64)?, 0);
+    is(&rt, hash_by_clone(&PlaceState, &1u64)?, 1 << 55);
     let state = RandomState::new(&rt)?;
     is(&rt, hash_by_clone(&state, &1u64)?, state.hash_one(&1u64));
     Ok(())
@@ -86,12 +87,9 @@ fn fill<S: BuildHasher + Drop>(rt: &impl Abort, alloc: Global, state: S) -> Resu
 
 #[test]
 fn shards(rt: HostRuntime) -> Result<(), Fail> {
-    let lengths = [
-        fill(&rt, rt.alloc(), ZeroState)?,
-        fill(&rt, rt.alloc(), PlaceState)?,
-        fill(&rt, rt.alloc(), FixedState)?,
-    ];
-    is(&rt, lengths, [64, 32, 33]);
+    is(&rt, fill(&rt, rt.alloc(), ZeroState)?, 64);
+    is(&rt, fill(&rt, rt.alloc(), PlaceState)?, 32);
+    is(&rt, fill(&rt, rt.alloc(), FixedState)?, 33);
     assert!(rt; fill(&rt, rt.alloc(), RandomState::new(&rt)?)? <= 64);
     Ok(())
 }
@@ -112,10 +110,18 @@ fn routes(rt: HostRuntime) {
         (2, (1 << 56) - 1, 0),
         (2, 1 << 56, 1),
     ] {
-        is_at(&rt, shard_of(&rt, hash, amount), shard, hash);
+        assert_eq!(rt;
+            shard_of(&rt, hash, amount),
+            shard,
+            "the hash {hash} among {amount}"
+        );
     }
     for (key, shard) in [(0u64, 0), (1, 1), (5, 1), (7, 3), (u64::MAX, 3)] {
-        is_at(&rt, shard_of(&rt, PlaceState.hash_one(&key), 4), shard, key);
+        assert_eq!(rt;
+            shard_of(&rt, PlaceState.hash_one(&key), 4),
+            shard,
+            "the key {key}"
+        );
     }
 }
 

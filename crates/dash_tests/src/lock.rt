@@ -2,7 +2,7 @@
 ghost use Rattle.std.specs.Prelude.{◌≡◌, ◌<◌, IfOk};
 ghost use Rattle.std.specs.Arc.{arc_value};
 
-use crate::places::{is, may_read, may_write};
+use crate::places::is;
 use dash_shard::lock::{RwLock, Tagged};
 use std::alloc::{AllocError, Global};
 use std::mem;
@@ -35,11 +35,11 @@ fn readers_share_and_keep_writers_out(rt: HostRuntime) -> Result<(), Fail> {
     let second = lock.read(&rt);
     is(&rt, first.number, 7);
     is(&rt, second.number, 7);
-    assert!(rt; !may_write(&lock), "two readers have the lock");
+    assert!(rt; lock.try_write().is_none(), "two readers have the lock");
     drop(first);
-    assert!(rt; !may_write(&lock), "a reader has the lock");
+    assert!(rt; lock.try_write().is_none(), "a reader has the lock");
     drop(second);
-    assert!(rt; may_write(&lock), "nobody has the lock");
+    assert!(rt; lock.try_write().is_some(), "nobody has the lock");
     Ok(())
 }
 
@@ -47,10 +47,10 @@ fn readers_share_and_keep_writers_out(rt: HostRuntime) -> Result<(), Fail> {
 fn a_writer_keeps_others_out(rt: HostRuntime) -> Result<(), Fail> {
     let lock = locked(7);
     let guard = lock.write(&rt);
-    assert!(rt; !may_read(&lock), "a writer has the lock");
-    assert!(rt; !may_write(&lock), "a writer has the lock");
+    assert!(rt; lock.try_read().is_none(), "a writer has the lock");
+    assert!(rt; lock.try_write().is_none(), "a writer has the lock");
     drop(guard);
-    assert!(rt; may_read(&lock), "nobody has the lock");
+    assert!(rt; lock.try_read().is_some(), "nobody has the lock");
     Ok(())
 }
 
@@ -60,7 +60,7 @@ fn the_lock_is_free_once_a_writer_has_gone(rt: HostRuntime) -> Result<(), Fail> 
     drop(lock.write(&rt));
     let mut guard = lock.try_write().ok_or("a writer after a writer")?;
     is(&rt, guard.replace(Bounded { number: 8 }).number, 7);
-    assert!(rt; !may_read(&lock), "a writer has the lock");
+    assert!(rt; lock.try_read().is_none(), "a writer has the lock");
     drop(guard);
     let guard = lock.try_read().ok_or("a reader after a writer")?;
     is(&rt, guard.number, 8);
@@ -87,9 +87,9 @@ fn ten_thousand_readers_hold_it_at_once(rt: HostRuntime) -> Result<(), Fail> {
     for _ in 0..10_000 {
         guards.push(lock.read(&rt))?;
     }
-    assert!(rt; !may_write(&lock), "readers have the lock");
+    assert!(rt; lock.try_write().is_none(), "readers have the lock");
     drop(guards);
-    assert!(rt; may_write(&lock), "the readers are gone");
+    assert!(rt; lock.try_write().is_some(), "the readers are gone");
     Ok(())
 }
 
@@ -97,11 +97,11 @@ fn ten_thousand_readers_hold_it_at_once(rt: HostRuntime) -> Result<(), Fail> {
 fn leaked_guards_leave_a_lock_that_can_be_dropped(rt: HostRuntime) -> Result<(), Fail> {
     let lock = locked(7);
     mem::forget(lock.write(&rt));
-    assert!(rt; !may_read(&lock), "the writer is never gone");
+    assert!(rt; lock.try_read().is_none(), "the writer is never gone");
     drop(lock);
     let lock = locked(8);
     mem::forget(lock.read(&rt));
-    assert!(rt; !may_write(&lock), "the reader is never gone");
+    assert!(rt; lock.try_write().is_none(), "the reader is never gone");
     is(&rt, lock.into_inner().number, 8);
     Ok(())
 }
@@ -118,7 +118,7 @@ fn threads_may_share_a_lock(rt: HostRuntime) -> Result<(), Fail> {
     let lock = Arc::new(rt.alloc(), locked(7))?;
     let other = share(&lock)?;
     let guard = other.read(&rt);
-    assert!(rt; may_read(&lock), "readers share the lock");
-    assert!(rt; !may_write(&lock), "a reader has the lock");
+    assert!(rt; lock.try_read().is_some(), "readers share the lock");
+    assert!(rt; lock.try_write().is_none(), "a reader has the lock");
     Ok(())
 }

@@ -5,7 +5,7 @@ ghost use Rattle.dash_shard.specs.Shard.{Routes};
 
 use dash_shard::error::ConstructError;
 use dash_shard::hash::{PlaceState, is_shard_amount};
-use dash_shard::lock::{RwLock, Tagged};
+use dash_shard::lock::RwLock;
 use dash_shard::shard::held::{ShardMut, ShardTag};
 use dash_shard::shard::{InsertRefused, Shard};
 use std::alloc::Global;
@@ -36,8 +36,8 @@ pub(crate) fn shard_one<V: fmt::Debug + Drop, const N: usize>(
     pairs: [(u64, V); N],
 ) -> Result<Shard<u64, V, PlaceState>, Fail> {
     let mut shard = new_shard(rt, alloc, PlaceState, 1, 4, 0)?;
-    for (key, value) in pairs {
-        assert!(rt; put(rt, &mut shard, key, value)?.is_none());
+    for (key, value) in Vec::from_array(alloc, pairs)? {
+        assert!(rt; put(rt, &mut shard, key, value)?.is_none(), "{key}");
     }
     Ok(shard)
 }
@@ -99,34 +99,6 @@ pub(crate) fn put_held<K: Eq + Hash + Drop, V: Drop, S: BuildHasher>(
 ) -> Result<Option<V>, InsertRefused<K, V>> {
     let key = here_held(rt, held, key);
     held.insert(key, value)
-}
-
-/// These keys have these values in a shard.
-pub(crate) fn assert_values(
-    rt: &impl Abort,
-    shard: &Shard<u64, u64, PlaceState>,
-    rows: &[(u64, Option<u64>)],
-) {
-    for &(key, wanted) in rows {
-        is_at(rt, value_at(rt, shard, key), wanted, key);
-    }
-}
-
-// The value at a key of a shard.
-fn value_at(rt: &impl Abort, shard: &Shard<u64, u64, PlaceState>, key: u64) -> Option<u64> {
-    let (found, value) = shard.get(&key)?;
-    is(rt, *found, key);
-    Some(*value)
-}
-
-/// Whether a reader may have the lock now.
-pub(crate) fn may_read<T: Tagged>(lock: &RwLock<T>) -> bool {
-    lock.try_read().is_some()
-}
-
-/// Whether a writer may have the lock now.
-pub(crate) fn may_write<T: Tagged>(lock: &RwLock<T>) -> bool {
-    lock.try_write().is_some()
 }
 
 /// Ends the test where what was found isn't what is wanted.

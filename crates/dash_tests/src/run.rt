@@ -3,12 +3,11 @@ use crate::map::map_of_four;
 use crate::places::is;
 use dash_history::action::Action;
 use dash_history::kept::Kept;
-use dash_history::step::ShardStep;
+use dash_history::step::{Reply, ShardStep};
 use dash_map::alone::Alone;
-use dash_map::run::RunOutcome;
+use dash_map::run::{Fault, RunOutcome};
 use dash_shard::hash::PlaceState;
 use std::alloc::{AllocError, Global};
-use std::fmt;
 use std::process::Abort;
 use std::test::Fail;
 
@@ -23,35 +22,29 @@ fn six_steps(alloc: Global) -> Result<Vec<ShardStep<u64, u64>>, Fail> {
     ]?)
 }
 
-// The outcome has these replies, and stopped there: the rest of the steps and why.
-fn assert_outcome<V: fmt::Debug, A: fmt::Debug>(
-    rt: &impl Abort,
-    alloc: Global,
-    outcome: &RunOutcome<u64, V, A>,
-    replies: &str,
-    stopped: &str,
-) -> Result<(), AllocError> {
-    let found = format!(in alloc; "{:?}", outcome.replies)?;
-    is(rt, found.as_str(), replies);
-    let found = format!(in alloc; "{:?}", outcome.stopped)?;
-    is(rt, found.as_str(), stopped);
-    Ok(())
+// The replies to the six steps on an empty map, all of them.
+fn assert_replies<R: Abort>(rt: &R, outcome: &RunOutcome<u64, u64>) {
+    assert!(rt; outcome.stopped.is_none());
+    assert!(rt;
+        matches!(
+            outcome.replies.as_slice(),
+            [
+                Reply::Old(None),
+                Reply::Old(None),
+                Reply::Pair(Some((1, 10))),
+                Reply::Pair(Some((1, 10))),
+                Reply::Pair(None),
+                Reply::Pair(None),
+            ]
+        )
+    );
 }
-
-// The pair at a key.
-fn pair_at(alone: &Alone<u64, u64, PlaceState>, key: u64) -> Option<(u64, u64)> {
-    let (found, value) = alone.get(&key)?;
-    Some((*found, *value))
-}
-
-const SIX_REPLIES: &str =
-    "[Old(None), Old(None), Pair(Some((1, 10))), Pair(Some((1, 10))), Pair(None), Pair(None)]";
 
 #[test]
 fn six_steps_on_a_map(rt: HostRuntime) -> Result<(), Fail> {
     let mut map = map_of_four(rt.alloc())?;
     let outcome = map.run(six_steps(rt.alloc())?);
-    assert_outcome(&rt, rt.alloc(), &outcome, SIX_REPLIES, "None")?;
+    assert_replies(&rt, &outcome);
     let found = map.get(&rt, &5).ok_or("no pair")?;
     is(&rt, found.pair(), (&5, &50));
     assert!(rt; map.get(&rt, &1).is_none());
@@ -62,9 +55,9 @@ fn six_steps_on_a_map(rt: HostRuntime) -> Result<(), Fail> {
 fn six_steps_of_one_owner(rt: HostRuntime) -> Result<(), Fail> {
     let mut alone = map_of_four(rt.alloc())?.alone();
     let outcome = alone.run(six_steps(rt.alloc())?);
-    assert_outcome(&rt, rt.alloc(), &outcome, SIX_REPLIES, "None")?;
-    let pairs = [pair_at(&alone, 5), pair_at(&alone, 1)];
-    is(&rt, pairs, [Some((5, 50)), None]);
+    assert_replies(&rt, &outcome);
+    is(&rt, alone.get(&5), Some((&5, &50)));
+    is(&rt, alone.get(&1), None);
     is(&rt, alone.len(), 1);
     Ok(())
 }
@@ -89,88 +82,91 @@ impl Kept for Uncopied {
     ghost alike_laws = { record { refl = λ x. refl; symm = λ x y. refl; congr = λ x y z same. refl } };
 }
 
-fn uncopied_steps(alloc: Global) -> Result<Vec<ShardStep<u64, Uncopied>>, Fail> {
-    Ok(vec![in alloc;
+#[test]
+fn a_refused_step_comes_back(rt: HostRuntime) -> Result<(), Fail> {
+    let mut alone: Alone<u64, Uncopied, PlaceState> = map_of_four(rt.alloc())?.alone();
+    let outcome = alone.run::<()>(vec![in rt.alloc();
         ShardStep::Insert(1, Uncopied(10)),
         ShardStep::Get(2),
         ShardStep::Get(1),
         ShardStep::Insert(5, Uncopied(50)),
-    ]?)
-}
-
-#[test]
-fn a_refused_step_comes_back(rt: HostRuntime) -> Result<(), Fail> {
-    let mut alone = map_of_four(rt.alloc())?.alone();
-    let outcome = alone.run(uncopied_steps(rt.alloc())?);
-    let stopped = "Some(([Get(1), Insert(5, Uncopied(50))], Memory))";
-    assert_outcome(
-        &rt,
-        rt.alloc(),
-        &outcome,
-        "[Old(None), Pair(None)]",
-        stopped,
-    )?;
+    ]?);
+    assert!(rt;
+        matches!(
+            outcome.replies.as_slice(),
+            [Reply::Old(None), Reply::Pair(None)]
+        )
+    );
+    let (rest, fault) = outcome.stopped.ok_or("no stop")?;
+    is(&rt, fault, Fault::Memory);
+    assert!(rt;
+        matches!(
+            rest.as_slice(),
+            [ShardStep::Get(1), ShardStep::Insert(5, Uncopied(50))]
+        )
+    );
     is(&rt, alone.len(), 1);
     Ok(())
 }
 
-// The replies to these steps on a map of one pair, as text.
-fn replies_after(
-    alloc: Global,
-    pair: (u64, u64),
-    steps: Vec<ShardStep<u64, u64>>,
-) -> Result<String, Fail> {
-    let mut alone = map_of_four(alloc)?.alone();
-    alone.insert(pair.0, pair.1)?;
-    let mut map = alone.end();
-    let outcome = map.run(steps);
-    Ok(format!(in alloc; "{:?}", outcome.replies)?)
+// The replies as text.
+fn replies(alloc: Global, outcome: &RunOutcome<u64, u64>) -> Result<String, AllocError> {
+    format!(in alloc; "{:?}", outcome.replies)
 }
 
 #[test]
 fn counts_may_miss_every_pair(rt: HostRuntime) -> Result<(), Fail> {
-    let steps = vec![in rt.alloc();
+    let mut map = map_of_four(rt.alloc())?;
+    map.insert(&rt, 3, 30)?;
+    let outcome = map.run(vec![in rt.alloc();
         ShardStep::Count(0),
         ShardStep::Count(1),
         ShardStep::Count(2),
         ShardStep::Insert(0, 5),
         ShardStep::Remove(3),
         ShardStep::Count(3),
-    ]?;
-    let wanted = "[Number(0), Number(0), Number(0), Old(None), Pair(Some((3, 30))), Number(0)]";
-    let replies = replies_after(rt.alloc(), (3, 30), steps)?;
-    is(&rt, replies.as_str(), wanted);
+    ]?);
+    assert_eq!(rt;
+        replies(rt.alloc(), &outcome)?.as_str(),
+        "[Number(0), Number(0), Number(0), Old(None), Pair(Some((3, 30))), Number(0)]"
+    );
     Ok(())
 }
 
 #[test]
 fn counts_may_see_pairs_that_never_met(rt: HostRuntime) -> Result<(), Fail> {
-    let steps = vec![in rt.alloc();
+    let mut map = map_of_four(rt.alloc())?;
+    map.insert(&rt, 0, 5)?;
+    let outcome = map.run(vec![in rt.alloc();
         ShardStep::Count(0),
         ShardStep::Count(1),
         ShardStep::Count(2),
         ShardStep::Remove(0),
         ShardStep::Insert(3, 30),
         ShardStep::Count(3),
-    ]?;
-    let wanted = "[Number(1), Number(0), Number(0), Pair(Some((0, 5))), Old(None), Number(1)]";
-    let replies = replies_after(rt.alloc(), (0, 5), steps)?;
-    is(&rt, replies.as_str(), wanted);
+    ]?);
+    assert_eq!(rt;
+        replies(rt.alloc(), &outcome)?.as_str(),
+        "[Number(1), Number(0), Number(0), Pair(Some((0, 5))), Old(None), Number(1)]"
+    );
     Ok(())
 }
 
 #[test]
 fn a_shard_that_is_not_there(rt: HostRuntime) -> Result<(), Fail> {
     let mut map = map_of_four(rt.alloc())?;
-    let outcome = map.run::<()>(vec![in rt.alloc();
+    let outcome = map.run(vec![in rt.alloc();
         ShardStep::Insert(1, 10),
         ShardStep::Count(4),
         ShardStep::Insert(2, 20),
     ]?);
-    let stopped = "Some(([Count(4), Insert(2, 20)], NoSuchShard))";
-    assert_outcome(&rt, rt.alloc(), &outcome, "[Old(None)]", stopped)?;
+    is(&rt, replies(rt.alloc(), &outcome)?.as_str(), "[Old(None)]");
+    let (rest, fault) = outcome.stopped.ok_or("no stop")?;
+    is(&rt, fault, Fault::NoSuchShard);
+    let rest = format!(in rt.alloc(); "{rest:?}")?;
+    is(&rt, rest.as_str(), "[Count(4), Insert(2, 20)]");
     let alone = map.alone();
-    is(&rt, pair_at(&alone, 1), Some((1, 10)));
+    is(&rt, alone.get(&1), Some((&1, &10)));
     is(&rt, alone.len(), 1);
     Ok(())
 }
@@ -194,8 +190,10 @@ impl Action<u64, u64> for Adds {
     ghost acts_alike = { λ f j k u v key value. rw (eqb-true u v value) (nat_eq_equiv.refl ((v + f.0) % 2 ^ 64), refl) };
 }
 
-fn steps_with_actions(alloc: Global) -> Result<Vec<ShardStep<u64, u64, Adds>>, Fail> {
-    Ok(vec![in alloc;
+#[test]
+fn steps_on_each_pair_of_a_shard(rt: HostRuntime) -> Result<(), Fail> {
+    let mut map = map_of_four(rt.alloc())?;
+    let outcome = map.run(vec![in rt.alloc();
         ShardStep::Insert(1, 10),
         ShardStep::Insert(5, 51),
         ShardStep::Insert(2, 20),
@@ -209,17 +207,15 @@ fn steps_with_actions(alloc: Global) -> Result<Vec<ShardStep<u64, u64, Adds>>, F
         ShardStep::Count(1),
         ShardStep::Read(4),
         ShardStep::Retain(4, Adds(1)),
-    ]?)
-}
-
-#[test]
-fn steps_on_each_pair_of_a_shard(rt: HostRuntime) -> Result<(), Fail> {
-    let mut map = map_of_four(rt.alloc())?;
-    let outcome = map.run(steps_with_actions(rt.alloc())?);
-    let replies =
-        "[Old(None), Old(None), Old(None), Done, Pairs([(2, 20)]), Pair(Some((1, 11))), Pair(Some((5, 52))), Done, Pairs([(5, 54)]), Pairs([]), Number(1)]";
-    let stopped = "Some(([Read(4), Retain(4, Adds(1))], NoSuchShard))";
-    assert_outcome(&rt, rt.alloc(), &outcome, replies, stopped)?;
+    ]?);
+    assert_eq!(rt;
+        format!(in rt.alloc(); "{:?}", outcome.replies)?.as_str(),
+        "[Old(None), Old(None), Old(None), Done, Pairs([(2, 20)]), Pair(Some((1, 11))), Pair(Some((5, 52))), Done, Pairs([(5, 54)]), Pairs([]), Number(1)]"
+    );
+    let (rest, fault) = outcome.stopped.ok_or("no stop")?;
+    is(&rt, fault, Fault::NoSuchShard);
+    let rest = format!(in rt.alloc(); "{rest:?}")?;
+    is(&rt, rest.as_str(), "[Read(4), Retain(4, Adds(1))]");
     Ok(())
 }
 
@@ -228,7 +224,8 @@ fn no_steps(rt: HostRuntime) -> Result<(), Fail> {
     let mut map = map_of_four(rt.alloc())?;
     map.insert(&rt, 7, 70)?;
     let outcome = map.run::<()>(Vec::new(rt.alloc()));
-    assert_outcome(&rt, rt.alloc(), &outcome, "[]", "None")?;
-    is(&rt, pair_at(&map.alone(), 7), Some((7, 70)));
+    assert!(rt; outcome.stopped.is_none());
+    assert!(rt; outcome.replies.is_empty());
+    is(&rt, map.alone().get(&7), Some((&7, &70)));
     Ok(())
 }

@@ -2,23 +2,9 @@
 use crate::places::is;
 use dash_history::step::{Reply, ShardStep};
 use dash_shard::hash::{PlaceState, is_shard_amount};
-use std::alloc::Global;
-use std::fmt;
-use std::process::Abort;
 use std::test::Fail;
 
 type Step = ShardStep<u64, u64>;
-
-// How a copy is printed.
-fn assert_text(
-    rt: &impl Abort,
-    alloc: Global,
-    copy: &impl fmt::Debug,
-    text: &str,
-) -> Result<(), Fail> {
-    is(rt, format!(in alloc; "{copy:?}")?.as_str(), text);
-    Ok(())
-}
 
 #[test]
 fn copies(rt: HostRuntime) -> Result<(), Fail> {
@@ -27,7 +13,8 @@ fn copies(rt: HostRuntime) -> Result<(), Fail> {
         (Step::Insert(1, 10), "Insert(1, 10)"),
         (Step::Remove(1), "Remove(1)"),
     ] {
-        assert_text(&rt, rt.alloc(), &step.copy()?, text)?;
+        let copy = step.copy()?;
+        is(&rt, format!(in rt.alloc(); "{copy:?}")?.as_str(), text);
     }
     for (reply, text) in [
         (Reply::Pair(None), "Pair(None)"),
@@ -35,7 +22,8 @@ fn copies(rt: HostRuntime) -> Result<(), Fail> {
         (Reply::Old(None), "Old(None)"),
         (Reply::Old(Some(10)), "Old(Some(10))"),
     ] {
-        assert_text(&rt, rt.alloc(), &reply.copy()?, text)?;
+        let copy = reply.copy()?;
+        is(&rt, format!(in rt.alloc(); "{copy:?}")?.as_str(), text);
     }
     Ok(())
 }
@@ -49,6 +37,6 @@ fn places(rt: HostRuntime) {
         (Step::Count(9), 9),
     ] {
         assert!(rt; is_shard_amount(4));
-        is(&rt, step.place(&PlaceState, 4), place);
+        assert_eq!(rt; step.place(&PlaceState, 4), place, "{step:?}");
     }
 }

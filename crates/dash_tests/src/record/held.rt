@@ -21,32 +21,23 @@ fn insert(
     Ok(held.record(log, ShardStep::Insert(key, value))?)
 }
 
-type Held<'a> = RecShardMut<'a, u64, u64, PlaceState>;
-
-// Takes four inserts, the last of which finds a value.
-fn insert_four(
-    rt: &impl Abort,
-    held: &mut Held<'_>,
-    log: &mut CallerLog<u64, u64>,
-) -> Result<(), Fail> {
-    for (key, value) in [(1, 10), (5, 50), (1, 11)] {
-        insert(rt, held, log, key, value)?;
-    }
-    let reply = insert(rt, held, log, 1, 12)?;
-    assert!(rt; matches!(reply, Reply::Old(Some(11))));
-    Ok(())
-}
-
 #[test]
 fn records_in_place(rt: HostRuntime) -> Result<(), Fail> {
     let (map, mut logs) = RecordedMap::new(rt.alloc(), PlaceState, 4, 2)?;
     let mut log = logs.pop().ok_or("no log")?;
     is(&rt, log.caller(), 1);
     let mut held = map.held(&rt, 1);
-    is(&rt, (held.number(), held.amount()), (1, 4));
-    is(&rt, (held.callers(), held.last_stamp()), (2, 0));
-    insert_four(&rt, &mut held, &mut log)?;
-    is(&rt, (held.last_stamp(), log.last_stamp()), (4, 4));
+    is(&rt, held.number(), 1);
+    is(&rt, held.amount(), 4);
+    is(&rt, held.callers(), 2);
+    is(&rt, held.last_stamp(), 0);
+    for (key, value) in [(1, 10), (5, 50), (1, 11)] {
+        insert(&rt, &mut held, &mut log, key, value)?;
+    }
+    let reply = insert(&rt, &mut held, &mut log, 1, 12)?;
+    assert!(rt; matches!(reply, Reply::Old(Some(11))));
+    is(&rt, held.last_stamp(), 4);
+    is(&rt, log.last_stamp(), 4);
     is(&rt, log.entries().len(), 4);
     drop(held);
     is(&rt, map.held(&rt, 1).last_stamp(), 4);

@@ -20,13 +20,6 @@ type Alone = RecAlone<u64, u64, PlaceState>;
 
 type Log = CallerLog<u64, u64>;
 
-// A map of four shards and one caller, with the caller's log.
-fn map_of_one(alloc: Global) -> Result<(Map, Log), Fail> {
-    let (map, mut logs) = Map::new(alloc, PlaceState, 4, 1)?;
-    let log = logs.pop().ok_or("no log")?;
-    Ok((map, log))
-}
-
 // Takes a step, by the caller of this log.
 fn apply<R: Abort + Wait + Clock>(
     rt: &R,
@@ -38,19 +31,7 @@ fn apply<R: Abort + Wait + Clock>(
     Ok(map.apply(rt, log, step)?)
 }
 
-// The reply to a step, as text.
-fn reply_to<R: Abort + Wait + Clock>(
-    rt: &R,
-    alloc: Global,
-    map: &Map,
-    log: &mut Log,
-    step: ShardStep<u64, u64>,
-) -> Result<String, Fail> {
-    let reply = apply(rt, map, log, step)?;
-    Ok(format!(in alloc; "{reply:?}")?)
-}
-
-// Takes a step without locks.
+// The same without locks.
 fn apply_alone(
     rt: &impl Abort,
     alone: &mut Alone,
@@ -69,32 +50,28 @@ fn last_of(rt: &impl Abort, alone: &Alone, shard: usize) -> u64 {
 
 #[test]
 fn first_steps(rt: HostRuntime) -> Result<(), Fail> {
-    let (map, mut log) = map_of_one(rt.alloc())?;
-    is(&rt, (map.shard_count(), map.callers()), (4, 1));
-    for (step, wanted) in [
-        (ShardStep::Insert(1, 10), "Old(None)"),
-        (ShardStep::Insert(1, 11), "Old(Some(10))"),
-        (ShardStep::Get(1), "Pair(Some((1, 11)))"),
-    ] {
-        let reply = reply_to(&rt, rt.alloc(), &map, &mut log, step)?;
-        is(&rt, reply.as_str(), wanted);
-    }
-    is(
-        &rt,
-        (log.last_stamp(), last_of(&rt, &map.alone(), 1)),
-        (3, 3),
-    );
+    let (map, mut logs) = Map::new(rt.alloc(), PlaceState, 4, 1)?;
+    is(&rt, map.shard_count(), 4);
+    is(&rt, map.callers(), 1);
+    let mut log = logs.pop().ok_or("no log")?;
+    let reply = apply(&rt, &map, &mut log, ShardStep::Insert(1, 10))?;
+    assert!(rt; matches!(reply, Reply::Old(None)));
+    let reply = apply(&rt, &map, &mut log, ShardStep::Insert(1, 11))?;
+    assert!(rt; matches!(reply, Reply::Old(Some(10))));
+    let reply = apply(&rt, &map, &mut log, ShardStep::Get(1))?;
+    assert!(rt; matches!(reply, Reply::Pair(Some((1, 11)))));
+    is(&rt, log.last_stamp(), 3);
+    is(&rt, map.alone().last_of(1), 3);
     Ok(())
 }
 
 #[test]
 fn a_held_shard_leaves_the_others_free(rt: HostRuntime) -> Result<(), Fail> {
-    let (map, mut log) = map_of_one(rt.alloc())?;
-    assert!(rt; map.shard_count() > 0);
+    let (map, mut logs) = Map::new(rt.alloc(), PlaceState, 4, 1)?;
+    let mut log = logs.pop().ok_or("no log")?;
     let held = map.held(&rt, 0);
-    let step = ShardStep::Insert(1, 10);
-    let reply = reply_to(&rt, rt.alloc(), &map, &mut log, step)?;
-    is(&rt, reply.as_str(), "Old(None)");
+    let reply = apply(&rt, &map, &mut log, ShardStep::Insert(1, 10))?;
+    assert!(rt; matches!(reply, Reply::Old(None)));
     is(&rt, held.last_stamp(), 0);
     Ok(())
 }
@@ -129,35 +106,6 @@ fn stamps_of(alloc: Global, logs: &[Log], shard: usize) -> Result<Vec<u64>, Fail
     Ok(stamps)
 }
 
-// The logs and the stamps of all shards, where each caller and each shard has ten thousand steps.
-fn assert_stamps(rt: &impl Abort, alloc: Global, alone: &Alone, logs: &[Log]) -> Result<(), Fail> {
-    for log in logs {
-        is_at(rt, log.entries().len(), 10_000, log.caller());
-    }
-    for shard in 0..4 {
-        let mut stamps = stamps_of(alloc, logs, shard)?;
-        let last = stamps.last().copied();
-        is_at(rt, last, Some(last_of(rt, alone, shard)), shard);
-        is_at(rt, stamps.len(), 10_000, shard);
-        // No stamp comes twice.
-        stamps.dedup();
-        is_at(rt, stamps.len(), 10_000, shard);
-    }
-    Ok(())
-}
-
-// Each shard has four pairs.
-fn assert_counts(rt: &impl Abort, alone: &mut Alone, log: &mut Log) -> Result<(), Fail> {
-    for shard in 0..4 {
-        let count = apply_alone(rt, alone, log, ShardStep::Count(shard))?;
-        assert!(rt;
-            matches!(count, Reply::Number(4)),
-            "{count:?} of shard {shard}"
-        );
-    }
-    Ok(())
-}
-
 #[test]
 fn four_threads_record_on_one_map(rt: HostRuntime) -> Result<(), Fail> {
     let (map, mut logs) = Map::new(rt.alloc(), PlaceState, 4, 4)?;
@@ -167,10 +115,34 @@ fn four_threads_record_on_one_map(rt: HostRuntime) -> Result<(), Fail> {
         4,
         &|_, log: &mut Log| { record_steps(&rt, &map, log) },
     );
+    for log in &logs {
+        is_at(&rt, log.entries().len(), 10_000, log.caller());
+    }
     let mut alone = map.alone();
-    assert_stamps(&rt, rt.alloc(), &alone, &logs)?;
+    for shard in 0..4 {
+        let mut stamps = stamps_of(rt.alloc(), &logs, shard)?;
+        is_at(&rt, stamps.len(), 10_000, shard);
+        assert_eq!(rt;
+            stamps.last(),
+            Some(&last_of(&rt, &alone, shard)),
+            "of shard {shard}"
+        );
+        stamps.dedup();
+        assert_eq!(rt;
+            stamps.len(),
+            10_000,
+            "no stamp of shard {shard} comes twice"
+        );
+    }
     let mut log = logs.pop().ok_or("no log")?;
-    assert_counts(&rt, &mut alone, &mut log)
+    for shard in 0..4 {
+        let count = apply_alone(&rt, &mut alone, &mut log, ShardStep::Count(shard))?;
+        assert!(rt;
+            matches!(count, Reply::Number(4)),
+            "{count:?} of shard {shard}"
+        );
+    }
+    Ok(())
 }
 
 // The seven pairs that thirty rounds of inserts leave.
@@ -203,21 +175,16 @@ fn lasts_of(rt: &impl Abort, alone: &Alone) -> [u64; 4] {
     ]
 }
 
-// The map of two callers after thirty rounds of inserts, with the log of one.
-fn thirty_rounds<R: Abort + Wait + Clock>(rt: &R, alloc: Global) -> Result<(Alone, Log), Fail> {
-    let (map, mut logs) = Map::new(alloc, PlaceState, 4, 2)?;
-    for i in 0..30 {
-        for log in &mut logs {
-            apply(rt, &map, log, ShardStep::Insert(i % 7, i))?;
-        }
-    }
-    let log = logs.pop().ok_or("no log")?;
-    Ok((map.alone(), log))
-}
-
 #[test]
 fn alone_and_end_carry_all_over(rt: HostRuntime) -> Result<(), Fail> {
-    let (mut alone, mut log) = thirty_rounds(&rt, rt.alloc())?;
+    let (map, mut logs) = Map::new(rt.alloc(), PlaceState, 4, 2)?;
+    for i in 0..30 {
+        for log in &mut logs {
+            apply(&rt, &map, log, ShardStep::Insert(i % 7, i))?;
+        }
+    }
+    let mut log = logs.pop().ok_or("no log")?;
+    let mut alone = map.alone();
     assert_pairs(&rt, &mut alone, &mut log)?;
     let lasts = lasts_of(&rt, &alone);
     let map = alone.end();
@@ -227,21 +194,16 @@ fn alone_and_end_carry_all_over(rt: HostRuntime) -> Result<(), Fail> {
     assert_pairs(&rt, &mut alone, &mut log)
 }
 
-// Leaks the hold of shard 1.
-fn leak<R: Abort + Wait + Clock>(rt: &R, map: &Map) {
-    assert!(rt; map.shard_count() > 1);
-    mem::forget(map.held(rt, 1));
-}
-
 #[test]
 fn a_leaked_hold_leaves_a_map_that_can_be_dropped(rt: HostRuntime) -> Result<(), Fail> {
-    let (map, mut log) = map_of_one(rt.alloc())?;
+    let (map, mut logs) = Map::new(rt.alloc(), PlaceState, 4, 1)?;
+    let mut log = logs.pop().ok_or("no log")?;
     apply(&rt, &map, &mut log, ShardStep::Insert(1, 10))?;
-    leak(&rt, &map);
+    mem::forget(map.held(&rt, 1));
     let alone = map.alone();
-    is(&rt, last_of(&rt, &alone, 1), 1);
+    is(&rt, alone.last_of(1), 1);
     let map = alone.end();
-    leak(&rt, &map);
+    mem::forget(map.held(&rt, 1));
     drop(map);
     Ok(())
 }
