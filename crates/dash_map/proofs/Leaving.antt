@@ -11,7 +11,7 @@ use Rattle.dash_shard.specs.Each.{Sweeps, SweepsShard, Clears, Shrinks, if_kept,
 use Rattle.dash_map.specs.Alone.{AloneState}
 use Rattle.dash_map.specs.Behind.{LeavesShards, IsBehind}
 use Rattle.dash_map.specs.Map.{MapState}
-use Rattle.dash_map.specs.Whole.{SameRoom, ClearsAlone, ShrinksAlone, RetainsAlone, AltersAllAlone}
+use Rattle.dash_map.specs.AllPairs.{SameRoom, ClearsAlone, ShrinksAlone, RetainsAlone, AltersAllAlone}
 use Rattle.dash_map.proofs.Lifting.{placed-moved}
 use Rattle.dash_map.proofs.Seeing.{SoFar, append-cases, none-yet, one-more, all-seen}
 use Rattle.dash_map.proofs.Sweeping.{Sweeping, places_of, places-more, sweeps-append, callable-behind, retains-alone, alters-all-alone}

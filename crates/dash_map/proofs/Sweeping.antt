@@ -14,7 +14,7 @@ use Rattle.dash_shard.specs.Each.{CalledAlong, Sweeps, SweepsShard, if_kept, alt
 use Rattle.dash_shard.proofs.Alls.{kept-key, altered-key, length-altered}
 use Rattle.dash_shard.proofs.Remade.{KeepsKey, remade, at-remade, fewer-remade, Acts, acts, makes}
 use Rattle.dash_map.specs.Alone.{AloneState, IsAlone, contents, keys_in}
-use Rattle.dash_map.specs.Whole.{SameRoom, RetainsAlone, AltersAllAlone}
+use Rattle.dash_map.specs.AllPairs.{SameRoom, RetainsAlone, AltersAllAlone}
 use Rattle.dash_map.proofs.Distincts.{distinct-contents}
 use Rattle.dash_map.proofs.Turning.{Turning, turning-first, turned, each-turned}
 use Rattle.dash_shard.specs.Hashing.{KeyHash}

@@ -11,7 +11,7 @@ use Rattle.dash_shard.specs.Contents.{Keys, keys, at, Distinct}
 use Rattle.dash_shard.specs.Shard.{ShardState, SameShard, IsShard, pairs, shard_len}
 use Rattle.dash_shard.specs.Each.{Clears, Shrinks}
 use Rattle.dash_map.specs.Alone.{AloneState, IsAlone, contents, keys_in}
-use Rattle.dash_map.specs.Whole.{EachShard, ClearsAlone, ShrinksAlone}
+use Rattle.dash_map.specs.AllPairs.{EachShard, ClearsAlone, ShrinksAlone}
 use Rattle.dash_map.proofs.Distincts.{distinct-contents}
 use Rattle.dash_map.proofs.Lifting.{alone-set, on-shards}
 use Rattle.dash_map.proofs.Union.{OnShards, at-union}

@@ -3,5 +3,5 @@ pub mod Map
 pub mod Alone
 pub mod Run
 pub mod Behind
-pub mod Whole
+pub mod AllPairs
 pub mod Lends

@@ -27,8 +27,8 @@ use std::hash::{BuildHasher, Hash};
 use std::marker::Model;
 use std::snapshot::Snapshot;
 
+mod all_pairs;
 mod changes;
-mod whole;
 
 /// A map of one owner: its shards without locks. The original lends the map by `&mut` for this.
 ///

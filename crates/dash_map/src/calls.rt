@@ -23,7 +23,7 @@ use std::hash::{BuildHasher, Hash};
 use std::rt::Clock;
 use std::sync::Wait;
 
-mod whole;
+mod all_pairs;
 
 // The pair of a held shard whose key equals `key`, by the key's hash.
 #[inline]

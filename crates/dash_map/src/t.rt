@@ -7,7 +7,7 @@ ghost use Rattle.dash_shard.specs.Hashing.{by};
 ghost use Rattle.dash_map.specs.Alone.{AloneState, contents};
 ghost use Rattle.dash_map.specs.Behind.{SawShards, LeavesShard, LeavesShards, CallableOnPairs, SawShard, StandsAt, LeavesBy};
 ghost use Rattle.dash_map.specs.Map.{MapState};
-ghost use Rattle.dash_map.specs.Whole.{ClearsAlone, ShrinksAlone, RetainsAlone, AltersAllAlone};
+ghost use Rattle.dash_map.specs.AllPairs.{ClearsAlone, ShrinksAlone, RetainsAlone, AltersAllAlone};
 ghost use Rattle.dash_ref.specs.Ref.{Stands, pair_of};
 ghost use Rattle.dash_shard.specs.Contents.{at};
 ghost use Rattle.dash_shard.specs.Shard.{RepliesOn, TakesInPlace, IsPlaced, ShardState, pairs};

@@ -20,10 +20,10 @@ use std::marker::Model;
 use table::Table;
 pub use table::walk::Iter;
 
+mod all_pairs;
 pub mod held;
 mod positions;
 mod table;
-mod whole;
 
 /// One shard of a map, as the original's table behind a lock: pairs with distinct keys that all go to the shard's number.
 ///

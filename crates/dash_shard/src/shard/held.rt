@@ -20,9 +20,9 @@ use std::hash::{BuildHasher, Hash};
 use std::marker::{Model, PhantomData};
 use std::snapshot::Snapshot;
 
+mod all_pairs;
 mod lent;
 mod positions;
-mod whole;
 
 /// What a shard's lock is made for: the shard's place among the others, and what its hasher means. The snapshot has no bytes.
 #[derive(Drop)]

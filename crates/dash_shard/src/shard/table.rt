@@ -11,9 +11,9 @@ use std::mem::{self, ManuallyDrop};
 
 mod links;
 mod shrink;
+mod sweep;
 mod values;
 pub mod walk;
-mod whole;
 
 // A place: a pair with its hash, or none; the link to the next pair of the pair's bucket, or for a free place to the next free one;
 // and the first link of the bucket that has the place's number.
