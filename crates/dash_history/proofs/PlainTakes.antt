@@ -14,7 +14,7 @@ use Rattle.dash_history.specs.declared.change.Change.{Change}
 use Rattle.dash_history.specs.Steps.{reply_of}
 use Rattle.dash_history.specs.Alike.{AlikeFound, alike_reply}
 use Rattle.dash_history.specs.Takes.{Rules, AlikeAt, Answers, Takes}
-use Rattle.dash_history.specs.Plain.{PlainState, IsPlain, plain_rules, pairs_on, Reads, SweepsPlain}
+use Rattle.dash_history.specs.Plain.{PlainState, IsPlainMap, plain_rules, pairs_on, Reads, SweepsPlain}
 use Rattle.dash_history.specs.Plan.{change_step, Fits}
 use Rattle.dash_history.proofs.Plains.{looked}
 use Rattle.dash_history.proofs.PlainSweeps.{Swept, swept-at, swept-distinct}
@@ -40,7 +40,7 @@ shown false o = refl
 
 -- z is the map as its fields say it, and m as its contract does
 module _ {K V S : Type 0} (h : KeyHash K S) (law : IsLawful h) (k : K → K → Bool) (v : V → V → Bool) (key : IsEquivalence k) (value : IsEquivalence v)
-    (alike_equal : (i j : K) → k i j ≡ true → h.eq i j ≡ true) (z m : PlainState K V S) (view : z ≡ m) (inv : IsPlain h z) where
+    (alike_equal : (i j : K) → k i j ≡ true → h.eq i j ≡ true) (z m : PlainState K V S) (view : z ≡ m) (inv : IsPlainMap h z) where
   abbrev P : List (K × V)
   P = m.pairs
 
@@ -50,8 +50,8 @@ module _ {K V S : Type 0} (h : KeyHash K S) (law : IsLawful h) (k : K → K → 
   laws : Lawful rs
   laws = lawful-by h law k v key value alike_equal m.hasher m.amount
 
-  plain : IsPlain h m
-  plain = subst (λ x. IsPlain h x) view inv
+  plain : IsPlainMap h m
+  plain = subst (λ x. IsPlainMap h x) view inv
 
   below : (j : K) → rs.keys.route j < m.amount
   below j = route_below _ _ (omega (arith, plain.amount.several))

@@ -69,7 +69,7 @@ module _ {K V S : Type 0} (h : KeyHash K S) where
     TakesPlain acts old new step reply = Takes (plain_rules old) old.pairs (step_of acts step) (reply_of reply) new.pairs
 
 -- no two keys are equal, and the amount is lawful
-pub record IsPlain {K V S : Type 0} (h : KeyHash K S) (m : PlainState K V S) : Type 0 where
+pub record IsPlainMap {K V S : Type 0} (h : KeyHash K S) (m : PlainState K V S) : Type 0 where
   pub distinct : Distinct h.eq m.pairs
   pub amount : IsAmount m.amount
 

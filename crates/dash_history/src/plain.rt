@@ -29,13 +29,13 @@ pub struct Plain<K: KeptKey, V: Kept, S: BuildHasher> {
 
 impl<K: KeptKey, V: Kept, S: BuildHasher> Model for Plain<K, V, S> {
     ghost use Rattle.dash_shard.specs.Hashing.{key_hash};
-    ghost use Rattle.dash_history.specs.Plain.{PlainState, IsPlain};
+    ghost use Rattle.dash_history.specs.Plain.{PlainState, IsPlainMap};
 
     ghost Value = { PlainState K V S };
 
     ghost view = { λ m. record { hasher = m.hasher; amount = m.amount; pairs = m.pairs.items } };
 
-    ghost invariant = { λ m. IsPlain (key_hash K.eq K.hash_input S.BuildHasher S.Hasher.Hasher) (record { hasher = m.hasher; amount = m.amount; pairs = m.pairs.items }) };
+    ghost invariant = { λ m. IsPlainMap (key_hash K.eq K.hash_input S.BuildHasher S.Hasher.Hasher) (record { hasher = m.hasher; amount = m.amount; pairs = m.pairs.items }) };
 }
 
 impl<K: KeptKey, V: Kept, S: BuildHasher> Keyed for Plain<K, V, S> {

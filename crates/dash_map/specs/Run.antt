@@ -17,12 +17,12 @@ use Rattle.dash_shard.specs.Hashing.{KeyHash}
 
 module _ {K V A : Type 0} where
   -- the step is on the pair at its key, and has no action
-  abbrev pub IsPlain : ShardStep K V A → Type 0
-  IsPlain (Get k) = ⊤
-  IsPlain (Contains k) = ⊤
-  IsPlain (Insert k v) = ⊤
-  IsPlain (Remove k) = ⊤
-  IsPlain _ = ⊥
+  abbrev pub IsBare : ShardStep K V A → Type 0
+  IsBare (Get k) = ⊤
+  IsBare (Contains k) = ⊤
+  IsBare (Insert k v) = ⊤
+  IsBare (Remove k) = ⊤
+  IsBare _ = ⊥
 
   -- the step names its shard by its number
   abbrev pub NamesShard : ShardStep K V A → Type 0

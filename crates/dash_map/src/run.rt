@@ -41,7 +41,7 @@ pub struct RunOutcome<K, V, A = ()> {
 }
 
 impl<K: KeptKey + Drop, V: Kept + Drop, S: BuildHasher> Alone<K, V, S> {
-    ghost use Rattle.dash_map.specs.Run.{IsPlain, NamesShard, Ran, IsRefused, rules_in};
+    ghost use Rattle.dash_map.specs.Run.{IsBare, NamesShard, Ran, IsRefused, rules_in};
 
     // Makes of the pair at a key what was decided.
     fn make_change(&mut self, key: K, change: Change<V>)
@@ -131,7 +131,7 @@ impl<K: KeptKey + Drop, V: Kept + Drop, S: BuildHasher> Alone<K, V, S> {
         &mut self,
         step: ShardStep<K, V, A>,
     ) -> Result<Reply<K, V>, (ShardStep<K, V, A>, Fault)>
-        requires { IsPlain step → ⊥ }
+        requires { IsBare step → ⊥ }
         ensures taken { IfOk result (λ reply. TakesLike ⟦<Self as Keyed>⟧.by K.alike V.alike self.old self.new (step_of A.acts step) reply) }
         ensures refused { IfErr result (λ e. (e.0 ≡ step) × (self.new ≡ self.old)) }
         ensures fault { IfErr result (λ e. IsMissing ⟦<Self as Keyed>⟧.by self.old (step_of A.acts step) e.1) }

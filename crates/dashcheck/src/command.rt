@@ -50,12 +50,16 @@ pub fn run_words<T: Threads + Wait + Clock + Sync, R: Read, O: Write, E: Write>(
     ensures untouched { (IsCommand (map string_bytes words.now) → ⊥) → (input.new ≡ input.old) × (output.new ≡ output.old) }
 
     // How a script ends.
-    ensures script_good { IsScript (map string_bytes words.now) → result ≡ Ok Status.Good → TakesAll (R.remaining input.old) (O.contents output.old) (O.contents output.new) × (errors.new ≡ errors.old) }
-    ensures script_refused { IsScript (map string_bytes words.now) → result ≡ Ok Status.Refused → Refuses (R.remaining input.old) (O.contents output.old) (O.contents output.new) (E.contents errors.old) (E.contents errors.new) }
+    ensures script_good { IsScript (map string_bytes words.now) → result ≡ Ok Status.Good
+        → TakesAll (R.remaining input.old) (O.contents output.old) (O.contents output.new) × (errors.new ≡ errors.old) }
+    ensures script_refused { IsScript (map string_bytes words.now) → result ≡ Ok Status.Refused
+        → Refuses (R.remaining input.old) (O.contents output.old) (O.contents output.new) (E.contents errors.old) (E.contents errors.new) }
 
     // How threads end.
-    ensures threads_good { (c n : ℕ) → IsThreads (map string_bytes words.now) c n → result ≡ Ok Status.Good → Appends (O.contents output.old) (O.contents output.new) (entries_line (c * n)) × (errors.new ≡ errors.old) }
-    ensures threads_refused { (c n : ℕ) → IsThreads (map string_bytes words.now) c n → result ≡ Ok Status.Refused → SaysRefusal (E.contents errors.old) (E.contents errors.new) × (output.new ≡ output.old) }
+    ensures threads_good { (c n : ℕ) → IsThreads (map string_bytes words.now) c n → result ≡ Ok Status.Good
+        → Appends (O.contents output.old) (O.contents output.new) (entries_line (c * n)) × (errors.new ≡ errors.old) }
+    ensures threads_refused { (c n : ℕ) → IsThreads (map string_bytes words.now) c n → result ≡ Ok Status.Refused
+        → SaysRefusal (E.contents errors.old) (E.contents errors.new) × (output.new ≡ output.old) }
     ensures threads_input { (c n : ℕ) → IsThreads (map string_bytes words.now) c n → input.new ≡ input.old }
 {
     match asked(words) {

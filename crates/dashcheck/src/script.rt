@@ -80,8 +80,10 @@ pub fn run<T: Wait + Clock, R: Read, O: Write, E: Write>(
     errors: &mut E,
 ) -> io::Result<Status>
     ensures status { IfOk result (λ status. status ≢ Status.BadCommandLine) }
-    ensures good { result ≡ Ok Status.Good → TakesAll (R.remaining input.old) (O.contents output.old) (O.contents output.new) × (errors.new ≡ errors.old) }
-    ensures refused { result ≡ Ok Status.Refused → Refuses (R.remaining input.old) (O.contents output.old) (O.contents output.new) (E.contents errors.old) (E.contents errors.new) }
+    ensures good { result ≡ Ok Status.Good
+        → TakesAll (R.remaining input.old) (O.contents output.old) (O.contents output.new) × (errors.new ≡ errors.old) }
+    ensures refused { result ≡ Ok Status.Refused
+        → Refuses (R.remaining input.old) (O.contents output.old) (O.contents output.new) (E.contents errors.old) (E.contents errors.new) }
 {
     let Some(stop) = take_steps(rt, alloc, input, output)? else {
         return Ok(Status::Good);

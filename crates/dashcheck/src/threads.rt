@@ -67,7 +67,8 @@ pub fn run<T: Threads + Wait + Clock + Sync, O: Write, E: Write>(
 ) -> io::Result<Status>
     requires { IsSize callers steps }
     ensures status { IfOk result (λ status. status ≢ Status.BadCommandLine) }
-    ensures good { result ≡ Ok Status.Good → Appends (O.contents output.old) (O.contents output.new) (entries_line (callers * steps)) × (errors.new ≡ errors.old) }
+    ensures good { result ≡ Ok Status.Good
+        → Appends (O.contents output.old) (O.contents output.new) (entries_line (callers * steps)) × (errors.new ≡ errors.old) }
     ensures refused { result ≡ Ok Status.Refused → SaysRefusal (E.contents errors.old) (E.contents errors.new) × (output.new ≡ output.old) }
 {
     match work(rt, alloc, callers, steps) {
