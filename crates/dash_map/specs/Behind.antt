@@ -25,9 +25,9 @@ module _ {K V S : Type 0} (h : KeyHash K S) where
   abbrev pub LeavesShard : MapState S → K → (ShardState K V S → ShardState K V S → Type 0) → Type 0
   LeavesShard m key R = (s : ShardState K V S) × (t : ShardState K V S) × StandsAt h m key s × StandsAt h m key t × R s t
 
-  -- the same of a step in place, by some action that may do on the pair with an equal key what it does
-  abbrev pub LeavesBy : MapState S → (K → Act K V → Step K V) → K → Reply K V → (K × V → V × Bool → Type 0) → Type 0
-  LeavesBy m step key reply may = LeavesShard m key (λ s t. TakesBy h.eq s t step key reply may)
+  -- the same of a step in place, by some action that may do on the pair with an equal key what it does, and of the counts of pairs
+  abbrev pub LeavesBy : MapState S → (K → Act K V → Step K V) → K → Reply K V → (K × V → V × Bool → Type 0) → (ShardState K V S → ShardState K V S → Type 0) → Type 0
+  LeavesBy m step key reply may counts = LeavesShard m key (λ s t. TakesBy h.eq s t step key reply may × counts s t)
 
   -- shards that may stand behind the locks of this map
   pub record IsBehind (m : MapState S) (a : AloneState K V S) : Type 0 where

@@ -4,12 +4,12 @@ ghost use Rattle.std.specs.Option.{option_map};
 ghost use Rattle.std.specs.Map.Iter.{deref_pair};
 ghost use Rattle.dash_shard.specs.Closures.{MayAsk, Viewed, MayChange, ChangesOn, MayGive, Answered, Given};
 ghost use Rattle.dash_shard.specs.Contents.{at};
-ghost use Rattle.dash_shard.specs.Shard.{pairs, IsShard, RepliesOn, TakesInPlace, IsPlaced, ShardState};
+ghost use Rattle.dash_shard.specs.Shard.{shard_len, pairs, IsShard, RepliesOn, TakesInPlace, IsPlaced, ShardState};
 ghost use Rattle.dash_map.specs.Behind.{SawShards, LeavesShard, SawShard, LeavesShards, StandsAt, LeavesBy};
 ghost use Rattle.dash_shard.specs.Hashing.{route_by};
 ghost use Rattle.dash_map.specs.Alone.{AloneState, contents, ReservesAlone};
 ghost use Rattle.dash_ref.specs.Ref.{Stands, pair_of};
-ghost use Rattle.dash_shard.specs.Held.{Inserts};
+ghost use Rattle.dash_shard.specs.Held.{Inserts, Loses};
 ghost use Rattle.dash_shard.specs.Steps.{Remove, RemoveIf, RemoveIfMut, Alter, Done, Pair, Found, Get, Contains};
 
 use crate::map::DashMap;
@@ -85,7 +85,7 @@ impl<K: Eq + Hash, V, S: BuildHasher> DashMap<K, V, S> {
     #[inline]
     pub fn remove<R: Wait + Clock>(&self, rt: &R, key: &K) -> Option<(K, V)>
         ensures equal { IfSome result (λ pair. IsTrue (K.eq pair.0 key.now)) }
-        ensures leaves { LeavesShard ⟦<Self as Keyed>⟧.by self.now key.now (λ s t. TakesInPlace K.eq s t (Remove key.now) (Pair result)) }
+        ensures leaves { LeavesShard ⟦<Self as Keyed>⟧.by self.now key.now (λ s t. TakesInPlace K.eq s t (Remove key.now) (Pair result) × Loses s t result) }
     {
         let (hash, place) = self.place_of(key);
         self.shards_mut(rt, place).remove_hashed(hash, key)
@@ -116,7 +116,7 @@ impl<K: Eq + Hash, V, S: BuildHasher> DashMap<K, V, S> {
         f: F,
     ) -> Option<(K, V)>
         requires { (p : K × V) → IsTrue (K.eq p.0 key.now) → MayAsk F.FnOnce f p }
-        ensures { LeavesBy ⟦<Self as Keyed>⟧.by self.now RemoveIf key.now (Pair result) (Answered F.FnOnce f) }
+        ensures { LeavesBy ⟦<Self as Keyed>⟧.by self.now RemoveIf key.now (Pair result) (Answered F.FnOnce f) (λ s t. Loses s t result) }
     {
         let (hash, place) = self.place_of(key);
         self.shards_mut(rt, place).remove_if_hashed(hash, key, f)
@@ -134,7 +134,7 @@ impl<K: Eq + Hash, V, S: BuildHasher> DashMap<K, V, S> {
         f: F,
     ) -> Option<(K, V)>
         requires { (p : K × V) → IsTrue (K.eq p.0 key.now) → MayChange F.FnOnce f p }
-        ensures { LeavesBy ⟦<Self as Keyed>⟧.by self.now RemoveIfMut key.now (Pair result) (ChangesOn F.FnOnce f) }
+        ensures { LeavesBy ⟦<Self as Keyed>⟧.by self.now RemoveIfMut key.now (Pair result) (ChangesOn F.FnOnce f) (λ s t. Loses s t result) }
     {
         let (hash, place) = self.place_of(key);
         self.shards_mut(rt, place)
@@ -167,7 +167,7 @@ impl<K: Eq + Hash, V, S: BuildHasher> DashMap<K, V, S> {
     #[inline]
     pub fn alter<R: Wait + Clock, F: FnOnce(&K, V) -> V>(&self, rt: &R, key: &K, f: F)
         requires { (p : K × V) → IsTrue (K.eq p.0 key.now) → MayGive F.FnOnce f p }
-        ensures { LeavesBy ⟦<Self as Keyed>⟧.by self.now Alter key.now Done (Given F.FnOnce f) }
+        ensures { LeavesBy ⟦<Self as Keyed>⟧.by self.now Alter key.now Done (Given F.FnOnce f) (λ s t. shard_len t ≡ shard_len s) }
     {
         let (hash, place) = self.place_of(key);
         self.shards_mut(rt, place).alter_hashed(hash, key, f);

@@ -10,8 +10,8 @@ ghost use Rattle.dash_map.specs.Map.{MapState};
 ghost use Rattle.dash_map.specs.AllPairs.{ClearsAlone, ShrinksAlone, RetainsAlone, AltersAllAlone};
 ghost use Rattle.dash_ref.specs.Ref.{Stands, pair_of};
 ghost use Rattle.dash_shard.specs.Contents.{at};
-ghost use Rattle.dash_shard.specs.Shard.{RepliesOn, TakesInPlace, IsPlaced, ShardState, pairs};
-ghost use Rattle.dash_shard.specs.Held.{Inserts};
+ghost use Rattle.dash_shard.specs.Shard.{shard_len, RepliesOn, TakesInPlace, IsPlaced, ShardState, pairs};
+ghost use Rattle.dash_shard.specs.Held.{Inserts, Loses};
 ghost use Rattle.dash_shard.specs.Steps.{Remove, RemoveIf, RemoveIfMut, Alter, Done, Pair, Found, Get, Contains};
 
 use crate::map::DashMap;
@@ -54,7 +54,7 @@ pub trait Map<K: Eq + Hash, V, S: BuildHasher> {
     /// As `DashMap::remove`.
     fn _remove<R: Wait + Clock>(&self, rt: &R, key: &K) -> Option<(K, V)>
         ensures equal { IfSome result (λ pair. IsTrue (K.eq pair.0 key.now)) }
-        ensures leaves { LeavesShard (by K.Hash S.BuildHasher S.Hasher.Hasher) (state self.now) key.now (λ s t. TakesInPlace K.eq s t (Remove key.now) (Pair result)) };
+        ensures leaves { LeavesShard (by K.Hash S.BuildHasher S.Hasher.Hasher) (state self.now) key.now (λ s t. TakesInPlace K.eq s t (Remove key.now) (Pair result) × Loses s t result) };
 
     /// As `DashMap::remove_if`.
     fn _remove_if<R: Wait + Clock, F: FnOnce(&K, &V) -> bool>(
@@ -64,7 +64,7 @@ pub trait Map<K: Eq + Hash, V, S: BuildHasher> {
         f: F,
     ) -> Option<(K, V)>
         requires { (p : K × V) → IsTrue (K.eq p.0 key.now) → MayAsk F.FnOnce f p }
-        ensures { LeavesBy (by K.Hash S.BuildHasher S.Hasher.Hasher) (state self.now) RemoveIf key.now (Pair result) (Answered F.FnOnce f) };
+        ensures { LeavesBy (by K.Hash S.BuildHasher S.Hasher.Hasher) (state self.now) RemoveIf key.now (Pair result) (Answered F.FnOnce f) (λ s t. Loses s t result) };
 
     /// As `DashMap::remove_if_mut`.
     fn _remove_if_mut<R: Wait + Clock, F: FnOnce(&K, &mut V) -> bool>(
@@ -74,7 +74,7 @@ pub trait Map<K: Eq + Hash, V, S: BuildHasher> {
         f: F,
     ) -> Option<(K, V)>
         requires { (p : K × V) → IsTrue (K.eq p.0 key.now) → MayChange F.FnOnce f p }
-        ensures { LeavesBy (by K.Hash S.BuildHasher S.Hasher.Hasher) (state self.now) RemoveIfMut key.now (Pair result) (ChangesOn F.FnOnce f) };
+        ensures { LeavesBy (by K.Hash S.BuildHasher S.Hasher.Hasher) (state self.now) RemoveIfMut key.now (Pair result) (ChangesOn F.FnOnce f) (λ s t. Loses s t result) };
 
     /// As `DashMap::get`.
     fn _get<R: Wait + Clock>(&self, rt: &R, key: &K) -> Option<Ref<'_, K, V, S>>
@@ -109,7 +109,7 @@ pub trait Map<K: Eq + Hash, V, S: BuildHasher> {
     /// As `DashMap::alter`.
     fn _alter<R: Wait + Clock, F: FnOnce(&K, V) -> V>(&self, rt: &R, key: &K, f: F)
         requires { (p : K × V) → IsTrue (K.eq p.0 key.now) → MayGive F.FnOnce f p }
-        ensures { LeavesBy (by K.Hash S.BuildHasher S.Hasher.Hasher) (state self.now) Alter key.now Done (Given F.FnOnce f) };
+        ensures { LeavesBy (by K.Hash S.BuildHasher S.Hasher.Hasher) (state self.now) Alter key.now Done (Given F.FnOnce f) (λ s t. shard_len t ≡ shard_len s) };
 
     /// As `DashMap::alter_all`.
     fn _alter_all<R: Wait + Clock, F: FnMut(&K, V) -> V>(&self, rt: &R, f: F)

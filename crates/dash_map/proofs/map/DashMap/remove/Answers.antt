@@ -1,3 +1,4 @@
+use Rattle.dash_shard.specs.Held.{Loses}
 use Rattle.dash_shard.specs.Steps.{Remove, Pair}
 use Rattle.dash_shard.specs.Shard.{TakesInPlace, pairs}
 use Rattle.dash_shard.specs.Hashing.{key_hash}
@@ -11,5 +12,5 @@ returns g c =
     record {
       equal = taken-equal g.K.PartialEq.eq (pairs c.shards_mut.result) c.args.key.now c.remove_hashed.result r.removes.taken.table.replies;
       leaves = left-behind (key_hash g.K.PartialEq.eq g.K.Hash.hash_input g.S.BuildHasher g.S.Hasher.Hasher) c.args.self.now c.args.key.now _ c.place_of-hash.ensures.route _ _ c.shards_mut.ensures.placed r.removes.taken.stays r.lawful
-          (λ s t. TakesInPlace g.K.PartialEq.eq s t (Remove c.args.key.now) (Pair c.remove_hashed.result)) r.removes;
+          (λ s t. TakesInPlace g.K.PartialEq.eq s t (Remove c.args.key.now) (Pair c.remove_hashed.result) × Loses s t c.remove_hashed.result) (r.removes, r.len);
     }
