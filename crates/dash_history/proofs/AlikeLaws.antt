@@ -1,10 +1,11 @@
 -- Alike parts make alike replies, and what any relation of `Alike` is good for.
-use Rattle.std.proofs.Common.{◌≡◌, Bool, true, false, refl, sym, ◌∙◌, inl, inr}
+use Rattle.std.proofs.Common.{◌≡◌, Bool, true, refl, sym, ◌∙◌, inl, inr}
 use Rattle.std.proofs.lemmas.Bool.{cases_Bool, both_ways}
-use Rattle.std.specs.Cmp.{IsEquivalence, nat_eq_equiv}
+use Rattle.std.specs.Cmp.{IsEquivalence, nat_eq_equiv, bool_eq_equiv}
 use Rattle.dash_shard.specs.Steps.{Reply, Pair, Found, Old, Pairs, Number, Done}
-use Rattle.dash_history.specs.Alike.{alike_bool, alike_reply}
-pub use Rattle.dash_history.specs.Alike.Laws.{option_equiv, list_equiv, pair_equiv}
+use Rattle.dash_history.specs.Alike.{alike_reply}
+pub use Rattle.dash_history.specs.inner.AlikeLaws.{pair_equiv}
+pub use Rattle.std.specs.Cmp.Lexicographic.{options_equiv, lists_equiv}
 
 module _ {X : Type 0} {e : X → X → Bool} (laws : IsEquivalence e) where
   pub turned : (x y : X) → e x y ≡ true → e y x ≡ true
@@ -26,30 +27,20 @@ symm-from {X} e own along x y = elim (cases_Bool (e x y)) as (λ _. e x y ≡ e 
     back : (x y : X) → e x y ≡ true → e y x ≡ true
     back x y h = sym (along x y x h) ∙ own x
 
-bool-refl : (a : Bool) → alike_bool a a ≡ true
-bool-refl true = refl
-bool-refl false = refl
-
-bool-congr : (a b c : Bool) → alike_bool a b ≡ true → alike_bool a c ≡ alike_bool b c
-bool-congr true true c h = refl
-bool-congr true false c h = cc
-bool-congr false true c h = cc
-bool-congr false false c h = refl
-
 module _ {K V : Type 0} {k : K → K → Bool} {v : V → V → Bool} (lk : IsEquivalence k) (lv : IsEquivalence v) where
   reply-refl : (x : Reply K V) → alike_reply k v x x ≡ true
-  reply-refl (Pair o) = (option_equiv (pair_equiv lk lv)).refl o
-  reply-refl (Found a) = bool-refl a
-  reply-refl (Old o) = (option_equiv lv).refl o
-  reply-refl (Pairs l) = (list_equiv (pair_equiv lk lv)).refl l
+  reply-refl (Pair o) = (options_equiv (pair_equiv lk lv)).refl o
+  reply-refl (Found a) = bool_eq_equiv.refl a
+  reply-refl (Old o) = (options_equiv lv).refl o
+  reply-refl (Pairs l) = (lists_equiv (pair_equiv lk lv)).refl l
   reply-refl (Number n) = nat_eq_equiv.refl n
   reply-refl Done = refl
 
   reply-congr : (x y z : Reply K V) → alike_reply k v x y ≡ true → alike_reply k v x z ≡ alike_reply k v y z
-  reply-congr (Pair o) (Pair p) (Pair q) h = (option_equiv (pair_equiv lk lv)).congr o p q h
-  reply-congr (Found a) (Found b) (Found c) h = bool-congr a b c h
-  reply-congr (Old o) (Old p) (Old q) h = (option_equiv lv).congr o p q h
-  reply-congr (Pairs l) (Pairs m) (Pairs n) h = (list_equiv (pair_equiv lk lv)).congr l m n h
+  reply-congr (Pair o) (Pair p) (Pair q) h = (options_equiv (pair_equiv lk lv)).congr o p q h
+  reply-congr (Found a) (Found b) (Found c) h = bool_eq_equiv.congr a b c h
+  reply-congr (Old o) (Old p) (Old q) h = (options_equiv lv).congr o p q h
+  reply-congr (Pairs l) (Pairs m) (Pairs n) h = (lists_equiv (pair_equiv lk lv)).congr l m n h
   reply-congr (Number l) (Number m) (Number n) h = nat_eq_equiv.congr l m n h
   reply-congr Done Done z h = refl
   reply-congr (Pair o) (Pair p) z h = refl

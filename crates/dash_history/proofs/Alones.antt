@@ -1,6 +1,7 @@
 -- The shards of a recorded map of one owner.
 use Rattle.std.proofs.Common.{◌≡◌, ℕ, ◌<◌, ◌≤◌, List, length, Some, arith, sym, ap, subst, ◌∙◌, inl, inr, get_or, slice_get, slice_set}
 use mathlib.Core.Path.{fun_ext}
+use Rattle.std.specs.Prelude.{⊤}
 use Rattle.std.specs.Option.{option_map_or}
 use Rattle.std.proofs.lemmas.List.{set-get_or}
 use Rattle.std.proofs.lemmas.Bool.{cases_eq}
@@ -10,24 +11,26 @@ use Rattle.dash_shard.proofs.Rows.{slice_get-set_same, slice_get-set_other}
 use Rattle.dash_shard.specs.Contents.{keys}
 use Rattle.dash_shard.specs.Hashing.{KeyHash, IsAmount, HashAlike, route_by, route_of_hash}
 use Rattle.dash_shard.specs.Shard.{SameShard}
-use Rattle.dash_shard.specs.Steps.{place}
+use Rattle.dash_shard.specs.Steps.{Line, at_key, on_shard, line, step_shard}
 use Rattle.dash_history.specs.declared.step.ShardStep.{ShardStep}
 use Rattle.dash_history.specs.declared.step.Reply as program
 use Rattle.dash_history.specs.Steps.{step_of}
-use Rattle.dash_history.specs.Takes.{Kinds, Known, kinds_at, kinds, rules}
-use Rattle.dash_history.specs.History.{RecState, LogState, Recorded, kinds_of, place_of}
-use Rattle.dash_history.specs.Alone.{AloneState, IsPlaced, IsAlone, Applied, last_at, kinds_in}
+use Rattle.dash_history.specs.inner.Hashed.{OfKey, IsHashBy, HasHash}
+use Rattle.dash_history.specs.Takes.{Kinds, Known, kinds_at, rules}
+use Rattle.dash_history.specs.inner.Kinds.{kinds, kinds_of}
+use Rattle.dash_history.specs.History.{RecState, LogState, Recorded, shard_of}
+use Rattle.dash_history.specs.Alone.{AloneState, IsTagged, IsAlone, Applied, last_at, kinds_in}
 
 module _ {K V A S : Type 0} (h : KeyHash K S) where
-  pub placed-moved : (base : S) (n c i : ℕ) (s t : RecState K V A S) → IsPlaced h base n c i s → SameShard s.shard t.shard → t.callers ≡ s.callers → IsPlaced h base n c i t
-  placed-moved base n c i s t p stays callers = record {
+  pub tagged-moved : (base : S) (n c i : ℕ) (s t : RecState K V A S) → IsTagged h base n c i s → SameShard s.shard t.shard → t.callers ≡ s.callers → IsTagged h base n c i t
+  tagged-moved base n c i s t p stays callers = record {
     number = stays.number ∙ p.number;
     amount = stays.amount ∙ p.amount;
     callers = callers ∙ p.callers;
     hashes = subst (λ x. HashAlike h base x) (sym stays.hasher) p.hashes;
   }
 
-  -- one shard changed in its place
+  -- one shard changed where it stood
   pub alone-set : (base : S) (c i : ℕ) (row : List (RecState K V A S)) (s t : RecState K V A S) → IsAlone h (record { hasher = base; callers = c; row = row }) → slice_get row i ≡ Some s
       → SameShard s.shard t.shard → t.callers ≡ s.callers → IsAlone h (record { hasher = base; callers = c; row = slice_set row i t })
   alone-set base c i row s t a here stays callers =
@@ -35,34 +38,39 @@ module _ {K V A S : Type 0} (h : KeyHash K S) where
       record {
         amount = subst IsAmount (sym long) a.amount;
         callers = a.callers;
-        placed = λ j x e. subst (λ n. IsPlaced h base n c j x) (sym long) (elim (cases_eq j i) as (λ _. IsPlaced h base (length row) c j x) [
+        tagged = λ j x e. subst (λ n. IsTagged h base n c j x) (sym long) (elim (cases_eq j i) as (λ _. IsTagged h base (length row) c j x) [
           | inl same ↦
               let new : t ≡ x = same_Some t x (sym (slice_get-set_same row i t (slice_get_within row i s here)) ∙ ap (λ n. slice_get (slice_set row i t) n) (sym same) ∙ e) in
-              subst (λ n. IsPlaced h base (length row) c n x) (sym same) (subst (λ y. IsPlaced h base (length row) c i y) new (placed-moved base (length row) c i s t (a.placed i s here) stays callers))
-          | inr other ↦ a.placed j x (slice_get-set_other row i j t x other e)
+              subst (λ n. IsTagged h base (length row) c n x) (sym same) (subst (λ y. IsTagged h base (length row) c i y) new (tagged-moved base (length row) c i s t (a.tagged i s here) stays callers))
+          | inr other ↦ a.tagged j x (slice_get-set_other row i j t x other e)
         ]);
       }
 
+-- the hash by a hasher that hashes alike
+pub hash-alike : {K V S : Type 0} (h : KeyHash K S) (x y : S) → HashAlike h x y → (l : Line K V) (hash : ℕ) → OfKey l (λ k. hash ≡ h.hash x k) ⊤ → OfKey l (λ k. hash ≡ h.hash y k) ⊤
+hash-alike h x y same (at_key k b r) hash is = is ∙ sym (same k)
+hash-alike h x y same (on_shard i b r) hash is = tt
+
 -- a shard knows what the map knows
-pub kinds-same : {K V A S : Type 0} (w : Known K V A S) (base : S) (n c i : ℕ) (s : RecState K V A S) → IsPlaced w.keys base n c i s → kinds_of w s.shard ≡ kinds_at w base n
+pub kinds-same : {K V A S : Type 0} (w : Known K V A S) (base : S) (n c i : ℕ) (s : RecState K V A S) → IsTagged w.keys base n c i s → kinds_of w s.shard ≡ kinds_at w base n
 kinds-same {K = K} {V = V} {A = A} w base n c i s p =
     let kinds_by : (K → ℕ) → ℕ → Kinds K V A = λ r a. kinds w.alike_action w.acts (rules w.alike_key w.alike_value (keys w.keys.eq r a)) in
     let route : (λ x. route_of_hash s.shard.amount (w.keys.hash s.shard.hasher x)) ≡ route_by w.keys base n = fun_ext (λ (x : K). ap (λ a. route_of_hash a (w.keys.hash s.shard.hasher x)) p.amount ∙ ap (route_of_hash n) (p.hashes x)) in
     ap (λ r. kinds_by r s.shard.amount) route ∙ ap (λ a. kinds_by (route_by w.keys base n) a) p.amount
 
--- the place that was computed is past the row
+-- the index that was computed is past the row
 pub past_row : {K V A S : Type 0} (w : Known K V A S) (base : S) (c : ℕ) (row : List (RecState K V A S)) (z : AloneState K V A S) → record { hasher = base; callers = c; row = row } ≡ z → (step : ShardStep K V A) (p n : ℕ)
-    → n ≡ length row → p ≡ place (keys w.keys.eq (route_by w.keys base n) n) (step_of w.acts step) → n ≤ p → length z.row ≤ place_of (kinds_in w z) step
+    → n ≡ length row → p ≡ step_shard (keys w.keys.eq (route_by w.keys base n) n) (step_of w.acts step) → n ≤ p → length z.row ≤ shard_of (kinds_in w z) step
 past_row {K} {V} {A} {S} w base c row z view step p n long computed past =
     let At : Type 0 = AloneState K V A S in
-    let there = subst (λ l. p ≡ place (keys w.keys.eq (route_by w.keys base l) l) (step_of w.acts step)) long computed in
-    subst (λ (x : At). length x.row ≤ place_of (kinds_in w x) step) view (subst (λ q. length row ≤ q) there (omega arith))
+    let there = subst (λ l. p ≡ step_shard (keys w.keys.eq (route_by w.keys base l) l) (step_of w.acts step)) long computed in
+    subst (λ (x : At). length x.row ≤ shard_of (kinds_in w x) step) view (subst (λ q. length row ≤ q) there (omega arith))
 
--- The map, the place that was computed, and the shard that an index lends there.
+-- The map, the index that was computed, and the shard that an index lends there.
 module _ {K V A S : Type 0} (w : Known K V A S)
     (base : S) (c : ℕ) (row : List (RecState K V A S)) (z : AloneState K V A S) (view : record { hasher = base; callers = c; row = row } ≡ z)
     (a : IsAlone w.keys (record { hasher = base; callers = c; row = row })) (step : ShardStep K V A) (p n : ℕ) (s : RecState K V A S)
-    (long : n ≡ length row) (computed : p ≡ place (keys w.keys.eq (route_by w.keys base n) n) (step_of w.acts step)) (within : p < length row) (read : s ≡ get_or row p s) where
+    (long : n ≡ length row) (computed : p ≡ step_shard (keys w.keys.eq (route_by w.keys base n) n) (step_of w.acts step)) (within : p < length row) (read : s ≡ get_or row p s) where
   abbrev old : AloneState K V A S
   old = record { hasher = base; callers = c; row = row }
 
@@ -72,28 +80,31 @@ module _ {K V A S : Type 0} (w : Known K V A S)
   pub here : slice_get row p ≡ Some s
   here = slice_get-get_or row p s within ∙ ap Some (sym read)
 
-  placed : IsPlaced w.keys base (length row) c p s
-  placed = a.placed p s here
+  tagged : IsTagged w.keys base (length row) c p s
+  tagged = a.tagged p s here
 
   same : kinds_of w s.shard ≡ kinds_in w z
-  same = kinds-same w base (length row) c p s placed ∙ ap (kinds_in w) view
+  same = kinds-same w base (length row) c p s tagged ∙ ap (kinds_in w) view
 
-  pub place_is : p ≡ place_of (kinds_in w z) step
-  place_is = computed ∙ ap (λ l. place (keys w.keys.eq (route_by w.keys base l) l) (step_of w.acts step)) long ∙ ap (λ x. place_of (kinds_in w x) step) view
+  pub shard_is : p ≡ shard_of (kinds_in w z) step
+  shard_is = computed ∙ ap (λ l. step_shard (keys w.keys.eq (route_by w.keys base l) l) (step_of w.acts step)) long ∙ ap (λ x. shard_of (kinds_in w x) step) view
 
-  pub goes_there : place_of (kinds_of w s.shard) step ≡ s.shard.number
-  goes_there = ap (λ r. place_of r step) same ∙ sym place_is ∙ sym placed.number
+  pub goes_there : shard_of (kinds_of w s.shard) step ≡ s.shard.number
+  goes_there = ap (λ r. shard_of r step) same ∙ sym shard_is ∙ sym tagged.number
+
+  pub hash_there : (hash : ℕ) → IsHashBy w.acts w.keys base step hash → HasHash w s.shard step hash
+  hash_there hash is = hash-alike w.keys base s.shard.hasher tagged.hashes (line (step_of w.acts step)) hash is
 
   pub callers_are : s.callers ≡ z.callers
-  callers_are = placed.callers ∙ ap (λ x. x.callers) view
+  callers_are = tagged.callers ∙ ap (λ x. x.callers) view
 
   pub count_is : length row ≡ length z.row
   count_is = ap (λ x. length x.row) view
 
-  pub there : slice_get z.row (place_of (kinds_in w z) step) ≡ Some s
-  there = subst (λ x. slice_get x.row (place_of (kinds_in w z) step) ≡ Some s) view (subst (λ i. slice_get row i ≡ Some s) place_is here)
+  pub there : slice_get z.row (shard_of (kinds_in w z) step) ≡ Some s
+  there = subst (λ x. slice_get x.row (shard_of (kinds_in w z) step) ≡ Some s) view (subst (λ i. slice_get row i ≡ Some s) shard_is here)
 
-  pub last_is : last_at z (place_of (kinds_in w z) step) ≡ s.last
+  pub last_is : last_at z (shard_of (kinds_in w z) step) ≡ s.last
   last_is = ap (λ o. option_map_or (λ x. x.last) o 0) there
 
   pub applied : (t : RecState K V A S) (l l' : LogState K V A) (reply : program.Reply K V) → Recorded (kinds_of w s.shard) s t l l' step reply
@@ -103,7 +114,7 @@ module _ {K V A S : Type 0} (w : Known K V A S)
     after = t;
     here = there;
     recorded = subst (λ x. Recorded x s t l l' step reply) same r;
-    others = ap (λ i. set_row old (slice_set row i t)) place_is ∙ ap (λ x. set_row x (slice_set x.row (place_of (kinds_in w z) step) t)) view;
+    others = ap (λ i. set_row old (slice_set row i t)) shard_is ∙ ap (λ x. set_row x (slice_set x.row (shard_of (kinds_in w z) step) t)) view;
   }
 
   -- the shard was put back as it was

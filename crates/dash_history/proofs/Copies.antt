@@ -1,17 +1,19 @@
 -- A step's copy, with a copy of its reply, is the same step of the map.
 use Rattle.std.proofs.Common.{◌≡◌, ◌<◌, ◌==◌, ◌-◌, ◌^◌, min, length, is_some, eqb-true, Bool, true, false, cond, List, Option, Some, None, refl, sym, subst}
-use Rattle.std.specs.Option.{option_and_then, option_map}
+use Rattle.std.specs.Option.{option_and_then, option_map, option_eq}
 use Rattle.std.specs.Cmp.{IsEquivalence}
 use Rattle.std.proofs.lemmas.Bool.{and_parts, and_from}
 use Rattle.dash_shard.specs.Contents.{at, on, Distinct, EachOnce}
-use Rattle.dash_shard.specs.Steps.{Line, at_key, on_shard, Step, Reply, Act, line, line_place, line_after, LineReplies, place, after, Becomes, Pair, Found, Old, Pairs, Number, key_or, value, changed, if_yes, if_no}
+use Rattle.dash_shard.specs.Steps.{Line, at_key, on_shard, Step, Reply, Act, line, line_shard, line_after, LineReplies, step_shard, after, Pair, Found, Old, Pairs, Number, changed, if_yes, if_no}
+use Rattle.dash_shard.specs.inner.Steps.{Becomes, key_or, value}
 use Rattle.dash_history.specs.declared.step.ShardStep.{ShardStep}
 use Rattle.dash_history.specs.declared.step.ShardStep.TheVariants.{Get, Contains, Insert, Remove, RemoveIf, RemoveIfMut, Alter, Read, Count, AlterAll, Retain}
-use Rattle.dash_history.specs.Alike.{alike_option, alike_pair, alike_reply}
+use Rattle.dash_history.specs.Alike.{alike_pair, alike_reply}
 use Rattle.dash_history.specs.Steps.{step_of, alike_step}
-use Rattle.dash_history.specs.Takes.{Rules, Kinds, AlikeAt, Answers, Takes}
+use Rattle.dash_history.specs.Takes.{Rules, Kinds, Answers, Takes}
+use Rattle.dash_history.specs.inner.Copied.{AlikeAt}
 use Rattle.dash_shard.proofs.Equals.{at-equal}
-use Rattle.dash_history.proofs.AlikeLaws.{turned, chained, option_equiv, pair_equiv, reply_equiv}
+use Rattle.dash_history.proofs.AlikeLaws.{turned, chained, options_equiv, pair_equiv, reply_equiv}
 
 -- lawful keys, and alike keys and values
 pub record Lawful {K V : Type 0} (m : Rules K V) : Type 0 where
@@ -22,8 +24,8 @@ pub record Lawful {K V : Type 0} (m : Rules K V) : Type 0 where
   pub alike_equal : (j k : K) → m.alike_key j k ≡ true → m.keys.eq j k ≡ true
 
 module _ {K V : Type 0} (m : Rules K V) (laws : Lawful m) where
-  pub at_laws : IsEquivalence (alike_option (alike_pair m.alike_key m.alike_value))
-  at_laws = option_equiv (pair_equiv laws.key laws.value)
+  pub at_laws : IsEquivalence (option_eq (alike_pair m.alike_key m.alike_value))
+  at_laws = options_equiv (pair_equiv laws.key laws.value)
 
   pub reply_laws : IsEquivalence (alike_reply m.alike_key m.alike_value)
   reply_laws = reply_equiv laws.key laws.value
@@ -34,11 +36,11 @@ module _ {K V : Type 0} (m : Rules K V) (laws : Lawful m) where
   AlikeLine (on_shard i b r) (on_shard j c q) = (i ≡ j) × ((p : K × V) → AlikeAt m (b p) (c p)) × ((l : List (K × V)) → alike_reply m.alike_key m.alike_value (r l) (q l) ≡ true)
   AlikeLine _ _ = ⊥
 
-  pub place-alike : (s t : Line K V) → AlikeLine s t → line_place m.keys s ≡ line_place m.keys t
-  place-alike (at_key j b r) (at_key k c q) a = laws.route_same j k (laws.alike_equal j k a.0)
-  place-alike (on_shard i b r) (on_shard j c q) a = a.0
-  place-alike (at_key j b r) (on_shard i c q) a = absurd a
-  place-alike (on_shard i b r) (at_key k c q) a = absurd a
+  pub shard-alike : (s t : Line K V) → AlikeLine s t → line_shard m.keys s ≡ line_shard m.keys t
+  shard-alike (at_key j b r) (at_key k c q) a = laws.route_same j k (laws.alike_equal j k a.0)
+  shard-alike (on_shard i b r) (on_shard j c q) a = a.0
+  shard-alike (at_key j b r) (on_shard i c q) a = absurd a
+  shard-alike (on_shard i b r) (at_key k c q) a = absurd a
 
   -- the same choice of alike pairs
   both : (t : Bool) (o p q : Option (K × V)) → AlikeAt m o p → AlikeAt m (cond t o q) (cond t p q)
@@ -73,14 +75,14 @@ module _ {K V : Type 0} (m : Rules K V) (laws : Lawful m) where
   takes-alike P Q s t r q a h x =
       let told = replies-alike (line s) (line t) P x.answers.told a x.answers.replies in
       record {
-        in_range = subst (λ n. n < m.keys.shards) (place-alike (line s) (line t) a) x.in_range;
+        in_range = subst (λ n. n < m.keys.shards) (shard-alike (line s) (line t) a) x.in_range;
         answers = record { told = told.0; replies = told.1; alike = chained reply_laws told.0 x.answers.told q told.2 (chained reply_laws x.answers.told r q x.answers.alike h) };
         each_key = λ j. chained at_laws _ _ _ (turned at_laws _ _ (after-alike (line s) (line t) j (at m.keys.eq P j) a)) (x.each_key j);
         distinct = x.distinct;
       }
 
   -- a step that got this reply and made exactly this of the contents was taken
-  pub takes-exactly : (P Q : List (K × V)) (step : Step K V) (reply : Reply K V) → place m.keys step < m.keys.shards → Answers m P step reply
+  pub takes-exactly : (P Q : List (K × V)) (step : Step K V) (reply : Reply K V) → step_shard m.keys step < m.keys.shards → Answers m P step reply
       → Becomes m.keys step P Q → Distinct m.keys.eq Q → Takes m P step reply Q
   takes-exactly P Q step reply here answers becomes distinct = record {
     in_range = here;

@@ -4,7 +4,7 @@ use Rattle.std.proofs.lemmas.List.Elements.{All-append, All-cons, All-nil}
 use Rattle.std.proofs.lemmas.List.{map-append}
 use Rattle.dash_shard.specs.Steps.{Step, Reply}
 use Rattle.dash_history.specs.declared.step.Record.{Record}
-use Rattle.dash_history.specs.Steps.{done}
+use Rattle.dash_history.specs.inner.Done.{done}
 use Rattle.dash_history.specs.Takes.{Rules, Kinds, Takes, Runs}
 use Rattle.dash_history.specs.History.{last_or, Rises, IsOf, IsHistory, LogState, IsLog}
 

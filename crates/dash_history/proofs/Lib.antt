@@ -2,6 +2,7 @@ mod AlikeLaws
 mod Alones
 pub mod Copies
 mod Faults
+mod Finding
 pub mod Growing
 mod Items
 mod Logging
@@ -14,3 +15,14 @@ mod Sweeping
 mod PlainSweeps
 mod PlainTakes
 mod Preparing
+mod Placing
+mod Members
+mod Merging
+mod Alongs
+mod Frames
+mod Whole
+mod Indexing
+mod Following
+mod Matching
+mod Gathering
+mod Copying

@@ -8,7 +8,7 @@ use Rattle.dash_history.specs.declared.step.Reply as program
 use Rattle.dash_history.specs.declared.step.Record.{Record}
 use Rattle.dash_history.specs.Steps.{reply_of, alike_step, alike_record}
 use Rattle.dash_history.specs.Takes.{Kinds}
-use Rattle.dash_history.specs.History.{RecState, LogState, Tells, Recorded, place_of, stamp_of}
+use Rattle.dash_history.specs.History.{RecState, LogState, Tells, Recorded, shard_of, stamp_of}
 use Rattle.dash_history.specs.Map.{Logged}
 use Rattle.dash_history.proofs.AlikeLaws.{chained, reply_equiv}
 
@@ -59,8 +59,8 @@ module _ {K V A : Type 0} {k : K → K → Bool} {v : V → V → Bool} {f : A �
       }
 
 module _ {K V A S : Type 0} (m : Kinds K V A) (lk : IsEquivalence m.rules.alike_key) (lv : IsEquivalence m.rules.alike_value) (lf : IsEquivalence m.alike_action) where
-  -- a step that was recorded on the shard of its place is in the log
-  pub logged : (s s' : RecState K V A S) (l l' : LogState K V A) (step : ShardStep K V A) (reply : program.Reply K V) → place_of m step ≡ s.shard.number → Recorded m s s' l l' step reply → Logged m l l' step reply
+  -- a step that was recorded on the step's shard is in the log
+  pub logged : (s s' : RecState K V A S) (l l' : LogState K V A) (step : ShardStep K V A) (reply : program.Reply K V) → shard_of m step ≡ s.shard.number → Recorded m s s' l l' step reply → Logged m l l' step reply
   logged s s' l l' step reply here r = record {
     entry = r.logged;
     tells = rw (here, r.log_last) (tells-same lk lv lf (stamp_of s l) l.caller s.shard.number step reply r.grown.kept r.logged r.grown.tells r.grown.same);

@@ -1,24 +1,28 @@
 -- What the plain map's calls did is what the step table says.
-use Rattle.std.proofs.Common.{◌≡◌, ◌<◌, ◌==◌, ◌-◌, ◌^◌, ℕ, min, length, Bool, true, false, cond, List, refl, sym, ap, subst, ◌∙◌, arith, IsTrue, is_some, Option, Some, None, Result}
+use Rattle.std.proofs.Common.{◌≡◌, ◌<◌, ◌==◌, ◌-◌, ◌^◌, ℕ, min, length, Bool, true, false, cond, List, refl, sym, ap, subst, ◌∙◌, arith, is_some, Option, Some, None, Result}
 use Rattle.std.specs.Prelude.{IfSome, IfOk}
 use Rattle.std.specs.Cmp.{IsEquivalence}
 use Rattle.std.specs.Option.{option_map, option_and_then, ok_or}
-use Rattle.dash_shard.specs.Hashing.{KeyHash, IsLawful}
+use Rattle.dash_shard.specs.Hashing.{KeyHash}
+use Rattle.dash_shard.specs.inner.Keys.{IsLawful}
 use Rattle.dash_shard.specs.Contents.{at, Distinct, EachOnce}
 use Rattle.dash_shard.specs.Steps as table
-use Rattle.dash_shard.specs.Steps.{Act, Line, at_key, line, Reply, Pair, Found, Old, Pairs, Number, Done, Replies, Becomes, after}
+use Rattle.dash_shard.specs.Steps.{Act, at_key, line, Reply, Pair, Found, Old, Pairs, Number, Done, Replies, after}
+use Rattle.dash_shard.specs.inner.Steps.{Becomes}
 use Rattle.dash_shard.proofs.Routing.{route_below}
 use Rattle.dash_history.specs.declared.step.Reply as program
 use Rattle.dash_history.specs.declared.step.Reply.TheVariants as variant
 use Rattle.dash_history.specs.declared.change.Change.{Change}
 use Rattle.dash_history.specs.Steps.{reply_of}
-use Rattle.dash_history.specs.Alike.{AlikeFound, alike_reply}
-use Rattle.dash_history.specs.Takes.{Rules, AlikeAt, Answers, Takes}
-use Rattle.dash_history.specs.Plain.{PlainState, IsPlainMap, plain_rules, pairs_on, Reads, SweepsPlain}
-use Rattle.dash_history.specs.Plan.{change_step, Fits}
+use Rattle.dash_history.specs.inner.Hashed.{OfKey}
+use Rattle.dash_history.specs.inner.Copied.{AlikeFound, AlikeAt}
+use Rattle.dash_history.specs.Takes.{Rules, Answers, Takes}
+use Rattle.dash_history.specs.Plain.{PlainState}
+use Rattle.dash_history.specs.inner.Plain.{IsPlainMap, plain_rules, pairs_on, Reads, SweepsPlain}
+use Rattle.dash_history.specs.inner.Plan.{change_step, Plans}
 use Rattle.dash_history.proofs.Plains.{looked}
 use Rattle.dash_history.proofs.PlainSweeps.{Swept, swept-at, swept-distinct}
-use Rattle.dash_history.proofs.Planning.{takes-planned, on-distinct}
+use Rattle.dash_history.proofs.Planning.{takes-asked, same-key, on-distinct}
 use Rattle.dash_history.proofs.Copies.{Lawful, takes-exactly, reply_laws}
 use Rattle.dash_history.proofs.Recording.{lawful-by}
 
@@ -80,10 +84,9 @@ module _ {K V S : Type 0} (h : KeyHash K S) (law : IsLawful h) (k : K → K → 
   pub takes-found : (j : K) (found : Bool) → found ≡ is_some (at h.eq P j) → Takes rs P (table.Contains j) (Found found) P
   takes-found j found e = takes-exactly rs laws P P (table.Contains j) (Found found) (below j) (told (table.Contains j) (Found found) (ap Found e)) (looked rs.keys j P) plain.distinct
 
-  pub takes-asked : (Q : List (K × V)) (j : K) (o : Option (K × V)) (b : Option (K × V) → Option (K × V)) (r : Option (K × V) → Reply K V) (step : table.Step K V) (reply : program.Reply K V) (change : Change V)
-      → o ≡ at h.eq P j → line step ≡ at_key j b r → IsTrue (alike_reply k v (r o) (reply_of reply)) × Fits k v j b o change → Becomes rs.keys (change_step j change) P Q → Distinct h.eq Q
-      → Takes rs P step (reply_of reply) Q
-  takes-asked Q j o b r step reply change e is plan = takes-planned rs laws P Q j o b r step reply change e is plan.0 plan.1 (below j)
+  pub takes-plan : (Q : List (K × V)) (i j : K) (o : Option (K × V)) (step : table.Step K V) (plan : program.Reply K V × Change V) → Plans k v (line step) o plan → OfKey (line step) (λ l. i ≡ l) ⊥ → OfKey (line step) (λ l. j ≡ l) ⊥
+      → o ≡ at h.eq P i → Becomes rs.keys (change_step j plan.1) P Q → Distinct h.eq Q → Takes rs P step (reply_of plan.0) Q
+  takes-plan Q i j o step plan p first second e = takes-asked k v o plan rs.keys laws P Q j step p second (e ∙ ap (at h.eq P) (same-key (line step) i j first second)) (below j)
 
   pub takes-counted : (i n : ℕ) → i < z.amount → n ≡ min (length (pairs_on h m i)) (2 ^ 64 - 1) → Takes rs P (table.Count i) (Number n) P
   takes-counted i n there e =

@@ -1,19 +1,22 @@
 -- What was decided for a step is what the step leaves.
-use Rattle.std.proofs.Common.{◌≡◌, ℕ, ◌==◌, IsTrue, cond, List, [], ◌∷◌, ◌++◌, ◌<◌, Option, Some, None, refl, sym, ap, subst, inl, inr}
+use Rattle.std.proofs.Common.{◌≡◌, ℕ, ◌==◌, ◌∙◌, Bool, IsTrue, cond, List, [], ◌∷◌, ◌++◌, ◌<◌, Option, Some, None, refl, sym, ap, subst, inl, inr}
 use Rattle.std.specs.Cmp.{IsEquivalence}
 use Rattle.std.proofs.lemmas.Bool.{cases_Bool}
 use Rattle.std.proofs.lemmas.List.Elements.{filter-append}
 use Rattle.std.proofs.lemmas.Option.{none-some}
 use Rattle.dash_shard.specs.Contents.{Keys, at, on, Distinct}
-use Rattle.dash_shard.specs.Steps.{Step, Reply, Pair, LineReplies, at_key, line, line_place, line_after, after, Becomes, key_or}
+use Rattle.dash_shard.specs.Steps.{Step, Reply, Pair, LineReplies, at_key, line, line_shard, line_after, after, Line, on_shard}
+use Rattle.dash_shard.specs.inner.Steps.{Becomes, key_or}
 use Rattle.dash_shard.proofs.Equals.{at-equal}
 use Rattle.dash_history.specs.declared.step.Reply as program
 use Rattle.dash_history.specs.Steps.{reply_of}
+use Rattle.dash_history.specs.inner.Hashed.{OfKey}
 use Rattle.dash_history.specs.declared.change.Change.{Change}
 use Rattle.dash_history.specs.declared.change.Change.TheVariants as change
-use Rattle.dash_history.specs.Takes.{Rules, AlikeAt, Answers, Takes}
+use Rattle.dash_history.specs.Takes.{Rules, Answers, Takes, rules}
+use Rattle.dash_history.specs.inner.Copied.{AlikeAt}
 use Rattle.dash_history.specs.Alike.{alike_reply}
-use Rattle.dash_history.specs.Plan.{change_step, changed_by, HasPair, Fits}
+use Rattle.dash_history.specs.inner.Plan.{change_step, changed_by, HasPair, Fits, Plans}
 use Rattle.dash_history.proofs.Copies.{Lawful, at_laws}
 
 module _ {K V : Type 0} (w : Keys K) (laws : IsEquivalence w.eq) (i : ℕ) where
@@ -81,9 +84,36 @@ module _ {K V : Type 0} where
       (reply : program.Reply K V) (change : Change V) → o ≡ at m.keys.eq P k → line step ≡ at_key k b r → IsTrue (alike_reply m.alike_key m.alike_value (r o) (reply_of reply))
       → Fits m.alike_key m.alike_value k b o change → m.keys.route k < m.keys.shards → Becomes m.keys (change_step k change) P Q → Distinct m.keys.eq Q → Takes m P step (reply_of reply) Q
   takes-planned m laws P Q k o b r step reply change e is alike fits below becomes distinct = record {
-    in_range = subst (λ l. line_place m.keys l < m.keys.shards) (sym is) below;
+    in_range = subst (λ l. line_shard m.keys l < m.keys.shards) (sym is) below;
     answers = answers-found m P k o b r step (reply_of reply) (ap Pair e) is alike;
     each_key = λ j. subst (λ l. AlikeAt m (line_after m.keys l j (at m.keys.eq P j)) (at m.keys.eq Q j)) (sym is)
         (decided m laws P Q k b change (subst (λ x. Fits m.alike_key m.alike_value k b x change) e fits) becomes j);
     distinct = distinct;
   }
+
+-- a line has one key
+pub same-key : {K V : Type 0} (l : Line K V) (i j : K) → OfKey l (λ k. i ≡ k) ⊥ → OfKey l (λ k. j ≡ k) ⊥ → i ≡ j
+same-key (at_key k b r) i j first second = first ∙ sym second
+same-key (on_shard n b r) i j first second = absurd first
+
+-- and goes where the key does
+pub keyed-shard : {K V : Type 0} (w : Keys K) (l : Line K V) (j : K) → OfKey l (λ k. j ≡ k) ⊥ → w.route j ≡ line_shard w l
+keyed-shard w (at_key k b r) j same = ap w.route same
+keyed-shard w (on_shard n b r) j same = absurd same
+
+-- a step that was planned from what a look-up found at its key
+module _ {K V : Type 0} (x : K → K → Bool) (y : V → V → Bool) (o : Option (K × V)) (plan : program.Reply K V × Change V) where
+  pub planned-there : (l : Line K V) → Plans x y l o plan → HasPair plan.1 o
+  planned-there (at_key k b r) p = p.1.there
+  planned-there (on_shard i b r) p = absurd p
+
+  -- and carried out
+  pub takes-asked : (w : Keys K) → Lawful (rules x y w) → (P Q : List (K × V)) (key : K) (step : Step K V) → Plans x y (line step) o plan → OfKey (line step) (λ k. key ≡ k) ⊥ → o ≡ at w.eq P key
+      → w.route key < w.shards → Becomes w (change_step key plan.1) P Q → Distinct w.eq Q → Takes (rules x y w) P step (reply_of plan.0) Q
+  takes-asked w laws P Q key step p own e below becomes distinct = from (line step) refl p own
+    where
+      from : (l : Line K V) → line step ≡ l → Plans x y l o plan → OfKey l (λ k. key ≡ k) ⊥ → Takes (rules x y w) P step (reply_of plan.0) Q
+      from (at_key k b r) is p own =
+          takes-planned (rules x y w) laws P Q key o b r step plan.0 plan.1 e (is ∙ ap (λ j. at_key j b r) (sym own)) p.0
+          (subst (λ j. Fits x y j b o plan.1) (sym own) p.1) below becomes distinct
+      from (on_shard i b r) is p own = absurd p

@@ -2,7 +2,8 @@
 use Rattle.std.proofs.Common.{◌≡◌, ℕ, ◌<◌, Bool, true, List, [], ◌∷◌, ◌++◌, sym, ap, subst, ◌∙◌, arith, IsTrue, ◌==◌, ◌&&◌, eqb-true}
 use Rattle.std.proofs.lemmas.Bool.{and_parts}
 use Rattle.std.specs.Cmp.{IsEquivalence}
-use Rattle.dash_shard.specs.Hashing.{IsLawful, KeyHash, route_by, route_of_hash}
+use Rattle.dash_shard.specs.Hashing.{KeyHash, route_by, route_of_hash}
+use Rattle.dash_shard.specs.inner.Keys.{IsLawful}
 use Rattle.dash_shard.specs.Contents.{keys}
 use Rattle.dash_shard.specs.Steps.{Act}
 use Rattle.dash_shard.specs.Shard.{ShardState, IsShard, SameShard, pairs}
@@ -11,9 +12,10 @@ use Rattle.dash_history.specs.declared.step.Reply as program
 use Rattle.dash_history.specs.declared.step.Record.{Record}
 use Rattle.dash_history.specs.Steps.{step_of, reply_of, alike_record}
 use Rattle.dash_history.specs.Takes.{Known, rules, Answers, Takes}
-use Rattle.dash_history.specs.History.{RecState, IsRecorded, Tells, last_or, kinds_of, place_of}
-use Rattle.dash_history.specs.Plan.{Leaves}
-use Rattle.dash_history.proofs.Copies.{Lawful, ActAlike, takes-alike, line-alike, place-alike}
+use Rattle.dash_history.specs.History.{RecState, IsRecorded, Tells, last_or, shard_of}
+use Rattle.dash_history.specs.inner.Kinds.{kinds_of}
+use Rattle.dash_history.specs.inner.Plan.{Leaves}
+use Rattle.dash_history.proofs.Copies.{Lawful, ActAlike, takes-alike, line-alike, shard-alike}
 use Rattle.dash_history.proofs.Growing.{history-more, last_or-more}
 
 -- alike records have one stamp and one caller
@@ -47,7 +49,7 @@ module _ {K V S : Type 0} (h : KeyHash K S) (law : IsLawful h) (k : K → K → 
     lawful s = lawful-by s.hasher s.amount
 
     -- a step that got this reply and left these pairs was taken
-    pub taken : (s t : ShardState K V S) (step : ShardStep K V A) (reply : program.Reply K V) → IsShard h s → place_of (kinds_of w s) step ≡ s.number
+    pub taken : (s t : ShardState K V S) (step : ShardStep K V A) (reply : program.Reply K V) → IsShard h s → shard_of (kinds_of w s) step ≡ s.number
         → Answers (kinds_of w s).rules (pairs s) (step_of acts step) (reply_of reply) → Leaves w s step t
         → SameShard s t → IsShard h t → Takes (kinds_of w s).rules (pairs s) (step_of acts step) (reply_of reply) (pairs t)
     taken s t step reply shard here answers leaves stays new = record {
@@ -61,7 +63,7 @@ module _ {K V S : Type 0} (h : KeyHash K S) (law : IsLawful h) (k : K → K → 
     pub recorded : (s : RecState K V A S) (t : ShardState K V S) (step : ShardStep K V A) (reply : program.Reply K V) (stamp caller : ℕ) (r : Record K V A) (history : List (Record K V A))
         → IsRecorded w s → SameShard s.shard t → IsShard h t
         → Takes (kinds_of w s.shard).rules (pairs s.shard) (step_of acts step) (reply_of reply) (pairs t)
-        → place_of (kinds_of w s.shard) step ≡ s.shard.number → caller < s.callers → s.last < stamp
+        → shard_of (kinds_of w s.shard) step ≡ s.shard.number → caller < s.callers → s.last < stamp
         → Tells k v f stamp caller s.shard.number step reply r → history ≡ s.history ++ r ∷ []
         → IsRecorded w (record { shard = t; callers = s.callers; last = stamp; history = history })
     recorded s t step reply stamp caller r history old stays new takes here below above tells e =
@@ -73,7 +75,7 @@ module _ {K V S : Type 0} (h : KeyHash K S) (law : IsLawful h) (k : K → K → 
           history = rw (stays.hasher, stays.amount, stays.number, e)
               (history-more (kinds_of w s.shard) s.callers s.shard.number s.history (pairs s.shard) (pairs t) r old.history
               (omega (arith, above, old.last, tells.stamped))
-              (record { shard = tells.of; place = sym (place-alike m.rules laws _ _ line) ∙ here; caller = subst (λ n. n < s.callers) (sym tells.by) below })
+              (record { shard = tells.of; goes = sym (shard-alike m.rules laws _ _ line) ∙ here; caller = subst (λ n. n < s.callers) (sym tells.by) below })
               (takes-alike m.rules laws (pairs s.shard) (pairs t) (step_of acts step) (step_of acts r.step) (reply_of reply) (reply_of r.reply) line tells.replied takes));
           last = sym (ap (last_or 0) e ∙ last_or-more 0 s.history r ∙ tells.stamped);
         }

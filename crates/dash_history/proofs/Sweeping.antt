@@ -1,4 +1,4 @@
--- What was made for each pair of a shard, and put in its place, is what the step leaves there.
+-- What was made for each pair of a shard, and put where it stood, is what the step leaves there.
 use Rattle.std.proofs.Common.{◌≡◌, ◌≢◌, ℕ, Bool, true, false, cond, List, [], ◌∷◌, Some, None, IsTrue, refl, sym, ap, subst, ◌∙◌, inl, inr, eq-eqb}
 use Rattle.std.specs.Option.{option_and_then}
 use Rattle.std.proofs.lemmas.Bool.{cases_Bool, cases_eq, ne_eqb, and_from}
@@ -6,8 +6,9 @@ use Rattle.dash_shard.specs.Contents.{at}
 use Rattle.dash_shard.specs.Steps.{Act, Retain, after, changed, if_yes}
 use Rattle.dash_shard.specs.Shard.{ShardState, pairs}
 use Rattle.dash_shard.specs.Each.{CalledAlong, SweepsBy}
-use Rattle.dash_history.specs.Sweep.{GivesEach, SweptTo, PutsNext}
-use Rattle.dash_history.specs.Takes.{Rules, AlikeAt}
+use Rattle.dash_history.specs.inner.Sweep.{GivesEach, SweptTo, PutsNext}
+use Rattle.dash_history.specs.Takes.{Rules}
+use Rattle.dash_history.specs.inner.Copied.{AlikeAt}
 use Rattle.dash_history.proofs.Copies.{Lawful}
 
 -- along the pairs the actions answer the same, and give the same values

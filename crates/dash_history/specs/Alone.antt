@@ -1,14 +1,13 @@
 -- A recorded map of one owner: a row of recorded shards.
-use Rattle.std.specs.Prelude.{ℕ, zero, suc, ◌≡◌, ◌<◌, ◌≤◌, List, [], ◌∷◌, ◌++◌, ◌⊎◌, length, Some, Result, IfOk, slice_get, slice_set}
+use Rattle.std.specs.Prelude.{ℕ, zero, suc, ◌≡◌, ◌<◌, ◌≤◌, List, [], ◌∷◌, ◌++◌, ◌⊎◌, length, Some, slice_get, slice_set}
 use Rattle.std.specs.Option.{option_map_or}
 use Rattle.dash_shard.specs.Hashing.{KeyHash, IsAmount, HashAlike}
 use Rattle.dash_shard.specs.Shard.{pairs}
 use Rattle.dash_history.specs.Takes.{Known, kinds_at, Kinds}
-use Rattle.dash_history.specs.History.{LogState, RecState, Recorded, place_of}
+use Rattle.dash_history.specs.History.{LogState, RecState, Recorded, shard_of}
 use Rattle.dash_history.specs.Refused.{NoStamp}
 use Rattle.dash_history.specs.declared.step.ShardStep.{ShardStep}
 use Rattle.dash_history.specs.declared.step.Reply.{Reply}
-use Rattle.dash_history.specs.declared.record.RecordFault.{RecordFault}
 use Rattle.dash_shard.specs.declared.error.ConstructError.{ConstructError}
 use Rattle.dash_shard.specs.declared.error.ConstructError.TheVariants as error
 
@@ -43,53 +42,35 @@ module _ {K V A S : Type 0} where
     pub history : s.history ≡ []
     pub last : s.last ≡ 0
 
-  -- so is each shard of the row
-  abbrev pub EachFresh : List (RecState K V A S) → Type 0
-  EachFresh row = (i : ℕ) (s : RecState K V A S) → slice_get row i ≡ Some s → IsFresh s
-
   -- the last stamp of shard i, 0 where there is none
   abbrev pub last_at : AloneState K V A S → ℕ → ℕ
   last_at a i = option_map_or (λ s. s.last) (slice_get a.row i) 0
 
-  module _ (h : KeyHash K S) where
-    -- the shard i of n, of a map with c callers and a hasher of this meaning
-    pub record IsPlaced (meaning : S) (n c i : ℕ) (s : RecState K V A S) : Type 0 where
-      pub number : s.shard.number ≡ i
-      pub amount : s.shard.amount ≡ n
-      pub callers : s.callers ≡ c
-      pub hashes : HashAlike h meaning s.shard.hasher
+  -- the shard i of n, of a map with c callers and a hasher of this meaning
+  pub record IsTagged (h : KeyHash K S) (meaning : S) (n c i : ℕ) (s : RecState K V A S) : Type 0 where
+    pub number : s.shard.number ≡ i
+    pub amount : s.shard.amount ≡ n
+    pub callers : s.callers ≡ c
+    pub hashes : HashAlike h meaning s.shard.hasher
 
-    -- each shard of the row stands in its place, with no pair and no history
-    abbrev pub FreshRow : S → ℕ → ℕ → List (RecState K V A S) → Type 0
-    FreshRow meaning n c row = (i : ℕ) (s : RecState K V A S) → slice_get row i ≡ Some s → IsPlaced meaning n c i s × IsFresh s
-
-    -- each shard stands in its place
-    pub record IsAlone (a : AloneState K V A S) : Type 0 where
-      pub amount : IsAmount (length a.row)
-      pub callers : IsCallers a.callers
-      pub placed : (i : ℕ) (s : RecState K V A S) → slice_get a.row i ≡ Some s → IsPlaced a.hasher (length a.row) a.callers i s
+  -- each shard has the number of its index
+  pub record IsAlone (h : KeyHash K S) (a : AloneState K V A S) : Type 0 where
+    pub amount : IsAmount (length a.row)
+    pub callers : IsCallers a.callers
+    pub tagged : (i : ℕ) (s : RecState K V A S) → slice_get a.row i ≡ Some s → IsTagged h a.hasher (length a.row) a.callers i s
 
   -- what the map knows of its keys, values and actions
   abbrev pub kinds_in : Known K V A S → AloneState K V A S → Kinds K V A
   kinds_in w a = kinds_at w a.hasher (length a.row)
 
-  -- The step was taken and recorded on the shard of its place. The other shards are as they were.
+  -- The step was taken and recorded on the step's shard. The other shards are as they were.
   pub record Applied (m : Kinds K V A) (a a' : AloneState K V A S) (l l' : LogState K V A) (step : ShardStep K V A) (reply : Reply K V) : Type 0 where
     pub before : RecState K V A S
     pub after : RecState K V A S
-    pub here : slice_get a.row (place_of m step) ≡ Some before
+    pub here : slice_get a.row (shard_of m step) ≡ Some before
     pub recorded : Recorded m before after l l' step reply
-    pub others : a' ≡ record a { row = slice_set a.row (place_of m step) after }
+    pub others : a' ≡ record a { row = slice_set a.row (shard_of m step) after }
 
-  module _ (w : Known K V A S) where
-    -- where it is Ok, the step was taken and recorded on the shard of its place
-    abbrev pub Applies : AloneState K V A S → AloneState K V A S → LogState K V A → LogState K V A → ShardStep K V A → Result (Reply K V) (ShardStep K V A × RecordFault) → Type 0
-    Applies a a' l l' step result = IfOk result (λ reply. Applied (kinds_in w a) a a' l l' step reply)
-
-    -- the map has no shard of the step's place
-    abbrev pub NoShard : AloneState K V A S → ShardStep K V A → Type 0
-    NoShard a step = length a.row ≤ place_of (kinds_in w a) step
-
-    -- it has one, and no stamp is above the shard's last and the log's
-    abbrev pub NoStampIn : AloneState K V A S → LogState K V A → ShardStep K V A → Type 0
-    NoStampIn a l step = (place_of (kinds_in w a) step < length a.row) × NoStamp (last_at a (place_of (kinds_in w a) step)) l.last
+  -- the map has a shard of the step's number, and no stamp is above the shard's last and the log's
+  abbrev pub NoStampIn : Known K V A S → AloneState K V A S → LogState K V A → ShardStep K V A → Type 0
+  NoStampIn w a l step = (shard_of (kinds_in w a) step < length a.row) × NoStamp (last_at a (shard_of (kinds_in w a) step)) l.last

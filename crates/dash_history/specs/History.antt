@@ -1,9 +1,9 @@
 -- The history of a shard and the log of a caller, and how both grow.
 use Rattle.std.specs.Prelude.{ℕ, ◌≡◌, ◌+◌, ◌<◌, ◌≤◌, max, Bool, List, [], ◌∷◌, ◌++◌, map, All, ⊤, IsTrue, Result, IfOk}
-use Rattle.dash_shard.specs.Steps.{place}
+use Rattle.dash_shard.specs.Steps.{step_shard}
 use Rattle.dash_shard.specs.Shard.{ShardState, IsShard, SameShard, pairs}
 use Rattle.dash_history.specs.Alike.{alike_reply}
-use Rattle.dash_history.specs.Steps.{step_of, reply_of, done, alike_step, alike_record}
+use Rattle.dash_history.specs.Steps.{step_of, reply_of, alike_step, alike_record}
 use Rattle.dash_history.specs.Takes.{Known, kinds_at, Kinds, Takes, Runs}
 use Rattle.dash_history.specs.declared.step.ShardStep.{ShardStep}
 use Rattle.dash_history.specs.declared.step.Reply.{Reply}
@@ -21,21 +21,25 @@ Rises low [] = ⊤
 Rises low (r ∷ rs) = (low < r.stamp) × Rises r.stamp rs
 
 module _ {K V A : Type 0} (m : Kinds K V A) where
-  -- the place of a step: the number of its shard
-  abbrev pub place_of : ShardStep K V A → ℕ
-  place_of step = place m.rules.keys (step_of m.acts step)
+  -- the number of a step's shard
+  abbrev pub shard_of : ShardStep K V A → ℕ
+  shard_of step = step_shard m.rules.keys (step_of m.acts step)
+
+  -- the map has no such shard
+  abbrev pub NoShard : ShardStep K V A → Type 0
+  NoShard step = m.rules.keys.shards ≤ shard_of step
 
   -- a record of shard s, by one of the callers, of a step that goes to s
   pub record IsOf (callers s : ℕ) (r : Record K V A) : Type 0 where
     pub shard : r.shard ≡ s
-    pub place : place_of r.step ≡ s
+    pub goes : shard_of r.step ≡ s
     pub caller : r.caller < callers
 
   -- shard history: the history of shard s, from no pairs to the pairs P
   pub record IsHistory (callers s : ℕ) (h : List (Record K V A)) (P : List (K × V)) : Type 0 where
     pub of : All (IsOf callers s) h
     pub rises : Rises 0 h
-    pub runs : Runs m.rules [] (map (done m.acts) h) P
+    pub runs : Runs m.rules [] (map (λ r. (step_of m.acts r.step, reply_of r.reply)) h) P
 
 -- what contracts see of a caller's log
 pub record LogState (K V A : Type 0) : Type 0 where
@@ -55,10 +59,6 @@ pub record RecState (K V A S : Type 0) : Type 0 where
   pub callers : ℕ
   pub last : ℕ
   pub history : List (Record K V A)
-
--- the stamp of the shard's last record, 0 for none
-abbrev pub IsLast : {K V A S : Type 0} → ℕ → RecState K V A S → Type 0
-IsLast stamp s = stamp ≡ last_or 0 s.history
 
 -- one above the greater of the shard's last and the log's last
 abbrev pub stamp_of : {K V A S : Type 0} → RecState K V A S → LogState K V A → ℕ
@@ -91,25 +91,16 @@ pub record Recorded {K V A S : Type 0} (m : Kinds K V A) (s s' : RecState K V A 
   pub log_last : l'.last ≡ stamp_of s l
   pub caller : l'.caller ≡ l.caller
 
-module _ {K V A S : Type 0} (w : Known K V A S) where
-  -- what the map of a shard knows of its keys, values and actions
-  abbrev pub kinds_of : ShardState K V S → Kinds K V A
-  kinds_of s = kinds_at w s.hasher s.amount
+-- the step goes to the shard
+abbrev pub GoesTo : {K V A S : Type 0} → Known K V A S → ShardState K V S → ShardStep K V A → Type 0
+GoesTo w s step = shard_of (kinds_at w s.hasher s.amount) step ≡ s.number
 
-  -- the step goes to the shard
-  abbrev pub GoesTo : ShardState K V S → ShardStep K V A → Type 0
-  GoesTo s step = place_of (kinds_of s) step ≡ s.number
+-- where it is Ok, the step was taken on the shard, and one same record of it stands at the end of the history and of the log
+abbrev pub Records : {K V A S : Type 0} → Known K V A S → RecState K V A S → RecState K V A S → LogState K V A → LogState K V A → ShardStep K V A → Result (Reply K V) (ShardStep K V A × RecordFault) → Type 0
+Records w s s' l l' step result = IfOk result (λ reply. Recorded (kinds_at w s.shard.hasher s.shard.amount) s s' l l' step reply)
 
-  -- where it is Ok, the step was taken on the shard at the stamp, and its record stands at the end of the history
-  abbrev pub Adds : RecState K V A S → RecState K V A S → ℕ → ℕ → ShardStep K V A → Result (Reply K V × Record K V A) (ShardStep K V A) → Type 0
-  Adds s s' stamp caller step result = IfOk result (λ p. Grown (kinds_of s.shard) s s' stamp caller step p.0 p.1)
-
-  -- where it is Ok, the step was taken on the shard, and one same record of it stands at the end of the history and of the log
-  abbrev pub Records : RecState K V A S → RecState K V A S → LogState K V A → LogState K V A → ShardStep K V A → Result (Reply K V) (ShardStep K V A × RecordFault) → Type 0
-  Records s s' l l' step result = IfOk result (λ reply. Recorded (kinds_of s.shard) s s' l l' step reply)
-
-  -- a recorded shard: its history led to its pairs
-  pub record IsRecorded (s : RecState K V A S) : Type 0 where
-    pub shard : IsShard w.keys s.shard
-    pub history : IsHistory (kinds_of s.shard) s.callers s.shard.number s.history (pairs s.shard)
-    pub last : s.last ≡ last_or 0 s.history
+-- a recorded shard: its history led to its pairs
+pub record IsRecorded {K V A S : Type 0} (w : Known K V A S) (s : RecState K V A S) : Type 0 where
+  pub shard : IsShard w.keys s.shard
+  pub history : IsHistory (kinds_at w s.shard.hasher s.shard.amount) s.callers s.shard.number s.history (pairs s.shard)
+  pub last : s.last ≡ last_or 0 s.history

@@ -6,6 +6,6 @@ pub mod Alone
 pub mod Plain
 pub mod Held
 pub mod Map
-pub mod Plan
-pub mod Sweep
 pub mod Refused
+pub mod OneHistory
+pub mod inner

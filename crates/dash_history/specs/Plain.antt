@@ -1,15 +1,12 @@
 -- What contracts see of the plain map.
-use Rattle.std.specs.Prelude.{◌≡◌, ◌<◌, ◌≤◌, ◌⊎◌, ◌-◌, ◌^◌, ℕ, List, length, min, Bool, Option, Some, None, IsTrue, IsSome}
-use Rattle.dash_shard.specs.Contents.{Keys, keys, at, on, Distinct}
-use Rattle.dash_shard.specs.Hashing.{KeyHash, IsAmount, route_by}
-use Rattle.dash_shard.specs.Steps as table
-use Rattle.dash_shard.specs.Steps.{Act, Replies, Becomes, after}
-use Rattle.dash_history.specs.Alike.{alike_reply}
+use Rattle.std.specs.Prelude.{◌≡◌, ◌<◌, ◌≤◌, ◌⊎◌, ℕ, List, length, Bool, None, IsSome, true}
+use Rattle.dash_shard.specs.Contents.{keys, at}
+use Rattle.dash_shard.specs.Hashing.{KeyHash, route_by}
+use Rattle.dash_shard.specs.Steps.{Act, Line, at_key, on_shard, line}
 use Rattle.dash_history.specs.Steps.{step_of, reply_of}
-use Rattle.dash_history.specs.Sweep.{keeping}
-use Rattle.dash_history.specs.Takes.{Rules, rules, AlikeAt, Takes}
+use Rattle.dash_history.specs.Takes.{rules, Takes}
 use Rattle.dash_history.specs.declared.step.ShardStep.{ShardStep}
-use Rattle.dash_history.specs.declared.step.ShardStep.TheVariants.{Get, Contains, Insert, Remove, RemoveIf, RemoveIfMut, Alter, Read, Count, AlterAll, Retain}
+use Rattle.dash_history.specs.declared.step.ShardStep.TheVariants.{Contains, Insert, Remove, Count}
 use Rattle.dash_history.specs.declared.step.Reply.{Reply}
 
 pub record PlainState (K V S : Type 0) : Type 0 where
@@ -17,73 +14,20 @@ pub record PlainState (K V S : Type 0) : Type 0 where
   pub amount : ℕ
   pub pairs : List (K × V)
 
-module _ {K V S : Type 0} where
-  -- hasher and amount stay
-  abbrev pub SamePlain : PlainState K V S → PlainState K V S → Type 0
-  SamePlain old new = (new.hasher ≡ old.hasher) × (new.amount ≡ old.amount)
+-- the step gets this reply, and leaves the pairs of `new`
+abbrev pub TakesPlain : {K V A S : Type 0} → KeyHash K S → (K → K → Bool) → (V → V → Bool) → (A → Act K V) → PlainState K V S → PlainState K V S → ShardStep K V A → Reply K V → Type 0
+TakesPlain h k v acts old new step reply =
+    Takes (rules k v (keys h.eq (route_by h old.hasher old.amount) old.amount)) old.pairs (step_of acts step) (reply_of reply) new.pairs
 
-  -- the map has no shard of this number, or pairs to copy
-  abbrev pub MayFail : PlainState K V S → ℕ → Type 0
-  MayFail m i = (m.amount ≤ i) ⊎ (0 < length m.pairs)
+-- copies are taken of the pair at a key, if there is one, or of the pairs of a shard, if the map has it and any
+abbrev pub MayCopy : {K V S : Type 0} → (K → K → Bool) → PlainState K V S → Line K V → Type 0
+MayCopy eq m (at_key k _ _) = IsSome (at eq m.pairs k)
+MayCopy eq m (on_shard i _ _) = (m.amount ≤ i) ⊎ (0 < length m.pairs)
 
-module _ {K V S : Type 0} (h : KeyHash K S) where
-  -- what the map knows of its keys
-  abbrev pub plain_keys : PlainState K V S → Keys K
-  plain_keys m = keys h.eq (route_by h m.hasher m.amount) m.amount
-
-  -- the pairs of shard i
-  abbrev pub pairs_on : PlainState K V S → ℕ → List (K × V)
-  pairs_on m i = on (plain_keys m) i m.pairs
-
-  -- how many they are, at most 2^64 - 1
-  abbrev pub count_on : PlainState K V S → ℕ → ℕ
-  count_on m i = min (length (pairs_on m i)) (2 ^ 64 - 1)
-
-  -- the step may get this reply
-  abbrev pub PlainReplies : PlainState K V S → table.Step K V → table.Reply K V → Type 0
-  PlainReplies m step reply = Replies (plain_keys m) step m.pairs reply
-
-  -- the step makes the pairs of `new` of those of `old`
-  abbrev pub PlainBecomes : PlainState K V S → PlainState K V S → table.Step K V → Type 0
-  PlainBecomes old new step = Becomes (plain_keys old) step old.pairs new.pairs
-
-  module _ (k : K → K → Bool) (v : V → V → Bool) where
-    -- what the map knows of its keys and values
-    abbrev pub plain_rules : PlainState K V S → Rules K V
-    plain_rules m = rules k v (plain_keys m)
-
-    -- the reply has the pairs of a shard that is there
-    abbrev pub Reads : PlainState K V S → ℕ → Reply K V → Type 0
-    Reads m i reply = (i < m.amount) × IsTrue (alike_reply k v (table.Pairs (pairs_on m i)) (reply_of reply))
-
-    -- `left` is what a sweep of shard i with the action makes of a pair: where not all stay, it goes on no
-    abbrev pub SweepsPair : PlainState K V S → ℕ → Bool → Act K V → K × V → Option (K × V) → Type 0
-    SweepsPair m i all act p left = AlikeAt (plain_rules m) (after (plain_keys m) (table.Retain i (keeping all act)) p.0 (Some p)) left
-
-    -- and `new` has what the sweep makes of each pair of `old`
-    abbrev pub SweepsPlain : PlainState K V S → PlainState K V S → ℕ → Bool → Act K V → Type 0
-    SweepsPlain old new i all act = (j : K) → AlikeAt (plain_rules old) (after (plain_keys old) (table.Retain i (keeping all act)) j (at h.eq old.pairs j)) (at h.eq new.pairs j)
-
-    -- the step gets this reply, and leaves the pairs of `new`
-    abbrev pub TakesPlain : {A : Type 0} → (A → Act K V) → PlainState K V S → PlainState K V S → ShardStep K V A → Reply K V → Type 0
-    TakesPlain acts old new step reply = Takes (plain_rules old) old.pairs (step_of acts step) (reply_of reply) new.pairs
-
--- no two keys are equal, and the amount is lawful
-pub record IsPlainMap {K V S : Type 0} (h : KeyHash K S) (m : PlainState K V S) : Type 0 where
-  pub distinct : Distinct h.eq m.pairs
-  pub amount : IsAmount m.amount
-
--- the map may refuse the step: it takes memory for copies of pairs that are there, or for a new pair, or the map has no shard of the
--- number that it names
+-- The map may refuse the step: it takes memory, for copies or for a new pair, or the map has no shard of the number that it names.
 abbrev pub MayRefuse : {K V A S : Type 0} → (K → K → Bool) → PlainState K V S → ShardStep K V A → Type 0
-MayRefuse eq m (Get k) = IsSome (at eq m.pairs k)
 MayRefuse eq m (Contains k) = ⊥
 MayRefuse eq m (Insert k v) = at eq m.pairs k ≡ None
 MayRefuse eq m (Remove k) = ⊥
-MayRefuse eq m (RemoveIf k f) = IsSome (at eq m.pairs k)
-MayRefuse eq m (RemoveIfMut k f) = IsSome (at eq m.pairs k)
-MayRefuse eq m (Alter k f) = IsSome (at eq m.pairs k)
-MayRefuse eq m (Read i) = MayFail m i
 MayRefuse eq m (Count i) = m.amount ≤ i
-MayRefuse eq m (AlterAll i f) = MayFail m i
-MayRefuse eq m (Retain i f) = MayFail m i
+MayRefuse eq m step = MayCopy eq m (line (step_of (λ _ k v. (v, true)) step))

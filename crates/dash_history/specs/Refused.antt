@@ -14,11 +14,10 @@ NoStamp last other = max last other ≡ 2 ^ 64 - 1
 abbrev pub IsShardFault : RecordFault → Type 0
 IsShardFault fault = (fault ≡ LastStamp) ⊎ (fault ≡ Memory)
 
-module _ {K V A : Type 0} (step : ShardStep K V A) where
-  -- the step is refused for this fault, and handed back
-  abbrev pub Refuses : RecordFault → Result (Reply K V) (ShardStep K V A × RecordFault) → Type 0
-  Refuses fault result = result ≡ Err (step, fault)
+-- the step is refused for this fault, and handed back
+abbrev pub Refuses : {K V A : Type 0} → ShardStep K V A → RecordFault → Result (Reply K V) (ShardStep K V A × RecordFault) → Type 0
+Refuses step fault result = result ≡ Err (step, fault)
 
-  -- where it is refused, the step is handed back, and the state and the log are as they were
-  abbrev pub HandsBack : {X : Type 0} → X → X → LogState K V A → LogState K V A → Result (Reply K V) (ShardStep K V A × RecordFault) → Type 0
-  HandsBack old new l l' result = IfErr result (λ e. (e.0 ≡ step) × (new ≡ old) × (l' ≡ l))
+-- where it is refused, the step is handed back, and the state and the log are as they were
+abbrev pub HandsBack : {K V A X : Type 0} → ShardStep K V A → X → X → LogState K V A → LogState K V A → Result (Reply K V) (ShardStep K V A × RecordFault) → Type 0
+HandsBack step old new l l' result = IfErr result (λ e. (e.0 ≡ step) × (new ≡ old) × (l' ≡ l))

@@ -1,12 +1,13 @@
 -- What a step does to the contents of a map, up to alike, and what a list of steps does.
-use Rattle.std.specs.Prelude.{ℕ, ◌≡◌, ◌<◌, Bool, List, [], ◌∷◌, Option, IsTrue}
+use Rattle.std.specs.Prelude.{ℕ, ◌≡◌, ◌<◌, Bool, List, [], ◌∷◌, IsTrue}
 use Rattle.std.specs.Hash.{HashWrites}
 use Rattle.std.specs.declared.hash.Hasher as hasher
 use Rattle.std.specs.declared.hash.BuildHasher as builder
 use Rattle.dash_shard.specs.Hashing.{KeyHash, key_hash, route_by}
 use Rattle.dash_shard.specs.Contents.{Keys, keys, at, Distinct}
-use Rattle.dash_shard.specs.Steps.{Step, Reply, Act, place, after, Replies}
-use Rattle.dash_history.specs.Alike.{alike_option, alike_pair, alike_reply}
+use Rattle.dash_shard.specs.Steps.{Step, Reply, Act, step_shard, after, Replies}
+use Rattle.std.specs.Option.{option_eq}
+use Rattle.dash_history.specs.Alike.{alike_pair, alike_reply}
 
 -- what a map knows of its keys and values
 pub record Rules (K V : Type 0) : Type 0 where
@@ -24,15 +25,7 @@ pub record Kinds (K V A : Type 0) : Type 0 where
   pub acts : A → Act K V
   pub alike_action : A → A → Bool
 
--- the same, in one row
-abbrev pub kinds : {K V A : Type 0} → (A → A → Bool) → (A → Act K V) → Rules K V → Kinds K V A
-kinds f acts rules = record { rules = rules; acts = acts; alike_action = f }
-
 module _ {K V : Type 0} (m : Rules K V) where
-  -- alike pairs, or none on both sides
-  abbrev pub AlikeAt : Option (K × V) → Option (K × V) → Type 0
-  AlikeAt o p = IsTrue (alike_option (alike_pair m.alike_key m.alike_value) o p)
-
   -- a step at the contents P may get this reply, up to alike
   pub record Answers (P : List (K × V)) (step : Step K V) (reply : Reply K V) : Type 0 where
     pub told : Reply K V
@@ -41,9 +34,9 @@ module _ {K V : Type 0} (m : Rules K V) where
 
   -- takes: at the contents P the step may get this reply and leave Q
   pub record Takes (P : List (K × V)) (step : Step K V) (reply : Reply K V) (Q : List (K × V)) : Type 0 where
-    pub in_range : place m.keys step < m.keys.shards
+    pub in_range : step_shard m.keys step < m.keys.shards
     pub answers : Answers P step reply
-    pub each_key : (j : K) → AlikeAt (after m.keys step j (at m.keys.eq P j)) (at m.keys.eq Q j)
+    pub each_key : (j : K) → IsTrue (option_eq (alike_pair m.alike_key m.alike_value) (after m.keys step j (at m.keys.eq P j)) (at m.keys.eq Q j))
     pub distinct : Distinct m.keys.eq Q
 
   -- runs: the steps, taken one after the other from P on, may get these replies, and leave Q
@@ -75,4 +68,4 @@ known key v action b h = known_by key.eq key.hash_input key.alike v action.alike
 
 -- on a map with this hasher and amount
 abbrev pub kinds_at : {K V A S : Type 0} → Known K V A S → S → ℕ → Kinds K V A
-kinds_at w s n = kinds w.alike_action w.acts (rules w.alike_key w.alike_value (keys w.keys.eq (route_by w.keys s n) n))
+kinds_at w s n = record { rules = rules w.alike_key w.alike_value (keys w.keys.eq (route_by w.keys s n) n); acts = w.acts; alike_action = w.alike_action }

@@ -1,21 +1,33 @@
 //! A recorded map of one owner, without locks.
-ghost use Rattle.std.specs.Prelude.{◌≡◌, ◌<◌, ◌↔◌, IsErrOf, IsSomeAnd, IfOk, IfErr, length, slice_get};
+ghost use Rattle.std.specs.Prelude.{◌≡◌, ℕ, ◌<◌, ◌↔◌, Some, IsErrOf, IsSomeAnd, IfOk, IfErr, length, slice_get, Err, IsTrue, flat_map, option_map};
 ghost use Rattle.dash_shard.specs.Hashing.{IsAmount, HashAlike};
-ghost use Rattle.dash_history.specs.History.{IsLast};
-ghost use Rattle.dash_history.specs.Alone.{BadCallers, IsMapError, EachFresh, FreshRow, IsAlone, Applies, NoShard, NoStampIn, fresh_logs, last_at};
+ghost use Rattle.dash_history.specs.History.{NoShard, last_or};
+ghost use Rattle.dash_history.specs.Alone.{BadCallers, IsMapError, IsFresh, IsAlone, Applied, NoStampIn, fresh_logs, kinds_in, last_at};
+ghost use Rattle.dash_history.specs.inner.Fresh.{FreshRow};
+ghost use Rattle.dash_shard.specs.Shard.{pairs};
+ghost use Rattle.std.specs.Cmp.Lexicographic.{pointwise};
+ghost use Rattle.dash_history.specs.Alike.{alike_pair};
+ghost use Rattle.dash_history.specs.inner.Copied.{alike_pairs};
+ghost use Rattle.dash_history.specs.OneHistory.{IsOneHistory, IsGathered, Matches, contents, histories, record_at};
+ghost use Rattle.dash_history.specs.declared.gather.GatherError.TheVariants.{Mismatch};
 ghost use Rattle.dash_history.specs.Refused.{Refuses, HandsBack};
 ghost use Rattle.dash_history.specs.declared.record.RecordFault.TheVariants.{LastStamp, NoSuchShard};
 ghost use Rattle.dash_history.specs.Takes.{known};
 
 use crate::action::KeptAction;
+use crate::gather::matching::{follows, index_of};
+use crate::gather::merge::merge;
+use crate::gather::{At, GatherError};
 use crate::kept::{Kept, KeptKey};
 use crate::known::Recorded;
 use crate::record::map::Locked;
 use crate::record::{CallerLog, RecShard, RecordFault};
-use crate::step::{Reply, ShardStep};
+use crate::step::{Record, Reply, ShardStep};
+use crate::sweep::add_copies;
 use dash_shard::error::ConstructError;
 use dash_shard::hash::is_shard_amount;
 use dash_shard::keyed::Keyed;
+use dash_shard::row::Row;
 use dash_shard::shard::Shard;
 use std::alloc::{AllocError, Global};
 use std::hash::BuildHasher;
@@ -26,21 +38,18 @@ use std::marker::Model;
 pub struct RecAlone<K: KeptKey, V: Kept, S: BuildHasher, A: KeptAction<K, V> = ()> {
     pub(crate) hasher: S,
     pub(crate) callers: u32,
-    pub(crate) row: Vec<RecShard<K, V, S, A>>,
-    // Empty, with room for all locks.
-    pub(crate) locks: Vec<Locked<K, V, S, A>>,
+    pub(crate) row: Row<RecShard<K, V, S, A>, Locked<K, V, S, A>>,
 }
 
 impl<K: KeptKey, V: Kept, S: BuildHasher, A: KeptAction<K, V>> Model for RecAlone<K, V, S, A> {
-    ghost use Rattle.std.specs.Prelude.{◌≡◌, ◌≤◌, [], vec_len, vec_capacity};
     ghost use Rattle.dash_history.specs.Alone.{AloneState, IsAlone};
     ghost use Rattle.dash_shard.specs.Hashing.{key_hash};
 
     ghost Value = { AloneState K V A S };
 
-    ghost view = { λ a. record { hasher = a.hasher; callers = a.callers; row = a.row.items } };
+    ghost view = { λ a. record { hasher = a.hasher; callers = a.callers; row = a.row } };
 
-    ghost invariant = { λ a. IsAlone (key_hash K.eq K.hash_input S.BuildHasher S.Hasher.Hasher) (record { hasher = a.hasher; callers = a.callers; row = a.row.items }) × (a.locks.items ≡ []) × (vec_len a.row ≤ vec_capacity a.locks) };
+    ghost invariant = { λ a. IsAlone (key_hash K.eq K.hash_input S.BuildHasher S.Hasher.Hasher) (record { hasher = a.hasher; callers = a.callers; row = a.row }) };
 }
 
 impl<K: KeptKey, V: Kept, S: BuildHasher, A: KeptAction<K, V>> Recorded for RecAlone<K, V, S, A> {
@@ -88,6 +97,24 @@ fn fresh_logs<K: Drop, V: Drop, A: Drop>(
     Ok(logs)
 }
 
+// Copies of the pairs of these shards.
+fn copy_contents<K: KeptKey + Drop, V: Kept + Drop, S: BuildHasher, A: KeptAction<K, V> + Drop>(
+    alloc: Global,
+    row: &[RecShard<K, V, S, A>],
+) -> Result<Vec<(K, V)>, AllocError>
+    ensures { IfOk result (λ copies. IsTrue (alike_pairs K.alike V.alike (flat_map (λ s. pairs s.shard) row.now) copies.items)) }
+{
+    let mut count: usize = 0;
+    for shard in row {
+        count = count.saturating_add(shard.len());
+    }
+    let mut copies = Vec::with_capacity(alloc, count)?;
+    for idx in 0..row.len() {
+        add_copies(&mut copies, row[idx].iter())?;
+    }
+    Ok(copies)
+}
+
 impl<K: KeptKey + Drop, V: Kept + Drop, S: BuildHasher, A: KeptAction<K, V> + Drop> RecAlone<
     K,
     V,
@@ -110,7 +137,7 @@ impl<K: KeptKey + Drop, V: Kept + Drop, S: BuildHasher, A: KeptAction<K, V> + Dr
         ensures hasher { IfOk result (λ m. m.0.hasher ≡ hasher) }
         ensures callers { IfOk result (λ m. m.0.callers ≡ callers) }
         ensures amount { IfOk result (λ m. length m.0.row ≡ amount) }
-        ensures fresh { IfOk result (λ m. EachFresh m.0.row) }
+        ensures fresh { IfOk result (λ m. (i : ℕ) (s : _) → slice_get m.0.row i ≡ Some s → IsFresh s) }
         ensures logs { IfOk result (λ m. m.1.items ≡ fresh_logs callers) }
         ensures lawful { IfOk result (λ m. IsAlone ⟦<Self as Recorded>⟧.known.keys m.0) }
 
@@ -128,7 +155,7 @@ impl<K: KeptKey + Drop, V: Kept + Drop, S: BuildHasher, A: KeptAction<K, V> + Dr
         let Ok(row) = fresh_row(alloc, &hasher, amount, callers) else {
             return Err(ConstructError::Memory);
         };
-        let Ok(locks) = Vec::with_capacity(alloc, amount) else {
+        let Ok(row) = Row::of(alloc, row) else {
             return Err(ConstructError::Memory);
         };
         let Ok(logs) = fresh_logs(alloc, callers) else {
@@ -138,7 +165,6 @@ impl<K: KeptKey + Drop, V: Kept + Drop, S: BuildHasher, A: KeptAction<K, V> + Dr
             hasher,
             callers,
             row,
-            locks,
         };
         Ok((alone, logs))
     }
@@ -158,11 +184,10 @@ impl<K: KeptKey + Drop, V: Kept + Drop, S: BuildHasher, A: KeptAction<K, V> + Dr
         ensures count { result ≡ length self.now.row }
         ensures lawful { IsAlone ⟦<Self as Recorded>⟧.known.keys self.now }
     {
-        let _ = &self.hasher;
         self.row.len()
     }
 
-    /// Takes a step on the shard of its place, and adds one same record of it at the end of the shard's history and of the caller's log.
+    /// Takes a step on the step's shard, and adds one same record of it at the end of the shard's history and of the caller's log.
     ///
     /// It waits for nobody. Where it is refused, the step is handed back, and nothing changes.
     pub fn apply(
@@ -171,24 +196,73 @@ impl<K: KeptKey + Drop, V: Kept + Drop, S: BuildHasher, A: KeptAction<K, V> + Dr
         step: ShardStep<K, V, A>,
     ) -> Result<Reply<K, V>, (ShardStep<K, V, A>, RecordFault)>
         requires { log.old.caller < self.old.callers }
-        ensures ok { Applies ⟦<Self as Recorded>⟧.known self.old self.new log.old log.new step result }
+        ensures ok { IfOk result (λ reply.
+            Applied (kinds_in ⟦<Self as Recorded>⟧.known self.old) self.old self.new log.old log.new step reply) }
         ensures refused { HandsBack step self.old self.new log.old log.new result }
 
         // In this order; else there was no memory.
-        ensures no_such_shard { Refuses step NoSuchShard result ↔ NoShard ⟦<Self as Recorded>⟧.known self.old step }
+        ensures no_such_shard { Refuses step NoSuchShard result ↔ NoShard (kinds_in ⟦<Self as Recorded>⟧.known self.old) step }
         ensures last_stamp { Refuses step LastStamp result ↔ NoStampIn ⟦<Self as Recorded>⟧.known self.old log.old step }
     {
-        let place = step.place(&self.hasher, self.row.len());
-        if place >= self.row.len() {
+        let (hash, idx) = step.route(&self.hasher, self.row.len());
+        if idx >= self.row.len() {
             return Err((step, RecordFault::NoSuchShard));
         }
-        self.row[place].record(log, step)
+        self.row[idx].record_hashed(log, hash, step)
+    }
+
+    /// The merge of the histories: the places of all records, first by stamp, and among equal stamps by shard.
+    ///
+    /// It takes memory for the answer, and as much again while it sorts (4).
+    pub fn merged(&self) -> Result<Vec<At>, AllocError>
+        ensures { IfOk result (λ ats. IsOneHistory ⟦<Self as Recorded>⟧.known self.now ats.items) }
+    {
+        merge(self.row.allocator(), self.row.items())
+    }
+
+    /// The one history of the map, where the logs match the histories of its shards.
+    ///
+    /// The logs may stand in any order. It compares each record of each history with its caller's log, by `Kept::same`. It is refused where
+    /// the logs don't match (22), or where there is no memory (23), which says nothing of the logs.
+    pub fn gather(&self, logs: &[CallerLog<K, V, A>]) -> Result<Vec<At>, GatherError>
+        ensures gathered { IfOk result (λ ats. IsGathered ⟦<Self as Recorded>⟧.known self.now logs.now ats.items) }
+        ensures mismatch { result ≡ Err Mismatch → Matches ⟦<Self as Recorded>⟧.known self.now logs.now → ⊥ }
+    {
+        let alloc = self.row.allocator();
+        let Ok(ats) = merge(alloc, self.row.items()) else {
+            return Err(GatherError::Memory);
+        };
+        let index = match index_of(alloc, self.callers as usize, logs) {
+            Ok(Some(index)) => index,
+            Ok(None) => return Err(GatherError::Mismatch),
+            Err(_) => return Err(GatherError::Memory),
+        };
+        match follows(alloc, self.row.items(), &ats, logs, &index) {
+            Ok(true) => Ok(ats),
+            Ok(false) => Err(GatherError::Mismatch),
+            Err(_) => Err(GatherError::Memory),
+        }
+    }
+
+    /// The record at a place: at the index `place` of the history of a shard, if it has so many.
+    pub fn entry_at(&self, shard: usize, place: usize) -> Option<&Record<K, V, A>>
+        requires { shard < length self.now.row }
+        ensures { option_map (λ r. r.now) result ≡ record_at (histories self.now) shard place }
+    {
+        self.row[shard].history().get(place)
+    }
+
+    /// Copies of the pairs of all shards, each once (4).
+    pub fn pairs(&self) -> Result<Vec<(K, V)>, AllocError>
+        ensures { IfOk result (λ pairs. IsTrue (pointwise (alike_pair K.alike V.alike) (contents self.now) pairs.items)) }
+    {
+        copy_contents(self.row.allocator(), self.row.items())
     }
 
     /// The stamp of the last step of a shard, 0 for none.
     pub fn last_of(&self, shard: usize) -> u64
         requires { shard < length self.now.row }
-        ensures last { IsSomeAnd (slice_get self.now.row shard) (IsLast result) }
+        ensures last { IsSomeAnd (slice_get self.now.row shard) (λ s. result ≡ last_or 0 s.history) }
         ensures same { result ≡ last_at self.now shard }
     {
         self.row[shard].last_stamp()

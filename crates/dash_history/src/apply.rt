@@ -1,6 +1,7 @@
 //! Steps of callers on a map that threads share.
-ghost use Rattle.std.specs.Prelude.{◌≡◌, ◌-◌, ◌^◌, ◌<◌, ◌↔◌, IfErr};
-ghost use Rattle.dash_history.specs.Map.{Logs, HasShard, NoShard};
+ghost use Rattle.std.specs.Prelude.{◌≡◌, ◌-◌, ◌^◌, ◌<◌, ◌↔◌, IfOk, IfErr};
+ghost use Rattle.dash_history.specs.History.{NoShard, shard_of};
+ghost use Rattle.dash_history.specs.Map.{Logged, kinds_on};
 ghost use Rattle.dash_history.specs.Refused.{Refuses};
 ghost use Rattle.dash_history.specs.declared.record.RecordFault.TheVariants.{LastStamp, NoSuchShard};
 
@@ -20,7 +21,7 @@ impl<K: KeptKey + Drop, V: Kept + Drop, S: BuildHasher, A: KeptAction<K, V> + Dr
     S,
     A,
 > {
-    /// Waits for the shard of the step's place, takes the step there, and adds one same record of it at the end of the shard's history
+    /// Waits for the shard of the step's number, takes the step there, and adds one same record of it at the end of the shard's history
     /// and of the caller's log.
     ///
     /// Where it is refused (20, then 18, then 19), the step is handed back, and pairs, history and log stay as they were.
@@ -31,17 +32,18 @@ impl<K: KeptKey + Drop, V: Kept + Drop, S: BuildHasher, A: KeptAction<K, V> + Dr
         step: ShardStep<K, V, A>,
     ) -> Result<Reply<K, V>, (ShardStep<K, V, A>, RecordFault)>
         requires { log.old.caller < self.now.callers }
-        ensures ok { Logs ⟦<Self as Recorded>⟧.known self.now log.old log.new step result }
+        ensures ok { IfOk result (λ reply. Logged (kinds_on ⟦<Self as Recorded>⟧.known self.now) log.old log.new step reply) }
         ensures refused { IfErr result (λ e. (e.0 ≡ step) × (log.new ≡ log.old)) }
-        ensures no_such_shard { Refuses step NoSuchShard result ↔ NoShard ⟦<Self as Recorded>⟧.known self.now step }
+        ensures no_such_shard { Refuses step NoSuchShard result ↔ NoShard (kinds_on ⟦<Self as Recorded>⟧.known self.now) step }
 
         // The shard's last stamp is not known here, the log's is.
-        ensures last_stamp { HasShard ⟦<Self as Recorded>⟧.known self.now step × (log.old.last ≡ 2 ^ 64 - 1) → Refuses step LastStamp result }
+        ensures last_stamp { shard_of (kinds_on ⟦<Self as Recorded>⟧.known self.now) step < self.now.amount
+            → log.old.last ≡ 2 ^ 64 - 1 → Refuses step LastStamp result }
     {
-        let place = self.place(&step);
-        if place >= self.shard_count() {
+        let (hash, idx) = self.route(&step);
+        if idx >= self.shard_count() {
             return Err((step, RecordFault::NoSuchShard));
         }
-        self.held(rt, place).record(log, step)
+        self.held(rt, idx).record_hashed(log, hash, step)
     }
 }

@@ -2,13 +2,15 @@
 ghost use Rattle.std.specs.Prelude.{◌≡◌, IsTrue, IsSome, IfOk, OnErr};
 ghost use Rattle.std.specs.Option.{option_map};
 ghost use Rattle.std.specs.Map.Iter.{deref_pair};
-ghost use Rattle.dash_shard.specs.Steps.{RemoveIf, RemoveIfMut, Alter};
-ghost use Rattle.dash_history.specs.Alike.{AlikeFound};
-ghost use Rattle.dash_history.specs.Plan.{PlansBy};
+ghost use Rattle.dash_shard.specs.Steps.{RemoveIf, RemoveIfMut, Alter, line};
+ghost use Rattle.dash_history.specs.inner.Copied.{AlikeFound};
+ghost use Rattle.dash_history.specs.inner.Plan.{PlansBy, Plans};
+ghost use Rattle.dash_history.specs.Steps.{step_of};
+ghost use Rattle.dash_history.specs.inner.Hashed.{Asks};
 
 use crate::action::Action;
 use crate::kept::Kept;
-use crate::step::Reply;
+use crate::step::{Reply, ShardStep};
 use std::alloc::AllocError;
 
 /// What a step will do: nothing, a change of the pair at its key, if there is one, or a change of each pair of its shard.
@@ -51,8 +53,8 @@ pub(crate) fn ask<K: Kept, V: Kept + Drop, A: Action<K, V>>(
     Ok((changed, answer))
 }
 
-/// The reply and the change of a `RemoveIf`, where this pair stands at its key.
-pub fn plan_remove_if<K: Kept + Drop, V: Kept + Drop, A: Action<K, V>>(
+// The reply and the change of a `RemoveIf`, where this pair stands at its key.
+fn plan_remove_if<K: Kept + Drop, V: Kept + Drop, A: Action<K, V>>(
     found: Option<(&K, &V)>,
     action: &A,
 ) -> Result<(Reply<K, V>, Change<V>), AllocError>
@@ -70,8 +72,8 @@ pub fn plan_remove_if<K: Kept + Drop, V: Kept + Drop, A: Action<K, V>>(
     Ok((Reply::Pair(Some((key, value.copy()?))), Change::Goes))
 }
 
-/// The reply and the change of a `RemoveIfMut`, where this pair stands at its key.
-pub fn plan_remove_if_mut<K: Kept + Drop, V: Kept + Drop, A: Action<K, V>>(
+// The reply and the change of a `RemoveIfMut`, where this pair stands at its key.
+fn plan_remove_if_mut<K: Kept + Drop, V: Kept + Drop, A: Action<K, V>>(
     found: Option<(&K, &V)>,
     action: &A,
 ) -> Result<(Reply<K, V>, Change<V>), AllocError>
@@ -89,8 +91,8 @@ pub fn plan_remove_if_mut<K: Kept + Drop, V: Kept + Drop, A: Action<K, V>>(
     Ok((Reply::Pair(Some((key, changed))), Change::Goes))
 }
 
-/// The reply and the change of an `Alter`, where this pair stands at its key.
-pub fn plan_alter<K: Kept + Drop, V: Kept + Drop, A: Action<K, V>>(
+// The reply and the change of an `Alter`, where this pair stands at its key.
+fn plan_alter<K: Kept + Drop, V: Kept + Drop, A: Action<K, V>>(
     found: Option<(&K, &V)>,
     action: &A,
 ) -> Result<(Reply<K, V>, Change<V>), AllocError>
@@ -102,4 +104,21 @@ pub fn plan_alter<K: Kept + Drop, V: Kept + Drop, A: Action<K, V>>(
     };
     let (changed, _) = ask(key, value, action)?;
     Ok((Reply::Done, Change::Becomes(changed)))
+}
+
+/// The reply and the change of a step that asks its action of the pair at its key, where this pair stands there.
+pub fn plan_asked<K: Kept + Drop, V: Kept + Drop, A: Action<K, V>>(
+    found: Option<(&K, &V)>,
+    step: &ShardStep<K, V, A>,
+) -> Result<(Reply<K, V>, Change<V>), AllocError>
+    requires { Asks step.now }
+    ensures plan { IfOk result (Plans K.alike V.alike (line (step_of A.acts step.now)) (option_map deref_pair found.entry)) }
+    ensures memory { OnErr result (IsSome found.entry) }
+{
+    match step {
+        ShardStep::RemoveIf(_, action) => plan_remove_if(found, action),
+        ShardStep::RemoveIfMut(_, action) => plan_remove_if_mut(found, action),
+        ShardStep::Alter(_, action) => plan_alter(found, action),
+        _ => unreachable!(),
+    }
 }

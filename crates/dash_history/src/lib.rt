@@ -5,6 +5,7 @@ pub mod action;
 pub mod alone;
 mod apply;
 pub mod change;
+pub mod gather;
 pub mod kept;
 pub mod known;
 pub mod plain;

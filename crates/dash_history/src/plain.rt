@@ -4,12 +4,15 @@ ghost use Rattle.std.specs.Option.{option_map};
 ghost use Rattle.std.specs.Map.Iter.{deref_pair};
 ghost use Rattle.dash_shard.specs.Hashing.{by, IsAmount};
 ghost use Rattle.dash_shard.specs.Contents.{at, Distinct};
-ghost use Rattle.dash_shard.specs.Steps.{Insert, Remove, Pair, Old};
-ghost use Rattle.dash_history.specs.Plain.{plain_keys, count_on, PlainReplies, PlainBecomes, SamePlain, Reads, SweepsPair, SweepsPlain, TakesPlain, MayFail, MayRefuse};
-ghost use Rattle.dash_history.specs.Plan.{change_step, HasPair};
+ghost use Rattle.dash_shard.specs.Steps.{Insert, Remove, Pair, Old, line};
+ghost use Rattle.dash_history.specs.Plain.{TakesPlain, MayRefuse};
+ghost use Rattle.dash_history.specs.inner.Plain.{plain_keys, count_on, PlainReplies, PlainBecomes, SamePlain, Reads, SweepsPair, SweepsPlain, MayFail};
+ghost use Rattle.dash_history.specs.inner.Plan.{change_step, HasPair};
+ghost use Rattle.dash_history.specs.Steps.{step_of};
+ghost use Rattle.dash_history.specs.inner.Hashed.{Asks, OfKey};
 
 use crate::action::Action;
-use crate::change::{Change, ask, copy_found, plan_alter, plan_remove_if, plan_remove_if_mut};
+use crate::change::{Change, ask, copy_found, plan_asked};
 use crate::kept::{Kept, KeptKey};
 use crate::step::{Reply, ShardStep};
 use dash_shard::hash::determine_shard;
@@ -29,7 +32,8 @@ pub struct Plain<K: KeptKey, V: Kept, S: BuildHasher> {
 
 impl<K: KeptKey, V: Kept, S: BuildHasher> Model for Plain<K, V, S> {
     ghost use Rattle.dash_shard.specs.Hashing.{key_hash};
-    ghost use Rattle.dash_history.specs.Plain.{PlainState, IsPlainMap};
+    ghost use Rattle.dash_history.specs.Plain.{PlainState};
+    ghost use Rattle.dash_history.specs.inner.Plain.{IsPlainMap};
 
     ghost Value = { PlainState K V S };
 
@@ -201,13 +205,31 @@ impl<K: KeptKey + Drop, V: Kept + Drop, S: BuildHasher> Plain<K, V, S> {
         reply
     }
 
+    // Takes a step that asks its action of the pair at its key, or hands it back where there is no memory.
+    fn take_asked<A: Action<K, V> + Drop>(
+        &mut self,
+        step: ShardStep<K, V, A>,
+    ) -> Result<Reply<K, V>, ShardStep<K, V, A>>
+        requires { Asks step }
+        ensures ok { IfOk result (TakesPlain ⟦<Self as Keyed>⟧.by K.alike V.alike A.acts self.old self.new step) }
+        ensures stays { SamePlain self.old self.new }
+        ensures refused { IfErr result (λ back. (back ≡ step) × (self.new ≡ self.old)) }
+        ensures may_refuse { OnErr result (OfKey (line (step_of A.acts step)) (λ k. IsSome (at K.eq self.old.pairs k)) ⊥) }
+    {
+        let _ = &self.amount;
+        match plan_asked(self.get(step.asked_key()), &step) {
+            Ok((reply, change)) => Ok(self.make_change(step.into_asked_key(), change, reply)),
+            Err(_) => Err(step),
+        }
+    }
+
     /// Takes a step as the step table says, or hands it back where there is no memory, or no shard of the number that it names.
     pub fn take<A: Action<K, V> + Drop>(
         &mut self,
         step: ShardStep<K, V, A>,
     ) -> Result<Reply<K, V>, ShardStep<K, V, A>>
         ensures ok { IfOk result (TakesPlain ⟦<Self as Keyed>⟧.by K.alike V.alike A.acts self.old self.new step) }
-        ensures stays { SamePlain self.old self.new }
+        ensures stays { (self.new.hasher ≡ self.old.hasher) × (self.new.amount ≡ self.old.amount) }
         ensures refused { IfErr result (λ back. (back ≡ step) × (self.new ≡ self.old)) }
         ensures may_refuse { OnErr result (MayRefuse K.eq self.old step) }
     {
@@ -223,20 +245,9 @@ impl<K: KeptKey + Drop, V: Kept + Drop, S: BuildHasher> Plain<K, V, S> {
             },
             ShardStep::Remove(key) => Ok(Reply::Pair(self.remove(&key))),
             ShardStep::Contains(key) => Ok(Reply::Found(self.get(&key).is_some())),
-            ShardStep::RemoveIf(key, action) => match plan_remove_if(self.get(&key), &action) {
-                Ok((reply, change)) => Ok(self.make_change(key, change, reply)),
-                Err(_) => Err(ShardStep::RemoveIf(key, action)),
-            },
-            ShardStep::RemoveIfMut(key, action) => {
-                match plan_remove_if_mut(self.get(&key), &action) {
-                    Ok((reply, change)) => Ok(self.make_change(key, change, reply)),
-                    Err(_) => Err(ShardStep::RemoveIfMut(key, action)),
-                }
+            ShardStep::RemoveIf(_, _) | ShardStep::RemoveIfMut(_, _) | ShardStep::Alter(_, _) => {
+                self.take_asked(step)
             }
-            ShardStep::Alter(key, action) => match plan_alter(self.get(&key), &action) {
-                Ok((reply, change)) => Ok(self.make_change(key, change, reply)),
-                Err(_) => Err(ShardStep::Alter(key, action)),
-            },
             ShardStep::Read(shard) => self.read(shard).ok_or(ShardStep::Read(shard)),
             ShardStep::Count(shard) if shard < self.amount => {
                 Ok(Reply::Number(self.count(shard)))

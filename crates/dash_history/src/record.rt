@@ -1,10 +1,12 @@
 //! Recorded shards and callers' logs, and the one call that lengthens both.
-ghost use Rattle.std.specs.Prelude.{◌≡◌, ◌<◌, ◌↔◌, [], IsTrue, IfOk, IfErr, vec_len, vec_capacity};
+ghost use Rattle.std.specs.Prelude.{◌≡◌, ◌-◌, ◌<◌, ◌^◌, ◌↔◌, [], IsTrue, IfOk, IfErr, vec_len, vec_capacity, max};
 ghost use Rattle.dash_shard.specs.Hashing.{IsAmount};
-ghost use Rattle.dash_shard.specs.Shard.{SameShard};
+ghost use Rattle.dash_shard.specs.Shard.{SameShard, pairs, shard_len};
 ghost use Rattle.dash_history.specs.Steps.{alike_record};
 ghost use Rattle.dash_history.specs.Takes.{known};
-ghost use Rattle.dash_history.specs.History.{IsLog, IsRecorded, Tells, GoesTo, Adds, Records};
+ghost use Rattle.dash_history.specs.History.{IsLog, IsRecorded, Tells, GoesTo, Records};
+ghost use Rattle.dash_history.specs.inner.Grows.{Adds};
+ghost use Rattle.dash_history.specs.inner.Hashed.{HasHash};
 ghost use Rattle.dash_history.specs.Refused.{Refuses, HandsBack, NoStamp, IsShardFault};
 ghost use Rattle.dash_history.specs.declared.record.RecordFault.TheVariants.{LastStamp};
 ghost use Rattle.dash_history.specs.Alone.{IsFresh};
@@ -13,8 +15,8 @@ use crate::action::KeptAction;
 use crate::kept::{Kept, KeptKey};
 use crate::known::Recorded;
 use crate::step::{Record, Reply, ShardStep};
-use dash_shard::shard::Shard;
-use plan::{carry_out, prepare};
+use dash_shard::shard::{Iter, Shard};
+use plan::{carry_out, find, prepare};
 use std::alloc::{AllocError, Global};
 use std::hash::BuildHasher;
 use std::marker::Model;
@@ -86,13 +88,21 @@ impl<K, V, A> CallerLog<K, V, A> {
         self.last
     }
 
+    /// Makes the last stamp the greater of itself and `stamp`: what the caller records from now on stands after every record of a stamp
+    /// that it has learned of.
+    #[inline]
+    pub fn learn(&mut self, stamp: u64)
+        ensures { self.new ≡ record self.old { last = max self.old.last stamp } }
+    {
+        self.last = self.last.max(stamp);
+    }
+
     /// The records of the caller's steps, in its order.
     #[inline]
     pub fn entries(&self) -> &[Record<K, V, A>]
         ensures entries { result.now ≡ self.now.entries }
         ensures log { IsLog self.now }
     {
-        let _ = &self.last;
         self.entries.as_slice()
     }
 }
@@ -220,14 +230,49 @@ impl<K: KeptKey + Drop, V: Kept + Drop, S: BuildHasher, A: KeptAction<K, V> + Dr
         self.last
     }
 
+    // The hash of a step's key, or 0 where it has none.
+    fn hash_of(&self, step: &ShardStep<K, V, A>) -> u64
+        ensures { HasHash ⟦<Self as Recorded>⟧.known self.now.shard step.now result }
+    {
+        step.route(self.shard.hasher(), self.shard.amount()).0
+    }
+
+    // How many pairs.
+    #[inline]
+    pub(crate) fn len(&self) -> usize
+        ensures { result ≡ shard_len self.now.shard }
+    {
+        self.shard.len()
+    }
+
+    // The pairs, in rising order of slots.
+    #[inline]
+    pub(crate) fn iter(&self) -> Iter<'_, K, V>
+        ensures { result ≡ pairs self.now.shard }
+    {
+        self.shard.iter()
+    }
+
+    // The records of the shard's steps, in their order.
+    #[inline]
+    pub(crate) fn history(&self) -> &[Record<K, V, A>]
+        ensures history { result.now ≡ self.now.history }
+        ensures legal { IsRecorded ⟦<Self as Recorded>⟧.known self.now }
+    {
+        let _ = &self.last;
+        self.history.as_slice()
+    }
+
     // Takes a step at a stamp, and adds a record of it at the end of the history. It returns the reply, and the same record for the log.
     fn grow(
         &mut self,
         stamp: u64,
         caller: u32,
+        hash: u64,
         step: ShardStep<K, V, A>,
     ) -> Result<(Reply<K, V>, Record<K, V, A>), ShardStep<K, V, A>>
-        requires place { GoesTo ⟦<Self as Recorded>⟧.known self.old.shard step }
+        requires goes { GoesTo ⟦<Self as Recorded>⟧.known self.old.shard step }
+        requires hash { HasHash ⟦<Self as Recorded>⟧.known self.old.shard step hash }
         requires caller { caller < self.old.callers }
         requires above { self.old.last < stamp }
         ensures ok { Adds ⟦<Self as Recorded>⟧.known self.old self.new stamp caller step result }
@@ -239,7 +284,8 @@ impl<K: KeptKey + Drop, V: Kept + Drop, S: BuildHasher, A: KeptAction<K, V> + Dr
             return Err(step);
         }
         let alloc = *self.history.allocator();
-        let Ok((reply, change)) = prepare(alloc, &self.shard, &step) else {
+        let found = find(&self.shard, hash, &step);
+        let Ok((reply, change)) = prepare(alloc, &self.shard, found, &step) else {
             return Err(step);
         };
         let number = self.shard.number();
@@ -247,7 +293,7 @@ impl<K: KeptKey + Drop, V: Kept + Drop, S: BuildHasher, A: KeptAction<K, V> + Dr
             drop((reply, change));
             return Err(step);
         };
-        match carry_out(&mut self.shard, step, change) {
+        match carry_out(&mut self.shard, hash, found, step, change) {
             Ok(()) => {
                 self.history.push_reserved(first);
                 self.last = stamp;
@@ -260,19 +306,23 @@ impl<K: KeptKey + Drop, V: Kept + Drop, S: BuildHasher, A: KeptAction<K, V> + Dr
         }
     }
 
-    /// Takes a step of this shard, and adds one same record of it at the end of its history and of the caller's log.
+    /// Takes a step of this shard, and adds one same record of it at the end of its history and of the caller's log. The hash is that of the
+    /// step's key.
     ///
     /// Takes memory for the copies and the records, before anything changes.
-    pub(crate) fn record(
+    pub(crate) fn record_hashed(
         &mut self,
         log: &mut CallerLog<K, V, A>,
+        hash: u64,
         step: ShardStep<K, V, A>,
     ) -> Result<Reply<K, V>, (ShardStep<K, V, A>, RecordFault)>
-        requires place { GoesTo ⟦<Self as Recorded>⟧.known self.old.shard step }
+        requires goes { GoesTo ⟦<Self as Recorded>⟧.known self.old.shard step }
+        requires hash { HasHash ⟦<Self as Recorded>⟧.known self.old.shard step hash }
         requires caller { log.old.caller < self.old.callers }
         ensures ok { Records ⟦<Self as Recorded>⟧.known self.old self.new log.old log.new step result }
         ensures refused { HandsBack step self.old self.new log.old log.new result }
         ensures last_stamp { Refuses step LastStamp result ↔ NoStamp self.old.last log.old.last }
+        ensures log_last { log.old.last ≡ 2 ^ 64 - 1 → Refuses step LastStamp result }
         ensures faults { IfErr result (λ e. IsShardFault e.1) }
         ensures stays { SameShard self.old.shard self.new.shard }
         ensures callers { self.new.callers ≡ self.old.callers }
@@ -284,7 +334,7 @@ impl<K: KeptKey + Drop, V: Kept + Drop, S: BuildHasher, A: KeptAction<K, V> + Dr
         if !make_room(&mut log.entries) {
             return Err((step, RecordFault::Memory));
         }
-        match self.grow(last + 1, log.caller, step) {
+        match self.grow(last + 1, log.caller, hash, step) {
             Ok((reply, record)) => {
                 log.entries.push_reserved(record);
                 log.last = last + 1;

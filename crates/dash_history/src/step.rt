@@ -63,17 +63,34 @@ pub struct Record<K, V, A = ()> {
 }
 
 impl<K, V: Kept, A> ShardStep<K, V, A> {
-    ghost use Rattle.dash_shard.specs.Hashing.{IsAmount};
-    ghost use Rattle.dash_history.specs.Steps.{shard_of, alike_step};
+    ghost use Rattle.dash_shard.specs.Contents.{keys};
+    ghost use Rattle.dash_shard.specs.Hashing.{IsAmount, route_by};
+    ghost use Rattle.dash_shard.specs.Steps.{step_shard, line};
+    ghost use Rattle.dash_history.specs.Steps.{alike_step, step_of};
+    ghost use Rattle.dash_history.specs.inner.Hashed.{shard_by, IsHashBy, Asks, OfKey};
 
     /// The number of the step's shard: the route of its key among `amount` shards, or the number that it names.
     #[inline]
-    pub fn place<S: BuildHasher>(&self, hasher: &S, amount: usize) -> usize
+    pub fn shard<S: BuildHasher>(&self, hasher: &S, amount: usize) -> usize
     where
         K: Kept + Eq + Hash,
         A: Action<K, V>,
         requires { IsAmount amount }
-        ensures { result ≡ shard_of A.acts (by K.Hash S.BuildHasher S.Hasher.Hasher) hasher.now amount self.now }
+        ensures { result ≡ step_shard
+            (keys K.eq (route_by (by K.Hash S.BuildHasher S.Hasher.Hasher) hasher.now amount) amount) (step_of A.acts self.now) }
+    {
+        self.route(hasher, amount).1
+    }
+
+    // The hash of the step's key, or 0 where it has none, and the number of its shard.
+    #[inline]
+    pub(crate) fn route<S: BuildHasher>(&self, hasher: &S, amount: usize) -> (u64, usize)
+    where
+        K: Kept + Eq + Hash,
+        A: Action<K, V>,
+        requires { IsAmount amount }
+        ensures hash { IsHashBy A.acts (by K.Hash S.BuildHasher S.Hasher.Hasher) hasher.now self.now result.0 }
+        ensures shard { result.1 ≡ shard_by A.acts (by K.Hash S.BuildHasher S.Hasher.Hasher) hasher.now amount self.now }
     {
         match self {
             ShardStep::Get(key)
@@ -82,11 +99,47 @@ impl<K, V: Kept, A> ShardStep<K, V, A> {
             | ShardStep::Remove(key)
             | ShardStep::RemoveIf(key, _)
             | ShardStep::RemoveIfMut(key, _)
-            | ShardStep::Alter(key, _) => determine_shard(hasher.hash_one(key), amount),
+            | ShardStep::Alter(key, _) => {
+                let hash = hasher.hash_one(key);
+                (hash, determine_shard(hash, amount))
+            }
             ShardStep::Read(shard)
             | ShardStep::Count(shard)
             | ShardStep::AlterAll(shard, _)
-            | ShardStep::Retain(shard, _) => *shard,
+            | ShardStep::Retain(shard, _) => (0, *shard),
+        }
+    }
+
+    /// The key of a step that asks its action of the pair there.
+    pub fn asked_key(&self) -> &K
+    where
+        K: Kept,
+        A: Action<K, V>,
+        requires { Asks self.now }
+        ensures { OfKey (line (step_of A.acts self.now)) (λ k. result.now ≡ k) ⊥ }
+    {
+        match self {
+            ShardStep::RemoveIf(key, _)
+            | ShardStep::RemoveIfMut(key, _)
+            | ShardStep::Alter(key, _) => key,
+            _ => unreachable!(),
+        }
+    }
+
+    /// As `asked_key`, out of the step.
+    pub fn into_asked_key(self) -> K
+    where
+        K: Kept + Drop,
+        V: Drop,
+        A: Action<K, V> + Drop,
+        requires { Asks self }
+        ensures { OfKey (line (step_of A.acts self)) (λ k. result ≡ k) ⊥ }
+    {
+        match self {
+            ShardStep::RemoveIf(key, _action)
+            | ShardStep::RemoveIfMut(key, _action)
+            | ShardStep::Alter(key, _action) => key,
+            _ => unreachable!(),
         }
     }
 
@@ -128,11 +181,12 @@ impl<K, V: Kept, A> ShardStep<K, V, A> {
 }
 
 impl<K: Kept + Drop, V: Kept + Drop> Reply<K, V> {
-    ghost use Rattle.dash_history.specs.Steps.{AlikeReply};
+    ghost use Rattle.dash_history.specs.Alike.{alike_reply};
+    ghost use Rattle.dash_history.specs.Steps.{reply_of};
 
     /// A copy of the reply, alike it.
     pub fn copy(&self) -> Result<Reply<K, V>, AllocError>
-        ensures { IfOk result (AlikeReply K.alike V.alike self.now) }
+        ensures { IfOk result (λ copy. IsTrue (alike_reply K.alike V.alike (reply_of self.now) (reply_of copy))) }
     {
         match self {
             Reply::Pair(None) => Ok(Reply::Pair(None)),
@@ -147,5 +201,64 @@ impl<K: Kept + Drop, V: Kept + Drop> Reply<K, V> {
             Reply::Number(number) => Ok(Reply::Number(*number)),
             Reply::Done => Ok(Reply::Done),
         }
+    }
+}
+
+impl<K: Kept, V: Kept, A: Kept> ShardStep<K, V, A> {
+    ghost use Rattle.dash_history.specs.Steps.{alike_step};
+
+    /// Whether the two are alike.
+    pub fn same(&self, other: &Self) -> bool
+        ensures { result ≡ alike_step K.alike V.alike A.alike self.now other.now }
+    {
+        match (self, other) {
+            (ShardStep::Get(j), ShardStep::Get(k))
+            | (ShardStep::Contains(j), ShardStep::Contains(k))
+            | (ShardStep::Remove(j), ShardStep::Remove(k)) => j.same(k),
+            (ShardStep::Insert(j, u), ShardStep::Insert(k, v)) => j.same(k) && u.same(v),
+            (ShardStep::RemoveIf(j, f), ShardStep::RemoveIf(k, g))
+            | (ShardStep::RemoveIfMut(j, f), ShardStep::RemoveIfMut(k, g))
+            | (ShardStep::Alter(j, f), ShardStep::Alter(k, g)) => j.same(k) && f.same(g),
+            (ShardStep::Read(i), ShardStep::Read(j)) | (ShardStep::Count(i), ShardStep::Count(j)) =>
+                { i == j }
+            (ShardStep::AlterAll(i, f), ShardStep::AlterAll(j, g))
+            | (ShardStep::Retain(i, f), ShardStep::Retain(j, g)) => i == j && f.same(g),
+            _ => false,
+        }
+    }
+}
+
+impl<K: Kept + Drop, V: Kept + Drop> Reply<K, V> {
+    ghost use Rattle.dash_history.specs.Alike.{alike_reply};
+    ghost use Rattle.dash_history.specs.Steps.{reply_of};
+
+    /// Whether the two are alike.
+    pub fn same(&self, other: &Self) -> bool
+        ensures { result ≡ alike_reply K.alike V.alike (reply_of self.now) (reply_of other.now) }
+    {
+        match (self, other) {
+            (Reply::Pair(o), Reply::Pair(p)) => o.same(p),
+            (Reply::Found(a), Reply::Found(b)) => a == b,
+            (Reply::Old(o), Reply::Old(p)) => o.same(p),
+            (Reply::Pairs(l), Reply::Pairs(m)) => l.same(m),
+            (Reply::Number(m), Reply::Number(n)) => m == n,
+            (Reply::Done, Reply::Done) => true,
+            _ => false,
+        }
+    }
+}
+
+impl<K: Kept + Drop, V: Kept + Drop, A: Kept> Record<K, V, A> {
+    ghost use Rattle.dash_history.specs.Steps.{alike_record};
+
+    /// Whether the two are alike.
+    pub fn same(&self, other: &Self) -> bool
+        ensures { result ≡ alike_record K.alike V.alike A.alike self.now other.now }
+    {
+        self.stamp == other.stamp
+            && self.caller == other.caller
+            && self.shard == other.shard
+            && self.step.same(&other.step)
+            && self.reply.same(&other.reply)
     }
 }

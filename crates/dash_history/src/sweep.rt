@@ -1,12 +1,12 @@
 //! What a step makes of all pairs of a shard: copies of them, and what its action makes of copies of their values.
-ghost use Rattle.std.specs.Prelude.{IsTrue, IfOk};
+ghost use Rattle.std.specs.Prelude.{IsTrue, IfOk, OnOk};
 ghost use Rattle.dash_shard.specs.Shard.{pairs, SameShard};
-ghost use Rattle.dash_history.specs.Alike.{alike_pairs};
-ghost use Rattle.dash_history.specs.Plan.{StaysLawful};
-ghost use Rattle.dash_history.specs.Sweep.{keeping, GivesEach, Puts, PutsNext};
+ghost use Rattle.dash_history.specs.inner.Copied.{alike_pairs};
+ghost use Rattle.dash_history.specs.inner.Plan.{StaysLawful, PutsEach};
+ghost use Rattle.dash_history.specs.inner.Sweep.{keeping, GivesEach, PutsNext, AddsAlike};
 
 use crate::action::Action;
-use crate::change::ask;
+use crate::change::{Change, ask};
 use crate::kept::{Kept, KeptKey};
 use dash_shard::keyed::Keyed;
 use dash_shard::shard::{Iter, Shard};
@@ -22,11 +22,22 @@ pub fn copy_pairs<K: Kept + Drop, V: Kept + Drop>(
     ensures { IfOk result (λ made. IsTrue (alike_pairs K.alike V.alike pairs.entry made.items)) }
 {
     let mut copies = Vec::with_capacity(alloc, pairs.len())?;
+    add_copies(&mut copies, pairs)?;
+    Ok(copies)
+}
+
+/// Adds copies of these pairs, in their order.
+pub(crate) fn add_copies<K: Kept + Drop, V: Kept + Drop>(
+    copies: &mut Vec<(K, V)>,
+    pairs: Iter<'_, K, V>,
+) -> Result<(), AllocError>
+    ensures { OnOk result (AddsAlike K.alike V.alike pairs.entry copies.old.items copies.new.items) }
+{
     for (key, value) in pairs {
         let key = key.copy()?;
         copies.push((key, value.copy()?))?;
     }
-    Ok(copies)
+    Ok(())
 }
 
 /// What the action makes of copies of the values, and its answers: yes where all pairs stay.
@@ -46,15 +57,19 @@ pub fn ask_each<K: Kept, V: Kept + Drop, A: Action<K, V>>(
     Ok(made)
 }
 
-/// Puts these values in place of the shard's, in rising order of slots, and takes out each pair that has no yes beside its value.
+/// Makes of each pair what was decided: puts the values in place of the shard's, in rising order of slots, and takes out each pair that has
+/// no yes beside its value.
 pub(crate) fn put_each<K: KeptKey + Drop, V: Kept + Drop, S: BuildHasher>(
     shard: &mut Shard<K, V, S>,
-    made: Vec<(V, bool)>,
+    change: Change<V>,
 )
-    ensures leaves { Puts K.eq K.alike V.alike made.items (pairs shard.old) (pairs shard.new) }
+    ensures leaves { PutsEach K.eq K.alike V.alike change (pairs shard.old) (pairs shard.new) }
     ensures stays { SameShard shard.old shard.new }
     ensures lawful { StaysLawful ⟦<Shard<K, V, S> as Keyed>⟧.by shard.old shard.new }
 {
+    let Change::Each(made) = change else {
+        return;
+    };
     let mut made = VecDeque::from(made);
     shard.retain(
         |_key: &K, value: &mut V| -> bool

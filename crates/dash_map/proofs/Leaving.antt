@@ -6,18 +6,20 @@ use Rattle.std.proofs.Math.Seq.{take-length}
 use Rattle.std.specs.Cmp.{IsEquivalence}
 use Rattle.std.specs.Map.Calls.{CallableOnEachPair}
 use Rattle.dash_shard.specs.Hashing.{KeyHash, IsAmount}
-use Rattle.dash_shard.specs.Shard.{ShardState, SameShard, IsShard, taken, IsPlaced}
-use Rattle.dash_shard.specs.Each.{Sweeps, SweepsShard, Clears, Shrinks, if_kept, altered}
+use Rattle.dash_shard.specs.Shard.{ShardState, SameShard, IsShard, taken, IsTagged}
+use Rattle.dash_shard.specs.Each.{Clears, Shrinks}
+use Rattle.dash_shard.specs.inner.Walks.{Sweeps, SweepsShard, if_kept, altered}
 use Rattle.dash_map.specs.Alone.{AloneState}
 use Rattle.dash_map.specs.Behind.{LeavesShards, IsBehind}
 use Rattle.dash_map.specs.Map.{MapState}
-use Rattle.dash_map.specs.AllPairs.{SameRoom, ClearsAlone, ShrinksAlone, RetainsAlone, AltersAllAlone}
-use Rattle.dash_map.proofs.Lifting.{placed-moved}
+use Rattle.dash_map.specs.AllPairs.{ClearsAlone, ShrinksAlone, RetainsAlone, AltersAllAlone}
+use Rattle.dash_map.specs.inner.Rooms.{SameRoom}
+use Rattle.dash_map.proofs.Lifting.{tagged-moved}
 use Rattle.dash_map.proofs.Seeing.{SoFar, append-cases, none-yet, one-more, all-seen}
-use Rattle.dash_map.proofs.Sweeping.{Sweeping, places_of, places-more, sweeps-append, callable-behind, retains-alone, alters-all-alone}
+use Rattle.dash_map.proofs.Sweeping.{Sweeping, slots_of, slots-more, sweeps-append, callable-behind, retains-alone, alters-all-alone}
 use Rattle.dash_map.proofs.Turning.{Turning, clears-alone, shrinks-alone}
 
--- what holds of items at one place of two lists, and of one item more of each
+-- what holds of items at one index of two lists, and of one item more of each
 pub each-more : {A : Type 0} (R : A → A → Type 0) (olds news : List A) (s t : A) → length olds ≡ length news → ((i : ℕ) (x y : A) → slice_get olds i ≡ Some x → slice_get news i ≡ Some y → R x y) → R s t
     → (i : ℕ) (x y : A) → slice_get (olds ++ s ∷ []) i ≡ Some x → slice_get (news ++ t ∷ []) i ≡ Some y → R x y
 each-more R olds news s t long each here i x y e e' = elim (append-cases olds s i x e) as (λ _. R x y) [
@@ -49,12 +51,12 @@ module _ {K V S : Type 0} (h : KeyHash K S) (m : MapState S) where
     none-left = record { olds = []; news = []; stood = none-yet h m; stands = none-yet h m; each = λ i s t e e'. absurd (none-some s e) }
 
     module _ (n : ℕ) (so : Leaving R n) where
-      abbrev pub one-left : (s t : ShardState K V S) → IsPlaced h m.hasher m.amount n s → SameShard s t → IsShard h t → R s t → Leaving R (n + 1)
-      one-left s t placed stays lawful is = record {
+      abbrev pub one-left : (s t : ShardState K V S) → IsTagged h m.hasher m.amount n s → SameShard s t → IsShard h t → R s t → Leaving R (n + 1)
+      one-left s t tagged stays lawful is = record {
         olds = so.olds ++ s ∷ [];
         news = so.news ++ t ∷ [];
-        stood = one-more h m n so.olds so.stood s placed;
-        stands = one-more h m n so.news so.stands t (placed-moved h m.hasher m.amount n s t placed stays lawful);
+        stood = one-more h m n so.olds so.stood s tagged;
+        stands = one-more h m n so.news so.stands t (tagged-moved h m.hasher m.amount n s t tagged stays lawful);
         each = each-more R so.olds so.news s t (so.stood.count ∙ sym so.stands.count) so.each is;
       }
 
@@ -75,7 +77,7 @@ module _ {K V S : Type 0} (h : KeyHash K S) (m : MapState S) where
         }
 
         all-left : (Q : AloneState K V S → AloneState K V S → Type 0) → Q (row-of so.olds) (row-of so.news) → LeavesShards h m Q
-        all-left Q did = record { before = row-of so.olds; after = row-of so.news; stood = all-stood; stands = all-stand; leaves = did }
+        all-left Q did = (row-of so.olds, row-of so.news, all-stood, all-stand, did)
 
   pub all-cleared : (n : ℕ) → Leaving Clears n → n ≡ m.amount → IsAmount m.amount → LeavesShards {V = V} h m (ClearsAlone)
   all-cleared n so all amount =
@@ -91,20 +93,20 @@ module _ {K V S : Type 0} (h : KeyHash K S) (m : MapState S) where
     -- the closure went over the shards in front of n, and may go on
     pub record Going (n : ℕ) (f : F) : Type 0 where
       pub left : Leaving SameRoom n
-      pub swept : Sweeps T leaves first (places_of left.olds) (places_of left.news) f
+      pub swept : Sweeps T leaves first (slots_of left.olds) (slots_of left.news) f
       pub ready : (ps : List (K × V)) → CallableOnEachPair T Q f ps
 
     pub going-first : ((ps : List (K × V)) → CallableOnEachPair T Q first ps) → Going 0 first
     going-first callable = record { left = none-left SameRoom; swept = (refl, refl); ready = callable }
 
     module _ (n : ℕ) (f : F) (so : Going n f) where
-      pub going-next : (s t : ShardState K V S) (f' : F) → IsPlaced h m.hasher m.amount n s → SweepsShard T leaves f f' s t → IsShard h t → Going (n + 1) f'
-      going-next s t f' placed x lawful = record {
-        left = one-left SameRoom n so.left s t placed x.stays lawful x.room;
-        swept = subst (λ l. Sweeps T leaves first l (places_of (so.left.news ++ t ∷ [])) f') (sym (places-more so.left.olds s))
-            (subst (λ l. Sweeps T leaves first (places_of so.left.olds ++ s.places) l f') (sym (places-more so.left.news t))
-            (sweeps-append T leaves first f f' (places_of so.left.olds) (places_of so.left.news) s.places t.places so.swept x.swept));
-        ready = λ ps. callable-behind T leaves Q f f' s.places t.places ps x.swept (so.ready (taken s.places ++ ps));
+      pub going-next : (s t : ShardState K V S) (f' : F) → IsTagged h m.hasher m.amount n s → SweepsShard T leaves f f' s t → IsShard h t → Going (n + 1) f'
+      going-next s t f' tagged x lawful = record {
+        left = one-left SameRoom n so.left s t tagged x.stays lawful x.room;
+        swept = subst (λ l. Sweeps T leaves first l (slots_of (so.left.news ++ t ∷ [])) f') (sym (slots-more so.left.olds s))
+            (subst (λ l. Sweeps T leaves first (slots_of so.left.olds ++ s.slots) l f') (sym (slots-more so.left.news t))
+            (sweeps-append T leaves first f f' (slots_of so.left.olds) (slots_of so.left.news) s.slots t.slots so.swept x.swept));
+        ready = λ ps. callable-behind T leaves Q f f' s.slots t.slots ps x.swept (so.ready (taken s.slots ++ ps));
       }
 
       module _ (all : n ≡ m.amount) (amount : IsAmount m.amount) where
@@ -114,8 +116,8 @@ module _ {K V S : Type 0} (h : KeyHash K S) (m : MapState S) where
         gone : Sweeping h T Q leaves first n (row-of so.left.olds) (row-of so.left.news) f
         gone = record {
           turning = all-turned SameRoom n so.left all amount;
-          swept = subst (λ l. Sweeps T leaves first (places_of l) (places_of (take n so.left.news)) f) (sym (whole so.left.olds so.left.stood.count))
-              (subst (λ l. Sweeps T leaves first (places_of so.left.olds) (places_of l) f) (sym (whole so.left.news so.left.stands.count)) so.swept);
+          swept = subst (λ l. Sweeps T leaves first (slots_of l) (slots_of (take n so.left.news)) f) (sym (whole so.left.olds so.left.stood.count))
+              (subst (λ l. Sweeps T leaves first (slots_of so.left.olds) (slots_of l) f) (sym (whole so.left.news so.left.stands.count)) so.swept);
           ready = so.ready _;
         }
 

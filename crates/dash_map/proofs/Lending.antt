@@ -6,7 +6,8 @@ use Rattle.std.proofs.lemmas.Bool.{cases_Bool}
 use Rattle.std.proofs.lemmas.Option.{none-some, same_Some}
 use Rattle.dash_shard.specs.Contents.{Keys, keys, at, IsOnShard}
 use Rattle.dash_shard.specs.Hashing.{KeyHash, route_by}
-use Rattle.dash_shard.specs.Shard.{ShardState, IsShard, pairs, taken, keys_of, with_value_of}
+use Rattle.dash_shard.specs.Shard.{ShardState, IsShard, pairs, taken, with_value_of}
+use Rattle.dash_shard.specs.inner.Keys.{keys_of}
 use Rattle.dash_shard.proofs.Remade.{KeepsKey, remade, on_shard-remade}
 use Rattle.dash_map.specs.Alone.{AloneState, IsAlone}
 use Rattle.dash_map.specs.Lends.{with_value_at}
@@ -39,7 +40,7 @@ module _ {K V : Type 0} (eq : K → K → Bool) (k : K) (v : V) where
     wrote s = with_value_of eq s k v
 
     wrote-none : (s : ShardState K V S) → at w.eq (pairs s) k ≡ None → wrote s ≡ s
-    wrote-none s none = ap (λ ps. record s { places = ps }) (untouched w is s.places none)
+    wrote-none s none = ap (λ ps. record s { slots = ps }) (untouched w is s.slots none)
 
     wrote-nowhere : (row : List (ShardState K V S)) → ((j : ℕ) (t : ShardState K V S) → slice_get row j ≡ Some t → at w.eq (pairs t) k ≡ None) → row ≡ map wrote row
     wrote-nowhere [] none = refl
@@ -58,14 +59,14 @@ module _ {K V : Type 0} (eq : K → K → Bool) (k : K) (v : V) where
 module _ {K V S : Type 0} (h : KeyHash K S) (laws : IsEquivalence h.eq) where
   valued-shard : (s : ShardState K V S) (k : K) (v : V) → IsShard h s → IsShard h (with_value_of h.eq s k v)
   valued-shard s k v is = record {
-    contents = subst (λ xs. IsOnShard (keys_of h s) s.number (taken xs)) (as-remade h.eq k v s.places) (on_shard-remade (λ p. Some (revalued h.eq k v p)) (keeps-key h.eq k v) (keys_of h s) laws s.number s.places is.contents);
+    contents = subst (λ xs. IsOnShard (keys_of h s) s.number (taken xs)) (as-remade h.eq k v s.slots) (on_shard-remade (λ p. Some (revalued h.eq k v p)) (keeps-key h.eq k v) (keys_of h s) laws s.number s.slots is.contents);
     number = is.number;
     amount = is.amount;
   }
 
   module _ (base : S) (row : List (ShardState K V S)) (a : IsAlone h (record { hasher = base; row = row })) (p : ℕ) (s : ShardState K V S) (here : slice_get row p ≡ Some s) (k : K) (v : V) where
     pub lent-lawful : IsAlone h (record { hasher = base; row = slice_set row p (with_value_of h.eq s k v) })
-    lent-lawful = alone-set h base p row s (with_value_of h.eq s k v) a here (record { number = refl; amount = refl; hasher = refl }) (valued-shard s k v (a.placed p s here).shard)
+    lent-lawful = alone-set h base p row s (with_value_of h.eq s k v) a here (record { number = refl; amount = refl; hasher = refl }) (valued-shard s k v (a.tagged p s here).shard)
 
     -- what was written to the shard of the key was written to the map
     pub lent-state : p ≡ route_by h base (length row) k → (z : AloneState K V S) → record { hasher = base; row = row } ≡ z → record { hasher = base; row = slice_set row p (with_value_of h.eq s k v) } ≡ with_value_at h.eq z k v

@@ -4,40 +4,41 @@ use Rattle.std.proofs.lemmas.Option.{slice_get-get_or}
 use Rattle.crossbeam_utils.specs.declared.cache_padded.CachePadded.{CachePadded}
 use Rattle.crossbeam_utils.specs.Padded.{padded_value}
 use Rattle.dash_shard.specs.Hashing.{KeyHash, IsAmount, HashAlike}
-use Rattle.dash_shard.specs.Held.{FitsPlace}
-use Rattle.dash_shard.specs.Rows.{Moved}
-use Rattle.dash_shard.specs.Shard.{ShardState, IsPlaced}
+use Rattle.dash_shard.specs.Held.{FitsTag}
+use Rattle.dash_shard.specs.inner.Rows.{Moved}
+use Rattle.dash_shard.specs.Shard.{ShardState, IsTagged}
 use Rattle.dash_shard.specs.declared.shard.held.ShardTag.{ShardTag}
 use Rattle.dash_shard.proofs.Rows.{moved-length, moved-from}
 use Rattle.dash_map.specs.Alone.{IsAlone}
-use Rattle.dash_map.specs.Map.{MapState, IsAt, IsMap}
+use Rattle.dash_map.specs.Map.{MapState}
+use Rattle.dash_map.specs.inner.Locks.{IsAt, IsMap}
 
 module _ {K V S : Type 0} (h : KeyHash K S) where
-  -- what fits a lock that stands in a place, stands in that place
-  pub placed-behind : (m : MapState S) (i : ℕ) (lock : CachePadded (ShardTag S)) (s : ShardState K V S) → IsAt m i lock → FitsPlace h (padded_value lock) s → IsPlaced h m.hasher m.amount i s
-  placed-behind m i lock s at p = record {
+  -- what fits the lock of a shard is that shard
+  pub tagged-behind : (m : MapState S) (i : ℕ) (lock : CachePadded (ShardTag S)) (s : ShardState K V S) → IsAt m i lock → FitsTag h (padded_value lock) s → IsTagged h m.hasher m.amount i s
+  tagged-behind m i lock s at p = record {
     number = p.number ∙ at.number;
     amount = p.amount ∙ at.amount;
     hashes = subst (λ x. HashAlike h x s.hasher) at.hasher p.hashes;
     shard = p.shard;
   }
 
-  -- what is held through the lock that an index lends stands in that place of the map, whose state is written z
-  pub placed-held : (m z : MapState S) → m ≡ z → (locks : List (CachePadded (ShardTag S))) → IsMap m locks → (i : ℕ) → i < length locks → (lock : CachePadded (ShardTag S)) → lock ≡ get_or locks i lock
-      → (tag : ShardTag S) → tag ≡ padded_value lock → (s : ShardState K V S) → FitsPlace h tag s → IsPlaced h z.hasher z.amount i s
-  placed-held m z view locks is i within lock read tag same s fits =
+  -- what is held through the lock that an index lends is the shard of that number, whose state is written z
+  pub tagged-held : (m z : MapState S) → m ≡ z → (locks : List (CachePadded (ShardTag S))) → IsMap m locks → (i : ℕ) → i < length locks → (lock : CachePadded (ShardTag S)) → lock ≡ get_or locks i lock
+      → (tag : ShardTag S) → tag ≡ padded_value lock → (s : ShardState K V S) → FitsTag h tag s → IsTagged h z.hasher z.amount i s
+  tagged-held m z view locks is i within lock read tag same s fits =
       let here : slice_get locks i ≡ Some lock = slice_get-get_or locks i lock within ∙ ap Some (sym read) in
-      subst (λ x. IsPlaced h x.hasher x.amount i s) view (placed-behind m i lock s (is.placed i lock here) (subst (λ t. FitsPlace h t s) same fits))
+      subst (λ x. IsTagged h x.hasher x.amount i s) view (tagged-behind m i lock s (is.tagged i lock here) (subst (λ t. FitsTag h t s) same fits))
 
   pub alone-of_map : (base : S) (locks : List (CachePadded (ShardTag S))) (row : List (ShardState K V S)) → IsMap (record { hasher = base; amount = length locks }) locks
-      → Moved (λ _ lock s. FitsPlace h (padded_value lock) s) 0 locks row → IsAlone h (record { hasher = base; row = row })
+      → Moved (λ _ lock s. FitsTag h (padded_value lock) s) 0 locks row → IsAlone h (record { hasher = base; row = row })
   alone-of_map base locks row m moved =
-      let long : length row ≡ length locks = moved-length (λ _ lock s. FitsPlace h (padded_value lock) s) 0 locks row moved in
+      let long : length row ≡ length locks = moved-length (λ _ lock s. FitsTag h (padded_value lock) s) 0 locks row moved in
       record {
         amount = subst IsAmount (sym long) m.amount;
-        placed = λ i s e.
-            let from = moved-from (λ _ lock s. FitsPlace h (padded_value lock) s) locks row moved i s e in
-            subst (λ n. IsPlaced h base n i s) (sym long) (placed-behind (record { hasher = base; amount = length locks }) i from.0 s (m.placed i from.0 from.1) from.2);
+        tagged = λ i s e.
+            let from = moved-from (λ _ lock s. FitsTag h (padded_value lock) s) locks row moved i s e in
+            subst (λ n. IsTagged h base n i s) (sym long) (tagged-behind (record { hasher = base; amount = length locks }) i from.0 s (m.tagged i from.0 from.1) from.2);
       }
 
   pub map-of_alone : (base : S) (n : ℕ) (row : List (ShardState K V S)) (locks : List (CachePadded (ShardTag S))) → n ≡ length row → IsAlone h (record { hasher = base; row = row })
@@ -47,5 +48,5 @@ module _ {K V S : Type 0} (h : KeyHash K S) where
       let long : length locks ≡ length row = moved-length R 0 row locks moved in
       record {
         amount = subst IsAmount (sym long) a.amount;
-        placed = λ i lock e. subst (λ k. IsAt (record { hasher = base; amount = k }) i lock) (count ∙ sym long) (moved-from R row locks moved i lock e).2;
+        tagged = λ i lock e. subst (λ k. IsAt (record { hasher = base; amount = k }) i lock) (count ∙ sym long) (moved-from R row locks moved i lock e).2;
       }

@@ -10,12 +10,15 @@ use Rattle.std.proofs.Math.ListN.{length-set}
 use Rattle.dash_shard.proofs.Rows.{slice_get-set_same, slice_get-set_other}
 use Rattle.dash_shard.proofs.Routing.{route_below}
 use Rattle.dash_shard.specs.Each.{CalledAlong, SweepsBy}
-use Rattle.dash_shard.specs.Hashing.{IsLawful, KeyHash, route_by, route_of_hash}
+use Rattle.dash_shard.specs.Hashing.{KeyHash, route_by, route_of_hash}
+use Rattle.dash_shard.specs.inner.Keys.{IsLawful}
 use Rattle.dash_shard.specs.Contents.{Keys, keys, at, on, Distinct, EachOnce, IsOnShard}
 use Rattle.dash_shard.specs.Steps as table
+use Rattle.dash_shard.specs.inner.Steps as parts
 use Rattle.dash_shard.specs.Shard.{ShardState, IsShard, pairs}
 use Rattle.dash_history.specs.Steps.{step_of, reply_of}
-use Rattle.dash_history.specs.Takes.{Rules, AlikeAt, Answers, Takes, Runs}
+use Rattle.dash_history.specs.Takes.{Rules, Answers, Takes, Runs}
+use Rattle.dash_history.specs.inner.Copied.{AlikeAt}
 use Rattle.dash_history.specs.declared.step.ShardStep.{ShardStep}
 use Rattle.dash_history.specs.declared.step.Reply.{Reply}
 use Rattle.dash_history.proofs.Copies.{Lawful, takes-exactly, reply_laws, at_laws}
@@ -24,7 +27,8 @@ use Rattle.dash_history.proofs.Recording.{lawful-by}
 use Rattle.dash_map.specs.Alone.{AloneState, IsAlone, TakesAlone, contents, keys_in}
 use Rattle.dash_map.specs.declared.run.Fault.{Fault}
 use Rattle.dash_map.specs.declared.run.Fault.TheVariants.{NoSuchShard, Memory}
-use Rattle.dash_map.specs.Run.{answered, rules_in, IsRefused}
+use Rattle.dash_map.specs.Run.{rules_in, IsRefused}
+use Rattle.dash_map.specs.inner.Run.{answered}
 use Rattle.dash_map.proofs.Distincts.{distinct-contents}
 use Rattle.dash_map.proofs.Lifting.{on-shards, alone-set}
 use Rattle.dash_map.proofs.Union.{OnShards, at-union}
@@ -58,7 +62,7 @@ module _ {K V A : Type 0} (m : Rules K V) (acts : A → table.Act K V) where
       }
 
   -- the step that is put back is the first of the rest
-  pub refused-first : (left rest : List (ShardStep K V A)) (step : ShardStep K V A) (fault : Fault) → rest ≡ reverse (left ++ step ∷ []) → (fault ≡ NoSuchShard) ↔ (m.keys.shards ≤ table.place m.keys (step_of acts step))
+  pub refused-first : (left rest : List (ShardStep K V A)) (step : ShardStep K V A) (fault : Fault) → rest ≡ reverse (left ++ step ∷ []) → (fault ≡ NoSuchShard) ↔ (m.keys.shards ≤ table.step_shard m.keys (step_of acts step))
       → IsRefused m acts rest fault
   refused-first left rest step fault e why = subst (λ l. IsRefused m acts l fault) (sym (e ∙ turned left step)) why
 
@@ -136,13 +140,13 @@ module _ {K V S : Type 0} (h : KeyHash K S) (k : K → K → Bool) (v : V → V 
     distinct-same old new base amount lawful = distinct-contents h law.laws new lawful
 
     -- a look whose answer is up to alike
-    pub takes-look : (a : AloneState K V S) (step : table.Step K V) (reply : table.Reply K V) → table.place (keys_in h a) step < length a.row → IsAlone h a → Answers (rules_in h k v a) (contents a) step reply
-        → table.Becomes (keys_in h a) step (contents a) (contents a) → Takes (rules_in h k v a) (contents a) step reply (contents a)
+    pub takes-look : (a : AloneState K V S) (step : table.Step K V) (reply : table.Reply K V) → table.step_shard (keys_in h a) step < length a.row → IsAlone h a → Answers (rules_in h k v a) (contents a) step reply
+        → parts.Becomes (keys_in h a) step (contents a) (contents a) → Takes (rules_in h k v a) (contents a) step reply (contents a)
     takes-look a step reply below lawful answers stays =
         takes-exactly (rules_in h k v a) (laws-in a) (contents a) (contents a) step reply below answers stays (distinct-contents h law.laws a lawful)
 
     -- what was taken to the letter was taken
-    pub takes-alone : (old new : AloneState K V S) (step : table.Step K V) (reply : table.Reply K V) → table.place (keys_in h old) step < length old.row → TakesAlone h old new step reply
+    pub takes-alone : (old new : AloneState K V S) (step : table.Step K V) (reply : table.Reply K V) → table.step_shard (keys_in h old) step < length old.row → TakesAlone h old new step reply
         → Takes (rules_in h k v old) (contents old) step reply (contents new)
     takes-alone old new step reply below x =
         takes-exactly (rules_in h k v old) (laws-in old) (contents old) (contents new) step reply below

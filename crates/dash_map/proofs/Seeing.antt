@@ -1,24 +1,25 @@
 -- What is seen of a shard that is held.
-use Rattle.std.proofs.Common.{Bor, ◌≡◌, ◌⊎◌, ℕ, zero, suc, ◌+◌, ◌<◌, Bool, [], ◌∷◌, ◌++◌, slice_get, inl, inr, true, false, cond, List, Option, None, Some, length, get_or, ◌-◌, ◌^◌, flat_map, min, sum_by, length-append, arith, refl, sym, ap, subst, ◌∙◌}
+use Rattle.std.proofs.Common.{Bor, ◌≡◌, ◌⊎◌, ℕ, zero, suc, ◌+◌, ◌<◌, Bool, [], ◌∷◌, ◌++◌, slice_get, inl, inr, List, Option, None, Some, length, get_or, ◌-◌, ◌^◌, flat_map, min, sum_by, length-append, arith, refl, sym, ap, subst, ◌∙◌}
 use Rattle.std.proofs.lemmas.Grind.{flat_map-append}
 use Rattle.std.proofs.lemmas.List.{length_push}
 use Rattle.std.proofs.lemmas.List.Sums.{sum_by-append}
 use Rattle.std.proofs.lemmas.Option.{same_Some, none-some}
-use Rattle.std.specs.Prelude.{is_some, option_and_then, IfSome, IsTrue}
+use Rattle.std.specs.Prelude.{is_some, IfSome, IsTrue}
 use Rattle.std.specs.Option.{option_map}
 use Rattle.std.specs.Map.Iter.{deref_pair}
 use Rattle.crossbeam_utils.specs.declared.cache_padded.CachePadded.{CachePadded}
 use Rattle.crossbeam_utils.specs.Padded.{padded_value}
 use Rattle.dash_shard.specs.Hashing.{KeyHash, IsAmount, route_by}
 use Rattle.dash_shard.specs.Contents.{at}
-use Rattle.dash_shard.specs.Held.{FitsPlace}
-use Rattle.dash_shard.specs.Shard.{ShardState, SameShard, Routes, IsShard, IsPlaced, pairs, shard_len}
+use Rattle.dash_shard.specs.Held.{FitsTag}
+use Rattle.dash_shard.specs.Shard.{ShardState, SameShard, Routes, IsShard, IsTagged, pairs, shard_len}
 use Rattle.dash_shard.specs.declared.shard.held.ShardTag.{ShardTag}
 use Rattle.dash_map.specs.Behind.{IsBehind, StandsAt, LeavesShard}
-use Rattle.dash_map.specs.Map.{MapState, IsMap}
-use Rattle.dash_map.proofs.Lifting.{keys-same, placed-moved}
+use Rattle.dash_map.specs.Map.{MapState}
+use Rattle.dash_map.specs.inner.Locks.{IsMap}
+use Rattle.dash_map.proofs.Lifting.{keys-same, tagged-moved}
 use Rattle.dash_map.proofs.Found.{at-key}
-use Rattle.dash_map.proofs.Moves.{placed-held}
+use Rattle.dash_map.proofs.Moves.{tagged-held}
 
 -- what stands in a list with one item more: what stood there, or the item, at its end
 pub append-cases : {A : Type 0} (xs : List A) (y : A) (i : ℕ) (x : A) → slice_get (xs ++ y ∷ []) i ≡ Some x → (slice_get xs i ≡ Some x) ⊎ ((i ≡ length xs) × (y ≡ x))
@@ -31,45 +32,45 @@ append-cases (z ∷ xs) y (suc i) x e = elim (append-cases xs y i x e) as (λ _.
 ]
 
 module _ {K V S : Type 0} (h : KeyHash K S) where
-  -- what is read through a hold of the lock at i, where the key goes, stands in the key's place
+  -- what is read through a hold of the lock at i, where the key goes, is the key's shard
   pub seen : (m z : MapState S) → m ≡ z → (locks : List (CachePadded (ShardTag S))) → IsMap m locks → (i : ℕ) → i < length locks → (lock : CachePadded (ShardTag S)) → lock ≡ get_or locks i lock
-      → (tag : ShardTag S) → tag ≡ padded_value lock → (s : ShardState K V S) → FitsPlace h tag s → (k : K) → i ≡ route_by h z.hasher z.amount k → (d : ShardState K V S) → d ≡ s
-      → IsPlaced h z.hasher z.amount (route_by h z.hasher z.amount k) d
+      → (tag : ShardTag S) → tag ≡ padded_value lock → (s : ShardState K V S) → FitsTag h tag s → (k : K) → i ≡ route_by h z.hasher z.amount k → (d : ShardState K V S) → d ≡ s
+      → IsTagged h z.hasher z.amount (route_by h z.hasher z.amount k) d
   seen m z view locks is i within lock read tag same s fits k route d there =
-      subst (λ x. IsPlaced h z.hasher z.amount (route_by h z.hasher z.amount k) x) (sym there)
-      (subst (λ n. IsPlaced h z.hasher z.amount n s) route (placed-held h m z view locks is i within lock read tag same s fits))
+      subst (λ x. IsTagged h z.hasher z.amount (route_by h z.hasher z.amount k) x) (sym there)
+      (subst (λ n. IsTagged h z.hasher z.amount n s) route (tagged-held h m z view locks is i within lock read tag same s fits))
 
   -- the same of any lock
   pub read-at : (m z : MapState S) → m ≡ z → (row locks : List (CachePadded (ShardTag S))) → locks ≡ row → IsMap m row → (i : ℕ) → i < length locks → (lock : CachePadded (ShardTag S)) → lock ≡ get_or locks i lock
-      → (tag : ShardTag S) → tag ≡ padded_value lock → (s : ShardState K V S) → FitsPlace h tag s → (d : ShardState K V S) → d ≡ s → IsPlaced h z.hasher z.amount i d
+      → (tag : ShardTag S) → tag ≡ padded_value lock → (s : ShardState K V S) → FitsTag h tag s → (d : ShardState K V S) → d ≡ s → IsTagged h z.hasher z.amount i d
   read-at m z view row locks all is i within lock read tag same s fits d there =
-      subst (λ x. IsPlaced h z.hasher z.amount i x) (sym there) (placed-held h m z view locks (subst (IsMap m) (sym all) is) i within lock read tag same s fits)
+      subst (λ x. IsTagged h z.hasher z.amount i x) (sym there) (tagged-held h m z view locks (subst (IsMap m) (sym all) is) i within lock read tag same s fits)
 
-  -- the key goes to the shard that stands in its place
-  pub routes : (base : S) (n : ℕ) (k : K) (s : ShardState K V S) → IsPlaced h base n (route_by h base n k) s → Routes h s k
+  -- the key goes to the shard of that number
+  pub routes : (base : S) (n : ℕ) (k : K) (s : ShardState K V S) → IsTagged h base n (route_by h base n k) s → Routes h s k
   routes base n k s p = ap (λ x. x.route k) (keys-same h base n _ s p) ∙ sym p.number
 
   -- what a hold of the key's shard found there and left
-  pub left-behind : (m : MapState S) (k : K) (i : ℕ) → i ≡ route_by h m.hasher m.amount k → (s t : ShardState K V S) → IsPlaced h m.hasher m.amount i s → SameShard s t → IsShard h t
+  pub left-behind : (m : MapState S) (k : K) (i : ℕ) → i ≡ route_by h m.hasher m.amount k → (s t : ShardState K V S) → IsTagged h m.hasher m.amount i s → SameShard s t → IsShard h t
       → (R : ShardState K V S → ShardState K V S → Type 0) → R s t → LeavesShard h m k R
-  left-behind m k i route s t placed stays new R did =
-      let here : StandsAt h m k s = subst (λ n. IsPlaced h m.hasher m.amount n s) route placed in
-      (s, t, here, placed-moved h m.hasher m.amount _ s t here stays new, did)
+  left-behind m k i route s t tagged stays new R did =
+      let here : StandsAt h m k s = subst (λ n. IsTagged h m.hasher m.amount n s) route tagged in
+      (s, t, here, tagged-moved h m.hasher m.amount _ s t here stays new, did)
 
   -- the shards in front of n, each as it stood when it was held
   pub record SoFar (m : MapState S) (n : ℕ) (row : List (ShardState K V S)) : Type 0 where
     pub count : length row ≡ n
-    pub placed : (i : ℕ) (s : ShardState K V S) → slice_get row i ≡ Some s → IsPlaced h m.hasher m.amount i s
+    pub tagged : (i : ℕ) (s : ShardState K V S) → slice_get row i ≡ Some s → IsTagged h m.hasher m.amount i s
 
   pub none-yet : (m : MapState S) → SoFar m 0 []
-  none-yet m = record { count = refl; placed = λ i s e. absurd (none-some s e) }
+  none-yet m = record { count = refl; tagged = λ i s e. absurd (none-some s e) }
 
-  pub one-more : (m : MapState S) (n : ℕ) (row : List (ShardState K V S)) → SoFar m n row → (s : ShardState K V S) → IsPlaced h m.hasher m.amount n s → SoFar m (n + 1) (row ++ s ∷ [])
-  one-more m n row so s placed = record {
+  pub one-more : (m : MapState S) (n : ℕ) (row : List (ShardState K V S)) → SoFar m n row → (s : ShardState K V S) → IsTagged h m.hasher m.amount n s → SoFar m (n + 1) (row ++ s ∷ [])
+  one-more m n row so s tagged = record {
     count = length_push row s ∙ ap (λ k. k + 1) so.count;
-    placed = λ i x e. elim (append-cases row s i x e) as (λ _. IsPlaced h m.hasher m.amount i x) [
-      | inl old ↦ so.placed i x old
-      | inr new ↦ subst (λ y. IsPlaced h m.hasher m.amount i y) new.1 (subst (λ j. IsPlaced h m.hasher m.amount j s) (sym (new.0 ∙ so.count)) placed)
+    tagged = λ i x e. elim (append-cases row s i x e) as (λ _. IsTagged h m.hasher m.amount i x) [
+      | inl old ↦ so.tagged i x old
+      | inr new ↦ subst (λ y. IsTagged h m.hasher m.amount i y) new.1 (subst (λ j. IsTagged h m.hasher m.amount j s) (sym (new.0 ∙ so.count)) tagged)
     ];
   }
 
@@ -81,7 +82,7 @@ module _ {K V S : Type 0} (h : KeyHash K S) where
         amount = long;
         lawful = record {
           amount = subst IsAmount (sym long) amount;
-          placed = λ i s e. subst (λ k. IsPlaced h m.hasher k i s) (sym long) (so.placed i s e);
+          tagged = λ i s e. subst (λ k. IsTagged h m.hasher k i s) (sym long) (so.tagged i s e);
         };
       }
 

@@ -1,12 +1,14 @@
--- A keyed call of a map of one owner: the key, its place, and the shard that an index lends there.
+-- A keyed call of a map of one owner: the key, the index of its shard, and the shard that an index lends there.
 use Rattle.std.proofs.Common.{◌≡◌, ℕ, ◌<◌, Bool, List, length, Option, Some, slice_get, slice_set, flat_map, get_or, sym, ap, subst, ◌∙◌}
 use Rattle.std.specs.Prelude.{IfSome, IsSomeAnd}
 use Rattle.std.proofs.lemmas.List.{set-get_or}
 use Rattle.std.proofs.lemmas.Option.{slice_get-get_or}
 use Rattle.std.proofs.Math.ListN.{length-set}
-use Rattle.dash_shard.specs.Hashing.{IsLawful, KeyHash, route_by}
+use Rattle.dash_shard.specs.Hashing.{KeyHash, route_by}
+use Rattle.dash_shard.specs.inner.Keys.{IsLawful}
 use Rattle.dash_shard.specs.Contents.{Keys, keys, at}
-use Rattle.dash_shard.specs.Steps.{Act, Step, Reply, Becomes, line, line_after, LineReplies, at_key}
+use Rattle.dash_shard.specs.Steps.{Act, Step, Reply, line, line_after, LineReplies, at_key}
+use Rattle.dash_shard.specs.inner.Steps.{Becomes}
 use Rattle.dash_shard.specs.Shard.{ShardState, SameShard, Routes, IsShard, TakesStep, TakesBy, pairs, shard_len, own_keys}
 use Rattle.dash_map.specs.Alone.{AloneState, IsAlone, TakesAlone, TakesAloneBy, contents, keys_in}
 use Rattle.dash_map.proofs.Lifting.{keys-same, on-shards, alone-set, lifted}
@@ -17,7 +19,7 @@ abbrev pub IsKeyed : {K V : Type 0} → Step K V → K → Type 0
 IsKeyed {K} {V} step k = (f : Option (K × V) → Option (K × V)) × (g : Option (K × V) → Reply K V) × (line step ≡ at_key k f g)
 
 module _ {K V S : Type 0} (h : KeyHash K S) where
-  -- the map z, whose fields are base and row, and its shard s at the place p of the key k
+  -- the map z, whose fields are base and row, and its shard s at the index p of the key k
   pub record Spot (z : AloneState K V S) (k : K) (p : ℕ) (s : ShardState K V S) : Type 0 where
     pub law : IsLawful h
     pub base : S
@@ -43,11 +45,11 @@ module _ {K V S : Type 0} {h : KeyHash K S} {z : AloneState K V S} {k : K} {p : 
 
   -- the key goes to that shard
   pub spot-route : Routes h s k
-  spot-route = ap (λ y. y.route k) (keys-same h x.base (length x.row) p s (x.lawful.placed p s spot-here)) ∙ sym route_is ∙ sym (x.lawful.placed p s spot-here).number
+  spot-route = ap (λ y. y.route k) (keys-same h x.base (length x.row) p s (x.lawful.tagged p s spot-here)) ∙ sym route_is ∙ sym (x.lawful.tagged p s spot-here).number
 
   -- the key has one hash there and by the map's hasher
   pub spot-hash : (hash : ℕ) → hash ≡ h.hash z.hasher k → hash ≡ h.hash s.hasher k
-  spot-hash hash is = is ∙ sym (ap (λ y. h.hash y.hasher k) x.view) ∙ sym ((x.lawful.placed p s spot-here).hashes k)
+  spot-hash hash is = is ∙ sym (ap (λ y. h.hash y.hasher k) x.view) ∙ sym ((x.lawful.tagged p s spot-here).hashes k)
 
   -- that shard is the one of the key
   pub spot-full : shard_len s ≡ s.capacity → IsSomeAnd (slice_get z.row ((keys_in h z).route k)) (λ y. shard_len y ≡ y.capacity)

@@ -10,11 +10,13 @@ use Rattle.std.proofs.lemmas.List.{take_more, take_more_set, drop-set-lt}
 use Rattle.std.proofs.lemmas.Option.{slice_get_within, get_or_from_slice_get}
 use Rattle.dash_shard.specs.Contents.{Keys, at, Distinct}
 use Rattle.dash_shard.specs.Shard.{ShardState, IsShard, taken, pairs}
-use Rattle.dash_shard.specs.Each.{CalledAlong, Sweeps, SweepsShard, if_kept, altered}
+use Rattle.dash_shard.specs.Each.{CalledAlong}
+use Rattle.dash_shard.specs.inner.Walks.{Sweeps, SweepsShard, if_kept, altered}
 use Rattle.dash_shard.proofs.Alls.{kept-key, altered-key, length-altered}
 use Rattle.dash_shard.proofs.Remade.{KeepsKey, remade, at-remade, fewer-remade, Acts, acts, makes}
 use Rattle.dash_map.specs.Alone.{AloneState, IsAlone, contents, keys_in}
-use Rattle.dash_map.specs.AllPairs.{SameRoom, RetainsAlone, AltersAllAlone}
+use Rattle.dash_map.specs.AllPairs.{RetainsAlone, AltersAllAlone}
+use Rattle.dash_map.specs.inner.Rooms.{SameRoom}
 use Rattle.dash_map.proofs.Distincts.{distinct-contents}
 use Rattle.dash_map.proofs.Turning.{Turning, turning-first, turned, each-turned}
 use Rattle.dash_shard.specs.Hashing.{KeyHash}
@@ -25,16 +27,16 @@ taken-append (None ∷ xs) ys = taken-append xs ys
 taken-append (Some x ∷ xs) ys = ap (λ l. x ∷ l) (taken-append xs ys)
 
 module _ {K V S : Type 0} where
-  -- the places of all shards
-  abbrev pub places_of : List (ShardState K V S) → List (Option (K × V))
-  places_of row = flat_map (λ s. s.places) row
+  -- the slots of all shards
+  abbrev pub slots_of : List (ShardState K V S) → List (Option (K × V))
+  slots_of row = flat_map (λ s. s.slots) row
 
-  taken-places : (row : List (ShardState K V S)) → taken (places_of row) ≡ flat_map pairs row
-  taken-places [] = refl
-  taken-places (s ∷ row) = taken-append s.places (places_of row) ∙ ap (λ l. pairs s ++ l) (taken-places row)
+  taken-slots : (row : List (ShardState K V S)) → taken (slots_of row) ≡ flat_map pairs row
+  taken-slots [] = refl
+  taken-slots (s ∷ row) = taken-append s.slots (slots_of row) ∙ ap (λ l. pairs s ++ l) (taken-slots row)
 
-  pub places-more : (row : List (ShardState K V S)) (s : ShardState K V S) → places_of (row ++ s ∷ []) ≡ places_of row ++ s.places
-  places-more row s = flat_map-append (λ x. x.places) row (s ∷ []) ∙ ap (λ l. places_of row ++ l) (append-nil s.places)
+  pub slots-more : (row : List (ShardState K V S)) (s : ShardState K V S) → slots_of (row ++ s ∷ []) ≡ slots_of row ++ s.slots
+  slots-more row s = flat_map-append (λ x. x.slots) row (s ∷ []) ∙ ap (λ l. slots_of row ++ l) (append-nil s.slots)
 
 module _ {F K V : Type 0} (T : F → K → V → Bool → V → F → Type 0) (leaves : K → V × Bool → Option (K × V)) where
   -- a walk over one row and then over another
@@ -44,7 +46,7 @@ module _ {F K V : Type 0} (T : F → K → V → Bool → V → F → Type 0) (l
       (s.0, s.1, s.2 ++ news, s.3, ap (λ l. l ++ news) s.4, sweeps-append s.1 mid last xs s.2 zs news s.5 r)
 
   module _ (Q : F → K → V → Type 0) where
-    -- after a walk over the places in front the closure may be called at the pairs behind
+    -- after a walk over the slots in front the closure may be called at the pairs behind
     pub callable-behind : (f mid : F) (xs ys : List (Option (K × V))) (ps : List (K × V)) → Sweeps T leaves f xs ys mid → CallableOnEachPair T Q f (taken xs ++ ps) → CallableOnEachPair T Q mid ps
     callable-behind f mid [] ys ps s c = subst (λ x. CallableOnEachPair T Q x ps) s.1 c
     callable-behind f mid (None ∷ xs) ys ps s c = callable-behind s.1 mid xs s.2 ps s.5 (subst (λ x. CallableOnEachPair T Q x (taken xs ++ ps)) s.3.1 c)
@@ -59,7 +61,7 @@ module _ {K V S F : Type 0} (h : KeyHash K S)
   -- the closure was called along the shards below i, and may be called along those from i on
   pub record Sweeping (i : ℕ) (old now : AloneState K V S) (f : F) : Type 0 where
     pub turning : Turning h SameRoom i old now
-    pub swept : Sweeps T leaves first (places_of (take i old.row)) (places_of (take i now.row)) f
+    pub swept : Sweeps T leaves first (slots_of (take i old.row)) (slots_of (take i now.row)) f
     pub ready : CallableOnEachPair T Q f (flat_map pairs (drop i now.row))
 
   pub sweeping-first : (old now : AloneState K V S) → now ≡ old → IsAlone h now → CallableOnEachPair T Q first (contents old) → Sweeping 0 old now first
@@ -91,11 +93,11 @@ module _ {K V S F : Type 0} (h : KeyHash K S)
         let after : take (i + 1) (slice_set row i t) ≡ take i row ++ t ∷ [] = take_more_set row i t lt in
         record {
           turning = turned h SameRoom i old base row r.turning s t here x.stays lawful x.room;
-          swept = subst (λ l. Sweeps T leaves first l (places_of (take (i + 1) (slice_set row i t))) f') (sym (ap places_of before ∙ places-more (take i old.row) s))
-              (subst (λ l. Sweeps T leaves first (places_of (take i old.row) ++ s.places) l f') (sym (ap places_of after ∙ places-more (take i row) t))
-              (sweeps-append T leaves first f f' (places_of (take i old.row)) (places_of (take i row)) s.places t.places r.swept x.swept));
+          swept = subst (λ l. Sweeps T leaves first l (slots_of (take (i + 1) (slice_set row i t))) f') (sym (ap slots_of before ∙ slots-more (take i old.row) s))
+              (subst (λ l. Sweeps T leaves first (slots_of (take i old.row) ++ s.slots) l f') (sym (ap slots_of after ∙ slots-more (take i row) t))
+              (sweeps-append T leaves first f f' (slots_of (take i old.row)) (slots_of (take i row)) s.slots t.slots r.swept x.swept));
           ready = subst (λ l. CallableOnEachPair T Q f' (flat_map pairs l)) (sym (drop-set-lt (i + 1) row i t (omega arith)))
-              (callable-behind T leaves Q f f' s.places t.places (flat_map pairs (drop (i + 1) row)) x.swept ready-both);
+              (callable-behind T leaves Q f f' s.slots t.slots (flat_map pairs (drop (i + 1) row)) x.swept ready-both);
         }
 
   -- along all of them
@@ -103,28 +105,28 @@ module _ {K V S F : Type 0} (h : KeyHash K S)
     abbrev w : Keys K
     w = keys_in h old
 
-    whole : Sweeps T leaves first (places_of old.row) (places_of now.row) last
+    whole : Sweeps T leaves first (slots_of old.row) (slots_of now.row) last
     whole =
         let none-more : take i old.row ≡ old.row = ap (λ n. take n old.row) (all ∙ r.turning.amount) ∙ take-length old.row in
         let none-left : take i now.row ≡ now.row = ap (λ n. take n now.row) all ∙ take-length now.row in
-        subst (λ l. Sweeps T leaves first (places_of l) (places_of now.row) last) none-more (subst (λ l. Sweeps T leaves first (places_of (take i old.row)) (places_of l) last) none-left r.swept)
+        subst (λ l. Sweeps T leaves first (slots_of l) (slots_of now.row) last) none-more (subst (λ l. Sweeps T leaves first (slots_of (take i old.row)) (slots_of l) last) none-left r.swept)
 
-    distinct : Distinct w.eq (taken (places_of old.row))
-    distinct = subst (Distinct w.eq) (sym (taken-places old.row)) (distinct-contents h laws old a)
+    distinct : Distinct w.eq (taken (slots_of old.row))
+    distinct = subst (Distinct w.eq) (sym (taken-slots old.row)) (distinct-contents h laws old a)
 
-    pub did : Acts T leaves w laws first (places_of old.row) (places_of now.row) last
-    did = acts T leaves w laws first (places_of old.row) (places_of now.row) last distinct whole
+    pub did : Acts T leaves w laws first (slots_of old.row) (slots_of now.row) last
+    did = acts T leaves w laws first (slots_of old.row) (slots_of now.row) last distinct whole
 
     pub called-all : CalledAlong T did.act first (contents old) last
-    called-all = subst (λ ps. CalledAlong T did.act first ps last) (taken-places old.row) did.called
+    called-all = subst (λ ps. CalledAlong T did.act first ps last) (taken-slots old.row) did.called
 
-    -- what the map has: what the places have
-    pub made-all : contents now ≡ taken (remade (makes T leaves w laws did.act) (places_of old.row))
-    made-all = sym (taken-places now.row) ∙ ap taken did.made
+    -- what the map has: what the slots have
+    pub made-all : contents now ≡ taken (remade (makes T leaves w laws did.act) (slots_of old.row))
+    made-all = sym (taken-slots now.row) ∙ ap taken did.made
 
     pub each-made : KeepsKey (makes T leaves w laws did.act) → (j : K) → at w.eq (contents now) j ≡ option_and_then (makes T leaves w laws did.act) (at w.eq (contents old) j)
-    each-made keeps j = ap (λ ps. at w.eq ps j) made-all ∙ at-remade (makes T leaves w laws did.act) keeps w laws (places_of old.row) distinct j
-        ∙ ap (λ ps. option_and_then (makes T leaves w laws did.act) (at w.eq ps j)) (taken-places old.row)
+    each-made keeps j = ap (λ ps. at w.eq ps j) made-all ∙ at-remade (makes T leaves w laws did.act) keeps w laws (slots_of old.row) distinct j
+        ∙ ap (λ ps. option_and_then (makes T leaves w laws did.act) (at w.eq ps j)) (taken-slots old.row)
 
 module _ {K V S F : Type 0} (h : KeyHash K S)
     (T : F → K → V → Bool → V → F → Type 0) (Q : F → K → V → Type 0) (first : F) (laws : IsEquivalence h.eq) (i : ℕ) (old now : AloneState K V S) (last : F) (a : IsAlone h old) (all : i ≡ length now.row) where
@@ -142,8 +144,8 @@ module _ {K V S F : Type 0} (h : KeyHash K S)
             stays = record { hasher = r.turning.hasher; amount = r.turning.amount };
           };
         };
-        len = subst (λ n. length (contents now) ≤ n) (ap length (taken-places old.row))
-            (subst (λ ps. length ps ≤ length (taken (places_of old.row))) (sym (made-all h T Q if_kept first laws i old now last a r all)) (fewer-remade (makes T if_kept (keys_in h old) laws d.act) (places_of old.row)));
+        len = subst (λ n. length (contents now) ≤ n) (ap length (taken-slots old.row))
+            (subst (λ ps. length ps ≤ length (taken (slots_of old.row))) (sym (made-all h T Q if_kept first laws i old now last a r all)) (fewer-remade (makes T if_kept (keys_in h old) laws d.act) (slots_of old.row)));
       }
 
   pub alters-all-alone : Sweeping h T Q altered first i old now last → AltersAllAlone h.eq T first old now
@@ -160,5 +162,5 @@ module _ {K V S F : Type 0} (h : KeyHash K S)
             stays = record { hasher = r.turning.hasher; amount = r.turning.amount };
           };
         };
-        len = ap length (made-all h T Q altered first laws i old now last a r all) ∙ length-altered d.act (places_of old.row) ∙ ap length (taken-places old.row);
+        len = ap length (made-all h T Q altered first laws i old now last a r all) ∙ length-altered d.act (slots_of old.row) ∙ ap length (taken-slots old.row);
       }

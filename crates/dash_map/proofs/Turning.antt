@@ -7,7 +7,7 @@ use Rattle.std.specs.Cmp.{IsEquivalence}
 use Rattle.dash_shard.proofs.Rows.{slice_get-set_same, slice_get-set_other}
 use Rattle.dash_shard.proofs.Routing.{route_below}
 use Rattle.dash_shard.specs.Hashing.{KeyHash, route_by}
-use Rattle.dash_shard.specs.Contents.{Keys, keys, at, Distinct}
+use Rattle.dash_shard.specs.Contents.{Keys, keys, at}
 use Rattle.dash_shard.specs.Shard.{ShardState, SameShard, IsShard, pairs, shard_len}
 use Rattle.dash_shard.specs.Each.{Clears, Shrinks}
 use Rattle.dash_map.specs.Alone.{AloneState, IsAlone, contents, keys_in}

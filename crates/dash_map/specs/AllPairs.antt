@@ -1,24 +1,20 @@
 -- What calls on all pairs of a map of one owner do and promise.
 use Rattle.std.specs.Prelude.{ℕ, ◌≡◌, ◌≤◌, Bool, [], length, Option, Some, slice_get, option_and_then}
 use Rattle.dash_shard.specs.Contents.{at, EachOnce}
-use Rattle.dash_shard.specs.Steps.{Act, changed, if_yes}
+use Rattle.dash_shard.specs.Steps.{changed, if_yes}
 use Rattle.dash_shard.specs.Shard.{ShardState}
 use Rattle.dash_shard.specs.Each.{ByCalls, Shrinks}
 use Rattle.dash_map.specs.Alone.{AloneState, SameMap, contents}
 
 module _ {K V S : Type 0} where
-  -- each shard is to the one that stood in its place what R says
+  -- each shard is to the one that stood at its index what R says
   abbrev pub EachShard : (ShardState K V S → ShardState K V S → Type 0) → AloneState K V S → AloneState K V S → Type 0
   EachShard R old new = (i : ℕ) (s t : ShardState K V S) → slice_get old.row i ≡ Some s → slice_get new.row i ≡ Some t → R s t
-
-  -- the shard has as much room as before
-  abbrev pub SameRoom : ShardState K V S → ShardState K V S → Type 0
-  SameRoom s t = t.capacity ≡ s.capacity
 
   -- all that `clear` promises: no pair stays
   pub record ClearsAlone (old new : AloneState K V S) : Type 0 where
     pub empty : contents new ≡ []
-    pub room : EachShard SameRoom old new
+    pub room : EachShard (λ s t. t.capacity ≡ s.capacity) old new
     pub stays : SameMap old new
 
   module _ (eq : K → K → Bool) where
@@ -32,16 +28,15 @@ module _ {K V S : Type 0} where
     -- each pair becomes what is said here, or goes
     pub record Remakes (becomes : K × V → Option (K × V)) (old new : AloneState K V S) : Type 0 where
       pub each : (j : K) → at eq (contents new) j ≡ option_and_then becomes (at eq (contents old) j)
-      pub room : EachShard SameRoom old new
+      pub room : EachShard (λ s t. t.capacity ≡ s.capacity) old new
       pub stays : SameMap old new
 
-    module _ {F : Type 0} (T : F → K → V → Bool → V → F → Type 0) (f : F) where
-      -- all that `retain` promises: a pair stays, with its new value, where the action, which is what f did, answers yes
-      pub record RetainsAlone (old new : AloneState K V S) : Type 0 where
-        pub did : ByCalls T f (contents old) (λ act. Remakes (λ p. if_yes act p (changed act p)) old new)
-        pub len : length (contents new) ≤ length (contents old)
+    -- all that `retain` promises: a pair stays, with its new value, where the action, which is what f did, answers yes
+    pub record RetainsAlone {F : Type 0} (T : F → K → V → Bool → V → F → Type 0) (f : F) (old new : AloneState K V S) : Type 0 where
+      pub did : ByCalls T f (contents old) (λ act. Remakes (λ p. if_yes act p (changed act p)) old new)
+      pub len : length (contents new) ≤ length (contents old)
 
-      -- all that `alter_all` promises: each pair stays, with the value that the action, which is what f did, makes of its own
-      pub record AltersAllAlone (old new : AloneState K V S) : Type 0 where
-        pub did : ByCalls T f (contents old) (λ act. Remakes (λ p. Some (changed act p)) old new)
-        pub len : length (contents new) ≡ length (contents old)
+    -- all that `alter_all` promises: each pair stays, with the value that the action, which is what f did, makes of its own
+    pub record AltersAllAlone {F : Type 0} (T : F → K → V → Bool → V → F → Type 0) (f : F) (old new : AloneState K V S) : Type 0 where
+      pub did : ByCalls T f (contents old) (λ act. Remakes (λ p. Some (changed act p)) old new)
+      pub len : length (contents new) ≡ length (contents old)

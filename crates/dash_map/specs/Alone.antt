@@ -1,9 +1,9 @@
 -- A map of one owner: a row of shards.
-use Rattle.std.specs.Prelude.{ℕ, ◌≡◌, ◌+◌, ◌≤◌, Bool, List, length, flat_map, Option, Some, Result, OnOk, slice_get}
+use Rattle.std.specs.Prelude.{ℕ, ◌≡◌, ◌+◌, ◌≤◌, Bool, List, length, flat_map, Some, Result, OnOk, slice_get}
 use Rattle.dash_shard.specs.Hashing.{KeyHash, IsAmount, route_by}
 use Rattle.dash_shard.specs.Contents.{Keys, keys, at}
 use Rattle.dash_shard.specs.Steps.{Act, Step, Reply, Replies, IsTaken, BySome}
-use Rattle.dash_shard.specs.Shard.{ShardState, IsPlaced, pairs, shard_len}
+use Rattle.dash_shard.specs.Shard.{ShardState, IsTagged, pairs, shard_len}
 
 -- what contracts see of the map
 pub record AloneState (K V S : Type 0) : Type 0 where
@@ -27,10 +27,10 @@ module _ {K V S : Type 0} where
     pub stays : SameMap old new
 
   module _ (h : KeyHash K S) where
-    -- each shard stands in its place
+    -- each shard has the number of its index
     pub record IsAlone (a : AloneState K V S) : Type 0 where
       pub amount : IsAmount (length a.row)
-      pub placed : (i : ℕ) (s : ShardState K V S) → slice_get a.row i ≡ Some s → IsPlaced h a.hasher (length a.row) i s
+      pub tagged : (i : ℕ) (s : ShardState K V S) → slice_get a.row i ≡ Some s → IsTagged h a.hasher (length a.row) i s
 
     -- what the map knows of its keys
     abbrev pub keys_in : AloneState K V S → Keys K

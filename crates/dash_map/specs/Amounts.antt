@@ -1,5 +1,5 @@
 -- How many shards a map has, and how many pairs each shard has room for.
-use Rattle.std.specs.Prelude.{ℕ, ◌≡◌, ◌⊎◌, ◌+◌, ◌-◌, ◌*◌, ◌/◌, ◌^◌, ◌<◌, ◌≤◌, List, [], ◌∷◌}
+use Rattle.std.specs.Prelude.{ℕ, ◌≡◌, ◌⊎◌, ◌+◌, ◌-◌, ◌*◌, ◌^◌, ◌<◌, ◌≤◌, List, [], ◌∷◌}
 use Rattle.std.specs.Int.{IsPowerOfTwo}
 
 -- what a caller may hand in as the number of its processors
@@ -26,7 +26,3 @@ abbrev pub IsOneOf : {A : Type 0} → List A → A → Type 0
 IsOneOf [] a = ⊥
 IsOneOf (x ∷ []) a = a ≡ x
 IsOneOf (x ∷ y ∷ xs) a = (a ≡ x) ⊎ IsOneOf (y ∷ xs) a
-
--- a shard's share of the capacity, once it was rounded up
-abbrev pub share : ℕ → ℕ → ℕ
-share c n = (c + (n - 1)) / n

@@ -1,9 +1,9 @@
 -- What calls of a map promise where others may change it: of shards that stood behind its locks, and of what they left there.
-use Rattle.std.specs.Prelude.{ℕ, ◌≡◌, Bool, List, length, Result}
+use Rattle.std.specs.Prelude.{◌≡◌, Bool, List, length}
 use Rattle.std.specs.Map.Calls.{CallableOnEachPair}
 use Rattle.dash_shard.specs.Hashing.{KeyHash, route_by}
 use Rattle.dash_shard.specs.Steps.{Act, Step, Reply}
-use Rattle.dash_shard.specs.Shard.{ShardState, IsPlaced, TakesBy}
+use Rattle.dash_shard.specs.Shard.{ShardState, IsTagged, TakesBy}
 use Rattle.dash_map.specs.Alone.{AloneState, IsAlone}
 use Rattle.dash_map.specs.Map.{MapState}
 
@@ -11,19 +11,18 @@ use Rattle.dash_map.specs.Map.{MapState}
 abbrev pub CallableOnPairs : {F K V : Type 0} → (F → K → V → Bool → V → F → Type 0) → (F → K → V → Type 0) → F → Type 0
 CallableOnPairs {K = K} {V = V} T Q f = (ps : List (K × V)) → CallableOnEachPair T Q f ps
 
-module _ {K S : Type 0} (h : KeyHash K S) where
-  -- the shard stands in the place where the key goes
-  abbrev pub StandsAt : {V : Type 0} → MapState S → K → ShardState K V S → Type 0
-  StandsAt m key s = IsPlaced h m.hasher m.amount (route_by h m.hasher m.amount key) s
-
 module _ {K V S : Type 0} (h : KeyHash K S) where
+  -- the shard is the one where the key goes
+  abbrev pub StandsAt : MapState S → K → ShardState K V S → Type 0
+  StandsAt m key s = IsTagged h m.hasher m.amount (route_by h m.hasher m.amount key) s
+
   -- P is so of a shard that stood where the key goes
   abbrev pub SawShard : MapState S → K → (ShardState K V S → Type 0) → Type 0
-  SawShard m key P = (s : ShardState K V S) × StandsAt h m key s × P s
+  SawShard m key P = (s : ShardState K V S) × StandsAt m key s × P s
 
   -- R of a shard that stood where the key goes, and of the one that was left there
   abbrev pub LeavesShard : MapState S → K → (ShardState K V S → ShardState K V S → Type 0) → Type 0
-  LeavesShard m key R = (s : ShardState K V S) × (t : ShardState K V S) × StandsAt h m key s × StandsAt h m key t × R s t
+  LeavesShard m key R = (s : ShardState K V S) × (t : ShardState K V S) × StandsAt m key s × StandsAt m key t × R s t
 
   -- the same of a step in place, by some action that may do on the pair with an equal key what it does, and of the counts of pairs
   abbrev pub LeavesBy : MapState S → (K → Act K V → Step K V) → K → Reply K V → (K × V → V × Bool → Type 0) → (ShardState K V S → ShardState K V S → Type 0) → Type 0
@@ -39,10 +38,6 @@ module _ {K V S : Type 0} (h : KeyHash K S) where
   abbrev pub SawShards : MapState S → (AloneState K V S → Type 0) → Type 0
   SawShards m P = (a : AloneState K V S) × IsBehind m a × P a
 
-  -- R of shards that stood behind the locks of this map, each when its turn came, and of those that were left in their places
-  pub record LeavesShards (m : MapState S) (R : AloneState K V S → AloneState K V S → Type 0) : Type 0 where
-    pub before : AloneState K V S
-    pub after : AloneState K V S
-    pub stood : IsBehind m before
-    pub stands : IsBehind m after
-    pub leaves : R before after
+  -- R of shards that stood behind the locks of this map, each when its turn came, and of those that were left there
+  abbrev pub LeavesShards : MapState S → (AloneState K V S → AloneState K V S → Type 0) → Type 0
+  LeavesShards m R = (a : AloneState K V S) × (b : AloneState K V S) × IsBehind m a × IsBehind m b × R a b

@@ -5,3 +5,4 @@ pub mod Run
 pub mod Behind
 pub mod AllPairs
 pub mod Lends
+pub mod inner

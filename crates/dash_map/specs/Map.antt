@@ -1,23 +1,7 @@
 -- A map behind its locks.
-use Rattle.std.specs.Prelude.{ℕ, ◌≡◌, List, Some, slice_get}
-use Rattle.crossbeam_utils.specs.declared.cache_padded.CachePadded.{CachePadded}
-use Rattle.crossbeam_utils.specs.Padded.{padded_value}
-use Rattle.dash_shard.specs.Hashing.{IsAmount}
-use Rattle.dash_shard.specs.declared.shard.held.ShardTag.{ShardTag}
+use Rattle.std.specs.Prelude.{ℕ}
 
 -- what contracts see of the map: nothing of its pairs
 pub record MapState (S : Type 0) : Type 0 where
   pub hasher : S
   pub amount : ℕ
-
-module _ {S : Type 0} where
-  -- the lock was made for shard i of the map
-  pub record IsAt (m : MapState S) (i : ℕ) (lock : CachePadded (ShardTag S)) : Type 0 where
-    pub number : (padded_value lock).number ≡ i
-    pub amount : (padded_value lock).amount ≡ m.amount
-    pub hasher : (padded_value lock).hasher.value ≡ m.hasher
-
-  -- a lawful map, whose locks stand in their places
-  pub record IsMap (m : MapState S) (locks : List (CachePadded (ShardTag S))) : Type 0 where
-    pub amount : IsAmount m.amount
-    pub placed : (i : ℕ) (lock : CachePadded (ShardTag S)) → slice_get locks i ≡ Some lock → IsAt m i lock

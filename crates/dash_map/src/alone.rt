@@ -1,17 +1,19 @@
 //! A map of one owner, without locks.
-ghost use Rattle.std.specs.Prelude.{◌≡◌, ◌⊎◌, ℕ, ◌+◌, ◌-◌, ◌^◌, ◌<◌, ◌≤◌, ◌↔◌, min, IsErrOf, IfOk, IfErr, OnOk, Some, None, length, slice_get, OnErr, is_some, IsSomeAnd, IfSome, sum_by, ◌==◌};
+ghost use Rattle.std.specs.Prelude.{◌≡◌, ◌⊎◌, ℕ, ◌+◌, ◌-◌, ◌^◌, ◌<◌, ◌≤◌, ◌↔◌, min, IsErrOf, IfOk, IfErr, Some, None, length, slice_get, OnErr, is_some, IsSomeAnd, IfSome, sum_by, ◌==◌};
 ghost use Rattle.crossbeam_utils.specs.Padded.{padded_value};
 ghost use Rattle.dash_shard.specs.Hashing.{by, IsAmount, HashAlike};
-ghost use Rattle.dash_shard.specs.Shard.{shard_len, IsPlaced};
-ghost use Rattle.dash_shard.specs.Held.{FitsPlace};
-ghost use Rattle.dash_map.specs.Amounts.{Overflows, share};
+ghost use Rattle.dash_shard.specs.Shard.{shard_len, IsTagged};
+ghost use Rattle.dash_shard.specs.Held.{FitsTag};
+ghost use Rattle.dash_map.specs.Amounts.{Overflows};
+ghost use Rattle.dash_map.specs.inner.Amounts.{share};
 ghost use Rattle.std.specs.Option.{option_map};
 ghost use Rattle.std.specs.Map.Iter.{deref_pair};
 ghost use Rattle.dash_shard.specs.Contents.{at};
 ghost use Rattle.dash_shard.specs.Steps.{Get, Contains, Insert, Remove, Pair, Found, Old, RemoveIf};
 ghost use Rattle.dash_shard.specs.Closures.{MayAsk, Viewed, Answered};
 ghost use Rattle.dash_map.specs.Alone.{IsAlone, ReservesAlone, TakesAlone, contents, keys_in, RepliesAlone, TakesAloneBy};
-ghost use Rattle.dash_map.specs.Map.{IsAt};
+ghost use Rattle.dash_map.specs.inner.Locks.{IsAt};
+ghost use Rattle.dash_map.specs.Behind.{IsBehind};
 
 use crate::map::{DashMap, Locked};
 use crossbeam_utils::CachePadded;
@@ -19,7 +21,7 @@ use dash_shard::error::{ConstructError, TryReserveError};
 use dash_shard::hash::{determine_shard, is_shard_amount};
 use dash_shard::keyed::Keyed;
 use dash_shard::lock::RwLock;
-use dash_shard::row::move_all;
+use dash_shard::row::Row;
 use dash_shard::shard::held::ShardTag;
 use dash_shard::shard::{InsertRefused, Shard};
 use std::alloc::Global;
@@ -36,21 +38,18 @@ mod changes;
 #[derive(Drop)]
 pub struct Alone<K: Eq + Hash, V, S: BuildHasher> {
     pub(crate) hasher: S,
-    pub(crate) row: Vec<Shard<K, V, S>>,
-    // Empty, with room for all locks.
-    pub(crate) locks: Vec<Locked<K, V, S>>,
+    pub(crate) row: Row<Shard<K, V, S>, Locked<K, V, S>>,
 }
 
 impl<K: Eq + Hash, V, S: BuildHasher> Model for Alone<K, V, S> {
-    ghost use Rattle.std.specs.Prelude.{◌≡◌, ◌≤◌, [], vec_len, vec_capacity};
     ghost use Rattle.dash_map.specs.Alone.{AloneState, IsAlone};
     ghost use Rattle.dash_shard.specs.Hashing.{key_hash};
 
     ghost Value = { AloneState K V S };
 
-    ghost view = { λ a. record { hasher = a.hasher; row = a.row.items } };
+    ghost view = { λ a. record { hasher = a.hasher; row = a.row } };
 
-    ghost invariant = { λ a. IsAlone (key_hash K.eq K.hash_input S.BuildHasher S.Hasher.Hasher) (record { hasher = a.hasher; row = a.row.items }) × (a.locks.items ≡ []) × (vec_len a.row ≤ vec_capacity a.locks) };
+    ghost invariant = { λ a. IsAlone (key_hash K.eq K.hash_input S.BuildHasher S.Hasher.Hasher) (record { hasher = a.hasher; row = a.row }) };
 }
 
 impl<K: Eq + Hash, V, S: BuildHasher> Keyed for Alone<K, V, S> {
@@ -71,7 +70,7 @@ fn fresh_row<K: Eq + Hash + Drop, V: Drop, S: BuildHasher + Clone + Drop>(
     requires amount { IsAmount amount }
     requires alike { (s t : S) → S.is_clone s t → HashAlike ⟦<Alone<K, V, S> as Keyed>⟧.by s t }
     ensures len { IfOk result (λ row. length row.items ≡ amount) }
-    ensures placed { IfOk result (λ row. (i : ℕ) (s : _) → slice_get row.items i ≡ Some s → IsPlaced ⟦<Alone<K, V, S> as Keyed>⟧.by hasher.now amount i s) }
+    ensures tagged { IfOk result (λ row. (i : ℕ) (s : _) → slice_get row.items i ≡ Some s → IsTagged ⟦<Alone<K, V, S> as Keyed>⟧.by hasher.now amount i s) }
     ensures fresh { IfOk result (λ row. (i : ℕ) (s : _) → slice_get row.items i ≡ Some s → (shard_len s ≡ 0) × (capacity ≤ s.capacity)) }
     ensures memory { IfErr result (λ e. e ≡ ConstructError.Memory) }
 {
@@ -112,10 +111,10 @@ impl<K: Eq + Hash + Drop, V: Drop, S: BuildHasher> Alone<K, V, S> {
             return Err(ConstructError::CapacityOverflow);
         };
         let row = fresh_row(alloc, &hasher, amount, rounded / amount)?;
-        let Ok(locks) = Vec::with_capacity(alloc, amount) else {
+        let Ok(row) = Row::of(alloc, row) else {
             return Err(ConstructError::Memory);
         };
-        Ok(Alone { hasher, row, locks })
+        Ok(Alone { hasher, row })
     }
 
     /// How many shards the map has.
@@ -124,15 +123,14 @@ impl<K: Eq + Hash + Drop, V: Drop, S: BuildHasher> Alone<K, V, S> {
         ensures count { result ≡ length self.now.row }
         ensures lawful { IsAlone ⟦<Self as Keyed>⟧.by self.now }
     {
-        let _ = &self.hasher;
         self.row.len()
     }
 
     // The key's hash, and the number of the shard that it goes to.
     #[inline]
-    fn place_of(&self, key: &K) -> (u64, usize)
+    fn route_of(&self, key: &K) -> (u64, usize)
         ensures hash { result.0 ≡ ⟦<Self as Keyed>⟧.by.hash self.now.hasher key.now }
-        ensures place { result.1 ≡ (keys_in ⟦<Self as Keyed>⟧.by self.now).route key.now }
+        ensures idx { result.1 ≡ (keys_in ⟦<Self as Keyed>⟧.by self.now).route key.now }
         ensures below { result.1 < length self.now.row }
     {
         let hash = self.hasher.hash_one(key);
@@ -149,8 +147,8 @@ impl<K: Eq + Hash + Drop, V: Drop, S: BuildHasher> Alone<K, V, S> {
         ensures absent { OnErr result (at K.eq (contents self.old) key ≡ None) }
         ensures full { OnErr result (IsSomeAnd (slice_get self.old.row ((keys_in ⟦<Self as Keyed>⟧.by self.old).route key)) (λ s. shard_len s ≡ s.capacity)) }
     {
-        let (hash, place) = self.place_of(&key);
-        self.row[place].insert_hashed(hash, key, value)
+        let (hash, idx) = self.route_of(&key);
+        self.row[idx].insert_hashed(hash, key, value)
     }
 
     /// Takes the pair whose key equals `key` out, and answers it. It takes no memory, and can't be refused.
@@ -158,20 +156,19 @@ impl<K: Eq + Hash + Drop, V: Drop, S: BuildHasher> Alone<K, V, S> {
     pub fn remove(&mut self, key: &K) -> Option<(K, V)>
         ensures { TakesAlone ⟦<Self as Keyed>⟧.by self.old self.new (Remove key.now) (Pair result) }
     {
-        let (hash, place) = self.place_of(key);
-        self.remove_hashed(hash, place, key)
+        let (hash, idx) = self.route_of(key);
+        self.remove_hashed(hash, idx, key)
     }
 
-    // As `remove`, by the key's hash and place.
+    // As `remove`, by the key's hash and shard.
     #[inline]
-    fn remove_hashed(&mut self, hash: u64, place: usize, key: &K) -> Option<(K, V)>
+    fn remove_hashed(&mut self, hash: u64, idx: usize, key: &K) -> Option<(K, V)>
         requires hash { hash ≡ ⟦<Self as Keyed>⟧.by.hash self.old.hasher key.now }
-        requires place { place ≡ (keys_in ⟦<Self as Keyed>⟧.by self.old).route key.now }
-        requires below { place < length self.old.row }
+        requires idx { idx ≡ (keys_in ⟦<Self as Keyed>⟧.by self.old).route key.now }
+        requires below { idx < length self.old.row }
         ensures { TakesAlone ⟦<Self as Keyed>⟧.by self.old self.new (Remove key.now) (Pair result) }
     {
-        let _ = &self.hasher;
-        self.row[place].remove_hashed(hash, key)
+        self.row[idx].remove_hashed(hash, key)
     }
 
     /// Takes the pair whose key equals `key` out if `f` answers yes on it, and answers it. It takes no memory, and can't be refused.
@@ -180,8 +177,8 @@ impl<K: Eq + Hash + Drop, V: Drop, S: BuildHasher> Alone<K, V, S> {
         requires { IfSome (at K.eq (contents self.old) key.now) (MayAsk F.FnOnce f) }
         ensures { TakesAloneBy ⟦<Self as Keyed>⟧.by self.old self.new RemoveIf key.now (Pair result) (Answered F.FnOnce f) }
     {
-        let (hash, place) = self.place_of(key);
-        self.row[place].remove_if_hashed(hash, key, f)
+        let (hash, idx) = self.route_of(key);
+        self.row[idx].remove_if_hashed(hash, key, f)
     }
 
     /// The pair whose key equals `key`.
@@ -190,21 +187,20 @@ impl<K: Eq + Hash + Drop, V: Drop, S: BuildHasher> Alone<K, V, S> {
         ensures pair { RepliesAlone ⟦<Self as Keyed>⟧.by self.now (Get key.now) (Pair (option_map deref_pair result)) }
         ensures lawful { IsAlone ⟦<Self as Keyed>⟧.by self.now }
     {
-        let (hash, place) = self.place_of(key);
-        self.get_hashed(hash, place, key)
+        let (hash, idx) = self.route_of(key);
+        self.get_hashed(hash, idx, key)
     }
 
-    // As `get`, by the key's hash and place.
+    // As `get`, by the key's hash and shard.
     #[inline]
-    fn get_hashed(&self, hash: u64, place: usize, key: &K) -> Option<(&K, &V)>
+    fn get_hashed(&self, hash: u64, idx: usize, key: &K) -> Option<(&K, &V)>
         requires hash { hash ≡ ⟦<Self as Keyed>⟧.by.hash self.now.hasher key.now }
-        requires place { place ≡ (keys_in ⟦<Self as Keyed>⟧.by self.now).route key.now }
-        requires below { place < length self.now.row }
+        requires idx { idx ≡ (keys_in ⟦<Self as Keyed>⟧.by self.now).route key.now }
+        requires below { idx < length self.now.row }
         ensures pair { RepliesAlone ⟦<Self as Keyed>⟧.by self.now (Get key.now) (Pair (option_map deref_pair result)) }
         ensures lawful { IsAlone ⟦<Self as Keyed>⟧.by self.now }
     {
-        let _ = &self.hasher;
-        let shard = &self.row[place];
+        let shard = &self.row[idx];
         let position = shard.position_of_hashed(hash, key)?;
         Some(shard.at(position))
     }
@@ -235,7 +231,7 @@ impl<K: Eq + Hash + Drop, V: Drop, S: BuildHasher> Alone<K, V, S> {
         ensures lawful { IsAlone ⟦<Self as Keyed>⟧.by self.now }
     {
         let mut len: usize = 0;
-        for shard in &self.row {
+        for shard in self.row.items() {
             len = len.saturating_add(shard.len());
         }
         len
@@ -257,7 +253,7 @@ impl<K: Eq + Hash + Drop, V: Drop, S: BuildHasher> Alone<K, V, S> {
         ensures lawful { IsAlone ⟦<Self as Keyed>⟧.by self.now }
     {
         let mut capacity: usize = 0;
-        for shard in &self.row {
+        for shard in self.row.items() {
             prove!(shard.len() <= shard.capacity());
             capacity = capacity.saturating_add(shard.capacity());
         }
@@ -271,9 +267,8 @@ impl<K: Eq + Hash + Drop, V: Drop, S: BuildHasher> Alone<K, V, S> {
         ensures reserves { ReservesAlone additional self.old self.new result }
         ensures lawful { IsAlone ⟦<Self as Keyed>⟧.by self.new }
     {
-        let _ = &self.hasher;
-        for place in 0..self.row.len() {
-            self.row[place].try_reserve(additional)?;
+        for idx in 0..self.row.len() {
+            self.row[idx].try_reserve(additional)?;
         }
         Ok(())
     }
@@ -282,17 +277,11 @@ impl<K: Eq + Hash + Drop, V: Drop, S: BuildHasher> Alone<K, V, S> {
     pub fn end(self) -> DashMap<K, V, S>
         ensures { result ≡ record { hasher = self.hasher; amount = length self.row } }
     {
-        let Alone {
-            hasher,
-            mut row,
-            mut locks,
-        } = self;
+        let Alone { hasher, row } = self;
         let amount = row.len();
-        move_all(
-            &mut row,
-            &mut locks,
+        let row = row.turn(
             |number: usize, shard: Shard<K, V, S>| -> Locked<K, V, S>
-                requires { IsPlaced (by K.Hash S.BuildHasher S.Hasher.Hasher) hasher amount number shard }
+                requires { IsTagged (by K.Hash S.BuildHasher S.Hasher.Hasher) hasher amount number shard }
                 ensures { IsAt (record { hasher = hasher; amount = amount }) number result }
             {
                 let tag = ShardTag {
@@ -303,37 +292,21 @@ impl<K: Eq + Hash + Drop, V: Drop, S: BuildHasher> Alone<K, V, S> {
                 CachePadded::new(RwLock::new(shard, &tag))
             },
         );
-        DashMap {
-            hasher,
-            row: locks,
-            shards: row,
-        }
+        DashMap { hasher, row }
     }
 }
 
 impl<K: Eq + Hash, V, S: BuildHasher> DashMap<K, V, S> {
     /// The map without its locks. It takes no memory, and waits for nobody, even where a hold was leaked.
     pub fn alone(self) -> Alone<K, V, S>
-        ensures hasher { result.hasher ≡ self.hasher }
-        ensures amount { length result.row ≡ self.amount }
-        ensures lawful { IsAlone ⟦<Self as Keyed>⟧.by result }
+        ensures { IsBehind ⟦<Self as Keyed>⟧.by self result }
     {
-        let DashMap {
-            hasher,
-            mut row,
-            mut shards,
-        } = self;
-        move_all(
-            &mut row,
-            &mut shards,
+        let DashMap { hasher, row } = self;
+        let row = row.turn(
             |_: usize, lock: Locked<K, V, S>| -> Shard<K, V, S>
-                ensures { FitsPlace (by K.Hash S.BuildHasher S.Hasher.Hasher) (padded_value lock) result }
+                ensures { FitsTag (by K.Hash S.BuildHasher S.Hasher.Hasher) (padded_value lock) result }
             { lock.into_inner().into_inner() },
         );
-        Alone {
-            hasher,
-            row: shards,
-            locks: row,
-        }
+        Alone { hasher, row }
     }
 }

@@ -4,7 +4,7 @@ ghost use Rattle.std.specs.Option.{option_map};
 ghost use Rattle.std.specs.Map.Iter.{deref_pair};
 ghost use Rattle.dash_shard.specs.Closures.{MayAsk, Viewed, MayChange, ChangesOn, MayGive, Answered, Given};
 ghost use Rattle.dash_shard.specs.Contents.{at};
-ghost use Rattle.dash_shard.specs.Shard.{shard_len, pairs, IsShard, RepliesOn, TakesInPlace, IsPlaced, ShardState};
+ghost use Rattle.dash_shard.specs.Shard.{shard_len, pairs, IsShard, RepliesOn, TakesInPlace, IsTagged, ShardState};
 ghost use Rattle.dash_map.specs.Behind.{SawShards, LeavesShard, SawShard, LeavesShards, StandsAt, LeavesBy};
 ghost use Rattle.dash_shard.specs.Hashing.{route_by};
 ghost use Rattle.dash_map.specs.Alone.{AloneState, contents, ReservesAlone};
@@ -44,7 +44,7 @@ fn find<'s, K: Eq + Hash, V, S: BuildHasher>(
 impl<K: Eq + Hash, V, S: BuildHasher> DashMap<K, V, S> {
     // The key's hash, and the number of the shard that it goes to.
     #[inline]
-    fn place_of(&self, key: &K) -> (u64, usize)
+    fn route_of(&self, key: &K) -> (u64, usize)
         ensures hash { result.0 ≡ ⟦<Self as Keyed>⟧.by.hash self.now.hasher key.now }
         ensures route { result.1 ≡ route_by ⟦<Self as Keyed>⟧.by self.now.hasher self.now.amount key.now }
         ensures below { result.1 < self.now.amount }
@@ -57,7 +57,7 @@ impl<K: Eq + Hash, V, S: BuildHasher> DashMap<K, V, S> {
     #[inline]
     pub fn shards_mut<R: Wait + Clock>(&self, rt: &R, shard: usize) -> ShardMut<'_, K, V, S>
         requires { shard < self.now.amount }
-        ensures placed { IsPlaced ⟦<Self as Keyed>⟧.by self.now.hasher self.now.amount shard result }
+        ensures tagged { IsTagged ⟦<Self as Keyed>⟧.by self.now.hasher self.now.amount shard result }
     {
         self.row[shard].write(rt).shard()
     }
@@ -77,8 +77,8 @@ impl<K: Eq + Hash, V, S: BuildHasher> DashMap<K, V, S> {
         V: Drop,
         ensures { LeavesShard ⟦<Self as Keyed>⟧.by self.now key (λ s t. Inserts K.eq s t key value result) }
     {
-        let (hash, place) = self.place_of(&key);
-        self.shards_mut(rt, place).insert_hashed(hash, key, value)
+        let (hash, idx) = self.route_of(&key);
+        self.shards_mut(rt, idx).insert_hashed(hash, key, value)
     }
 
     /// Takes the pair whose key equals `key` out, and answers it. Waits for the key's shard. It takes no memory.
@@ -87,8 +87,8 @@ impl<K: Eq + Hash, V, S: BuildHasher> DashMap<K, V, S> {
         ensures equal { IfSome result (λ pair. IsTrue (K.eq pair.0 key.now)) }
         ensures leaves { LeavesShard ⟦<Self as Keyed>⟧.by self.now key.now (λ s t. TakesInPlace K.eq s t (Remove key.now) (Pair result) × Loses s t result) }
     {
-        let (hash, place) = self.place_of(key);
-        self.shards_mut(rt, place).remove_hashed(hash, key)
+        let (hash, idx) = self.route_of(key);
+        self.shards_mut(rt, idx).remove_hashed(hash, key)
     }
 
     /// The pair whose key equals `key`, with a hold of its shard for reading. Waits until no writer has the shard.
@@ -99,10 +99,10 @@ impl<K: Eq + Hash, V, S: BuildHasher> DashMap<K, V, S> {
         ensures saw { SawShard ⟦<Self as Keyed>⟧.by self.now key.now (λ s. RepliesOn K.eq s (Get key.now) (Pair (option_map pair_of result))) }
         ensures equal { IfSome result (λ found. IsTrue (K.eq found.key key.now)) }
         ensures stands { IfSome result Stands }
-        ensures placed { IfSome result (λ found. StandsAt ⟦<Self as Keyed>⟧.by self.now key.now found.shard) }
+        ensures tagged { IfSome result (λ found. StandsAt ⟦<Self as Keyed>⟧.by self.now key.now found.shard) }
     {
-        let (hash, place) = self.place_of(key);
-        Ref::find(self.row[place].read(rt), hash, key)
+        let (hash, idx) = self.route_of(key);
+        Ref::find(self.row[idx].read(rt), hash, key)
     }
 
     /// Takes the pair whose key equals `key` out if `f` answers yes on it, and answers it. Waits for the key's shard. It takes no memory.
@@ -118,8 +118,8 @@ impl<K: Eq + Hash, V, S: BuildHasher> DashMap<K, V, S> {
         requires { (p : K × V) → IsTrue (K.eq p.0 key.now) → MayAsk F.FnOnce f p }
         ensures { LeavesBy ⟦<Self as Keyed>⟧.by self.now RemoveIf key.now (Pair result) (Answered F.FnOnce f) (λ s t. Loses s t result) }
     {
-        let (hash, place) = self.place_of(key);
-        self.shards_mut(rt, place).remove_if_hashed(hash, key, f)
+        let (hash, idx) = self.route_of(key);
+        self.shards_mut(rt, idx).remove_if_hashed(hash, key, f)
     }
 
     /// As `remove_if`, where `f` may write the value. On yes the pair is answered as `f` left it, and on no it stays so. Waits for the key's
@@ -136,9 +136,8 @@ impl<K: Eq + Hash, V, S: BuildHasher> DashMap<K, V, S> {
         requires { (p : K × V) → IsTrue (K.eq p.0 key.now) → MayChange F.FnOnce f p }
         ensures { LeavesBy ⟦<Self as Keyed>⟧.by self.now RemoveIfMut key.now (Pair result) (ChangesOn F.FnOnce f) (λ s t. Loses s t result) }
     {
-        let (hash, place) = self.place_of(key);
-        self.shards_mut(rt, place)
-            .remove_if_mut_hashed(hash, key, f)
+        let (hash, idx) = self.route_of(key);
+        self.shards_mut(rt, idx).remove_if_mut_hashed(hash, key, f)
     }
 
     /// What `f` answers on the pair whose key equals `key`. Waits until no writer has the key's shard. It takes no memory.
@@ -154,8 +153,8 @@ impl<K: Eq + Hash, V, S: BuildHasher> DashMap<K, V, S> {
         requires { (p : K × V) → IsTrue (K.eq p.0 key.now) → MayAsk F.FnOnce f p }
         ensures { SawShard ⟦<Self as Keyed>⟧.by self.now key.now (λ s. Viewed F.FnOnce f (at K.eq (pairs s) key.now) result) }
     {
-        let (hash, place) = self.place_of(key);
-        let guard = self.row[place].read(rt);
+        let (hash, idx) = self.route_of(key);
+        let guard = self.row[idx].read(rt);
         let (key, value) = find(&guard, hash, key)?;
         Some(f(key, value))
     }
@@ -169,8 +168,8 @@ impl<K: Eq + Hash, V, S: BuildHasher> DashMap<K, V, S> {
         requires { (p : K × V) → IsTrue (K.eq p.0 key.now) → MayGive F.FnOnce f p }
         ensures { LeavesBy ⟦<Self as Keyed>⟧.by self.now Alter key.now Done (Given F.FnOnce f) (λ s t. shard_len t ≡ shard_len s) }
     {
-        let (hash, place) = self.place_of(key);
-        self.shards_mut(rt, place).alter_hashed(hash, key, f);
+        let (hash, idx) = self.route_of(key);
+        self.shards_mut(rt, idx).alter_hashed(hash, key, f);
     }
 
     /// Whether there is a pair whose key equals `key`. Waits until no writer has the key's shard. It takes no memory.
@@ -178,8 +177,8 @@ impl<K: Eq + Hash, V, S: BuildHasher> DashMap<K, V, S> {
     pub fn contains_key<R: Wait + Clock>(&self, rt: &R, key: &K) -> bool
         ensures { SawShard ⟦<Self as Keyed>⟧.by self.now key.now (λ (s : ShardState K V S). RepliesOn K.eq s (Contains key.now) (Found result)) }
     {
-        let (hash, place) = self.place_of(key);
-        let guard = self.row[place].read(rt);
+        let (hash, idx) = self.route_of(key);
+        let guard = self.row[idx].read(rt);
         find(&guard, hash, key).is_some()
     }
 
@@ -189,7 +188,7 @@ impl<K: Eq + Hash, V, S: BuildHasher> DashMap<K, V, S> {
         ensures { SawShards ⟦<Self as Keyed>⟧.by self.now (λ (a : AloneState K V S). result ≡ min (length (contents a)) (2 ^ 64 - 1)) }
     {
         let mut len: usize = 0;
-        for lock in &self.row {
+        for lock in self.row.items() {
             let shard = lock.read(rt);
             len = len.saturating_add(shard.len());
         }
@@ -209,7 +208,7 @@ impl<K: Eq + Hash, V, S: BuildHasher> DashMap<K, V, S> {
         ensures { SawShards ⟦<Self as Keyed>⟧.by self.now (λ (a : AloneState K V S). result ≡ min (sum_by (λ s. s.capacity) a.row) (2 ^ 64 - 1)) }
     {
         let mut capacity: usize = 0;
-        for lock in &self.row {
+        for lock in self.row.items() {
             let shard = lock.read(rt);
             capacity = capacity.saturating_add(shard.capacity());
         }

@@ -10,6 +10,7 @@ use dash_shard::error::ConstructError;
 use dash_shard::hash::{FixedState, determine_shard};
 use dash_shard::keyed::Keyed;
 use dash_shard::lock::RwLock;
+use dash_shard::row::Row;
 use dash_shard::shard::Shard;
 use std::alloc::Global;
 use std::hash::{BuildHasher, Hash};
@@ -24,20 +25,19 @@ pub(crate) type Locked<K, V, S> = CachePadded<RwLock<Shard<K, V, S>>>;
 #[derive(Drop)]
 pub struct DashMap<K: Eq + Hash, V, S: BuildHasher = FixedState> {
     pub(crate) hasher: S,
-    pub(crate) row: Vec<Locked<K, V, S>>,
-    // Empty, with room for all shards.
-    pub(crate) shards: Vec<Shard<K, V, S>>,
+    pub(crate) row: Row<Locked<K, V, S>, Shard<K, V, S>>,
 }
 
 impl<K: Eq + Hash, V, S: BuildHasher> Model for DashMap<K, V, S> {
     ghost use Rattle.std.specs.Prelude.{◌≡◌, ◌≤◌, [], length, vec_len, vec_capacity};
-    ghost use Rattle.dash_map.specs.Map.{MapState, IsMap};
+    ghost use Rattle.dash_map.specs.Map.{MapState};
+    ghost use Rattle.dash_map.specs.inner.Locks.{IsMap};
 
     ghost Value = { MapState S };
 
-    ghost view = { λ m. record { hasher = m.hasher; amount = length m.row.items } };
+    ghost view = { λ m. record { hasher = m.hasher; amount = length m.row } };
 
-    ghost invariant = { λ m. IsMap (record { hasher = m.hasher; amount = length m.row.items }) m.row.items × (m.shards.items ≡ []) × (vec_len m.row ≤ vec_capacity m.shards) };
+    ghost invariant = { λ m. IsMap (record { hasher = m.hasher; amount = length m.row }) m.row };
 }
 
 impl<K: Eq + Hash, V, S: BuildHasher> Keyed for DashMap<K, V, S> {
@@ -227,7 +227,6 @@ impl<K: Eq + Hash, V, S: BuildHasher> DashMap<K, V, S> {
         ensures hasher { result.now ≡ self.now.hasher }
         ensures lawful { IsAmount self.now.amount }
     {
-        let _ = &self.row;
         &self.hasher
     }
 }

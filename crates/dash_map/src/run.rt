@@ -2,18 +2,19 @@
 ghost use Rattle.std.specs.Prelude.{◌≡◌, ◌<◌, ◌≤◌, ◌↔◌, IsTrue, IfOk, IfErr, length};
 ghost use Rattle.dash_shard.specs.Contents.{at};
 ghost use Rattle.dash_shard.specs.Steps as table;
-ghost use Rattle.dash_shard.specs.Steps.{Becomes};
+ghost use Rattle.dash_shard.specs.inner.Steps.{Becomes};
 ghost use Rattle.dash_history.specs.Steps.{step_of};
-ghost use Rattle.dash_history.specs.Plan.{change_step, HasPair};
-ghost use Rattle.dash_history.specs.Sweep.{keeping};
+ghost use Rattle.dash_history.specs.inner.Hashed.{Asks};
+ghost use Rattle.dash_history.specs.inner.Plan.{change_step, HasPair};
+ghost use Rattle.dash_history.specs.inner.Sweep.{keeping};
 ghost use Rattle.dash_map.specs.Alone.{IsAlone, contents, keys_in, SameMap};
-ghost use Rattle.dash_map.specs.Run.{TakesLike, IsMissing};
+ghost use Rattle.dash_map.specs.inner.Run.{TakesLike, IsMissing};
 
 use crate::alone::Alone;
 use crate::map::DashMap;
 use core::mem::replace_with;
 use dash_history::action::Action;
-use dash_history::change::{Change, copy_found, plan_alter, plan_remove_if, plan_remove_if_mut};
+use dash_history::change::{Change, copy_found, plan_asked};
 use dash_history::kept::{Kept, KeptKey};
 use dash_history::step::{Reply, ShardStep};
 use dash_history::sweep::copy_pairs;
@@ -41,16 +42,18 @@ pub struct RunOutcome<K, V, A = ()> {
 }
 
 impl<K: KeptKey + Drop, V: Kept + Drop, S: BuildHasher> Alone<K, V, S> {
-    ghost use Rattle.dash_map.specs.Run.{IsBare, NamesShard, Ran, IsRefused, rules_in};
+    ghost use Rattle.dash_map.specs.Run.{Ran, IsRefused, rules_in};
+    ghost use Rattle.dash_map.specs.inner.Run.{NamesShard};
+    ghost use Rattle.dash_map.specs.inner.Run.{IsBare, NamesShard};
 
     // Makes of the pair at a key what was decided.
     fn make_change(&mut self, key: K, change: Change<V>)
-        requires { HasPair change (at K.eq (contents self.old) key) }
+        requires there { HasPair change (at K.eq (contents self.old) key) }
+        requires lawful { IsAlone ⟦<Self as Keyed>⟧.by self.old }
         ensures becomes { Becomes (keys_in ⟦<Self as Keyed>⟧.by self.old) (change_step key change) (contents self.old) (contents self.new) }
         ensures stays { SameMap self.old self.new }
         ensures lawful { IsAlone ⟦<Self as Keyed>⟧.by self.new }
     {
-        let _ = &self.hasher;
         match change {
             Change::Stays | Change::Each(_) => (),
             Change::Goes => drop(self.remove(&key)),
@@ -64,7 +67,7 @@ impl<K: KeptKey + Drop, V: Kept + Drop, S: BuildHasher> Alone<K, V, S> {
         ensures { IsRefused (rules_in ⟦<Self as Keyed>⟧.by K.alike V.alike self.now) A.acts steps.now result }
     {
         let amount = self.row.len();
-        if steps[0].place(&self.hasher, amount) < amount {
+        if steps[0].shard(&self.hasher, amount) < amount {
             Fault::Memory
         } else {
             Fault::NoSuchShard
@@ -76,11 +79,10 @@ impl<K: KeptKey + Drop, V: Kept + Drop, S: BuildHasher> Alone<K, V, S> {
         ensures taken { IfOk result (λ reply. TakesLike ⟦<Self as Keyed>⟧.by K.alike V.alike self.now self.now (table.Read shard) reply) }
         ensures fault { IfErr result (λ fault. (fault ≡ Fault.NoSuchShard) ↔ (length self.now.row ≤ shard)) }
     {
-        let _ = &self.hasher;
         if shard >= self.row.len() {
             return Err(Fault::NoSuchShard);
         }
-        match copy_pairs(*self.row.allocator(), self.row[shard].iter()) {
+        match copy_pairs(self.row.allocator(), self.row[shard].iter()) {
             Ok(pairs) => Ok(Reply::Pairs(pairs)),
             Err(_) => Err(Fault::Memory),
         }
@@ -91,7 +93,6 @@ impl<K: KeptKey + Drop, V: Kept + Drop, S: BuildHasher> Alone<K, V, S> {
         ensures taken { IfOk result (λ reply. TakesLike ⟦<Self as Keyed>⟧.by K.alike V.alike self.now self.now (table.Count shard) reply) }
         ensures fault { IfErr result (λ fault. (fault ≡ Fault.NoSuchShard) ↔ (length self.now.row ≤ shard)) }
     {
-        let _ = &self.hasher;
         if shard >= self.row.len() {
             return Err(Fault::NoSuchShard);
         }
@@ -110,7 +111,6 @@ impl<K: KeptKey + Drop, V: Kept + Drop, S: BuildHasher> Alone<K, V, S> {
         ensures stays { SameMap self.old self.new }
         ensures lawful { IsAlone ⟦<Self as Keyed>⟧.by self.new }
     {
-        let _ = &self.hasher;
         if shard >= self.row.len() {
             return Err(Fault::NoSuchShard);
         }
@@ -126,47 +126,25 @@ impl<K: KeptKey + Drop, V: Kept + Drop, S: BuildHasher> Alone<K, V, S> {
         Ok(Reply::Done)
     }
 
-    // Takes a step that asks its action of the pair at its key, or one on a shard that it names, as `take` does.
+    // Takes a step that asks its action of the pair at its key, as `take` does.
     fn take_asked<A: Action<K, V> + Drop>(
         &mut self,
         step: ShardStep<K, V, A>,
     ) -> Result<Reply<K, V>, (ShardStep<K, V, A>, Fault)>
-        requires { IsBare step → ⊥ }
+        requires asked { Asks step }
+        requires lawful { IsAlone ⟦<Self as Keyed>⟧.by self.old }
         ensures taken { IfOk result (λ reply. TakesLike ⟦<Self as Keyed>⟧.by K.alike V.alike self.old self.new (step_of A.acts step) reply) }
         ensures refused { IfErr result (λ e. (e.0 ≡ step) × (self.new ≡ self.old)) }
         ensures fault { IfErr result (λ e. IsMissing ⟦<Self as Keyed>⟧.by self.old (step_of A.acts step) e.1) }
         ensures stays { SameMap self.old self.new }
         ensures lawful { IsAlone ⟦<Self as Keyed>⟧.by self.new }
     {
-        let _ = &self.hasher;
-        match step {
-            ShardStep::RemoveIf(key, action) => match plan_remove_if(self.get(&key), &action) {
-                Ok((reply, change)) => {
-                    self.make_change(key, change);
-                    Ok(reply)
-                }
-                Err(_) => Err((ShardStep::RemoveIf(key, action), Fault::Memory)),
-            },
-            ShardStep::RemoveIfMut(key, action) => {
-                match plan_remove_if_mut(self.get(&key), &action) {
-                    Ok((reply, change)) => {
-                        self.make_change(key, change);
-                        Ok(reply)
-                    }
-                    Err(_) => Err((ShardStep::RemoveIfMut(key, action), Fault::Memory)),
-                }
+        match plan_asked(self.get(step.asked_key()), &step) {
+            Ok((reply, change)) => {
+                self.make_change(step.into_asked_key(), change);
+                Ok(reply)
             }
-            ShardStep::Alter(key, action) => match plan_alter(self.get(&key), &action) {
-                Ok((reply, change)) => {
-                    self.make_change(key, change);
-                    Ok(reply)
-                }
-                Err(_) => Err((ShardStep::Alter(key, action), Fault::Memory)),
-            },
-            step => match self.take_on_shard(&step) {
-                Ok(reply) => Ok(reply),
-                Err(fault) => Err((step, fault)),
-            },
+            Err(_) => Err((step, Fault::Memory)),
         }
     }
 
@@ -175,14 +153,14 @@ impl<K: KeptKey + Drop, V: Kept + Drop, S: BuildHasher> Alone<K, V, S> {
         &mut self,
         step: &ShardStep<K, V, A>,
     ) -> Result<Reply<K, V>, Fault>
-        requires { NamesShard step.now }
+        requires named { NamesShard step.now }
+        requires lawful { IsAlone ⟦<Self as Keyed>⟧.by self.old }
         ensures taken { IfOk result (λ reply. TakesLike ⟦<Self as Keyed>⟧.by K.alike V.alike self.old self.new (step_of A.acts step.now) reply) }
         ensures refused { IfErr result (λ fault. self.new ≡ self.old) }
         ensures fault { IfErr result (λ fault. IsMissing ⟦<Self as Keyed>⟧.by self.old (step_of A.acts step.now) fault) }
         ensures stays { SameMap self.old self.new }
         ensures lawful { IsAlone ⟦<Self as Keyed>⟧.by self.new }
     {
-        let _ = &self.hasher;
         match step {
             ShardStep::Read(shard) => self.read(*shard),
             ShardStep::Count(shard) => self.count(*shard),
@@ -192,18 +170,18 @@ impl<K: KeptKey + Drop, V: Kept + Drop, S: BuildHasher> Alone<K, V, S> {
         }
     }
 
-    // Takes the step on the shard of its place, or hands it back where there is no such shard, or no memory.
+    // Takes the step on the step's shard, or hands it back where there is no such shard, or no memory.
     fn take<A: Action<K, V> + Drop>(
         &mut self,
         step: ShardStep<K, V, A>,
     ) -> Result<Reply<K, V>, (ShardStep<K, V, A>, Fault)>
+        requires { IsAlone ⟦<Self as Keyed>⟧.by self.old }
         ensures taken { IfOk result (λ reply. TakesLike ⟦<Self as Keyed>⟧.by K.alike V.alike self.old self.new (step_of A.acts step) reply) }
         ensures refused { IfErr result (λ e. (e.0 ≡ step) × (self.new ≡ self.old)) }
         ensures fault { IfErr result (λ e. IsMissing ⟦<Self as Keyed>⟧.by self.old (step_of A.acts step) e.1) }
         ensures stays { SameMap self.old self.new }
         ensures lawful { IsAlone ⟦<Self as Keyed>⟧.by self.new }
     {
-        let _ = &self.hasher;
         match step {
             ShardStep::Get(key) => match copy_found(self.get(&key)) {
                 Ok(pair) => Ok(Reply::Pair(pair)),
@@ -215,11 +193,17 @@ impl<K: KeptKey + Drop, V: Kept + Drop, S: BuildHasher> Alone<K, V, S> {
                 Err(refused) => Err((ShardStep::Insert(refused.key, refused.value), Fault::Memory)),
             },
             ShardStep::Remove(key) => Ok(Reply::Pair(self.remove(&key))),
-            step => self.take_asked(step),
+            ShardStep::RemoveIf(_, _) | ShardStep::RemoveIfMut(_, _) | ShardStep::Alter(_, _) => {
+                self.take_asked(step)
+            }
+            step => match self.take_on_shard(&step) {
+                Ok(reply) => Ok(reply),
+                Err(fault) => Err((step, fault)),
+            },
         }
     }
 
-    /// Takes the steps in their order, each on the shard of its place, up to the first that is refused (13, 14), and answers what they
+    /// Takes the steps in their order, each on the step's shard, up to the first that is refused (13, 14), and answers what they
     /// reply. It waits for nobody.
     ///
     /// It takes memory for the replies, before the first step, for an `Insert` as `insert` does, and for copies of pairs: those that a `Get`
@@ -233,6 +217,7 @@ impl<K: KeptKey + Drop, V: Kept + Drop, S: BuildHasher> Alone<K, V, S> {
         ensures stays { SameMap self.old self.new }
         ensures lawful { IsAlone ⟦<Self as Keyed>⟧.by self.new }
     {
+        // Only a look at the map tells the prover its invariant, which a run of no steps needs too.
         let _ = &self.hasher;
         let alloc = *steps.allocator();
         let Ok(mut replies) = Vec::with_capacity(alloc, steps.len()) else {

@@ -10,7 +10,7 @@ ghost use Rattle.dash_map.specs.Map.{MapState};
 ghost use Rattle.dash_map.specs.AllPairs.{ClearsAlone, ShrinksAlone, RetainsAlone, AltersAllAlone};
 ghost use Rattle.dash_ref.specs.Ref.{Stands, pair_of};
 ghost use Rattle.dash_shard.specs.Contents.{at};
-ghost use Rattle.dash_shard.specs.Shard.{shard_len, RepliesOn, TakesInPlace, IsPlaced, ShardState, pairs};
+ghost use Rattle.dash_shard.specs.Shard.{shard_len, RepliesOn, TakesInPlace, IsTagged, ShardState, pairs};
 ghost use Rattle.dash_shard.specs.Held.{Inserts, Loses};
 ghost use Rattle.dash_shard.specs.Steps.{Remove, RemoveIf, RemoveIfMut, Alter, Done, Pair, Found, Get, Contains};
 
@@ -37,7 +37,7 @@ pub trait Map<K: Eq + Hash, V, S: BuildHasher> {
     /// As `DashMap::shards_mut`.
     fn _yield_write_shard<R: Wait + Clock>(&self, rt: &R, shard: usize) -> ShardMut<'_, K, V, S>
         requires { shard < (state self.now).amount }
-        ensures { IsPlaced (by K.Hash S.BuildHasher S.Hasher.Hasher) (state self.now).hasher (state self.now).amount shard result };
+        ensures { IsTagged (by K.Hash S.BuildHasher S.Hasher.Hasher) (state self.now).hasher (state self.now).amount shard result };
 
     /// As `DashMap::insert`.
     fn _insert<R: Wait + Clock>(
@@ -54,7 +54,8 @@ pub trait Map<K: Eq + Hash, V, S: BuildHasher> {
     /// As `DashMap::remove`.
     fn _remove<R: Wait + Clock>(&self, rt: &R, key: &K) -> Option<(K, V)>
         ensures equal { IfSome result (λ pair. IsTrue (K.eq pair.0 key.now)) }
-        ensures leaves { LeavesShard (by K.Hash S.BuildHasher S.Hasher.Hasher) (state self.now) key.now (λ s t. TakesInPlace K.eq s t (Remove key.now) (Pair result) × Loses s t result) };
+        ensures leaves { LeavesShard (by K.Hash S.BuildHasher S.Hasher.Hasher) (state self.now) key.now
+            (λ s t. TakesInPlace K.eq s t (Remove key.now) (Pair result) × Loses s t result) };
 
     /// As `DashMap::remove_if`.
     fn _remove_if<R: Wait + Clock, F: FnOnce(&K, &V) -> bool>(
@@ -81,7 +82,7 @@ pub trait Map<K: Eq + Hash, V, S: BuildHasher> {
         ensures saw { SawShard (by K.Hash S.BuildHasher S.Hasher.Hasher) (state self.now) key.now (λ s. RepliesOn K.eq s (Get key.now) (Pair (option_map pair_of result))) }
         ensures equal { IfSome result (λ found. IsTrue (K.eq found.key key.now)) }
         ensures stands { IfSome result Stands }
-        ensures placed { IfSome result (λ found. StandsAt (by K.Hash S.BuildHasher S.Hasher.Hasher) (state self.now) key.now found.shard) };
+        ensures tagged { IfSome result (λ found. StandsAt (by K.Hash S.BuildHasher S.Hasher.Hasher) (state self.now) key.now found.shard) };
 
     /// As `DashMap::shrink_to_fit`.
     fn _shrink_to_fit<R: Wait + Clock>(&self, rt: &R)

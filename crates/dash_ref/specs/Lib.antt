@@ -1,1 +1,2 @@
 pub mod Ref
+pub mod inner

@@ -1,14 +1,16 @@
--- A shard after a call on all its pairs: each was made another of the same key in its place, or none.
+-- A shard after a call on all its pairs: each was made another of the same key in its slot, or none.
 use Rattle.std.proofs.Common.{◌≡◌, ℕ, ◌≤◌, Bool, true, false, cond, List, [], ◌∷◌, map, length, Option, Some, None, refl, sym, ap, subst, ◌∙◌, arith}
 use Rattle.std.specs.Prelude.{option_and_then}
 use Rattle.std.proofs.lemmas.Option.{none-some, same_Some}
-use Rattle.dash_shard.specs.Hashing.{IsLawful, KeyHash}
+use Rattle.dash_shard.specs.Hashing.{KeyHash}
+use Rattle.dash_shard.specs.inner.Keys.{IsLawful, keys_of}
 use Rattle.dash_shard.specs.Contents.{Keys, at, IsOnShard}
 use Rattle.dash_shard.specs.Steps.{Act, Step, Retain, AlterAll, Done, on_shard, line, line_after, LineReplies}
-use Rattle.dash_shard.specs.Shard.{ShardState, place, taken, pairs, keys_of, own_keys, IsShard, TakesStep, StaysPut}
-use Rattle.dash_shard.specs.Each.{Sweeps, if_kept, altered, SweepsBy, SweepsShard, Clears}
+use Rattle.dash_shard.specs.Shard.{ShardState, slot, taken, pairs, own_keys, IsShard, TakesStep, StaysPut}
+use Rattle.dash_shard.specs.Each.{SweepsBy, Clears}
+use Rattle.dash_shard.specs.inner.Walks.{Sweeps, if_kept, altered, SweepsShard}
 use Rattle.dash_shard.specs.declared.shard.table.Table.{Table}
-use Rattle.dash_shard.specs.Table.{pairs_of, hashes_of, IsHashed, IsTable}
+use Rattle.dash_shard.specs.inner.Table.{pairs_of, hashes_of, IsHashed, IsTable}
 use Rattle.dash_shard.proofs.Remade.{KeepsKey, remade, fewer-remade, hashed-remade, on_shard-remade, becomes-remade, stays-remade, each-once, Acts, acts, makes}
 use Rattle.dash_shard.proofs.Shards.{state, Inside}
 use Rattle.dash_shard.proofs.Sweeping.{taken-none}
@@ -36,13 +38,13 @@ module _ {K V S : Type 0} (h : KeyHash K S)
   of t = state h law s number amount t
 
   module _ (t new : Table K V) (inside : Inside h law s number amount t) (becomes : K × V → Option (K × V)) (keeps : KeepsKey becomes)
-      (places : pairs_of new.nodes.items ≡ remade becomes (pairs_of t.nodes.items)) where
+      (slots : pairs_of new.nodes.items ≡ remade becomes (pairs_of t.nodes.items)) where
     abbrev w : Keys K
     w = keys_of h (of t)
 
     remade-shard : IsShard h (of new)
     remade-shard = record {
-      contents = subst (λ xs. IsOnShard w number (taken xs)) (sym places) (on_shard-remade becomes keeps w law.laws number (pairs_of t.nodes.items) inside.shard.contents);
+      contents = subst (λ xs. IsOnShard w number (taken xs)) (sym slots) (on_shard-remade becomes keeps w law.laws number (pairs_of t.nodes.items) inside.shard.contents);
       number = inside.shard.number;
       amount = inside.shard.amount;
     }
@@ -51,7 +53,7 @@ module _ {K V S : Type 0} (h : KeyHash K S)
     remade-inside hashes counted table = record {
       shard = remade-shard;
       table = table;
-      hashed = subst (λ xs. IsHashed (λ j. h.hash s j) xs (hashes_of new.nodes.items)) (sym places)
+      hashed = subst (λ xs. IsHashed (λ j. h.hash s j) xs (hashes_of new.nodes.items)) (sym slots)
           (subst (λ hs. IsHashed (λ j. h.hash s j) (remade becomes (pairs_of t.nodes.items)) hs) (sym hashes) (hashed-remade becomes keeps (λ j. h.hash s j) _ _ inside.hashed));
       counted = counted;
     }
@@ -69,14 +71,14 @@ module _ {K V S : Type 0} (h : KeyHash K S)
       remade-takes = record {
         table = record {
           replies = subst (λ l. LineReplies o l (pairs (of t)) Done) (sym is) (pairs (of t), each-once o law.laws number (pairs (of t)) all-own, refl);
-          becomes = λ j. ap (λ xs. at h.eq (taken xs) j) places ∙ becomes-remade becomes keeps o law.laws number (pairs_of t.nodes.items) all-own j
+          becomes = λ j. ap (λ xs. at h.eq (taken xs) j) slots ∙ becomes-remade becomes keeps o law.laws number (pairs_of t.nodes.items) all-own j
               ∙ ap (λ l. line_after o l j (at h.eq (pairs (of t)) j)) (sym is);
         };
         stays = record { number = refl; amount = refl; hasher = refl };
       }
 
       pub remade-stays : StaysPut h.eq (of t) (of new) step
-      remade-stays i p e = ap (λ xs. place xs i) places ∙ stays-remade becomes keeps o law.laws number (pairs_of t.nodes.items) all-own i p e
+      remade-stays i p e = ap (λ xs. slot xs i) slots ∙ stays-remade becomes keeps o law.laws number (pairs_of t.nodes.items) all-own i p e
           ∙ ap (λ l. line_after o l p.0 (Some p)) (sym is)
 
   module _ (t new : Table K V) (inside : Inside h law s number amount t) {F : Type 0} (T : F → K → V → Bool → V → F → Type 0) (f : F) where
@@ -98,7 +100,7 @@ module _ {K V S : Type 0} (h : KeyHash K S)
         called = did.called;
         does = record {
           taken = remade-takes t new inside _ (kept-key did.act) did.made (Retain number did.act) refl;
-          places = remade-stays t new inside _ (kept-key did.act) did.made (Retain number did.act) refl;
+          slots = remade-stays t new inside _ (kept-key did.act) did.made (Retain number did.act) refl;
           room = room;
         };
       })
@@ -134,7 +136,7 @@ module _ {K V S : Type 0} (h : KeyHash K S)
         called = made.called;
         does = record {
           taken = remade-takes t new inside _ (altered-key made.act) made.made (AlterAll number made.act) refl;
-          places = remade-stays t new inside _ (altered-key made.act) made.made (AlterAll number made.act) refl;
+          slots = remade-stays t new inside _ (altered-key made.act) made.made (AlterAll number made.act) refl;
           room = room;
         };
       })
@@ -150,7 +152,7 @@ module _ {K V S : Type 0} (h : KeyHash K S)
       })
 
   -- no pair is left
-  module _ (t new : Table K V) (inside : Inside h law s number amount t) (places : pairs_of new.nodes.items ≡ map (λ _. None) (pairs_of t.nodes.items)) where
+  module _ (t new : Table K V) (inside : Inside h law s number amount t) (slots : pairs_of new.nodes.items ≡ map (λ _. None) (pairs_of t.nodes.items)) where
     nothing : {A B : Type 0} (o : Option A) → None ≡ option_and_then {T = A} {U = B} (λ _. None) o
     nothing None = refl
     nothing (Some x) = refl
@@ -163,13 +165,13 @@ module _ {K V S : Type 0} (h : KeyHash K S)
     none-key p q e = absurd (none-some q e)
 
     none-left : taken (pairs_of new.nodes.items) ≡ []
-    none-left = ap taken places ∙ taken-none (pairs_of t.nodes.items)
+    none-left = ap taken slots ∙ taken-none (pairs_of t.nodes.items)
 
     pub cleared-inside : hashes_of new.nodes.items ≡ hashes_of t.nodes.items → new.len ≡ 0 → IsTable new → Inside h law s number amount new
-    cleared-inside hashes len table = remade-inside t new inside (λ _. None) none-key (places ∙ none-made (pairs_of t.nodes.items)) hashes (len ∙ ap length (sym none-left)) table
+    cleared-inside hashes len table = remade-inside t new inside (λ _. None) none-key (slots ∙ none-made (pairs_of t.nodes.items)) hashes (len ∙ ap length (sym none-left)) table
 
     pub cleared-shard : IsShard h (of new)
-    cleared-shard = remade-shard t new inside (λ _. None) none-key (places ∙ none-made (pairs_of t.nodes.items))
+    cleared-shard = remade-shard t new inside (λ _. None) none-key (slots ∙ none-made (pairs_of t.nodes.items))
 
     pub clears : length new.nodes.items ≡ length t.nodes.items → (z : ShardState K V S) → of t ≡ z → Clears z (of new)
     clears room z view = subst (λ x. Clears x (of new)) view (record {

@@ -1,5 +1,5 @@
--- The calls that change one pair in its place, as the step table says them.
-use Rattle.std.proofs.Common.{◌≡◌, ℕ, ◌+◌, Bool, true, false, cond, length, set, Option, Some, None, refl, sym, ap, subst, ◌∙◌, add-zero, inl, inr, eq-eqb}
+-- The calls that change one pair in its slot, as the step table says them.
+use Rattle.std.proofs.Common.{◌≡◌, ℕ, ◌+◌, Bool, true, false, cond, length, set, Option, Some, None, refl, sym, ap, subst, ◌∙◌, inl, inr, eq-eqb}
 use Rattle.std.specs.Prelude.{option_and_then, IfSome, if◌then◌else◌}
 use Rattle.std.specs.Option.{option_map}
 use Rattle.std.proofs.lemmas.Bool.{cases_Bool, ne_eqb}
@@ -7,12 +7,13 @@ use Rattle.std.proofs.Math.Seq.{set-set}
 use Rattle.dash_shard.specs.declared.shard.table.Table.{Table}
 use Rattle.dash_shard.specs.Contents.{Keys, at}
 use Rattle.dash_shard.specs.Steps.{Act, Remove, RemoveIfMut, Alter, Pair, Done, changed, if_no, if_yes}
-use Rattle.dash_shard.specs.Shard.{ShardState, place, pairs, own_keys, Routes, TakesInPlace, TakesBy}
+use Rattle.dash_shard.specs.Shard.{ShardState, slot, pairs, own_keys, Routes, TakesInPlace, TakesBy}
 use Rattle.dash_shard.specs.Held.{Loses, Replaces}
-use Rattle.dash_shard.specs.Table.{Holds, IsTable, IsRewritten, pairs_of, hashes_of}
+use Rattle.dash_shard.specs.inner.Table.{Holds, IsTable, IsRewritten, pairs_of, hashes_of}
 use Rattle.dash_shard.proofs.Shards.{state, Inside, at-found, removed, removes, lost}
-use Rattle.dash_shard.proofs.Rewriting.{found-at, rewritten-len, rewritten-inside, rewritten-place, rewritten-at, rewritten-becomes, rewritten-stays}
-use Rattle.dash_shard.specs.Hashing.{IsLawful, KeyHash}
+use Rattle.dash_shard.proofs.Rewriting.{found-at, rewritten-len, rewritten-inside, rewritten-slot, rewritten-at, rewritten-becomes, rewritten-stays}
+use Rattle.dash_shard.specs.Hashing.{KeyHash}
+use Rattle.dash_shard.specs.inner.Keys.{IsLawful}
 
 -- to every value v, and to the answer c
 abbrev pub to : {K V : Type 0} → V → Bool → Act K V
@@ -64,7 +65,7 @@ module _ {K V S : Type 0} (eq : K → K → Bool) where
           stays = record { number = refl; amount = refl; hasher = refl };
         };
         room = refl;
-        places = λ i p e. e ∙ kept w (option_map (changed idle)) idle-alters k p.0 (Some p);
+        slots = λ i p e. e ∙ kept w (option_map (changed idle)) idle-alters k p.0 (Some p);
       }
 
   -- nothing goes where there is nothing
@@ -81,7 +82,7 @@ module _ {K V S : Type 0} (eq : K → K → Bool) where
           stays = record { number = refl; amount = refl; hasher = refl };
         };
         room = refl;
-        places = λ i p e. e ∙ kept w f idle-keeps k p.0 (Some p);
+        slots = λ i p e. e ∙ kept w f idle-keeps k p.0 (Some p);
       }
 
   -- a removal takes a pair that stood there, and answers it with the value v
@@ -97,7 +98,7 @@ module _ {K V S : Type 0} (eq : K → K → Bool) where
           stays = x.taken.stays;
         };
         room = x.room;
-        places = x.places;
+        slots = x.slots;
       }
 
 module _ {K V S : Type 0} (h : KeyHash K S) where
@@ -110,7 +111,7 @@ module _ {K V S : Type 0} (h : KeyHash K S) where
     abbrev pub valued : V → K × V
     valued v = (found.pair.0, v)
 
-    -- it stands in the place of the pair
+    -- it stands in the slot of the pair
     module _ (v : V) (r : IsRewritten i (valued v) t new) where
       pub altered-inside : Inside h law s number amount new
       altered-inside = rewritten-inside h law s number amount t new inside k i found (valued v) found.equal r
@@ -127,8 +128,8 @@ module _ {K V S : Type 0} (h : KeyHash K S) where
           };
           stays = record { number = refl; amount = refl; hasher = refl };
         };
-        room = r.places;
-        places = rewritten-stays h law s number amount t new inside k i found (valued v) found.equal r (option_map (changed (to v c))) refl;
+        room = r.slots;
+        slots = rewritten-stays h law s number amount t new inside k i found (valued v) found.equal r (option_map (changed (to v c))) refl;
       })
 
       pub stays-changed : TakesInPlace h.eq z now (RemoveIfMut k (to v false)) (Pair None)
@@ -142,8 +143,8 @@ module _ {K V S : Type 0} (h : KeyHash K S) where
               };
               stays = record { number = refl; amount = refl; hasher = refl };
             };
-            room = r.places;
-            places = rewritten-stays h law s number amount t new inside k i found (valued v) found.equal r f refl;
+            room = r.slots;
+            slots = rewritten-stays h law s number amount t new inside k i found (valued v) found.equal r f refl;
           })
 
     -- what is found at the key
@@ -151,7 +152,7 @@ module _ {K V S : Type 0} (h : KeyHash K S) where
     stood P holds = subst (λ x. IfSome (at h.eq (pairs x) k) P) view (rw (at-found h law s number amount t inside k i found) holds)
 
     -- where a call gave the pair a value, of which G says what the call says
-    module _ (G : K × V → V → Type 0) (gave : IfSome (place (pairs_of t.nodes.items) i) (λ p. (v : V) × IsRewritten i (p.0, v) t new × G p v)) where
+    module _ (G : K × V → V → Type 0) (gave : IfSome (slot (pairs_of t.nodes.items) i) (λ p. (v : V) × IsRewritten i (p.0, v) t new × G p v)) where
       given : (v : V) × IsRewritten i (valued v) t new × G found.pair v
       given = subst (λ o. IfSome o (λ p. (v : V) × IsRewritten i (p.0, v) t new × G p v)) found.is gave
 
@@ -165,26 +166,26 @@ module _ {K V S : Type 0} (h : KeyHash K S) where
       given-len = as-many given.0 given.1
 
     -- it stood there with the value v, and then went
-    module _ (here : Routes h z k) (v : V) (mid : Table K V) (r : IsRewritten i (valued v) t mid) (places : pairs_of new.nodes.items ≡ set (pairs_of mid.nodes.items) i None)
+    module _ (here : Routes h z k) (v : V) (mid : Table K V) (r : IsRewritten i (valued v) t mid) (slots : pairs_of new.nodes.items ≡ set (pairs_of mid.nodes.items) i None)
         (hashes : hashes_of new.nodes.items ≡ hashes_of mid.nodes.items) (len : new.len + 1 ≡ mid.len) (table : IsTable new) where
       pub gone-inside : Inside h law s number amount new
-      gone-inside = (removed h law s number amount t inside k z view here new i found (written-gone t mid new i (valued v) r places) (hashes ∙ r.hashes) (len ∙ r.len) table).inside
+      gone-inside = (removed h law s number amount t inside k z view here new i found (written-gone t mid new i (valued v) r slots) (hashes ∙ r.hashes) (len ∙ r.len) table).inside
 
       pub gone-len : Loses z now (Some (valued v))
-      gone-len = lost h law s number amount t inside k z view here new i found (written-gone t mid new i (valued v) r places) (hashes ∙ r.hashes) (len ∙ r.len) table
+      gone-len = lost h law s number amount t inside k z view here new i found (written-gone t mid new i (valued v) r slots) (hashes ∙ r.hashes) (len ∙ r.len) table
 
       pub gone-changed : TakesInPlace h.eq z now (RemoveIfMut k (to v true)) (Pair (Some (valued v)))
       gone-changed = removed-changed h.eq z now k found.pair v (subst (λ x. at h.eq (pairs x) k ≡ Some found.pair) view (at-found h law s number amount t inside k i found))
-          (removes h law s number amount t inside k z view here new i found (written-gone t mid new i (valued v) r places) (hashes ∙ r.hashes) (len ∙ r.len) table)
+          (removes h law s number amount t inside k z view here new i found (written-gone t mid new i (valued v) r slots) (hashes ∙ r.hashes) (len ∙ r.len) table)
 
     -- a new pair with an equal key stands there
-    pub replaces : (q : K × V) (equal : h.eq q.0 k ≡ true) → IsRewritten i q t new → (old : K × V) → place (pairs_of t.nodes.items) i ≡ Some old → k ≡ q.0 → Replaces h.eq z now i q.0 q.1 old
+    pub replaces : (q : K × V) (equal : h.eq q.0 k ≡ true) → IsRewritten i q t new → (old : K × V) → slot (pairs_of t.nodes.items) i ≡ Some old → k ≡ q.0 → Replaces h.eq z now i q.0 q.1 old
     replaces q equal r old there same = subst (λ x. Replaces h.eq x now i q.0 q.1 old) view (record {
       answers = there;
-      here = rewritten-place h law s number amount t new inside k i found q equal r i ∙ rw (eq-eqb i i refl) refl;
-      others = λ j other. rewritten-place h law s number amount t new inside k i found q equal r j ∙ rw (ne_eqb j i other) refl;
+      here = rewritten-slot h law s number amount t new inside k i found q equal r i ∙ rw (eq-eqb i i refl) refl;
+      others = λ j other. rewritten-slot h law s number amount t new inside k i found q equal r j ∙ rw (ne_eqb j i other) refl;
       contents = λ j. rewritten-at h law s number amount t new inside k i found q equal r j ∙ ap (λ x. cond (h.eq x j) (Some q) (at h.eq (pairs (state h law s number amount t)) j)) same;
       len = rewritten-len h law s number amount t new inside k i found q equal r;
-      room = r.places;
+      room = r.slots;
       stays = record { number = refl; amount = refl; hasher = refl };
     })

@@ -7,7 +7,7 @@ use Rattle.std.proofs.Math.Pow.{pow_mono}
 use Rattle.std.proofs.lemmas.Bool.{cases_eq, cases_lt}
 use native.Mathlib.Numerals.{unary_clauses}
 
--- a power of two has one place
+-- a power of two has one slot
 one_place : (k t : ℕ) → bit_at (2 ^ k) t ≡ 1 → t ≡ k
 one_place k t one =
     elim (cases_eq t k) as (λ _. t ≡ k) [ inl same ↦ same | inr other ↦ absurd (omega (arith, one, bit_at-pow_other k t other)) ]

@@ -3,7 +3,8 @@ use Rattle.std.proofs.Common.{◌≡◌, Bool, true, false, cond, List, Option, 
 use Rattle.std.specs.Prelude.{option_and_then}
 use Rattle.std.proofs.lemmas.Bool.{cases_Bool}
 use Rattle.dash_shard.specs.Contents.{Keys, at}
-use Rattle.dash_shard.specs.Steps.{Remove, RemoveIf, Pair, Replies, Becomes, after}
+use Rattle.dash_shard.specs.Steps.{Remove, RemoveIf, Pair, Replies, after}
+use Rattle.dash_shard.specs.inner.Steps.{Becomes}
 use Rattle.dash_shard.specs.Shard.{ShardState, pairs, own_keys, TakesInPlace}
 
 -- what stands there, and nothing
@@ -41,7 +42,7 @@ module _ {K V S : Type 0} (eq : K → K → Bool) where
           stays = x.taken.stays;
         };
         room = x.room;
-        places = x.places;
+        slots = x.slots;
       }
 
   pub asked-no : (z : ShardState K V S) (k : K) → TakesInPlace eq z z (RemoveIf k (λ _ v. (v, false))) (Pair None)
@@ -56,5 +57,5 @@ module _ {K V S : Type 0} (eq : K → K → Bool) where
           stays = record { number = refl; amount = refl; hasher = refl };
         };
         room = refl;
-        places = λ i p e. e ∙ no-after w k p.0 (Some p);
+        slots = λ i p e. e ∙ no-after w k p.0 (Some p);
       }

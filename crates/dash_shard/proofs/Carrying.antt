@@ -7,9 +7,9 @@ use Rattle.std.proofs.lemmas.Option.{none-some, same_Some}
 use Rattle.dash_shard.specs.Contents.{Keys, at, Distinct, EachOnce}
 use Rattle.dash_shard.specs.declared.shard.table.Node.{Node}
 use Rattle.dash_shard.specs.declared.shard.table.Table.{Table}
-use Rattle.dash_shard.specs.Shard.{place, taken}
-use Rattle.dash_shard.specs.Table.{pairs_of, hashes_of, IsTable, IsCarried, next_place}
-use Rattle.dash_shard.proofs.Places.{Equal, NoOther, absent-at, at-written, distinct-written, length-taken-fill}
+use Rattle.dash_shard.specs.Shard.{slot, taken}
+use Rattle.dash_shard.specs.inner.Table.{pairs_of, hashes_of, IsTable, IsCarried, next_slot}
+use Rattle.dash_shard.proofs.Slots.{Equal, NoOther, absent-at, at-written, distinct-written, length-taken-fill}
 use Rattle.dash_shard.proofs.Sweeping.{taken-some}
 use Rattle.dash_shard.proofs.Tables.{next_free}
 
@@ -19,7 +19,7 @@ length-taken-append (None ∷ xs) ys = length-taken-append xs ys
 length-taken-append (Some x ∷ xs) ys = omega (arith, length-taken-append xs ys)
 
 module _ {K V : Type 0} where
-  -- the nodes from some place on have gone to the table
+  -- the nodes from some slot on have gone to the table
   pub record Carrying (old now : List (Node K V)) (t : Table K V) : Type 0 where
     pub rest : List (Node K V)
     pub is : old ≡ now ++ rest
@@ -69,45 +69,45 @@ module _ {K V : Type 0} where
           omega (arith, fits, whole, c.len, ap length same)
 
       module _ (new : Table K V) (hash : ℕ) (is : hash ≡ n.hash) (room : t.len < length t.nodes.items)
-          (places : pairs_of new.nodes.items ≡ set (pairs_of t.nodes.items) (next_place t) (Some (k, v)))
-          (hashes : hashes_of new.nodes.items ≡ set (hashes_of t.nodes.items) (next_place t) hash) (longer : new.len ≡ t.len + 1) (lawful : IsTable new) where
-        free : (next_place t < length t.nodes.items) × (place (pairs_of t.nodes.items) (next_place t) ≡ None)
+          (slots : pairs_of new.nodes.items ≡ set (pairs_of t.nodes.items) (next_slot t) (Some (k, v)))
+          (hashes : hashes_of new.nodes.items ≡ set (hashes_of t.nodes.items) (next_slot t) hash) (longer : new.len ≡ t.len + 1) (lawful : IsTable new) where
+        free : (next_slot t < length t.nodes.items) × (slot (pairs_of t.nodes.items) (next_slot t) ≡ None)
         free = next_free t c.table room
 
-        within : next_place t < length (pairs_of t.nodes.items)
+        within : next_slot t < length (pairs_of t.nodes.items)
         within = omega (arith, free.0, length-map t.nodes.items (λ x. x.pair))
 
-        within-hashes : next_place t < length (hashes_of t.nodes.items)
+        within-hashes : next_slot t < length (hashes_of t.nodes.items)
         within-hashes = omega (arith, free.0, length-map t.nodes.items (λ x. x.hash))
 
         module _ (w : Keys K) (laws : IsEquivalence w.eq) (d : Distinct w.eq ((k, v) ∷ taken (pairs_of c.rest))) where
           before : EachOnce w.eq (taken (pairs_of c.rest)) (taken (pairs_of t.nodes.items))
           before = c.once w laws d.1
 
-          was-empty : Equal w k (place (pairs_of t.nodes.items) (next_place t))
+          was-empty : Equal w k (slot (pairs_of t.nodes.items) (next_slot t))
           was-empty p e = absurd (none-some p (sym free.1 ∙ e))
 
           is-equal : Equal w k (Some (k, v))
           is-equal p e = subst (λ (q : K × V). w.eq q.0 k ≡ true) (same_Some (k, v) p e) (laws.refl k)
 
-          no-other : NoOther w (pairs_of t.nodes.items) k (next_place t)
+          no-other : NoOther w (pairs_of t.nodes.items) k (next_slot t)
           no-other m q _ e = absent-at w (pairs_of t.nodes.items) k (before.same k ∙ d.0) m q e
 
           once-more : EachOnce w.eq ((k, v) ∷ taken (pairs_of c.rest)) (taken (pairs_of new.nodes.items))
           once-more = record {
-            distinct = subst (λ xs. Distinct w.eq (taken xs)) (sym places) (distinct-written w laws (pairs_of t.nodes.items) k (next_place t) (Some (k, v)) within was-empty is-equal no-other before.distinct);
-            same = λ j. ap (λ xs. at w.eq (taken xs) j) places ∙ at-written w laws (pairs_of t.nodes.items) k (next_place t) (Some (k, v)) within was-empty is-equal no-other j
+            distinct = subst (λ xs. Distinct w.eq (taken xs)) (sym slots) (distinct-written w laws (pairs_of t.nodes.items) k (next_slot t) (Some (k, v)) within was-empty is-equal no-other before.distinct);
+            same = λ j. ap (λ xs. at w.eq (taken xs) j) slots ∙ at-written w laws (pairs_of t.nodes.items) k (next_slot t) (Some (k, v)) within was-empty is-equal no-other j
                 ∙ ap (λ o. cond (w.eq k j) (Some (k, v)) o) (before.same j);
           }
 
         carried-more : IsCarried (n ∷ c.rest) new.nodes.items
-        carried-more i p e = elim (cases_eq i (next_place t)) [
+        carried-more i p e = elim (cases_eq i (next_slot t)) [
           | inl here ↦
-              let new-pair : (k, v) ≡ p = same_Some (k, v) p (sym (get_or-set_same (pairs_of t.nodes.items) (next_place t) (Some (k, v)) None within) ∙ ap (λ xs. place xs (next_place t)) (sym places) ∙ ap (place (pairs_of new.nodes.items)) (sym here) ∙ e) in
-              (0, some ∙ ap Some new-pair, sym is ∙ sym (get_or-set_same (hashes_of t.nodes.items) (next_place t) hash 0 within-hashes) ∙ ap (λ m. get_or (set (hashes_of t.nodes.items) (next_place t) hash) m 0) (sym here) ∙ ap (λ hs. get_or hs i 0) (sym hashes))
+              let new-pair : (k, v) ≡ p = same_Some (k, v) p (sym (get_or-set_same (pairs_of t.nodes.items) (next_slot t) (Some (k, v)) None within) ∙ ap (λ xs. slot xs (next_slot t)) (sym slots) ∙ ap (slot (pairs_of new.nodes.items)) (sym here) ∙ e) in
+              (0, some ∙ ap Some new-pair, sym is ∙ sym (get_or-set_same (hashes_of t.nodes.items) (next_slot t) hash 0 within-hashes) ∙ ap (λ m. get_or (set (hashes_of t.nodes.items) (next_slot t) hash) m 0) (sym here) ∙ ap (λ hs. get_or hs i 0) (sym hashes))
           | inr other ↦
-              let at_j = c.carried i p (sym (get_or-set_other (pairs_of t.nodes.items) (next_place t) i (Some (k, v)) None other) ∙ ap (λ xs. place xs i) (sym places) ∙ e) in
-              (suc at_j.0, at_j.1, at_j.2 ∙ sym (get_or-set_other (hashes_of t.nodes.items) (next_place t) i hash 0 other) ∙ ap (λ hs. get_or hs i 0) (sym hashes))
+              let at_j = c.carried i p (sym (get_or-set_other (pairs_of t.nodes.items) (next_slot t) i (Some (k, v)) None other) ∙ ap (λ xs. slot xs i) (sym slots) ∙ e) in
+              (suc at_j.0, at_j.1, at_j.2 ∙ sym (get_or-set_other (hashes_of t.nodes.items) (next_slot t) i hash 0 other) ∙ ap (λ hs. get_or hs i 0) (sym hashes))
         ]
 
         pub carrying-more : Carrying old then new
@@ -117,7 +117,7 @@ module _ {K V : Type 0} where
           once = λ w laws d. subst (λ ps. EachOnce w.eq ps (taken (pairs_of new.nodes.items))) (sym same) (once-more w laws (subst (Distinct w.eq) same d));
           carried = carried-more;
           len = longer ∙ omega (arith, c.len, ap length same);
-          counted = longer ∙ ap (λ m. m + 1) c.counted ∙ sym (ap (λ xs. length (taken xs)) places ∙ length-taken-fill (pairs_of t.nodes.items) (next_place t) (k, v) within free.1);
+          counted = longer ∙ ap (λ m. m + 1) c.counted ∙ sym (ap (λ xs. length (taken xs)) slots ∙ length-taken-fill (pairs_of t.nodes.items) (next_slot t) (k, v) within free.1);
           table = lawful;
         }
 

@@ -1,9 +1,9 @@
--- Chains after a change at one place.
+-- Chains after a change at one slot.
 use Rattle.std.proofs.Common.{◌≡◌, ◌≢◌, ◌⊎◌, ℕ, ◌+◌, ◌<◌, ◌≤◌, ◌==◌, cond, refl, sym, subst, inl, inr, arith, eq-eqb}
 use Rattle.std.proofs.lemmas.Bool.{cases_eq, cases_lt, ne_eqb}
-use Rattle.dash_shard.specs.Table.{Links, IsChained}
+use Rattle.dash_shard.specs.inner.Table.{Links, IsChained}
 
--- no place is chained yet
+-- no slot is chained yet
 pub chained_none : (IsIn : ℕ → ℕ → Type 0) (head next : ℕ → ℕ) (n : ℕ) → ((b i : ℕ) → IsIn b i → ⊥) → ((b : ℕ) → b < n → head b ≡ 0) → IsChained IsIn head next n
 chained_none IsIn head next n none empty = record {
   from_head = λ b lt. let zero = empty b lt in record {
@@ -11,15 +11,15 @@ chained_none IsIn head next n none empty = record {
     covers = λ j is less. absurd (none b j is);
     stands = λ j is. absurd (omega (arith, zero, is));
   };
-  from_place = λ b i is. absurd (none b i is);
+  from_slot = λ b i is. absurd (none b i is);
 }
 
--- the same places, by the same links
+-- the same slots, by the same links
 pub chained_same : {IsIn IsIn' : ℕ → ℕ → Type 0} {head next head' next' : ℕ → ℕ} (n : ℕ) → ((b i : ℕ) → IsIn b i → IsIn' b i) → ((b i : ℕ) → IsIn' b i → IsIn b i)
     → ((b : ℕ) → head' b ≡ head b) → ((b i : ℕ) → IsIn b i → next' i ≡ next i) → IsChained IsIn head next n → IsChained IsIn' head' next' n
 chained_same {IsIn} {IsIn'} {head} {next} {head'} {next'} n kept was heads nexts h = record {
   from_head = λ b lt. rw heads (moved b n (head b) (h.from_head b lt));
-  from_place = λ b i is. rw (nexts b i (was b i is)) (moved b i (next i) (h.from_place b i (was b i is)));
+  from_slot = λ b i is. rw (nexts b i (was b i is)) (moved b i (next i) (h.from_slot b i (was b i is)));
 }
   where
     moved : (b bound link : ℕ) → Links (IsIn b) bound link → Links (IsIn' b) bound link
@@ -28,9 +28,9 @@ chained_same {IsIn} {IsIn'} {head} {next} {head'} {next'} n kept was heads nexts
 -- the link at a bound of a bucket's chain
 pub leads : {IsIn : ℕ → ℕ → Type 0} {head next : ℕ → ℕ} (n b m : ℕ) → IsChained IsIn head next n → ((j : ℕ) → IsIn b j → j < n) → b < n → (m ≡ n) ⊎ IsIn b m → Links (IsIn b) m (cond (m == n) (head b) (next m))
 leads {IsIn} {head} {next} n b m h below lt (inl same) = rw (eq-eqb m n same) (subst (λ k. Links (IsIn b) k (head b)) (sym same) (h.from_head b lt))
-leads {IsIn} {head} {next} n b m h below lt (inr is) = rw (ne_eqb m n (λ same. omega (arith, same, below m is))) (h.from_place b m is)
+leads {IsIn} {head} {next} n b m h below lt (inr is) = rw (ne_eqb m n (λ same. omega (arith, same, below m is))) (h.from_slot b m is)
 
--- The place i of the bucket b comes or goes, where the chain of b passes it: the link at c.
+-- The slot i of the bucket b comes or goes, where the chain of b passes it: the link at c.
 pub record Change (IsIn IsIn' : ℕ → ℕ → Type 0) (head next head' next' : ℕ → ℕ) (n b c i : ℕ) : Type 0 where
   pub chained : IsChained IsIn head next n
   pub below : (a j : ℕ) → IsIn a j → j < n
@@ -81,7 +81,7 @@ module _ {IsIn IsIn' : ℕ → ℕ → Type 0} {head next head' next' : ℕ → 
 
   -- where the link at c and the own link of i are right, all are
   pub rechained : Links (IsIn' b) c (cond (c == n) (head' b) (next' c)) → (IsIn' b i → Links (IsIn' b) i (next' i)) → IsChained IsIn' head' next' n
-  rechained here own = record { from_head = first; from_place = after }
+  rechained here own = record { from_head = first; from_slot = after }
     where
       first : (a : ℕ) → a < n → Links (IsIn' a) n (head' a)
       first a lt = elim (cases_eq a b) as (λ _. Links (IsIn' a) n (head' a)) [
@@ -107,7 +107,7 @@ module _ {IsIn IsIn' : ℕ → ℕ → Type 0} {head next head' next' : ℕ → 
               subst (λ k. Links (IsIn' a) k (next' k)) (sym at_c) (subst (λ k. Links (IsIn' k) c (next' c)) (sym whose) (rw (ne_eqb c n inside) at here))
           | inr away ↦
               let before = h.was a m other is in
-              rw (h.nexts m away other) (stays a m (next m) (h.chained.from_place a m before) (λ e less.
+              rw (h.nexts m away other) (stays a m (next m) (h.chained.from_slot a m before) (λ e less.
               rw (ne_eqb m n (λ z. omega (arith, z, h.below a m before))) at (past m (inr (subst (λ k. IsIn k m) e before)) away less)))
         ]
       ]
@@ -137,7 +137,7 @@ module _ {IsIn IsIn' : ℕ → ℕ → Type 0} {head next head' next' : ℕ → 
   pub chained_without : IsIn b i → ((a : ℕ) → IsIn' a i → ⊥) → cond (c == n) (head' b) (next' c) ≡ next i → IsChained IsIn' head' next' n
   chained_without is gone here =
       let l = links c h.bound in
-      let own = h.chained.from_place b i is in
+      let own = h.chained.from_slot b i is in
       rechained
       (rw here (record {
         within = omega (arith, own.within, h.above);

@@ -2,7 +2,7 @@
 use Rattle.dash_shard.proofs.Walking.{Share, Item, flft, wand, guard, guard_i, ‵, raw, ◌⊛◌, some, later, [], ◌++◌, ◌≡◌, ℕ, T, List, ◌∷◌, refl, ap, ◌∙◌, Ura, ty_ptr, ty_struct, tcons, tnil, Val, vstruct, vcons, vnil, of_list, has_ty, WT, ent, emp, never_e, Lft, Logic, sem, RattleType, Is, NamedLft, ShrRef, Opens, Struct-Copied, Ptr, InBlock, block_ptr, null_ptr, ptr_val, makes_shadow, RawPtr-copy, field_copy, Struct, shape}
 use Rattle.core.specs.contracts.marker.PhantomData as marker
 use Rattle.dash_shard.specs.declared.lock.Tagged.{Ghosts}
-use Rattle.dash_shard.specs.Holding.{hold_owns, hold_shares}
+use Rattle.dash_shard.specs.inner.Holding.{hold_owns, hold_shares}
 use Rattle.dash_shard.specs.contracts.lock.hold.Hold as hold
 
 abbrev pub bits_of : Ptr → Val
@@ -29,7 +29,7 @@ module _ (a : NamedLft) (R G : RattleType) (g : Ghosts R.Denot G.Denot) where
 abbrev pub lent : {M : Type 1} {𝓤 : Ura M} (𝓛 : Logic 𝓤) → Lft → Lft → Share → Item 𝓤
 lent {𝓤 = 𝓤} 𝓛 α β q = later (some (λ (s : Share). ‵ (flft α s) ⊛ raw (wand 𝓤 (𝓛.A.lft α s) (𝓛.H.⇛ (𝓛.A.lft β q)))))
 
--- a hold names a place
+-- a hold names a slot
 module _ {M : Type 1} {𝓤 : Ura M} (𝓛 : Logic 𝓤) (β : Lft) (R : RattleType) (ok : R.Denot → Type 0) where
   pub owns_placed : (p : Ptr) (right : ℕ) (x : R.Denot) → ent 𝓤 (sem 𝓛 (hold_owns β R ok p right x)) (guard 𝓤 (InBlock p) (sem 𝓛 (hold_owns β R ok p right x)))
   owns_placed (block_ptr b o) right x = guard_i 𝓤 (InBlock (block_ptr b o)) (sem 𝓛 (hold_owns β R ok (block_ptr b o) right x)) tt

@@ -7,17 +7,18 @@ use Rattle.std.proofs.lemmas.List.{map-set}
 use Rattle.std.proofs.lemmas.Option.{same_Some}
 use Rattle.std.proofs.Math.ListN.{length-set}
 use Rattle.dash_shard.specs.declared.shard.table.Table.{Table}
-use Rattle.dash_shard.specs.Shard.{ShardState, place, HasKey, with_value_in, with_value_of}
-use Rattle.dash_shard.specs.Table.{node, pairs_of, with_value, with_value_at}
+use Rattle.dash_shard.specs.Shard.{ShardState, slot, HasKey, with_value_in, with_value_of}
+use Rattle.dash_shard.specs.inner.Table.{node, pairs_of, with_value, with_value_at}
 use Rattle.dash_shard.proofs.Rewriting.{holds-pair, valued-rewritten, rewritten-inside}
 use Rattle.dash_shard.proofs.Shards.{state, Inside}
-use Rattle.dash_shard.proofs.Tables.{place_node}
-use Rattle.dash_shard.specs.Hashing.{IsLawful, KeyHash}
+use Rattle.dash_shard.proofs.Tables.{slot_node}
+use Rattle.dash_shard.specs.Hashing.{KeyHash}
+use Rattle.dash_shard.specs.inner.Keys.{IsLawful}
 
 module _ {K V S : Type 0} (h : KeyHash K S)
     (law : IsLawful h) (s : S) (number amount : ℕ)
     (t : Table K V) (inside : Inside h law s number amount t) (i : ℕ) where
-  pub lent-inside : (p : K × V) → place (pairs_of t.nodes.items) i ≡ Some p → (v : V) → Inside h law s number amount (with_value_at t i v)
+  pub lent-inside : (p : K × V) → slot (pairs_of t.nodes.items) i ≡ Some p → (v : V) → Inside h law s number amount (with_value_at t i v)
   lent-inside p there v =
       rewritten-inside h law s number amount t (with_value_at t i v) inside p.0 i (holds-pair h.eq t.nodes.items p.0 i p there (rw there (law.laws.refl p.0))) (p.0, v) (law.laws.refl p.0)
       (valued-rewritten t i p v inside.table there)
@@ -25,12 +26,12 @@ module _ {K V S : Type 0} (h : KeyHash K S)
   pub lent-state : (v : V) → state h law s number amount (with_value_at t i v) ≡ with_value_in (state h law s number amount t) i v
   lent-state v =
       let nodes = t.nodes.items in
-      let of : List (Option (K × V)) → ℕ → ShardState K V S = λ ps n. record { places = ps; number = number; amount = amount; hasher = s; capacity = n } in
+      let of : List (Option (K × V)) → ℕ → ShardState K V S = λ ps n. record { slots = ps; number = number; amount = amount; hasher = s; capacity = n } in
       let wide = length (set nodes i (with_value (node nodes i) v)) in
-      ap (λ ps. of ps wide) (map-set (λ n. n.pair) nodes i (with_value (node nodes i) v) ∙ ap (λ o. set (pairs_of nodes) i (option_map (λ p. (p.0, v)) o)) (sym (place_node nodes i)))
-      ∙ ap (of (set (pairs_of nodes) i (option_map (λ p. (p.0, v)) (place (pairs_of nodes) i)))) (length-set nodes i (with_value (node nodes i) v))
+      ap (λ ps. of ps wide) (map-set (λ n. n.pair) nodes i (with_value (node nodes i) v) ∙ ap (λ o. set (pairs_of nodes) i (option_map (λ p. (p.0, v)) o)) (sym (slot_node nodes i)))
+      ∙ ap (of (set (pairs_of nodes) i (option_map (λ p. (p.0, v)) (slot (pairs_of nodes) i)))) (length-set nodes i (with_value (node nodes i) v))
 
--- the one place with a key equal to k has another value just where each such pair has
+-- the one slot with a key equal to k has another value just where each such pair has
 module _ {K V : Type 0} (eq : K → K → Bool) (k : K) (v : V) where
   abbrev revalue : Option (K × V) → Option (K × V)
   revalue = option_map (λ p. (p.0, if eq p.0 k then v else p.1))
@@ -46,22 +47,22 @@ module _ {K V : Type 0} (eq : K → K → Bool) (k : K) (v : V) where
   revalue-equal None holds = refl
   revalue-equal (Some p) holds = rw (holds p refl) refl
 
-  revalue-none : (xs : List (Option (K × V))) → ((j : ℕ) → Equals (place xs j) false) → xs ≡ map revalue xs
+  revalue-none : (xs : List (Option (K × V))) → ((j : ℕ) → Equals (slot xs j) false) → xs ≡ map revalue xs
   revalue-none [] fails = refl
   revalue-none (o ∷ xs) fails = ap (λ p. p ∷ xs) (revalue-other o (fails 0)) ∙ ap (λ ys. revalue o ∷ ys) (revalue-none xs (λ j. fails (suc j)))
 
-  revalue-one : (xs : List (Option (K × V))) (i : ℕ) → Equals (place xs i) true → ((j : ℕ) → j ≢ i → Equals (place xs j) false) → set xs i (option_map (λ p. (p.0, v)) (place xs i)) ≡ map revalue xs
+  revalue-one : (xs : List (Option (K × V))) (i : ℕ) → Equals (slot xs i) true → ((j : ℕ) → j ≢ i → Equals (slot xs j) false) → set xs i (option_map (λ p. (p.0, v)) (slot xs i)) ≡ map revalue xs
   revalue-one [] i holds others = refl
   revalue-one (o ∷ xs) zero holds others =
       ap (λ p. p ∷ xs) (revalue-equal o holds) ∙ ap (λ ys. revalue o ∷ ys) (revalue-none xs (λ j. others (suc j) (λ z. omega arith)))
   revalue-one (o ∷ xs) (suc i) holds others =
-      ap (λ p. p ∷ set xs i (option_map (λ q. (q.0, v)) (place xs i))) (revalue-other o (others 0 (λ z. omega arith)))
+      ap (λ p. p ∷ set xs i (option_map (λ q. (q.0, v)) (slot xs i))) (revalue-other o (others 0 (λ z. omega arith)))
       ∙ ap (λ ys. revalue o ∷ ys) (revalue-one xs i holds (λ j other. others (suc j) (λ z. other (omega arith))))
 
   pub lent-found : {S : Type 0} (s : ShardState K V S) (r : Option ℕ) → ((j : ℕ) → (r ≡ Some j) ↔ HasKey eq s k j) → (i : ℕ) → r ≡ Some i → with_value_in s i v ≡ with_value_of eq s k v
-  lent-found s r finds i is = ap (λ ps. record s { places = ps }) (revalue-one s.places i (λ p e. subst (λ o. IsSomeAnd o (λ q. IsTrue (eq q.0 k))) e ((finds i).0 is)) others)
+  lent-found s r finds i is = ap (λ ps. record s { slots = ps }) (revalue-one s.slots i (λ p e. subst (λ o. IsSomeAnd o (λ q. IsTrue (eq q.0 k))) e ((finds i).0 is)) others)
     where
-      others : (j : ℕ) → j ≢ i → Equals (place s.places j) false
+      others : (j : ℕ) → j ≢ i → Equals (slot s.slots j) false
       others j other p e = elim (cases_Bool (eq p.0 k)) as (λ _. eq p.0 k ≡ false) [
         | inl holds ↦ absurd (other (same_Some j i (sym ((finds j).1 (subst (λ o. IsSomeAnd o (λ q. IsTrue (eq q.0 k))) (sym e) holds)) ∙ is)))
         | inr fails ↦ fails

@@ -1,6 +1,7 @@
 mod Altering
 pub mod Alls
 mod Amounts
+pub mod BySlot
 mod Asking
 mod Carrying
 mod Chaining
@@ -15,7 +16,7 @@ mod LockShown
 pub mod Moving
 mod Nodes
 mod Passing
-mod Places
+mod Slots
 mod Positions
 pub mod Remade
 mod RoundParts
@@ -29,5 +30,6 @@ mod Shrinking
 mod Stacks
 mod Sweeping
 mod Tables
+pub mod Unions
 mod Walking
 mod WordSteps

@@ -1,6 +1,6 @@
 -- A borrow of a lock is cut into those of its word and of its value. Assumes `Logic`.
 use Rattle.dash_shard.proofs.Walking.{[], ℕ, zero, ◌+◌, List, ◌∷◌, Ura, Val, full_share, SProp, ent, sep, wand, ex, ex_i, all_e, upd_i, apply∗, id⊢, Lft, GName, Share, Fml, ftrue, fsep, fseps, fex, fwand, fupd, fdead, fbor, flft, fobs, Logic, sem, ‵, raw, ◌⊛◌, some, ◌$◌, ◌∵◌, !, qed, by, move, keep, drop, use1, use2, split, split3, join, fsplit, fsplit3, fjoin, fjoin3, fpick, fpack, pick, show, assume, suffices, updating, now, done, bor_open, obor_alter, name_new, RattleType, Denots, Lawful, part_of, part_at, cell_at, Struct, u64-laws, Member, row_of, rows_of, parts_at, PartsBack, Struct-parts, shape_of, word, flag, word_out, word_in}
-use Rattle.dash_shard.specs.Holding.{fact, offset, at_home, cell}
+use Rattle.dash_shard.specs.inner.Holding.{fact, offset, at_home, cell}
 use Rattle.dash_shard.specs.declared.lock.Tagged.{Ghosts}
 use Rattle.dash_shard.specs.contracts.lock.RwLock as C
 

@@ -1,7 +1,7 @@
 -- A borrow of a lock shows its value, whatever the word holds. Assumes `Logic`.
 use Rattle.dash_shard.proofs.Walking.{[], ◌++◌, ◌≡◌, ℕ, ◌+◌, List, ◌∷◌, sym, subst, refl, Ura, Ty, full_share, ent, sep, ex, guard, Lft, GName, Incl, Fml, ftrue, fex, fbor, fobs, Incl-trans, meet_⊑_left, Toks, span, Logic, sem, lfts, ‵, raw, ◌⊛◌, some, given, later, ◌$◌, ◌∵◌, !, qed, move, drop, use2, split, split3, join, fjoin, fpack, pick, learn, await, updating, now, done, RattleType, Lawful, part_at, shared_of, nothing, Shares, some_shr_laws, layout, Laws, Member, row_of, Law, Written, Laid, Laid-laws, by_one}
 use denote.Sharing as sharing
-use Rattle.dash_shard.specs.Holding.{offset, cell, seen}
+use Rattle.dash_shard.specs.inner.Holding.{offset, cell, seen}
 use Rattle.dash_shard.specs.declared.lock.Tagged.{Ghosts}
 use Rattle.dash_shard.specs.declared.lock.RwLock as D
 use Rattle.dash_shard.specs.contracts.lock.RwLock as C

@@ -1,6 +1,6 @@
 -- Items on their way from one row to another, the last first.
 use Rattle.std.proofs.Common.{◌≡◌, ℕ, List, ◌++◌, length, reverse}
-use Rattle.dash_shard.specs.Rows.{Moved}
+use Rattle.dash_shard.specs.inner.Rows.{Moved}
 
 module _ {A B : Type 0} (R : ℕ → A → B → Type 0) where
   -- of the whole row the items behind those that are left were made, the last first

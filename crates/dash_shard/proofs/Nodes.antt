@@ -7,8 +7,8 @@ use Rattle.std.proofs.Math.Seq.{map-set_same, take-append_seam}
 use Rattle.dash_shard.proofs.Chaining.{Change, chained_same, chained_with, chained_without}
 use Rattle.dash_shard.proofs.Stacks.{stack_same}
 use Rattle.dash_shard.specs.declared.shard.table.Node.{Node}
-use Rattle.dash_shard.specs.Shard.{place}
-use Rattle.dash_shard.specs.Table.{node, blank, link_at, InBucket, ChainedBy, Chained, With, Without, Passes, IsChained, IsStack, bucket_of, pairs_of, hashes_of, KeepsPairs, KeepsFree, Relinked}
+use Rattle.dash_shard.specs.Shard.{slot}
+use Rattle.dash_shard.specs.inner.Table.{node, blank, link_at, InBucket, ChainedBy, Chained, With, Without, Passes, IsChained, IsStack, bucket_of, pairs_of, hashes_of, KeepsPairs, KeepsFree, Relinked}
 
 -- a whole slice written back into its vector
 pub written : {A : Type 0} (n : ℕ) (xs rest : List A) → length xs ≡ n → take n (xs ++ rest) ≡ xs
@@ -115,7 +115,7 @@ module _ {K V : Type 0} where
         nexts = λ j _. part_kept (λ x. x.next) old b j n within refl;
       })
 
-  -- a place was put before what the link at c led to
+  -- a slot was put before what the link at c led to
   pub record IsLinked (i b c : ℕ) (old new : List (Node K V)) : Type 0 where
     pub keeps : KeepsPairs old new
     pub here : link_at new b c ≡ i + 1
@@ -136,7 +136,7 @@ module _ {K V : Type 0} where
         nexts = λ j not_c not_i. r.nexts j not_c ∙ m.nexts j not_i;
       }
 
-  -- a free place comes into the bucket b
+  -- a free slot comes into the bucket b
   pub linked_with : (old new : List (Node K V)) (i b c : ℕ) → b < length old → IsNone (node old i).pair → Passes old b i c → IsLinked i b c old new → Chained old → ChainedBy (With old i b) new
   linked_with old new i b c below free p l h =
       let long = same_length old new l.keeps in
@@ -165,7 +165,7 @@ module _ {K V : Type 0} where
       chained_long new (length old) long
       (chained_with change not_in (inr (refl, refl)) (subst (λ m. cond (c == m) (node new b).head (node new c).next ≡ i + 1) long l.here) l.own)
 
-  -- a place goes out of its bucket
+  -- a slot goes out of its bucket
   pub linked_without : (old new : List (Node K V)) (i b c link : ℕ) → b < length old → InBucket old b i → Passes old b i c → Relinked b c link old new → link ≡ (node old i).next → Chained old → ChainedBy (Without old i) new
   linked_without old new i b c link below here p r is h =
       let long = same_length old new r.keeps in
@@ -191,7 +191,7 @@ module _ {K V : Type 0} where
   past_end : (old new : List (Node K V)) (j : ℕ) → length new ≡ length old → length old ≤ j → (node new j).next ≡ (node old j).next
   past_end old new j long more = ap (λ x. x.next) (get_or_past new j blank (omega (arith, long, more)) ∙ sym (get_or_past old j blank more))
 
-  -- a change of a bucket's chain leaves the other free places
+  -- a change of a bucket's chain leaves the other free slots
   pub frees_kept : (old new : List (Node K V)) (b i c : ℕ) → Passes old b i c → KeepsPairs old new → ((j : ℕ) → j ≢ c → j ≢ i → (node new j).next ≡ (node old j).next) → KeepsFree i old new
   frees_kept old new b i c p k nexts j other none = elim (cases_eq j c) as (λ _. (node new j).next ≡ (node old j).next) [
     | inl same ↦ elim p.bound as (λ _. (node new j).next ≡ (node old j).next) [
@@ -201,13 +201,13 @@ module _ {K V : Type 0} where
     | inr away ↦ nexts j away other
   ]
 
-  -- a row with the pairs of z, where the places below m are chained and the links of the free ones stay
+  -- a row with the pairs of z, where the slots below m are chained and the links of the free ones stay
   pub record ChainedBelow (z : List (Node K V)) (m : ℕ) (nodes : List (Node K V)) : Type 0 where
     pub keeps : KeepsPairs z nodes
     pub frees : (j : ℕ) → IsNone (node z j).pair → (node nodes j).next ≡ (node z j).next
     pub chained : IsChained (λ b j. InBucket z b j × (j < m)) (λ b. (node nodes b).head) (λ i. (node nodes i).next) (length z)
 
-  -- with one place more
+  -- with one slot more
   pub below_more : (z old mid new : List (Node K V)) (m b first : ℕ) → ChainedBelow z m old → m < length z → b < length z → InBucket z b m
       → mid ≡ set old m (record (node old m) { next = first }) → first ≡ (node old b).head → Relinked b (length z) (m + 1) mid new → ChainedBelow z (m + 1) new
   below_more z old mid new m b first h within below here e is r =
@@ -244,7 +244,7 @@ module _ {K V : Type 0} where
             (subst (λ n. (node new m).next ≡ cond (length z == n) (node old b).head (node old (length z)).next) long l.own);
       }
 
-  -- a place with no pair is passed over
+  -- a slot with no pair is passed over
   pub below_over : (z old : List (Node K V)) (m : ℕ) → IsNone (node z m).pair → ChainedBelow z m old → ChainedBelow z (m + 1) old
   below_over z old m none h = record {
     keeps = h.keeps;
@@ -259,7 +259,7 @@ module _ {K V : Type 0} where
       chained_long new (length z) (same_length z new h.keeps)
       (chained_same (length z) (λ b i x. kept_in z new b i h.keeps x.0) (λ b i x. let y = was_in z new b i h.keeps x in (y, omega (arith, taken_within z i y.taken, all))) (λ _. refl) (λ _ _ _. refl) h.chained)
 
-  -- a pair on a place that is linked
+  -- a pair on a slot that is linked
   pub chained_filled : (old mid new : List (Node K V)) (i b hash : ℕ) (p : K × V) → i < length old → IsNone (node old i).pair → b ≡ bucket_of (length old) hash → KeepsPairs old mid → ChainedBy (With old i b) mid
       → new ≡ set mid i (record (node mid i) { hash = hash; pair = Some p }) → Chained new
   chained_filled old mid new i b hash p within free is k h e =
@@ -286,7 +286,7 @@ module _ {K V : Type 0} where
       (λ a j _. ap (λ l. (node l j).next) e ∙ part_kept (λ x. x.next) mid i j n inside refl)
       h)
 
-  -- a place that is not linked is emptied
+  -- a slot that is not linked is emptied
   pub chained_emptied : (old mid new : List (Node K V)) (i : ℕ) (n : Node K V) → i < length old → IsNone n.pair → n.head ≡ (node mid i).head → KeepsPairs old mid → ChainedBy (Without old i) mid
       → new ≡ set mid i n → Chained new
   chained_emptied old mid new i n within none head k h e =
@@ -304,7 +304,7 @@ module _ {K V : Type 0} where
       (λ a j x. ap (λ x. x.next) (elsewhere j x.1))
       h)
 
-  -- another pair of the same hash on a taken place
+  -- another pair of the same hash on a taken slot
   module _ (nodes : List (Node K V)) (i : ℕ) (n : Node K V) (p q : K × V) (within : i < length nodes) (read : n ≡ get_or nodes i n) (stored : n.pair ≡ Some p) where
     abbrev pub revalued : List (Node K V)
     revalued = set nodes i (record n { pair = Some q })
@@ -315,8 +315,8 @@ module _ {K V : Type 0} where
     pair_here : (node nodes i).pair ≡ Some p
     pair_here = ap (λ x. x.pair) node-here ∙ stored
 
-    pub place-here : place (pairs_of nodes) i ≡ Some p
-    place-here = get_or-map (λ x. x.pair) nodes i blank ∙ pair_here
+    pub slot-here : slot (pairs_of nodes) i ≡ Some p
+    slot-here = get_or-map (λ x. x.pair) nodes i blank ∙ pair_here
 
     pub pairs-revalued : pairs_of revalued ≡ set (pairs_of nodes) i (Some q)
     pairs-revalued = map-set (λ x. x.pair) nodes i _

@@ -1,13 +1,13 @@
--- A walk along a bucket's chain to where it passes a place.
+-- A walk along a bucket's chain to where it passes a slot.
 use Rattle.std.proofs.Common.{◌≡◌, ◌⊎◌, ℕ, ◌+◌, ◌-◌, ◌<◌, List, length, get_or, refl, sym, ◌∙◌, inl, inr, arith, eq-eqb}
 use Rattle.std.proofs.lemmas.Bool.{ne_eqb}
 use Rattle.dash_shard.specs.declared.shard.table.Node.{Node}
-use Rattle.dash_shard.specs.Table.{link_at, Links, InBucket, Chained}
+use Rattle.dash_shard.specs.inner.Table.{link_at, Links, InBucket, Chained}
 use Rattle.dash_shard.proofs.Chaining.{leads}
 use Rattle.dash_shard.proofs.Nodes.{taken_within, part_read}
 
 module _ {K V : Type 0} where
-  -- a walk along a bucket's chain is at a bound above the place i, where the link was read
+  -- a walk along a bucket's chain is at a bound above the slot i, where the link was read
   pub record Approaches (nodes : List (Node K V)) (b i c link : ℕ) : Type 0 where
     pub bound : (c ≡ length nodes) ⊎ InBucket nodes b c
     pub above : i < c
@@ -35,4 +35,4 @@ module _ {K V : Type 0} where
       }
 
       pub approaches_falls : (d : Node K V) → (get_or nodes (link - 1) d).next < link
-      approaches_falls d = rw (part_read (λ n. n.next) nodes (link - 1) d approaches_within) (omega (arith, (h.from_place b (link - 1) here).within, more))
+      approaches_falls d = rw (part_read (λ n. n.next) nodes (link - 1) d approaches_within) (omega (arith, (h.from_slot b (link - 1) here).within, more))

@@ -1,16 +1,17 @@
--- What a look-up answers, by the shard's places.
-use Rattle.std.proofs.Common.{◌≡◌, ℕ, true, Option, Some, None, IfSome, IfNone, refl, sym, ap, subst, ◌∙◌, inl, inr}
+-- What a look-up answers, by the shard's slots.
+use Rattle.std.proofs.Common.{◌≡◌, ℕ, Option, Some, None, IfSome, IfNone, refl, sym, ap, subst, ◌∙◌, inl, inr}
 use Rattle.std.specs.Option.{IsSomeAnd}
 use Rattle.std.proofs.lemmas.Bool.{cases_eq, both_ways, true≢false}
 use Rattle.std.proofs.lemmas.Option.{none-some, same_Some}
-use Rattle.dash_shard.specs.Hashing.{IsLawful, KeyHash}
-use Rattle.dash_shard.specs.Shard.{ShardState, place, HasKey}
+use Rattle.dash_shard.specs.Hashing.{KeyHash}
+use Rattle.dash_shard.specs.inner.Keys.{IsLawful}
+use Rattle.dash_shard.specs.Shard.{ShardState, slot, HasKey}
 use Rattle.dash_shard.specs.Held.{Finds}
 use Rattle.dash_shard.specs.declared.shard.table.Table.{Table}
-use Rattle.dash_shard.specs.Table.{Holds, IsAbsent, pairs_of}
+use Rattle.dash_shard.specs.inner.Table.{Holds, IsAbsent, pairs_of}
 use Rattle.dash_shard.proofs.Shards.{state, Inside, at-found, at-missing, others-found, missing}
 
--- what stands at a place that holds something
+-- what stands at a slot that holds something
 held : {A : Type 0} {P : A → Type 0} (o : Option A) → IsSomeAnd o P → (p : A) × (o ≡ Some p) × P p
 held None h = absurd h
 held (Some p) h = (p, refl, h)
@@ -22,7 +23,7 @@ module _ {K V S : Type 0} (h : KeyHash K S) where
     finds m found = record {
       position = λ i. (
         λ e. subst (λ j. HasKey h.eq (state h law s number amount t) k j) (same_Some m i e) (rw found.is found.equal),
-        λ has. let there = held (place (pairs_of t.nodes.items) i) has in ap Some (elim (cases_eq m i) as (λ _. m ≡ i) [
+        λ has. let there = held (slot (pairs_of t.nodes.items) i) has in ap Some (elim (cases_eq m i) as (λ _. m ≡ i) [
           | inl same ↦ same
           | inr other ↦ absurd (both_ways (h.eq there.0.0 k) (others-found h law s number amount t inside k m found i there.0 (λ e. other (sym e)) there.1) there.2)
         ]),
@@ -35,7 +36,7 @@ module _ {K V S : Type 0} (h : KeyHash K S) where
     misses absent = record {
       position = λ i. (
         λ e. absurd (none-some i e),
-        λ has. let there = held (place (pairs_of t.nodes.items) i) has in
+        λ has. let there = held (slot (pairs_of t.nodes.items) i) has in
             absurd (both_ways (h.eq there.0.0 k) (missing h law s number amount t inside k hash is absent i there.0 there.1) there.2),
       );
       pair = tt;

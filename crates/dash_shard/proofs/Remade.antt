@@ -1,4 +1,4 @@
--- The contents of a row of places, where each pair was made another of the same key, or none.
+-- The contents of a row of slots, where each pair was made another of the same key, or none.
 use Rattle.std.proofs.Common.{◌≡◌, ◌≢◌, ◌⊎◌, ℕ, suc, ◌≤◌, ◌==◌, Bool, true, false, cond, List, [], ◌∷◌, map, length, get_or, Option, Some, None, refl, sym, ap, subst, ◌∙◌, inl, inr, arith, eq-eqb}
 use Rattle.std.specs.Prelude.{option_and_then}
 use Rattle.std.specs.Cmp.{IsEquivalence}
@@ -7,11 +7,12 @@ use Rattle.std.proofs.lemmas.Option.{none-some}
 use Rattle.std.proofs.Math.ListN.{get_or-map}
 use Rattle.dash_shard.specs.Contents.{Keys, at, on, Distinct, EachOnce, IsOnShard}
 use Rattle.dash_shard.specs.Steps.{Act}
-use Rattle.dash_shard.specs.Shard.{place, taken}
-use Rattle.dash_shard.specs.Table.{IsHashed}
-use Rattle.dash_shard.specs.Each.{CalledAlong, Sweeps}
+use Rattle.dash_shard.specs.Shard.{slot, taken}
+use Rattle.dash_shard.specs.inner.Table.{IsHashed}
+use Rattle.dash_shard.specs.Each.{CalledAlong}
+use Rattle.dash_shard.specs.inner.Walks.{Sweeps}
 use Rattle.dash_shard.proofs.Equals.{at-equal}
-use Rattle.dash_shard.proofs.Places.{absent-at}
+use Rattle.dash_shard.proofs.Slots.{absent-at}
 
 module _ {K V : Type 0} (becomes : K × V → Option (K × V)) where
   -- the key stays
@@ -21,8 +22,8 @@ module _ {K V : Type 0} (becomes : K × V → Option (K × V)) where
   abbrev pub remade : List (Option (K × V)) → List (Option (K × V))
   remade xs = map (option_and_then becomes) xs
 
-  pub place-remade : (xs : List (Option (K × V))) (i : ℕ) → place (remade xs) i ≡ option_and_then becomes (place xs i)
-  place-remade xs i = get_or-map (option_and_then becomes) xs i None
+  pub slot-remade : (xs : List (Option (K × V))) (i : ℕ) → slot (remade xs) i ≡ option_and_then becomes (slot xs i)
+  slot-remade xs i = get_or-map (option_and_then becomes) xs i None
 
   pub fewer-remade : (xs : List (Option (K × V))) → length (taken (remade xs)) ≤ length (taken xs)
   fewer-remade [] = omega arith
@@ -35,9 +36,9 @@ module _ {K V : Type 0} (becomes : K × V → Option (K × V)) where
 
   module _ (keeps : KeepsKey) where
     pub hashed-remade : (hash : K → ℕ) (xs : List (Option (K × V))) (hs : List ℕ) → IsHashed hash xs hs → IsHashed hash (remade xs) hs
-    hashed-remade hash xs hs h i q e = from (place xs i) refl (sym (place-remade xs i) ∙ e)
+    hashed-remade hash xs hs h i q e = from (slot xs i) refl (sym (slot-remade xs i) ∙ e)
       where
-        from : (o : Option (K × V)) → place xs i ≡ o → option_and_then becomes o ≡ Some q → get_or hs i 0 ≡ hash q.0
+        from : (o : Option (K × V)) → slot xs i ≡ o → option_and_then becomes o ≡ Some q → get_or hs i 0 ≡ hash q.0
         from None there e = absurd (none-some q e)
         from (Some p) there e = h i p there ∙ ap hash (sym (keeps p q e))
 
@@ -76,9 +77,9 @@ module _ {K V : Type 0} (becomes : K × V → Option (K × V)) where
           | inr away ↦ rw (ne_eqb (w.route j) n away, h.routed j away) refl
         ]
 
-        -- and what stands at each place
-        pub stays-remade : (i : ℕ) (p : K × V) → place xs i ≡ Some p → place (remade xs) i ≡ cond (w.route p.0 == n) (becomes p) (Some p)
-        stays-remade i p e = place-remade xs i ∙ ap (option_and_then becomes) e ∙ elim (cases_eq (w.route p.0) n) as (λ _. becomes p ≡ cond (w.route p.0 == n) (becomes p) (Some p)) [
+        -- and what stands at each slot
+        pub stays-remade : (i : ℕ) (p : K × V) → slot xs i ≡ Some p → slot (remade xs) i ≡ cond (w.route p.0 == n) (becomes p) (Some p)
+        stays-remade i p e = slot-remade xs i ∙ ap (option_and_then becomes) e ∙ elim (cases_eq (w.route p.0) n) as (λ _. becomes p ≡ cond (w.route p.0 == n) (becomes p) (Some p)) [
           | inl here ↦ rw (eq-eqb (w.route p.0) n here) refl
           | inr away ↦ absurd (both_ways (w.eq p.0 p.0) (absent-at w xs p.0 (h.routed p.0 away) i p e) (laws.refl p.0))
         ]

@@ -1,4 +1,4 @@
--- A table with another pair in a taken place, and the shard that has it.
+-- A table with another pair in a taken slot, and the shard that has it.
 use Rattle.std.proofs.Common.{◌≡◌, ℕ, ◌+◌, ◌<◌, ◌==◌, Bool, true, List, length, set, get_or, Option, Some, None, is_some, IsSome, IsTrue, refl, sym, ap, subst, ◌∙◌, inl, inr, arith, eq-eqb, get_or-set_same, get_or-set_other}
 use Rattle.std.specs.Prelude.{IfSome, if◌then◌else◌}
 use Rattle.std.specs.Option.{option_map, IsSomeAnd}
@@ -9,20 +9,21 @@ use Rattle.std.proofs.lemmas.Option.{none-some, same_Some}
 use Rattle.std.proofs.Math.ListN.{length-set}
 use Rattle.dash_shard.specs.declared.shard.table.Node.{Node}
 use Rattle.dash_shard.specs.declared.shard.table.Table.{Table}
-use Rattle.dash_shard.specs.Hashing.{IsLawful, KeyHash}
+use Rattle.dash_shard.specs.Hashing.{KeyHash}
+use Rattle.dash_shard.specs.inner.Keys.{IsLawful, keys_of}
 use Rattle.dash_shard.specs.Contents.{Keys, at, IsOnShard}
-use Rattle.dash_shard.specs.Shard.{ShardState, place, taken, pairs, keys_of, Routes, IsShard}
-use Rattle.dash_shard.specs.Table.{node, blank, Holds, IsTable, IsRewritten, IsHashed, pairs_of, hashes_of, with_value_at}
+use Rattle.dash_shard.specs.Shard.{ShardState, slot, taken, pairs, Routes, IsShard}
+use Rattle.dash_shard.specs.inner.Table.{node, blank, Holds, IsTable, IsRewritten, IsHashed, pairs_of, hashes_of, with_value_at}
 use Rattle.dash_shard.proofs.Equals.{at-equal}
 use Rattle.dash_shard.proofs.Nodes.{pairs-revalued, hashes-revalued, chained-revalued, stack-revalued, taken_within}
-use Rattle.dash_shard.proofs.Places.{NoOther, Equal, at-written, on_shard-written, length-taken-replace, stays-written}
+use Rattle.dash_shard.proofs.Slots.{NoOther, Equal, at-written, on_shard-written, length-taken-replace, stays-written}
 use Rattle.dash_shard.proofs.Shards.{state, Inside, hashed-replace, routes-equal, equal-found, others-found, at-found}
-use Rattle.dash_shard.proofs.Tables.{place_node}
+use Rattle.dash_shard.proofs.Tables.{slot_node}
 
 module _ {K V : Type 0} (nodes : List (Node K V)) (i : ℕ) where
-  -- a taken place is one of the places
-  pub spot-within : IsSome (place (pairs_of nodes) i) → i < length nodes
-  spot-within some = taken_within nodes i (ap is_some (sym (place_node nodes i)) ∙ some)
+  -- a taken slot is one of the slots
+  pub spot-within : IsSome (slot (pairs_of nodes) i) → i < length nodes
+  spot-within some = taken_within nodes i (ap is_some (sym (slot_node nodes i)) ∙ some)
 
   -- the node that an index reads
   pub node-read : (n : Node K V) → i < length nodes → n ≡ get_or nodes i n → n ≡ node nodes i
@@ -36,7 +37,7 @@ module _ {K V : Type 0} (t : Table K V) (i : ℕ) (n : Node K V) (p q : K × V) 
         pairs = ap pairs_of nodes ∙ pairs-revalued t.nodes.items i n p q within read stored;
         hashes = ap hashes_of nodes ∙ hashes-revalued t.nodes.items i n p q within read stored;
         len = len;
-        places = row;
+        slots = row;
         table = record {
           free = table.free;
           counted = ap (λ m. m + table.free) len ∙ table.counted ∙ sym row;
@@ -45,8 +46,8 @@ module _ {K V : Type 0} (t : Table K V) (i : ℕ) (n : Node K V) (p q : K × V) 
         };
       }
 
--- what a place has, if its key is equal
-abbrev pub holds-pair : {K V : Type 0} (eq : K → K → Bool) (nodes : List (Node K V)) (k : K) (i : ℕ) (p : K × V) → place (pairs_of nodes) i ≡ Some p → IsSomeAnd (place (pairs_of nodes) i) (λ q. IsTrue (eq q.0 k)) → Holds eq nodes k i
+-- what a slot has, if its key is equal
+abbrev pub holds-pair : {K V : Type 0} (eq : K → K → Bool) (nodes : List (Node K V)) (k : K) (i : ℕ) (p : K × V) → slot (pairs_of nodes) i ≡ Some p → IsSomeAnd (slot (pairs_of nodes) i) (λ q. IsTrue (eq q.0 k)) → Holds eq nodes k i
 holds-pair eq nodes k i p there has = record {
   within = spot-within nodes i (ap is_some there);
   pair = p;
@@ -55,31 +56,31 @@ holds-pair eq nodes k i p there has = record {
 }
 
 -- a value that was lent, and written
-module _ {K V : Type 0} (t : Table K V) (i : ℕ) (p : K × V) (v : V) (table : IsTable t) (there : place (pairs_of t.nodes.items) i ≡ Some p) where
+module _ {K V : Type 0} (t : Table K V) (i : ℕ) (p : K × V) (v : V) (table : IsTable t) (there : slot (pairs_of t.nodes.items) i ≡ Some p) where
   pub valued-rewritten : IsRewritten i (p.0, v) t (with_value_at t i v)
   valued-rewritten =
       let nodes = t.nodes.items in
       let within : i < length nodes = spot-within nodes i (ap is_some there) in
-      let stored : (node nodes i).pair ≡ Some p = sym (place_node nodes i) ∙ there in
+      let stored : (node nodes i).pair ≡ Some p = sym (slot_node nodes i) ∙ there in
       rewritten t i (node nodes i) p (p.0, v) table within (sym (get_or_default nodes i (node nodes i) blank within)) stored _
       (ap (λ o. set nodes i (record (node nodes i) { pair = option_map (λ q. (q.0, v)) o })) stored) refl refl
 
-  pub valued-place : place (pairs_of (with_value_at t i v).nodes.items) i ≡ Some (p.0, v)
-  valued-place =
+  pub valued-slot : slot (pairs_of (with_value_at t i v).nodes.items) i ≡ Some (p.0, v)
+  valued-slot =
       let within : i < length (pairs_of t.nodes.items) = omega (arith, spot-within t.nodes.items i (ap is_some there), length-map t.nodes.items (λ n. n.pair)) in
-      ap (λ xs. place xs i) valued-rewritten.pairs ∙ get_or-set_same (pairs_of t.nodes.items) i (Some (p.0, v)) None within
+      ap (λ xs. slot xs i) valued-rewritten.pairs ∙ get_or-set_same (pairs_of t.nodes.items) i (Some (p.0, v)) None within
 
 -- a pair that a call wrote, where G says of the pair before what the call gave for its value
 module _ {K V : Type 0} (t : Table K V) (i : ℕ) (n : Node K V) (table : IsTable t) (within : i < length t.nodes.items) (read : n ≡ get_or t.nodes.items i n) (now : Option (K × V)) (G : K × V → V → Type 0) where
-  pub altered : IsSome (place (pairs_of t.nodes.items) i) → IfSome n.pair (λ p. (w : V) × (now ≡ Some (p.0, w)) × G p w)
-      → IfSome (place (pairs_of t.nodes.items) i) (λ p. (w : V) × IsRewritten i (p.0, w) t (record t { nodes = with_item t.nodes i (record n { pair = now }) }) × G p w)
+  pub altered : IsSome (slot (pairs_of t.nodes.items) i) → IfSome n.pair (λ p. (w : V) × (now ≡ Some (p.0, w)) × G p w)
+      → IfSome (slot (pairs_of t.nodes.items) i) (λ p. (w : V) × IsRewritten i (p.0, w) t (record t { nodes = with_item t.nodes i (record n { pair = now }) }) × G p w)
   altered some gave = from n.pair refl gave
     where
-      there : place (pairs_of t.nodes.items) i ≡ n.pair
-      there = place_node t.nodes.items i ∙ ap (λ m. m.pair) (sym (node-read t.nodes.items i n within read))
+      there : slot (pairs_of t.nodes.items) i ≡ n.pair
+      there = slot_node t.nodes.items i ∙ ap (λ m. m.pair) (sym (node-read t.nodes.items i n within read))
 
       from : (o : Option (K × V)) → n.pair ≡ o → IfSome o (λ p. (w : V) × (now ≡ Some (p.0, w)) × G p w)
-          → IfSome (place (pairs_of t.nodes.items) i) (λ p. (w : V) × IsRewritten i (p.0, w) t (record t { nodes = with_item t.nodes i (record n { pair = now }) }) × G p w)
+          → IfSome (slot (pairs_of t.nodes.items) i) (λ p. (w : V) × IsRewritten i (p.0, w) t (record t { nodes = with_item t.nodes i (record n { pair = now }) }) × G p w)
       from None e h = absurd (true≢false (sym some ∙ ap is_some (there ∙ e)))
       from (Some p) e h = rw (there ∙ e) (h.0, rewritten t i n p (p.0, h.0) table within read e _ (ap (λ o. set t.nodes.items i (record n { pair = o })) h.1) refl refl, h.2)
 
@@ -114,7 +115,7 @@ module _ {K V S : Type 0} (h : KeyHash K S)
     | inr away ↦ absurd (none-some found.pair (sym (inside.shard.contents.routed k away) ∙ found-at))
   ]
 
-  was-equal : Equal w k (place spots i)
+  was-equal : Equal w k (slot spots i)
   was-equal = equal-found h law s number amount t inside k i found
 
   now-equal : Equal w k (Some q)
@@ -144,9 +145,9 @@ module _ {K V S : Type 0} (h : KeyHash K S)
     counted = r.len ∙ inside.counted ∙ sym rewritten-len;
   }
 
-  pub rewritten-place : (j : ℕ) → place (pairs_of new.nodes.items) j ≡ (if j == i then Some q else place spots j)
-  rewritten-place j = ap (λ xs. place xs j) r.pairs ∙ elim (cases_eq j i) as (λ _. place (set spots i (Some q)) j ≡ (if j == i then Some q else place spots j)) [
-    | inl same ↦ rw (eq-eqb j i same) (subst (λ m. place (set spots i (Some q)) m ≡ Some q) (sym same) (get_or-set_same spots i (Some q) None within))
+  pub rewritten-slot : (j : ℕ) → slot (pairs_of new.nodes.items) j ≡ (if j == i then Some q else slot spots j)
+  rewritten-slot j = ap (λ xs. slot xs j) r.pairs ∙ elim (cases_eq j i) as (λ _. slot (set spots i (Some q)) j ≡ (if j == i then Some q else slot spots j)) [
+    | inl same ↦ rw (eq-eqb j i same) (subst (λ m. slot (set spots i (Some q)) m ≡ Some q) (sym same) (get_or-set_same spots i (Some q) None within))
     | inr other ↦ rw (ne_eqb j i other) (get_or-set_other spots i j (Some q) None other)
   ]
 
@@ -161,6 +162,6 @@ module _ {K V S : Type 0} (h : KeyHash K S)
       | inr other ↦ rw other refl
     ]
 
-    pub rewritten-stays : (j : ℕ) (p : K × V) → place spots j ≡ Some p → place (pairs_of new.nodes.items) j ≡ (if h.eq k p.0 then f (Some p) else Some p)
-    rewritten-stays j p e = ap (λ xs. place xs j) r.pairs
+    pub rewritten-stays : (j : ℕ) (p : K × V) → slot spots j ≡ Some p → slot (pairs_of new.nodes.items) j ≡ (if h.eq k p.0 then f (Some p) else Some p)
+    rewritten-stays j p e = ap (λ xs. slot xs j) r.pairs
         ∙ stays-written w law.laws spots k i (Some q) f within was-equal alone (λ x there. sym makes ∙ ap f (sym found.is ∙ there)) j p e

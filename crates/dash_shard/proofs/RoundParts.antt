@@ -3,7 +3,7 @@ use Rattle.dash_shard.proofs.Walking.{[], ◌≡◌, ℕ, ◌+◌, ◌-◌, ◌^
 use seplogic.Ra.Constructions.Prod
 use seplogic.Ra.Instances.Ag
 use base.Share
-use Rattle.dash_shard.specs.Holding.{rounds, names, share, parts}
+use Rattle.dash_shard.specs.inner.Holding.{rounds, names, share, parts}
 
 module _ {M : Type 1} {𝓤 : Ura M} (𝓛 : Logic 𝓤) (γ : GName) where
   abbrev Pr : Type 2

@@ -1,7 +1,7 @@
 -- A round begins and ends, and a hold lends what it sees. Assumes `Logic`.
 use Rattle.dash_shard.proofs.Walking.{[], ◌++◌, ℕ, zero, suc, ◌+◌, ◌∷◌, refl, sym, Ura, full_share, apply∗, guard, guard_i, SProp, ent, sep, wand, ex, upd_i, id⊢, Lft, GName, Share, Incl, Incl-trans, Fml, ftrue, ffalse, fsep, fseps, fex, fwand, fupd, fdead, fbor, flft, fobs, fauth, before, meet_⊑_left, meet_⊑_right, ⊑_meet, Toks, span, Logic, sem, lfts, given, learn, ‵, raw, ◌⊛◌, some, later, ◌$◌, ◌∵◌, !, qed, by, move, keep, drop, use1, use2, split, split3, group, fsplit, fsplit3, fjoin, fjoin3, fpick, fpack, pick, show, check, frame, assume, suffices, await, updating, now, rewrite, join, done, lft_new, lft_end, lent_back, bor_open, obor_alter, bor_fracture, name_agree, before_dup, before_shorten, RattleType, RowLaws, part_at, shared_of, moves, moves_before, Ptr, block_ptr, null_ptr, Shares, ShrLaws, said, beside_shr_laws, contraction, shortens, nothing_shr_laws, said_shr_laws, within_shr_laws, nothing, Lends, Lends-false, Lends-nothing, by_one}
 use denote.Sharing.{within}
-use Rattle.dash_shard.specs.Holding.{fact, parts, Fixed, offset, at_home, cell, seen, waits, kept, reader, begun, writer, hold_owns, hold_shares}
+use Rattle.dash_shard.specs.inner.Holding.{fact, parts, Fixed, offset, at_home, cell, seen, waits, kept, reader, begun, writer, hold_owns, hold_shares}
 use Rattle.dash_shard.proofs.RoundParts.{parts_in}
 
 pub seen_laws : (R : RattleType) (ok : R.Denot → Type 0) → RowLaws R → (b o : ℕ) (x : R.Denot) → ShrLaws (seen R ok b o x)

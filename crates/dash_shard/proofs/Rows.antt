@@ -2,7 +2,7 @@
 use Rattle.std.proofs.Common.{◌≡◌, ℕ, zero, suc, ◌+◌, List, [], ◌∷◌, ◌++◌, length, Some, slice_get, slice_set, get_or-set_same, get_or-set_other, refl, sym, ap, subst, ◌∙◌, ◌<◌, arith}
 use Rattle.std.proofs.lemmas.Option.{none-some, same_Some, slice_get-get_or, slice_get_within, get_or_from_slice_get}
 use Rattle.std.proofs.Math.ListN.{length-set}
-use Rattle.dash_shard.specs.Rows.{Moved}
+use Rattle.dash_shard.specs.inner.Rows.{Moved}
 
 module _ {A B : Type 0} (R : ℕ → A → B → Type 0) where
   pub moved-length : (i : ℕ) (xs : List A) (ys : List B) → Moved R i xs ys → length ys ≡ length xs
@@ -20,14 +20,14 @@ module _ {A B : Type 0} (R : ℕ → A → B → Type 0) where
       let r = moved-at (i + 1) xs ys m.1 j z e in
       (r.0, r.1, subst (λ n. R n r.0 z) (omega arith) r.2)
 
-  -- what the item at a place was made of
+  -- what the item at a slot was made of
   pub moved-from : (xs : List A) (ys : List B) → Moved R 0 xs ys → (j : ℕ) (y : B) → slice_get ys j ≡ Some y → (x : A) × (slice_get xs j ≡ Some x) × R j x y
   moved-from xs ys m j y e =
       let r = moved-at 0 xs ys m j y e in
       (r.0, r.1, subst (λ n. R n r.0 y) (omega arith) r.2)
 
 module _ {A : Type 0} where
-  -- what holds of each place holds with one more behind
+  -- what holds of each slot holds with one more behind
   pub each-more : (P : ℕ → A → Type 0) (xs : List A) (x : A) → ((i : ℕ) (y : A) → slice_get xs i ≡ Some y → P i y) → P (length xs) x
       → (i : ℕ) (y : A) → slice_get (xs ++ x ∷ []) i ≡ Some y → P i y
   each-more P [] x each here zero y e = subst (P zero) (same_Some x y e) here

@@ -4,7 +4,7 @@ use Rattle.std.proofs.lemmas.Bool.{cases_Bool, cases_eq, both_ways}
 use Rattle.std.proofs.lemmas.List.{get_or_default}
 use Rattle.std.proofs.Math.ListN.{get_or-map}
 use Rattle.dash_shard.specs.declared.shard.table.Node.{Node}
-use Rattle.dash_shard.specs.Table.{node, blank, InBucket, bucket_of, Chained, IsAbsent}
+use Rattle.dash_shard.specs.inner.Table.{node, blank, InBucket, bucket_of, Chained, IsAbsent}
 use Rattle.dash_shard.proofs.Nodes.{taken_within, part_read}
 
 module _ {K V : Type 0} where
@@ -27,11 +27,11 @@ module _ {K V : Type 0} where
           stands = l.stands;
         }
 
-    -- the place i of the chain was looked at in vain
+    -- the slot i of the chain was looked at in vain
     pub seeks_next : (link i : ℕ) → link ≡ i + 1 → ((p : K × V) → (node nodes i).pair ≡ Some p → (node nodes i).hash ≡ hash → eq p.0 k ≡ false)
         → Seeks eq nodes hash k link → Seeks eq nodes hash k (node nodes i).next × ((node nodes i).next < link)
     seeks_next link i is fails s =
-        let l = h.from_place (bucket_of (length nodes) hash) i (s.stands i is) in (
+        let l = h.from_slot (bucket_of (length nodes) hash) i (s.stands i is) in (
           record {
             within = omega (arith, l.within, s.within, is);
             ahead = λ j p at same equal. elim (cases_eq j i) as (λ _. j < (node nodes i).next) [

@@ -6,31 +6,33 @@ use Rattle.std.proofs.lemmas.Bool.{cases_Bool, cases_eq}
 use Rattle.std.proofs.lemmas.List.{length-map}
 use Rattle.std.proofs.lemmas.Option.{none-some, same_Some}
 use Rattle.std.proofs.Math.ListN.{replicate, length-set}
-use Rattle.dash_shard.specs.Hashing.{IsLawful, KeyHash, IsAmount, route_of_hash}
+use Rattle.dash_shard.specs.Hashing.{KeyHash, IsAmount, route_of_hash}
+use Rattle.dash_shard.specs.inner.Keys.{IsLawful, keys_of}
 use Rattle.dash_shard.specs.Contents.{Keys, at, IsOnShard}
-use Rattle.dash_shard.specs.Steps.{Insert, Remove, Old, Pair, after, key_or}
-use Rattle.dash_shard.specs.Shard.{ShardState, place, taken, pairs, shard_len, keys_of, own_keys, Routes, IsShard, TakesStep, TakesInPlace, StaysPut}
+use Rattle.dash_shard.specs.Steps.{Insert, Remove, Old, Pair, after}
+use Rattle.dash_shard.specs.inner.Steps.{key_or}
+use Rattle.dash_shard.specs.Shard.{ShardState, slot, taken, pairs, shard_len, own_keys, Routes, IsShard, TakesStep, TakesInPlace, StaysPut}
 use Rattle.dash_shard.specs.Held.{Inserts, Loses, Reserves}
 use Rattle.dash_shard.specs.declared.shard.table.Node.{Node}
 use Rattle.dash_shard.specs.declared.shard.table.Table.{Table}
-use Rattle.dash_shard.specs.Table.{pairs_of, hashes_of, next_place, Holds, IsAbsent, IsHashed, IsGrown, IsTable, IsInside}
+use Rattle.dash_shard.specs.inner.Table.{pairs_of, hashes_of, next_slot, Holds, IsAbsent, IsHashed, IsGrown, IsTable, IsInside}
 use Rattle.dash_shard.proofs.Equals.{at-equal}
 use Rattle.dash_shard.proofs.Tables.{next_free}
-use Rattle.dash_shard.proofs.Places.{NoOther, Equal, at-absent, absent-at, at-sole, at-written, others-fail, on_shard-written, taken-empties, length-taken-fill, length-taken-replace, length-taken-clear, stays-written}
+use Rattle.dash_shard.proofs.Slots.{NoOther, Equal, at-absent, absent-at, at-sole, at-written, others-fail, on_shard-written, taken-empties, length-taken-fill, length-taken-replace, length-taken-clear, stays-written}
 
--- empty places behind
-place-empties : {A : Type 0} (xs : List (Option A)) (n i : ℕ) → place (xs ++ replicate n None) i ≡ place xs i
-place-empties {A} [] n i = nothing n i
+-- empty slots behind
+slot-empties : {A : Type 0} (xs : List (Option A)) (n i : ℕ) → slot (xs ++ replicate n None) i ≡ slot xs i
+slot-empties {A} [] n i = nothing n i
   where
-    nothing : (n i : ℕ) → place (replicate {A = Option A} n None) i ≡ None
+    nothing : (n i : ℕ) → slot (replicate {A = Option A} n None) i ≡ None
     nothing zero i = refl
     nothing (suc n) zero = refl
     nothing (suc n) (suc i) = nothing n i
-place-empties (o ∷ xs) n zero = refl
-place-empties (o ∷ xs) n (suc i) = place-empties xs n i
+slot-empties (o ∷ xs) n zero = refl
+slot-empties (o ∷ xs) n (suc i) = slot-empties xs n i
 
--- where no place is taken, none has a pair
-none-taken : {A : Type 0} (xs : List (Option A)) (i : ℕ) (p : A) → taken xs ≡ [] → place xs i ≡ Some p → ⊥
+-- where no slot is taken, none has a pair
+none-taken : {A : Type 0} (xs : List (Option A)) (i : ℕ) (p : A) → taken xs ≡ [] → slot xs i ≡ Some p → ⊥
 none-taken [] i p none e = none-some p e
 none-taken (None ∷ xs) zero p none e = none-some p e
 none-taken (None ∷ xs) (suc i) p none e = none-taken xs i p none e
@@ -42,48 +44,48 @@ get_or-more [] ys i lt = absurd (omega arith)
 get_or-more (x ∷ xs) ys zero lt = refl
 get_or-more (x ∷ xs) ys (suc i) lt = get_or-more xs ys i (omega arith)
 
-place-within : {A : Type 0} (xs : List (Option A)) (i : ℕ) (p : A) → place xs i ≡ Some p → i < length xs
-place-within [] i p e = absurd (none-some p e)
-place-within (o ∷ xs) zero p e = omega arith
-place-within (o ∷ xs) (suc i) p e = omega (arith, place-within xs i p e)
+slot-within : {A : Type 0} (xs : List (Option A)) (i : ℕ) (p : A) → slot xs i ≡ Some p → i < length xs
+slot-within [] i p e = absurd (none-some p e)
+slot-within (o ∷ xs) zero p e = omega arith
+slot-within (o ∷ xs) (suc i) p e = omega (arith, slot-within xs i p e)
 
 module _ {K V : Type 0} (hash : K → ℕ) where
   hashed-empties : (xs : List (Option (K × V))) (hs : List ℕ) (n : ℕ) → length hs ≡ length xs → IsHashed hash xs hs → IsHashed hash (xs ++ replicate n None) (hs ++ replicate n 0)
   hashed-empties xs hs n long h i p e =
-      let old = sym (place-empties xs n i) ∙ e in
-      get_or-more hs (replicate n 0) i (omega (arith, long, place-within xs i p old)) ∙ h i p old
+      let old = sym (slot-empties xs n i) ∙ e in
+      get_or-more hs (replicate n 0) i (omega (arith, long, slot-within xs i p old)) ∙ h i p old
 
   hashed-fill : (xs : List (Option (K × V))) (hs : List ℕ) (i : ℕ) (k : K) (v : V) (n : ℕ) → i < length xs → length hs ≡ length xs → n ≡ hash k → IsHashed hash xs hs → IsHashed hash (set xs i (Some (k, v))) (set hs i n)
   hashed-fill xs hs i k v n within long is h j p e = elim (cases_eq j i) as (λ _. get_or (set hs i n) j 0 ≡ hash p.0) [
     | inl same ↦
-        let new : (k, v) ≡ p = same_Some (k, v) p (sym (get_or-set_same xs i (Some (k, v)) None within) ∙ ap (λ m. place (set xs i (Some (k, v))) m) (sym same) ∙ e) in
+        let new : (k, v) ≡ p = same_Some (k, v) p (sym (get_or-set_same xs i (Some (k, v)) None within) ∙ ap (λ m. slot (set xs i (Some (k, v))) m) (sym same) ∙ e) in
         ap (λ m. get_or (set hs i n) m 0) same ∙ get_or-set_same hs i n 0 (omega (arith, long, within)) ∙ is ∙ ap (λ q. hash q.0) new
     | inr other ↦ get_or-set_other hs i j n 0 other ∙ h j p (sym (get_or-set_other xs i j (Some (k, v)) None other) ∙ e)
   ]
 
-  pub hashed-replace : (xs : List (Option (K × V))) (hs : List ℕ) (i : ℕ) (p r : K × V) → i < length xs → place xs i ≡ Some p → hash p.0 ≡ hash r.0 → IsHashed hash xs hs → IsHashed hash (set xs i (Some r)) hs
+  pub hashed-replace : (xs : List (Option (K × V))) (hs : List ℕ) (i : ℕ) (p r : K × V) → i < length xs → slot xs i ≡ Some p → hash p.0 ≡ hash r.0 → IsHashed hash xs hs → IsHashed hash (set xs i (Some r)) hs
   hashed-replace xs hs i p r within there alike h j q e = elim (cases_eq j i) as (λ _. get_or hs j 0 ≡ hash q.0) [
     | inl same ↦
-        let new : r ≡ q = same_Some r q (sym (get_or-set_same xs i (Some r) None within) ∙ ap (λ m. place (set xs i (Some r)) m) (sym same) ∙ e) in
+        let new : r ≡ q = same_Some r q (sym (get_or-set_same xs i (Some r) None within) ∙ ap (λ m. slot (set xs i (Some r)) m) (sym same) ∙ e) in
         ap (λ m. get_or hs m 0) same ∙ h i p there ∙ alike ∙ ap (λ x. hash x.0) new
     | inr other ↦ h j q (sym (get_or-set_other xs i j (Some r) None other) ∙ e)
   ]
 
   hashed-clear : (xs : List (Option (K × V))) (hs : List ℕ) (i : ℕ) → i < length xs → IsHashed hash xs hs → IsHashed hash (set xs i None) hs
   hashed-clear xs hs i within h j p e = elim (cases_eq j i) as (λ _. get_or hs j 0 ≡ hash p.0) [
-    | inl same ↦ absurd (none-some p (sym (get_or-set_same xs i None None within) ∙ ap (λ m. place (set xs i None) m) (sym same) ∙ e))
+    | inl same ↦ absurd (none-some p (sym (get_or-set_same xs i None None within) ∙ ap (λ m. slot (set xs i None) m) (sym same) ∙ e))
     | inr other ↦ h j p (sym (get_or-set_other xs i j None None other) ∙ e)
   ]
 
--- the pair that stands at a place with an equal key
-pub holds-key : {K V : Type 0} (eq : K → K → Bool) (nodes : List (Node K V)) (k : K) (i : ℕ) → IsSomeAnd (place (pairs_of nodes) i) (λ p. IsTrue (eq p.0 k)) → Holds eq nodes k i
-holds-key {K} {V} eq nodes k i has = from (place (pairs_of nodes) i) refl has
+-- the pair that stands at a slot with an equal key
+pub holds-key : {K V : Type 0} (eq : K → K → Bool) (nodes : List (Node K V)) (k : K) (i : ℕ) → IsSomeAnd (slot (pairs_of nodes) i) (λ p. IsTrue (eq p.0 k)) → Holds eq nodes k i
+holds-key {K} {V} eq nodes k i has = from (slot (pairs_of nodes) i) refl has
   where
-    from : (o : Option (K × V)) → place (pairs_of nodes) i ≡ o → IsSomeAnd o (λ p. IsTrue (eq p.0 k)) → Holds eq nodes k i
+    from : (o : Option (K × V)) → slot (pairs_of nodes) i ≡ o → IsSomeAnd o (λ p. IsTrue (eq p.0 k)) → Holds eq nodes k i
     from None e h = absurd h
-    from (Some p) e h = record { within = omega (arith, place-within (pairs_of nodes) i p e, length-map nodes (λ n. n.pair)); pair = p; is = e; equal = h }
+    from (Some p) e h = record { within = omega (arith, slot-within (pairs_of nodes) i p e, length-map nodes (λ n. n.pair)); pair = p; is = e; equal = h }
 
--- as many hashes as places
+-- as many hashes as slots
 columns : {K V : Type 0} (nodes : List (Node K V)) → length (hashes_of nodes) ≡ length (pairs_of nodes)
 columns nodes = length-map nodes (λ n. n.hash) ∙ sym (length-map nodes (λ n. n.pair))
 
@@ -95,7 +97,7 @@ module _ {K V S : Type 0} (h : KeyHash K S)
     (law : IsLawful h) (s : S) (number amount : ℕ) where
   -- the state of the shard that has this table
   abbrev pub state : Table K V → ShardState K V S
-  state t = record { places = pairs_of t.nodes.items; number = number; amount = amount; hasher = s; capacity = length t.nodes.items }
+  state t = record { slots = pairs_of t.nodes.items; number = number; amount = amount; hasher = s; capacity = length t.nodes.items }
 
   abbrev pub Inside : Table K V → Type 0
   Inside t = IsInside h t (state t)
@@ -121,7 +123,7 @@ module _ {K V S : Type 0} (h : KeyHash K S)
       taken = subst (λ x. TakesStep h.eq x (state new) (Insert k v) (Old o)) view i.takes;
       len = subst (λ x. shard_len (state new) ≡ shard_len x + cond (is_some o) 0 1) view i.len;
       room = room;
-      places = λ _. subst (λ x. StaysPut h.eq x (state new) (Insert k v)) view i.stays;
+      slots = λ _. subst (λ x. StaysPut h.eq x (state new) (Insert k v)) view i.stays;
       refused = tt;
       absent = tt;
       full = tt;
@@ -131,13 +133,13 @@ module _ {K V S : Type 0} (h : KeyHash K S)
   pub refuses : (old new : Table K V) (k : K) (v : V) (z : ShardState K V S) → state old ≡ z → Inside old → (new.nodes.items ≡ old.nodes.items) × (old.len ≡ length old.nodes.items) → at h.eq (pairs (state old)) k ≡ None
       → Inserts h.eq z (state new) k v (Err (record { key = k; value = v }))
   refuses old new k v z view inside same none =
-      let of : List (Node K V) → ShardState K V S = λ ns. record { places = pairs_of ns; number = number; amount = amount; hasher = s; capacity = length ns } in
+      let of : List (Node K V) → ShardState K V S = λ ns. record { slots = pairs_of ns; number = number; amount = amount; hasher = s; capacity = length ns } in
       let back : state new ≡ z = ap of same.0 ∙ view in
       record {
         taken = tt;
         len = tt;
         room = λ _. ap (λ x. x.capacity) back;
-        places = tt;
+        slots = tt;
         refused = (refl, refl, back);
         absent = subst (λ x. at h.eq (pairs x) k ≡ None) view none;
         full = subst (λ x. shard_len x ≡ x.capacity) view (sym inside.counted ∙ same.1);
@@ -152,7 +154,7 @@ module _ {K V S : Type 0} (h : KeyHash K S)
     routes-equal routes j same = ap (route_of_hash amount) (sym (law.respects s k j same)) ∙ routes
 
     -- what a look-up found is the pair at the key, and no other pair is
-    pub equal-found : (i : ℕ) (found : Holds h.eq t.nodes.items k i) → Equal w k (place (pairs_of t.nodes.items) i)
+    pub equal-found : (i : ℕ) (found : Holds h.eq t.nodes.items k i) → Equal w k (slot (pairs_of t.nodes.items) i)
     equal-found i found p e = subst (λ q. h.eq q.0 k ≡ true) (same_Some found.pair p (sym found.is ∙ e)) found.equal
 
     pub others-found : (i : ℕ) → Holds h.eq t.nodes.items k i → NoOther w (pairs_of t.nodes.items) k i
@@ -162,7 +164,7 @@ module _ {K V S : Type 0} (h : KeyHash K S)
     at-found i found = at-sole w (pairs_of t.nodes.items) k i (equal-found i found) (others-found i found) ∙ found.is
 
     -- what a look-up didn't find isn't there
-    pub missing : (hash : ℕ) → hash ≡ h.hash s k → IsAbsent h.eq t.nodes.items hash k → (i : ℕ) (p : K × V) → place (pairs_of t.nodes.items) i ≡ Some p → h.eq p.0 k ≡ false
+    pub missing : (hash : ℕ) → hash ≡ h.hash s k → IsAbsent h.eq t.nodes.items hash k → (i : ℕ) (p : K × V) → slot (pairs_of t.nodes.items) i ≡ Some p → h.eq p.0 k ≡ false
     missing hash is absent i p e = elim (cases_Bool (h.eq p.0 k)) as (λ _. h.eq p.0 k ≡ false) [
       | inl equal ↦ absent i p e (inside.hashed i p e ∙ (law.respects s p.0 k equal) ∙ sym is)
       | inr fails ↦ fails
@@ -177,13 +179,13 @@ module _ {K V S : Type 0} (h : KeyHash K S)
 
       -- another value under the stored key
       module _ (i : ℕ) (found : Holds h.eq t.nodes.items k i)
-          (places : pairs_of new.nodes.items ≡ set (pairs_of t.nodes.items) i (option_map (λ p. (p.0, v)) (place (pairs_of t.nodes.items) i)))
+          (slots : pairs_of new.nodes.items ≡ set (pairs_of t.nodes.items) i (option_map (λ p. (p.0, v)) (slot (pairs_of t.nodes.items) i)))
           (hashes : hashes_of new.nodes.items ≡ hashes_of t.nodes.items) (len : new.len ≡ t.len) (table : IsTable new) where
         within : i < length (pairs_of t.nodes.items)
         within = omega (arith, found.within, length-map t.nodes.items (λ n. n.pair))
 
         now : pairs_of new.nodes.items ≡ set (pairs_of t.nodes.items) i (Some (found.pair.0, v))
-        now = places ∙ ap (λ o. set (pairs_of t.nodes.items) i (option_map (λ p. (p.0, v)) o)) found.is
+        now = slots ∙ ap (λ o. set (pairs_of t.nodes.items) i (option_map (λ p. (p.0, v)) o)) found.is
 
         equal-now : Equal w k (Some (found.pair.0, v))
         equal-now p e = subst (λ q. h.eq q.0 k ≡ true) (same_Some (found.pair.0, v) p e) found.equal
@@ -226,20 +228,20 @@ module _ {K V S : Type 0} (h : KeyHash K S)
           inside = replaced-inside;
           takes = replaced-takes;
           len = ap (λ xs. length (taken xs)) now ∙ length-taken-replace _ i _ found.pair found.is ∙ sym (add-zero _);
-          stays = λ j p e. ap (λ xs. place xs j) now
+          stays = λ j p e. ap (λ xs. slot xs j) now
               ∙ stays-written w law.laws (pairs_of t.nodes.items) k i _ (λ o. Some (key_or k o, v)) within (equal-found i found) (others-found i found)
               (λ q there. ap (λ r. Some (r.0, v)) (same_Some found.pair q (sym found.is ∙ there))) j p e;
         }
 
-      -- a new pair on a free place
-      module _ (i hash : ℕ) (free : i < length t.nodes.items) (empty : place (pairs_of t.nodes.items) i ≡ None)
+      -- a new pair on a free slot
+      module _ (i hash : ℕ) (free : i < length t.nodes.items) (empty : slot (pairs_of t.nodes.items) i ≡ None)
           (is : hash ≡ h.hash s k) (none : at w.eq (pairs (state t)) k ≡ None)
-          (places : pairs_of new.nodes.items ≡ set (pairs_of t.nodes.items) i (Some (k, v)))
+          (slots : pairs_of new.nodes.items ≡ set (pairs_of t.nodes.items) i (Some (k, v)))
           (hashes : hashes_of new.nodes.items ≡ set (hashes_of t.nodes.items) i hash) (len : new.len ≡ t.len + 1) (table : IsTable new) where
         room : i < length (pairs_of t.nodes.items)
         room = omega (arith, free, length-map t.nodes.items (λ n. n.pair))
 
-        equal-before : Equal w k (place (pairs_of t.nodes.items) i)
+        equal-before : Equal w k (slot (pairs_of t.nodes.items) i)
         equal-before p e = absurd (none-some p (sym empty ∙ e))
 
         equal-filled : Equal w k (Some (k, v))
@@ -250,20 +252,20 @@ module _ {K V S : Type 0} (h : KeyHash K S)
 
         filled-shard : IsShard h (state new)
         filled-shard = record {
-          contents = subst (λ xs. IsOnShard w number (taken xs)) (sym places)
+          contents = subst (λ xs. IsOnShard w number (taken xs)) (sym slots)
               (on_shard-written w law.laws number (pairs_of t.nodes.items) k i _ (routes-equal routes) room equal-before equal-filled no-other inside.shard.contents);
           number = inside.shard.number;
           amount = inside.shard.amount;
         }
 
         filled-len : length (pairs (state new)) ≡ length (pairs (state t)) + 1
-        filled-len = ap (λ xs. length (taken xs)) places ∙ length-taken-fill (pairs_of t.nodes.items) i (k, v) room empty
+        filled-len = ap (λ xs. length (taken xs)) slots ∙ length-taken-fill (pairs_of t.nodes.items) i (k, v) room empty
 
         filled-inside : Inside new
         filled-inside = record {
           shard = filled-shard;
           table = table;
-          hashed = subst (λ xs. IsHashed (λ j. h.hash s j) xs (hashes_of new.nodes.items)) (sym places)
+          hashed = subst (λ xs. IsHashed (λ j. h.hash s j) xs (hashes_of new.nodes.items)) (sym slots)
               (subst (λ hs. IsHashed (λ j. h.hash s j) (set (pairs_of t.nodes.items) i (Some (k, v))) hs) (sym hashes)
               (hashed-fill (λ j. h.hash s j) _ _ i k v hash room (columns t.nodes.items) is inside.hashed));
           counted = len ∙ ap (λ n. n + 1) inside.counted ∙ sym filled-len;
@@ -273,7 +275,7 @@ module _ {K V S : Type 0} (h : KeyHash K S)
         filled-takes = record {
           table = record {
             replies = ap (λ o. Old (option_map (λ p. p.1) o)) (sym none);
-            becomes = λ j. ap (λ xs. at w.eq (taken xs) j) places
+            becomes = λ j. ap (λ xs. at w.eq (taken xs) j) slots
                 ∙ at-written w law.laws (pairs_of t.nodes.items) k i _ room equal-before equal-filled no-other j
                 ∙ put j (cases_Bool (h.eq k j));
           };
@@ -289,25 +291,25 @@ module _ {K V S : Type 0} (h : KeyHash K S)
           inside = filled-inside;
           takes = filled-takes;
           len = filled-len;
-          stays = λ j p e. ap (λ xs. place xs j) places
+          stays = λ j p e. ap (λ xs. slot xs j) slots
               ∙ stays-written w law.laws (pairs_of t.nodes.items) k i _ (λ o. Some (key_or k o, v)) room equal-before no-other (λ q there. absurd (none-some q (sym empty ∙ there))) j p e;
         }
 
-      -- a new pair on the next free place, where there is room
-      module _ (hash : ℕ) (room : shard_len z < z.capacity) (places : pairs_of new.nodes.items ≡ set (pairs_of t.nodes.items) (next_place t) (Some (k, v))) where
-        next : (next_place t < length t.nodes.items) × (place (pairs_of t.nodes.items) (next_place t) ≡ None)
+      -- a new pair on the next free slot, where there is room
+      module _ (hash : ℕ) (room : shard_len z < z.capacity) (slots : pairs_of new.nodes.items ≡ set (pairs_of t.nodes.items) (next_slot t) (Some (k, v))) where
+        next : (next_slot t < length t.nodes.items) × (slot (pairs_of t.nodes.items) (next_slot t) ≡ None)
         next = next_free t inside.table (omega (arith, inside.counted, subst (λ x. shard_len x < x.capacity) (sym view) room))
 
-        pub filled-next : hash ≡ h.hash s k → at h.eq (pairs z) k ≡ None → hashes_of new.nodes.items ≡ set (hashes_of t.nodes.items) (next_place t) hash → new.len ≡ t.len + 1
+        pub filled-next : hash ≡ h.hash s k → at h.eq (pairs z) k ≡ None → hashes_of new.nodes.items ≡ set (hashes_of t.nodes.items) (next_slot t) hash → new.len ≡ t.len + 1
             → IsTable new → Inserted t new k v None
-        filled-next is none hashes len table = filled (next_place t) hash next.0 next.1 is (subst (λ x. at h.eq (pairs x) k ≡ None) (sym view) none) places hashes len table
+        filled-next is none hashes len table = filled (next_slot t) hash next.0 next.1 is (subst (λ x. at h.eq (pairs x) k ≡ None) (sym view) none) slots hashes len table
 
-        pub filled-place : place (pairs_of new.nodes.items) (next_place t) ≡ Some (k, v)
-        filled-place = ap (λ xs. place xs (next_place t)) places ∙ get_or-set_same (pairs_of t.nodes.items) (next_place t) (Some (k, v)) None (omega (arith, next.0, length-map t.nodes.items (λ n. n.pair)))
+        pub filled-slot : slot (pairs_of new.nodes.items) (next_slot t) ≡ Some (k, v)
+        filled-slot = ap (λ xs. slot xs (next_slot t)) slots ∙ get_or-set_same (pairs_of t.nodes.items) (next_slot t) (Some (k, v)) None (omega (arith, next.0, length-map t.nodes.items (λ n. n.pair)))
 
     module _ (z : ShardState K V S) (view : state t ≡ z) (here : Routes h z k) where
-      -- the pair goes, and its place is empty
-      module _ (new : Table K V) (i : ℕ) (found : Holds h.eq t.nodes.items k i) (places : pairs_of new.nodes.items ≡ set (pairs_of t.nodes.items) i None)
+      -- the pair goes, and its slot is empty
+      module _ (new : Table K V) (i : ℕ) (found : Holds h.eq t.nodes.items k i) (slots : pairs_of new.nodes.items ≡ set (pairs_of t.nodes.items) i None)
           (hashes : hashes_of new.nodes.items ≡ hashes_of t.nodes.items) (len : new.len + 1 ≡ t.len) (table : IsTable new) where
         spot : i < length (pairs_of t.nodes.items)
         spot = omega (arith, found.within, length-map t.nodes.items (λ n. n.pair))
@@ -317,7 +319,7 @@ module _ {K V S : Type 0} (h : KeyHash K S)
 
         removed-shard : IsShard h (state new)
         removed-shard = record {
-          contents = subst (λ xs. IsOnShard w number (taken xs)) (sym places)
+          contents = subst (λ xs. IsOnShard w number (taken xs)) (sym slots)
               (on_shard-written w law.laws number (pairs_of t.nodes.items) k i None (routes-equal (subst (λ x. Routes h x k) (sym view) here)) spot (equal-found i found) equal-none (others-found i found)
               inside.shard.contents);
           number = inside.shard.number;
@@ -325,14 +327,14 @@ module _ {K V S : Type 0} (h : KeyHash K S)
         }
 
         removed-len : length (pairs (state t)) ≡ length (pairs (state new)) + 1
-        removed-len = length-taken-clear (pairs_of t.nodes.items) i found.pair found.is ∙ ap (λ xs. length (taken xs) + 1) (sym places)
+        removed-len = length-taken-clear (pairs_of t.nodes.items) i found.pair found.is ∙ ap (λ xs. length (taken xs) + 1) (sym slots)
 
         pub removed : Removed t new k (Some found.pair)
         removed = record {
           inside = record {
             shard = removed-shard;
             table = table;
-            hashed = subst (λ xs. IsHashed (λ j. h.hash s j) xs (hashes_of new.nodes.items)) (sym places)
+            hashed = subst (λ xs. IsHashed (λ j. h.hash s j) xs (hashes_of new.nodes.items)) (sym slots)
                 (subst (λ hs. IsHashed (λ j. h.hash s j) (set (pairs_of t.nodes.items) i None) hs) (sym hashes)
                 (hashed-clear (λ j. h.hash s j) _ _ i spot inside.hashed));
             counted = omega (arith, len, inside.counted, removed-len);
@@ -340,13 +342,13 @@ module _ {K V S : Type 0} (h : KeyHash K S)
           takes = record {
             table = record {
               replies = ap Pair (sym (at-found i found));
-              becomes = λ j. ap (λ xs. at w.eq (taken xs) j) places
+              becomes = λ j. ap (λ xs. at w.eq (taken xs) j) slots
                   ∙ at-written w law.laws (pairs_of t.nodes.items) k i None spot (equal-found i found) equal-none (others-found i found) j;
             };
             stays = record { number = refl; amount = refl; hasher = refl };
           };
           len = removed-len;
-          stays = λ j p e. ap (λ xs. place xs j) places
+          stays = λ j p e. ap (λ xs. slot xs j) slots
               ∙ stays-written w law.laws (pairs_of t.nodes.items) k i None (λ _. None) spot (equal-found i found) (others-found i found) (λ _ _. refl) j p e;
         }
 
@@ -356,38 +358,13 @@ module _ {K V S : Type 0} (h : KeyHash K S)
         pub removes : TakesInPlace h.eq z (state new) (Remove k) (Pair (Some found.pair))
         removes = subst (λ x. TakesInPlace h.eq x (state new) (Remove k) (Pair (Some found.pair))) view (record {
           taken = removed.takes;
-          room = sym (length-map new.nodes.items (λ n. n.pair)) ∙ ap length places ∙ length-set (pairs_of t.nodes.items) i None ∙ length-map t.nodes.items (λ n. n.pair);
-          places = removed.stays;
+          room = sym (length-map new.nodes.items (λ n. n.pair)) ∙ ap length slots ∙ length-set (pairs_of t.nodes.items) i None ∙ length-map t.nodes.items (λ n. n.pair);
+          slots = removed.stays;
         })
 
     -- a pair that stands somewhere is counted
     pub some-found : (i : ℕ) → Holds h.eq t.nodes.items k i → 0 < t.len
     some-found i found = omega (arith, inside.counted, length-taken-clear (pairs_of t.nodes.items) i found.pair found.is)
-
-    -- nothing goes where no key is equal
-    module _ (hash : ℕ) (is : hash ≡ h.hash s k) (absent : IsAbsent h.eq t.nodes.items hash k) where
-      unmoved-takes : TakesStep h.eq (state t) (state t) (Remove k) (Pair None)
-      unmoved-takes = record {
-        table = record {
-          replies = ap Pair (sym (at-missing hash is absent));
-          becomes = λ j. gone j (cases_Bool (h.eq k j));
-        };
-        stays = record { number = refl; amount = refl; hasher = refl };
-      }
-        where
-          gone : (j : K) → (h.eq k j ≡ true) ⊎ (h.eq k j ≡ false) → at w.eq (pairs (state t)) j ≡ after (own_keys h.eq (state t)) (Remove k) j (at w.eq (pairs (state t)) j)
-          gone j (inl same) = rw same (sym (at-equal w law.laws (pairs (state t)) k j same) ∙ at-missing hash is absent)
-          gone j (inr other) = rw other refl
-
-      unmoved-stays : StaysPut h.eq (state t) (state t) (Remove k)
-      unmoved-stays i p e = e ∙ sym (rw (law.laws.symm k p.0 ∙ missing hash is absent i p e) refl)
-
-      pub unmoved : (z : ShardState K V S) → state t ≡ z → TakesInPlace h.eq z z (Remove k) (Pair None)
-      unmoved z view = subst (λ x. TakesInPlace h.eq x x (Remove k) (Pair None)) view (record {
-        taken = unmoved-takes;
-        room = refl;
-        places = unmoved-stays;
-      })
 
   -- a table with no pairs
   module _ (t : Table K V) (table : IsTable t) (empty : taken (pairs_of t.nodes.items) ≡ []) (len : t.len ≡ 0) where
@@ -406,7 +383,7 @@ module _ {K V S : Type 0} (h : KeyHash K S)
       counted = len ∙ ap length (sym empty);
     }
 
-  -- empty places came behind
+  -- empty slots came behind
   module _ (t new : Table K V) (inside : Inside t) (grown : IsGrown t.nodes.items new.nodes.items) (len : new.len ≡ t.len) (table : IsTable new) where
     pub grown-pairs : pairs (state new) ≡ pairs (state t)
     grown-pairs = ap taken grown.pairs ∙ taken-empties (pairs_of t.nodes.items) grown.more
@@ -431,7 +408,7 @@ module _ {K V S : Type 0} (h : KeyHash K S)
     reserved z view additional r ok err = subst (λ x. Reserves additional x (state new) r) view (record {
       room = on-ok r ok;
       pairs = grown-pairs;
-      places = λ i p e. ap (λ xs. place xs i) grown.pairs ∙ place-empties (pairs_of t.nodes.items) grown.more i ∙ e;
+      slots = λ i p e. ap (λ xs. slot xs i) grown.pairs ∙ slot-empties (pairs_of t.nodes.items) grown.more i ∙ e;
       stays = record { number = refl; amount = refl; hasher = refl };
       refused = on-err r err;
     })
@@ -441,7 +418,7 @@ module _ {K V S : Type 0} (h : KeyHash K S)
         on-ok (Err e) fits = tt
 
         of : List (Node K V) → ShardState K V S
-        of ns = record { places = pairs_of ns; number = number; amount = amount; hasher = s; capacity = length ns }
+        of ns = record { slots = pairs_of ns; number = number; amount = amount; hasher = s; capacity = length ns }
 
         on-err : {E : Type 0} (q : Result (Unit {0}) E) → OnErr q (new.nodes.items ≡ t.nodes.items) → OnErr q (state new ≡ state t)
         on-err (Ok x) same = tt
@@ -459,18 +436,18 @@ module _ {K V S : Type 0} (h : KeyHash K S)
         stays = record { number = refl; amount = refl; hasher = refl };
       };
       len = i.len ∙ ap (λ ps. length ps + cond (is_some o) 0 1) grown-pairs;
-      stays = λ j p e. i.stays j p (ap (λ xs. place xs j) grown.pairs ∙ place-empties (pairs_of t.nodes.items) grown.more j ∙ e);
+      stays = λ j p e. i.stays j p (ap (λ xs. slot xs j) grown.pairs ∙ slot-empties (pairs_of t.nodes.items) grown.more j ∙ e);
     }
 
     -- a new pair, in the room that was made
     module _ (k : K) (z : ShardState K V S) (view : state t ≡ z) (here : Routes h z k) (v : V) (last : Table K V) (hash : ℕ) where
       pub pushed : new.len < length new.nodes.items → hash ≡ h.hash s k → IsAbsent h.eq t.nodes.items hash k
-          → pairs_of last.nodes.items ≡ set (pairs_of new.nodes.items) (next_place new) (Some (k, v)) → hashes_of last.nodes.items ≡ set (hashes_of new.nodes.items) (next_place new) hash
+          → pairs_of last.nodes.items ≡ set (pairs_of new.nodes.items) (next_slot new) (Some (k, v)) → hashes_of last.nodes.items ≡ set (hashes_of new.nodes.items) (next_slot new) hash
           → last.len ≡ new.len + 1 → IsTable last → Inserted t last k v None
-      pushed room is absent places hashes longer lawful =
+      pushed room is absent slots hashes longer lawful =
           let free = next_free new table room in
           inserted-grown last k v None
-          (filled new grown-inside k (state new) refl (subst (λ x. Routes h x k) (sym view) here) v last (next_place new) hash free.0 free.1
+          (filled new grown-inside k (state new) refl (subst (λ x. Routes h x k) (sym view) here) v last (next_slot new) hash free.0 free.1
           is
           (ap (λ ps. at h.eq ps k) grown-pairs ∙ at-missing t inside k hash is absent)
-          places hashes longer lawful)
+          slots hashes longer lawful)

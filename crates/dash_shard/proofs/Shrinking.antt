@@ -1,13 +1,14 @@
--- A shard whose pairs were moved to other places.
+-- A shard whose pairs were moved to other slots.
 use Rattle.std.proofs.Common.{◌≡◌, ℕ, ◌≤◌, length, refl, sym, ◌∙◌, subst}
 use Rattle.std.specs.Cmp.{IsEquivalence}
 use Rattle.dash_shard.specs.Contents.{Keys, Distinct, EachOnce}
-use Rattle.dash_shard.specs.Shard.{ShardState, taken, pairs, keys_of, IsShard}
+use Rattle.dash_shard.specs.Shard.{ShardState, taken, pairs, IsShard}
+use Rattle.dash_shard.specs.inner.Keys.{keys_of, IsLawful}
 use Rattle.dash_shard.specs.Each.{Shrinks}
 use Rattle.dash_shard.specs.declared.shard.table.Table.{Table}
-use Rattle.dash_shard.specs.Table.{pairs_of, IsTable, IsCarried}
+use Rattle.dash_shard.specs.inner.Table.{pairs_of, IsTable, IsCarried}
 use Rattle.dash_shard.proofs.Shards.{state, Inside}
-use Rattle.dash_shard.specs.Hashing.{IsLawful, KeyHash}
+use Rattle.dash_shard.specs.Hashing.{KeyHash}
 
 module _ {K V S : Type 0} (h : KeyHash K S)
     (law : IsLawful h) (s : S) (number amount : ℕ)

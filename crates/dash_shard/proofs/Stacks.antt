@@ -1,11 +1,11 @@
--- The stack of free places after a change of the row.
+-- The stack of free slots after a change of the row.
 use Rattle.std.proofs.Common.{◌≡◌, ◌≢◌, ℕ, zero, suc, ◌+◌, ◌-◌, ◌<◌, ◌≤◌, ◌==◌, cond, List, refl, sym, ap, subst, ◌∙◌, inl, inr, arith, eq-eqb, IsNone}
 use Rattle.std.proofs.lemmas.Bool.{cases_eq, ne_eqb}
 use Rattle.dash_shard.specs.declared.shard.table.Node.{Node}
-use Rattle.dash_shard.specs.Table.{node, link_to, IsStack}
+use Rattle.dash_shard.specs.inner.Table.{node, link_to, IsStack}
 
 module _ {K V : Type 0} where
-  -- the free places and their links stay
+  -- the free slots and their links stay
   pub stack_same : (old new : List (Node K V)) (n n' link m : ℕ) → n ≤ n' → ((j : ℕ) → IsNone (node old j).pair → (node new j).next ≡ (node old j).next) → ((j : ℕ) → IsNone (node old j).pair → IsNone (node new j).pair)
       → IsStack old n link m → IsStack new n' link m
   stack_same old new n n' link m more nexts empty s = record {
@@ -17,7 +17,7 @@ module _ {K V : Type 0} where
     distinct = s.distinct;
   }
 
-  -- the last place of a stack
+  -- the last slot of a stack
   pub stack_top : (nodes : List (Node K V)) (n link m : ℕ) (s : IsStack nodes n link (suc m)) → (link - 1 ≡ s.spot m) × (0 < link)
   stack_top nodes n link m s = (omega (arith, s.first), omega (arith, s.first))
 
@@ -36,7 +36,7 @@ module _ {K V : Type 0} where
         distinct = λ k l less lt. s.distinct k l less (omega (arith, lt));
       }
 
-  -- a place that is not on it is put on
+  -- a slot that is not on it is put on
   module _ (old new : List (Node K V)) (n link m i : ℕ) (within : i < n) (own : (node new i).next ≡ link) (none : IsNone (node new i).pair)
       (nexts : (j : ℕ) → j ≢ i → IsNone (node old j).pair → (node new j).next ≡ (node old j).next)
       (empty : (j : ℕ) → j ≢ i → IsNone (node old j).pair → IsNone (node new j).pair) (s : IsStack old n link m) (apart : (l : ℕ) → l < m → s.spot l ≢ i) where
@@ -76,10 +76,10 @@ module _ {K V : Type 0} where
       ];
     }
 
-  -- a stack without the places from the one up to the other
-  pub record Piled (nodes : List (Node K V)) (n start place link m : ℕ) : Type 0 where
+  -- a stack without the slots from the one up to the other
+  pub record Piled (nodes : List (Node K V)) (n start slot link m : ℕ) : Type 0 where
     pub stack : IsStack nodes n link m
-    pub apart : (l : ℕ) → l < m → start ≤ stack.spot l → place ≤ stack.spot l
+    pub apart : (l : ℕ) → l < m → start ≤ stack.spot l → slot ≤ stack.spot l
 
   pub piled_first : (nodes : List (Node K V)) (n start link m : ℕ) → start ≤ n → IsStack nodes start link m → Piled nodes n start n link m
   unfolding stack_same
@@ -88,15 +88,15 @@ module _ {K V : Type 0} where
     apart = λ l lt more. absurd (omega (arith, s.within l lt, more));
   }
 
-  pub piled_more : (old new : List (Node K V)) (n start place link m : ℕ) → place < n → start ≤ place → (node new place).next ≡ link → IsNone (node new place).pair
-      → ((j : ℕ) → j ≢ place → IsNone (node old j).pair → (node new j).next ≡ (node old j).next) → ((j : ℕ) → j ≢ place → IsNone (node old j).pair → IsNone (node new j).pair)
-      → Piled old n start (place + 1) link m → Piled new n start place (place + 1) (suc m)
+  pub piled_more : (old new : List (Node K V)) (n start slot link m : ℕ) → slot < n → start ≤ slot → (node new slot).next ≡ link → IsNone (node new slot).pair
+      → ((j : ℕ) → j ≢ slot → IsNone (node old j).pair → (node new j).next ≡ (node old j).next) → ((j : ℕ) → j ≢ slot → IsNone (node old j).pair → IsNone (node new j).pair)
+      → Piled old n start (slot + 1) link m → Piled new n start slot (slot + 1) (suc m)
   unfolding pushed
-  piled_more old new n start place link m within low own none nexts empty h =
-      let apart : (l : ℕ) → l < m → h.stack.spot l ≢ place = λ l lt e. omega (arith, e, h.apart l lt (omega (arith, e, low))) in
+  piled_more old new n start slot link m within low own none nexts empty h =
+      let apart : (l : ℕ) → l < m → h.stack.spot l ≢ slot = λ l lt e. omega (arith, e, h.apart l lt (omega (arith, e, low))) in
       record {
-        stack = pushed old new n link m place within own none nexts empty h.stack apart;
-        apart = λ l lt more. elim (cases_eq l m) as (λ _. place ≤ cond (l == m) place (h.stack.spot l)) [
+        stack = pushed old new n link m slot within own none nexts empty h.stack apart;
+        apart = λ l lt more. elim (cases_eq l m) as (λ _. slot ≤ cond (l == m) slot (h.stack.spot l)) [
           | inl same ↦ rw (eq-eqb l m same) (omega arith)
           | inr other ↦ rw (ne_eqb l m other) (omega (arith, h.apart l (omega (arith, lt, other)) (rw (ne_eqb l m other) at more)))
         ];

@@ -1,4 +1,4 @@
--- A walk over all places of a table, which calls a closure at the pair of each.
+-- A walk over all slots of a table, which calls a closure at the pair of each.
 use Rattle.std.proofs.Common.{◌≡◌, ℕ, zero, suc, ◌+◌, ◌<◌, Bool, true, false, List, map, [], ◌∷◌, ◌++◌, length, get_or, set, Option, Some, None, IfSome, IsSome, is_some, refl, sym, ap, subst, ◌∙◌, arith, append_assoc, append-nil, get_or-set_same}
 use Rattle.std.proofs.Math.ListN.{take, drop}
 use Rattle.std.proofs.Math.Seq.{drop-cons, drop-length, take-length}
@@ -7,25 +7,25 @@ use Rattle.std.proofs.lemmas.List.{length-map, take_more_set, drop-set-lt, set-s
 use Rattle.std.proofs.lemmas.Option.{none-some}
 use Rattle.std.specs.Map.Calls.{CallableOnEachPair}
 use Rattle.dash_shard.specs.declared.shard.table.Node.{Node}
-use Rattle.dash_shard.specs.Shard.{place, taken}
-use Rattle.dash_shard.specs.Table.{pairs_of}
-use Rattle.dash_shard.specs.Each.{Visits, Sweeps, Asks, if_kept}
-use Rattle.dash_shard.proofs.Places.{length-taken-replace, length-taken-clear}
-use Rattle.dash_shard.proofs.Nodes.{pairs-revalued, place-here}
+use Rattle.dash_shard.specs.Shard.{slot, taken}
+use Rattle.dash_shard.specs.inner.Table.{pairs_of}
+use Rattle.dash_shard.specs.inner.Walks.{Visits, Sweeps, Asks, if_kept}
+use Rattle.dash_shard.proofs.Slots.{length-taken-replace, length-taken-clear}
+use Rattle.dash_shard.proofs.Nodes.{pairs-revalued, slot-here}
 
 module _ {K V : Type 0} (nodes : List (Node K V)) (i : ℕ) (n : Node K V) (k : K) (u v : V) (within : i < length nodes) (read : n ≡ get_or nodes i n) (stored : n.pair ≡ Some (k, u)) where
-  -- what stood at a place whose value was written, and what stands there
-  pub place-before : place (pairs_of nodes) i ≡ Some (k, u)
-  place-before = place-here nodes i n (k, u) (k, v) within read stored
+  -- what stood at a slot whose value was written, and what stands there
+  pub slot-before : slot (pairs_of nodes) i ≡ Some (k, u)
+  slot-before = slot-here nodes i n (k, u) (k, v) within read stored
 
   pub pairs-valued : pairs_of (set nodes i (record n { pair = Some (k, v) })) ≡ set (pairs_of nodes) i (Some (k, v))
   pairs-valued = pairs-revalued nodes i n (k, u) (k, v) within read stored
 
-  pub place-revalued : place (pairs_of (set nodes i (record n { pair = Some (k, v) }))) i ≡ Some (k, v)
-  place-revalued = ap (λ xs. place xs i) pairs-valued ∙ get_or-set_same (pairs_of nodes) i _ None (omega (arith, within, length-map nodes (λ x. x.pair)))
+  pub slot-revalued : slot (pairs_of (set nodes i (record n { pair = Some (k, v) }))) i ≡ Some (k, v)
+  slot-revalued = ap (λ xs. slot xs i) pairs-valued ∙ get_or-set_same (pairs_of nodes) i _ None (omega (arith, within, length-map nodes (λ x. x.pair)))
 
 module _ {F K V : Type 0} (T : F → K → V → Bool → V → F → Type 0) (Q : F → K → V → Type 0) (leaves : K → V × Bool → Option (K × V)) where
-  -- the places below i were visited, those from i on are as they were
+  -- the slots below i were visited, those from i on are as they were
   pub record Sweeping (first : F) (old : List (Option (K × V))) (f : F) (now : List (Option (K × V))) (i : ℕ) : Type 0 where
     pub ready : CallableOnEachPair T Q f (taken (drop i now))
     pub rest : (news : List (Option (K × V))) (last : F) → Sweeps T leaves f (drop i now) news last → Sweeps T leaves first old (take i now ++ news) last
@@ -33,25 +33,25 @@ module _ {F K V : Type 0} (T : F → K → V → Bool → V → F → Type 0) (Q
   pub sweeping-first : (f : F) (old : List (Option (K × V))) → CallableOnEachPair T Q f (taken old) → Sweeping f old f old 0
   sweeping-first f old callable = record { ready = callable; rest = λ news last s. s }
 
-  begins : (xs : List (Option (K × V))) (i : ℕ) → i < length xs → drop i xs ≡ place xs i ∷ drop (i + 1) xs
-  begins xs i lt = drop-cons xs i None lt ∙ ap (λ n. place xs i ∷ drop n xs) (let s : suc i ≡ i + 1 = omega arith in s)
+  begins : (xs : List (Option (K × V))) (i : ℕ) → i < length xs → drop i xs ≡ slot xs i ∷ drop (i + 1) xs
+  begins xs i lt = drop-cons xs i None lt ∙ ap (λ n. slot xs i ∷ drop n xs) (let s : suc i ≡ i + 1 = omega arith in s)
 
   module _ (first : F) (old : List (Option (K × V))) (f : F) (now : List (Option (K × V))) (i : ℕ) (lt : i < length now) (s : Sweeping first old f now i) where
-    here : CallableOnEachPair T Q f (taken (place now i ∷ drop (i + 1) now))
+    here : CallableOnEachPair T Q f (taken (slot now i ∷ drop (i + 1) now))
     here = subst (λ xs. CallableOnEachPair T Q f (taken xs)) (begins now i lt) s.ready
 
-    -- the closure may be called at the next place
-    pub sweeping-ready : IfSome (place now i) (λ p. Q f p.0 p.1)
-    sweeping-ready = from (place now i) here
+    -- the closure may be called at the next slot
+    pub sweeping-ready : IfSome (slot now i) (λ p. Q f p.0 p.1)
+    sweeping-ready = from (slot now i) here
       where
         from : (o : Option (K × V)) → CallableOnEachPair T Q f (taken (o ∷ drop (i + 1) now)) → IfSome o (λ p. Q f p.0 p.1)
         from None c = tt
         from (Some p) c = c.at [] _ f p.0 p.1 refl refl
 
     -- and was
-    pub sweeping-next : (new : Option (K × V)) (f' : F) (then : List (Option (K × V))) → Visits T leaves f (place now i) new f' → then ≡ set now i new → Sweeping first old f' then (i + 1)
+    pub sweeping-next : (new : Option (K × V)) (f' : F) (then : List (Option (K × V))) → Visits T leaves f (slot now i) new f' → then ≡ set now i new → Sweeping first old f' then (i + 1)
     sweeping-next new f' then v is = record {
-      ready = subst (λ xs. CallableOnEachPair T Q f' (taken xs)) (sym behind) (from (place now i) here v);
+      ready = subst (λ xs. CallableOnEachPair T Q f' (taken xs)) (sym behind) (from (slot now i) here v);
       rest = λ news last r. subst (λ xs. Sweeps T leaves first old xs last) (sym (front news))
           (s.rest (new ∷ news) last (subst (λ xs. Sweeps T leaves f xs (new ∷ news) last) (sym (begins now i lt)) (new, f', news, v, refl, subst (λ xs. Sweeps T leaves f' xs news last) behind r)));
     }
@@ -73,60 +73,60 @@ module _ {F K V : Type 0} (T : F → K → V → Bool → V → F → Type 0) (Q
       let whole : take i now ++ [] ≡ now = append-nil (take i now) ∙ ap (λ n. take n now) all ∙ take-length now in
       subst (λ xs. Sweeps T leaves first old xs f) whole (s.rest [] f (subst (λ xs. Sweeps T leaves f xs [] f) (sym none) (refl, refl)))
 
-length-taken-none : {A : Type 0} (xs : List (Option A)) (i : ℕ) → place xs i ≡ None → length (taken (set xs i None)) ≡ length (taken xs)
+length-taken-none : {A : Type 0} (xs : List (Option A)) (i : ℕ) → slot xs i ≡ None → length (taken (set xs i None)) ≡ length (taken xs)
 length-taken-none [] i e = refl
 length-taken-none (None ∷ xs) zero e = refl
 length-taken-none (Some q ∷ xs) zero e = absurd (none-some q (sym e))
 length-taken-none (None ∷ xs) (suc i) e = length-taken-none xs i e
 length-taken-none (Some q ∷ xs) (suc i) e = ap suc (length-taken-none xs i e)
 
--- a place that is taken is counted
-pub taken-some : {A : Type 0} (xs : List (Option A)) (i : ℕ) → IsSome (place xs i) → 0 < length (taken xs)
-taken-some {A} xs i some = from (place xs i) refl some
+-- a slot that is taken is counted
+pub taken-some : {A : Type 0} (xs : List (Option A)) (i : ℕ) → IsSome (slot xs i) → 0 < length (taken xs)
+taken-some {A} xs i some = from (slot xs i) refl some
   where
-    from : (o : Option A) → place xs i ≡ o → IsSome o → 0 < length (taken xs)
+    from : (o : Option A) → slot xs i ≡ o → IsSome o → 0 < length (taken xs)
     from None e s = absurd (true≢false (sym s))
     from (Some q) e s = omega (arith, length-taken-clear xs i q e)
 
--- f was asked at a place: the value that it left stays there on yes, and the place is emptied on no
+-- f was asked at a slot: the value that it left stays there on yes, and the slot is emptied on no
 module _ {F K V : Type 0} (T : F → K → V → Bool → V → F → Type 0) (f f' : F) (xs ys : List (Option (K × V))) (i : ℕ) (b : Bool)
-    (a : Asks T f (place xs i) b (place ys i) f') (is : ys ≡ set xs i (place ys i)) where
-  pub asked-yes : b ≡ true → Visits T if_kept f (place xs i) (place ys i) f'
-  asked-yes said = from (place xs i) (place ys i) a
+    (a : Asks T f (slot xs i) b (slot ys i) f') (is : ys ≡ set xs i (slot ys i)) where
+  pub asked-yes : b ≡ true → Visits T if_kept f (slot xs i) (slot ys i) f'
+  asked-yes said = from (slot xs i) (slot ys i) a
     where
       from : (o n : Option (K × V)) → Asks T f o b n f' → Visits T if_kept f o n f'
       from None n x = (x.1, x.2)
       from (Some p) n x = (true, x.0, subst (λ c. T f p.0 p.1 c x.0 f') said x.1, x.2)
 
-  pub asked-no : b ≡ false → Visits T if_kept f (place xs i) None f'
-  asked-no said = from (place xs i) (place ys i) a
+  pub asked-no : b ≡ false → Visits T if_kept f (slot xs i) None f'
+  asked-no said = from (slot xs i) (slot ys i) a
     where
       from : (o n : Option (K × V)) → Asks T f o b n f' → Visits T if_kept f o None f'
       from None n x = absurd (true≢false (sym x.0 ∙ said))
       from (Some p) n x = (false, x.0, subst (λ c. T f p.0 p.1 c x.0 f') said x.1, refl)
 
-  pub asked-some : b ≡ false → IsSome (place ys i)
-  asked-some said = from (place xs i) (place ys i) a
+  pub asked-some : b ≡ false → IsSome (slot ys i)
+  asked-some said = from (slot xs i) (slot ys i) a
     where
       from : (o n : Option (K × V)) → Asks T f o b n f' → IsSome n
       from None n x = absurd (true≢false (sym x.0 ∙ said))
       from (Some p) n x = ap is_some x.2
 
   pub asked-length : length (taken ys) ≡ length (taken xs)
-  asked-length = ap (λ zs. length (taken zs)) is ∙ from (place xs i) refl (place ys i) a
+  asked-length = ap (λ zs. length (taken zs)) is ∙ from (slot xs i) refl (slot ys i) a
     where
-      from : (o : Option (K × V)) → place xs i ≡ o → (n : Option (K × V)) → Asks T f o b n f' → length (taken (set xs i n)) ≡ length (taken xs)
+      from : (o : Option (K × V)) → slot xs i ≡ o → (n : Option (K × V)) → Asks T f o b n f' → length (taken (set xs i n)) ≡ length (taken xs)
       from None e n x = ap (λ m. length (taken (set xs i m))) x.1 ∙ length-taken-none xs i e
       from (Some p) e n x = ap (λ m. length (taken (set xs i m))) x.2 ∙ length-taken-replace xs i (p.0, x.0) p e
 
-  -- the place's pair was taken out then
+  -- the slot's pair was taken out then
   pub asked-cleared : (zs : List (Option (K × V))) → zs ≡ set ys i None → zs ≡ set xs i None
-  asked-cleared zs e = e ∙ ap (λ l. set l i None) is ∙ set-set xs i (place ys i) None
+  asked-cleared zs e = e ∙ ap (λ l. set l i None) is ∙ set-set xs i (slot ys i) None
 
   pub cleared-length : (zs : List (Option (K × V))) → zs ≡ set ys i None → b ≡ false → length (taken ys) ≡ length (taken zs) + 1
-  cleared-length zs e said = from (place ys i) refl (asked-some said) ∙ ap (λ l. length (taken l) + 1) (sym e)
+  cleared-length zs e said = from (slot ys i) refl (asked-some said) ∙ ap (λ l. length (taken l) + 1) (sym e)
     where
-      from : (o : Option (K × V)) → place ys i ≡ o → IsSome o → length (taken ys) ≡ length (taken (set ys i None)) + 1
+      from : (o : Option (K × V)) → slot ys i ≡ o → IsSome o → length (taken ys) ≡ length (taken (set ys i None)) + 1
       from None there s = absurd (true≢false (sym s))
       from (Some q) there s = length-taken-clear ys i q there
 

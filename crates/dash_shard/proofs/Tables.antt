@@ -1,12 +1,12 @@
--- A table's chains and its stack of free places together, after each change.
+-- A table's chains and its stack of free slots together, after each change.
 use Rattle.std.proofs.Common.{◌≡◌, ◌≢◌, ℕ, zero, suc, ◌+◌, ◌-◌, ◌<◌, ◌≤◌, List, [], ◌∷◌, ◌++◌, length, set, Option, Some, None, refl, sym, ap, subst, ◌∙◌, arith, is_some, IsSome, IsNone, get_or-set_same, get_or-set_other, length-append}
 use Rattle.std.proofs.lemmas.Bool.{true≢false}
 use Rattle.std.proofs.lemmas.List.{length-map, get_or_past}
 use Rattle.std.proofs.Math.ListN.{get_or-map, replicate, length-replicate}
 use Rattle.dash_shard.specs.declared.shard.table.Node.{Node}
 use Rattle.dash_shard.specs.declared.shard.table.Table.{Table}
-use Rattle.dash_shard.specs.Shard.{place}
-use Rattle.dash_shard.specs.Table.{node, blank, pairs_of, Chained, KeepsPairs, KeepsFree, IsStack, IsTable, next_place}
+use Rattle.dash_shard.specs.Shard.{slot}
+use Rattle.dash_shard.specs.inner.Table.{node, blank, pairs_of, Chained, KeepsPairs, KeepsFree, IsStack, IsTable, next_slot}
 use Rattle.dash_shard.proofs.Chaining.{chained_none}
 use Rattle.dash_shard.proofs.Nodes.{next_set, same_pair, same_length, taken_within}
 use Rattle.dash_shard.proofs.Stacks.{Piled, piled_more, stack_top, stack_same, popped, pushed}
@@ -20,16 +20,16 @@ one_more zero lt = absurd (omega arith)
 one_more (suc l) lt = (l, refl)
 
 module _ {K V : Type 0} where
-  -- what stands at a place, by its node
-  pub place_node : (nodes : List (Node K V)) (i : ℕ) → place (pairs_of nodes) i ≡ (node nodes i).pair
-  place_node nodes i = get_or-map (λ n. n.pair) nodes i blank
+  -- what stands at a slot, by its node
+  pub slot_node : (nodes : List (Node K V)) (i : ℕ) → slot (pairs_of nodes) i ≡ (node nodes i).pair
+  slot_node nodes i = get_or-map (λ n. n.pair) nodes i blank
 
-  -- a table that has room has a next place, which is free
+  -- a table that has room has a next slot, which is free
   pub record Next (t : Table K V) : Type 0 where
     pub rest : ℕ
     pub some : 0 < t.free
-    pub within : next_place t < length t.nodes.items
-    pub empty : IsNone (node t.nodes.items (next_place t)).pair
+    pub within : next_slot t < length t.nodes.items
+    pub empty : IsNone (node t.nodes.items (next_slot t)).pair
     pub counted : t.len + suc rest ≡ length t.nodes.items
     pub stack : IsStack t.nodes.items (length t.nodes.items) t.free (suc rest)
 
@@ -47,10 +47,10 @@ module _ {K V : Type 0} where
         stack = s;
       }
 
-  pub next_free : (t : Table K V) → IsTable t → t.len < length t.nodes.items → (next_place t < length t.nodes.items) × (place (pairs_of t.nodes.items) (next_place t) ≡ None)
-  next_free t h room = let n = next_of t h room in (n.within, place_node t.nodes.items (next_place t) ∙ is_none (node t.nodes.items (next_place t)).pair n.empty)
+  pub next_free : (t : Table K V) → IsTable t → t.len < length t.nodes.items → (next_slot t < length t.nodes.items) × (slot (pairs_of t.nodes.items) (next_slot t) ≡ None)
+  next_free t h room = let n = next_of t h room in (n.within, slot_node t.nodes.items (next_slot t) ∙ is_none (node t.nodes.items (next_slot t)).pair n.empty)
 
-  -- a free place above `start` was put on the stack
+  -- a free slot above `start` was put on the stack
   pub freed_more : (z old new : List (Node K V)) (start p free m : ℕ) → start < p → p ≤ length old → KeepsPairs z old → IsNone (node z (p - 1)).pair
       → new ≡ set old (p - 1) (record (node old (p - 1)) { next = free }) → Piled old (length old) start p free m → Piled new (length old) start (p - 1) (p - 1 + 1) (suc m)
   freed_more z old new start p free m low high k none e h =
@@ -63,12 +63,12 @@ module _ {K V : Type 0} where
       (λ j other _. r.nexts j other) (λ j _ empty. ap is_some (same_pair old new j r.keeps) ∙ empty)
       (subst (λ q. Piled old (length old) start q free m) one h)
 
-  -- a row after a write of one place's pair leaves what is free elsewhere
+  -- a row after a write of one slot's pair leaves what is free elsewhere
   others_free : (old new : List (Node K V)) (i : ℕ) (o : Option (K × V)) → pairs_of new ≡ set (pairs_of old) i o → (j : ℕ) → j ≢ i → IsNone (node old j).pair → IsNone (node new j).pair
   others_free old new i o e j other none =
-      ap is_some (sym (place_node new j) ∙ ap (λ ps. place ps j) e ∙ get_or-set_other (pairs_of old) i j o None other ∙ place_node old j) ∙ none
+      ap is_some (sym (slot_node new j) ∙ ap (λ ps. slot ps j) e ∙ get_or-set_other (pairs_of old) i j o None other ∙ slot_node old j) ∙ none
 
-  -- no places
+  -- no slots
   pub table_new : (t : Table K V) → t.nodes.items ≡ [] → t.len ≡ 0 → t.free ≡ 0 → IsTable t
   table_new t items len free =
       let none : length t.nodes.items ≡ 0 = ap length items in
@@ -86,9 +86,9 @@ module _ {K V : Type 0} where
         };
       }
 
-  -- a pair on the next place
+  -- a pair on the next slot
   pub table_pushed : (t new : Table K V) (old nodes : List (Node K V)) (o : Option (K × V)) → IsTable t → t.len < length t.nodes.items → old ≡ t.nodes.items → new.nodes.items ≡ nodes
-      → Chained nodes → KeepsFree (next_place t) old nodes → pairs_of nodes ≡ set (pairs_of old) (next_place t) o → length nodes ≡ length old → new.len ≡ t.len + 1 → new.free ≡ (node old (next_place t)).next → IsTable new
+      → Chained nodes → KeepsFree (next_slot t) old nodes → pairs_of nodes ≡ set (pairs_of old) (next_slot t) o → length nodes ≡ length old → new.len ≡ t.len + 1 → new.free ≡ (node old (next_slot t)).next → IsTable new
   table_pushed t new old nodes o h room was now chained frees pairs long len free =
       let n = next_of t h room in
       let s : IsStack old (length old) t.free (suc n.rest) = subst (λ ns. IsStack ns (length ns) t.free (suc n.rest)) (sym was) n.stack in
@@ -96,17 +96,17 @@ module _ {K V : Type 0} where
         free = n.rest;
         counted = omega (arith, len, n.counted, ap length now, long, ap length was);
         chained = subst Chained (sym now) chained;
-        stack = subst (λ ns. IsStack ns (length ns) new.free n.rest) (sym now) (rw (long, free) (popped old nodes (length old) t.free n.rest frees (others_free old nodes (next_place t) o pairs) s));
+        stack = subst (λ ns. IsStack ns (length ns) new.free n.rest) (sym now) (rw (long, free) (popped old nodes (length old) t.free n.rest frees (others_free old nodes (next_slot t) o pairs) s));
       }
 
-  -- a place whose pair was taken
-  pub table_taken : (t new : Table K V) (old nodes : List (Node K V)) (i : ℕ) → IsTable t → IsSome (place (pairs_of t.nodes.items) i) → 0 < t.len → old ≡ t.nodes.items → new.nodes.items ≡ nodes
+  -- a slot whose pair was taken
+  pub table_taken : (t new : Table K V) (old nodes : List (Node K V)) (i : ℕ) → IsTable t → IsSome (slot (pairs_of t.nodes.items) i) → 0 < t.len → old ≡ t.nodes.items → new.nodes.items ≡ nodes
       → Chained nodes → KeepsFree i old nodes → pairs_of nodes ≡ set (pairs_of old) i None → length nodes ≡ length old → (node nodes i).next ≡ t.free → new.len ≡ t.len - 1 → new.free ≡ i + 1 → IsTable new
   table_taken t new old nodes i h taken some was now chained frees pairs long next len free =
       let s : IsStack old (length old) t.free h.free = subst (λ ns. IsStack ns (length ns) t.free h.free) (sym was) h.stack in
-      let here : IsSome (node old i).pair = subst (λ ns. IsSome (node ns i).pair) (sym was) (ap is_some (sym (place_node t.nodes.items i)) ∙ taken) in
+      let here : IsSome (node old i).pair = subst (λ ns. IsSome (node ns i).pair) (sym was) (ap is_some (sym (slot_node t.nodes.items i)) ∙ taken) in
       let within : i < length old = taken_within old i here in
-      let gone : IsNone (node nodes i).pair = ap is_some (sym (place_node nodes i) ∙ ap (λ ps. place ps i) pairs ∙ get_or-set_same (pairs_of old) i None None (omega (arith, within, length-map old (λ n. n.pair)))) in
+      let gone : IsNone (node nodes i).pair = ap is_some (sym (slot_node nodes i) ∙ ap (λ ps. slot ps i) pairs ∙ get_or-set_same (pairs_of old) i None None (omega (arith, within, length-map old (λ n. n.pair)))) in
       record {
         free = suc h.free;
         counted = omega (arith, len, some, h.counted, ap length now, long, ap length was);
@@ -116,7 +116,7 @@ module _ {K V : Type 0} where
             (λ l lt e. true≢false (sym here ∙ subst (λ j. IsNone (node old j).pair) e (s.empty l lt)))));
       }
 
-  -- blank places behind
+  -- blank slots behind
   node-replicate : (n j : ℕ) → node (replicate n (blank {K = K} {V = V})) j ≡ blank
   node-replicate zero j = refl
   node-replicate (suc n) zero = refl

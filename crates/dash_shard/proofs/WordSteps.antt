@@ -1,7 +1,7 @@
 -- One step on a lock's word, under its invariant. Assumes `Logic`.
 use Rattle.dash_shard.proofs.Walking.{[], ◌≢◌, ◌≡◌, ℕ, ◌+◌, ◌-◌, ◌%◌, ◌^◌, ◌<◌, ◌≤◌, eqb, Bool, ◌∷◌, sym, refl, subst, arith, eq-eqb, ne_eqb, w64, dite, ℕ_discrete, dec_le, Ura, ty_int, vint, has_ty, WT, full_share, Counts-all, SProp, ent, sep, ex, upd, upd_i, Lft, Share, Fml, ftrue, fsep, fex, fbor, flft, either, Logic, sem, ‵, raw, ◌⊛◌, given, ◌$◌, ◌∵◌, !, qed, by, move, keep, drop, split, fsplit, fsplit3, fjoin, fjoin3, fpick, fpack, learn, show, frame, each, assume, suffices, settle, use1, use2, rewrite, done, out_once, RattleType, RowLaws, block_ptr, contraction, nothing, asks, word, borrowed, Lies, Again}
 use Rattle.core.specs.Sync.RawAtomic.{always}
-use Rattle.dash_shard.specs.Holding.{most, count, one_reader, IsTake, Gains, fact, names, share, parts, Fixed, Phase, away, shared, seen, state, State, Inv, begun, writer, right_to}
+use Rattle.dash_shard.specs.inner.Holding.{most, count, one_reader, IsTake, Gains, fact, names, share, parts, Fixed, Phase, away, shared, seen, state, State, Inv, begun, writer, right_to}
 use Rattle.dash_shard.proofs.RoundParts.{parts_in, parts_cut, parts_glue, parts_whole, none_beside, parts_agree, renames}
 use Rattle.dash_shard.proofs.Rounds.{seen_laws, seen_fits}
 

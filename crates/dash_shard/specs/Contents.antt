@@ -28,12 +28,11 @@ module _ {K V : Type 0} (eq : K → K → Bool) where
     pub distinct : Distinct qs
     pub same : (k : K) → at qs k ≡ at ps k
 
-module _ {K V : Type 0} (w : Keys K) where
-  -- 'P on i': the pairs whose key has the route i
-  abbrev pub on : ℕ → List (K × V) → List (K × V)
-  on i ps = filter (λ p. w.route p.0 == i) ps
+-- 'P on i': the pairs whose key has the route i
+abbrev pub on : {K V : Type 0} → Keys K → ℕ → List (K × V) → List (K × V)
+on w i ps = filter (λ p. w.route p.0 == i) ps
 
-  -- the contents of shard i: no two keys are equal, and no key goes elsewhere
-  pub record IsOnShard (i : ℕ) (ps : List (K × V)) : Type 0 where
-    pub distinct : Distinct w.eq ps
-    pub routed : (k : K) → w.route k ≢ i → at w.eq ps k ≡ None
+-- the contents of shard i: no two keys are equal, and no key goes elsewhere
+pub record IsOnShard {K V : Type 0} (w : Keys K) (i : ℕ) (ps : List (K × V)) : Type 0 where
+  pub distinct : Distinct w.eq ps
+  pub routed : (k : K) → w.route k ≢ i → at w.eq ps k ≡ None

@@ -1,16 +1,11 @@
 -- What contracts see of a guard, and what they ask of a change through one.
-use Rattle.std.specs.Prelude.{refl}
 use Rattle.std.specs.Borrow.{MutBor}
-use Rattle.std.specs.Coded.{Coded, code_by, coded×}
 use Rattle.std.specs.Fn.{Once, FnOnceReturnsAtMut}
 
 -- the lock's tag, and the value that is held
 pub record Guarded (G X : Type 0) : Type 0 where
   pub tag : G
   pub value : X
-
-abbrev pub guarded_code : {G X : Type 0} → Coded G → Coded X → Coded (Guarded G X)
-guarded_code {G} {X} g x = code_by (G × X) (coded× g x) (λ s. (s.tag, s.value)) (λ p. record { tag = p.0; value = p.1 }) (λ _. refl)
 
 -- where x fits, so does what a call of f leaves of it
 abbrev pub KeepsFit : {F X R : Type 0} → (X → Type 0) → Once F (MutBor X × Unit {0}) (R × (MutBor X × Unit {0})) → F → X → Type 0

@@ -1,9 +1,8 @@
 -- The hash of a key, and the shard that it goes to.
-use Rattle.std.specs.Prelude.{◌≡◌, ℕ, ◌*◌, ◌/◌, ◌%◌, ◌^◌, ◌<◌, ◌==◌, Bool, true, List, length, bit_xor, if◌then◌else◌}
+use Rattle.std.specs.Prelude.{◌≡◌, ℕ, ◌*◌, ◌/◌, ◌%◌, ◌^◌, ◌<◌, ◌==◌, Bool, List, length, bit_xor, if◌then◌else◌}
 use Rattle.std.specs.List.{fold}
 use Rattle.std.specs.Int.{w64, from_le_bytes, IsPowerOfTwo}
 use Rattle.std.specs.Hash.{HashWrites}
-use Rattle.std.specs.Cmp.{IsEquivalence}
 use Rattle.std.specs.HashMap.Lent.{HashMembers}
 use Rattle.std.specs.declared.hash.Hasher as hasher
 use Rattle.std.specs.declared.hash.BuildHasher as builder
@@ -26,10 +25,6 @@ fnv_start = 0xcbf2_9ce4_8422_2325
 unfoldable pub fnv_step : ℕ → ℕ → ℕ
 fnv_step s byte = bit_xor s byte * 0x100_0000_01b3 % 2 ^ 64
 
--- FNV-1a after more bytes
-abbrev pub fnv_from : ℕ → List ℕ → ℕ
-fnv_from = fold fnv_step
-
 -- the state of a place hasher after one write: eight bytes are a number, whose low nine bits become the high nine of the hash
 unfoldable pub placed : ℕ → List ℕ → ℕ
 placed s bytes = if length bytes == 8 then from_le_bytes w64 bytes * 2 ^ 55 % 2 ^ 64 else s
@@ -50,16 +45,10 @@ key_hash eq input b h = record { eq = eq; hash = λ s k. hash_of b h s (input k)
 abbrev pub by : {K S H : Type 0} → HashMembers K → builder.Ghosts S H → hasher.Ghosts H → KeyHash K S
 by key b h = key_hash key.eq key.hash_input b h
 
-module _ {K S : Type 0} (h : KeyHash K S) where
-  -- two hashers give each key one hash
-  abbrev pub HashAlike : S → S → Type 0
-  HashAlike s t = (k : K) → h.hash t k ≡ h.hash s k
+-- two hashers give each key one hash
+abbrev pub HashAlike : {K S : Type 0} → KeyHash K S → S → S → Type 0
+HashAlike {K = K} h s t = (k : K) → h.hash t k ≡ h.hash s k
 
-  -- the shard of a key among n, by its hash
-  abbrev pub route_by : S → ℕ → K → ℕ
-  route_by s n k = route_of_hash n (h.hash s k)
-
-  -- lawful keys and hasher: `==` is an equivalence, and equal keys get one hash
-  pub record IsLawful : Type 0 where
-    pub laws : IsEquivalence h.eq
-    pub respects : (s : S) (x y : K) → h.eq x y ≡ true → h.hash s x ≡ h.hash s y
+-- the shard of a key among n, by its hash
+abbrev pub route_by : {K S : Type 0} → KeyHash K S → S → ℕ → K → ℕ
+route_by h s n k = route_of_hash n (h.hash s k)

@@ -1,12 +1,9 @@
 pub mod Hashing
 pub mod Contents
-pub mod Rows
 pub mod Steps
 pub mod Shard
-pub mod Table
 pub mod Held
 pub mod Guarded
-pub mod Holding
 pub mod Closures
-pub mod Lends
 pub mod Each
+pub mod inner

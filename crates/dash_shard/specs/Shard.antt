@@ -1,54 +1,44 @@
--- What contracts see of a shard: a row of places, each with a pair or none, and where the shard stands among the others.
-use Rattle.std.specs.Prelude.{◌≡◌, ℕ, ◌<◌, ◌≤◌, Bool, IsTrue, List, [], ◌∷◌, length, Option, Some, None, IsSome, IsSomeAnd, slice_index_or, slice_set, map, if◌then◌else◌, refl}
+-- What contracts see of a shard: a row of slots, each with a pair or none, and where the shard stands among the others.
+use Rattle.std.specs.Prelude.{◌≡◌, ℕ, ◌<◌, ◌≤◌, Bool, IsTrue, List, [], ◌∷◌, length, Option, Some, None, IsSome, IsSomeAnd, slice_index_or, slice_set, map, if◌then◌else◌}
 use Rattle.std.specs.Option.{option_map}
-use Rattle.std.specs.Coded.{Coded, code_by, coded×, coded_ℕ, coded_list, coded_option}
 use Rattle.dash_shard.specs.Hashing.{KeyHash, IsAmount, HashAlike, route_by}
 use Rattle.dash_shard.specs.Contents.{Keys, keys, at, IsOnShard}
 use Rattle.dash_shard.specs.Steps.{Act, Step, Reply, Replies, IsTaken, BySome, after}
 
 pub record ShardState (K V S : Type 0) : Type 0 where
-  pub places : List (Option (K × V))
+  pub slots : List (Option (K × V))
   pub number : ℕ
   pub amount : ℕ
   pub hasher : S
   pub capacity : ℕ
 
-abbrev pub shard_code : {K V S : Type 0} → Coded K → Coded V → Coded S → Coded (ShardState K V S)
-shard_code {K} {V} {S} k v s =
-    code_by (List (Option (K × V)) × (ℕ × (ℕ × (S × ℕ))))
-    (coded× (coded_list (coded_option (coded× k v))) (coded× coded_ℕ (coded× coded_ℕ (coded× s coded_ℕ))))
-    (λ p. (p.places, (p.number, (p.amount, (p.hasher, p.capacity)))))
-    (λ t. record { places = t.0; number = t.1.0; amount = t.1.1.0; hasher = t.1.1.1.0; capacity = t.1.1.1.1 })
-    (λ _. refl)
+-- the pair at a slot, or none
+abbrev pub slot : {A : Type 0} → List (Option A) → ℕ → Option A
+slot slots i = slice_index_or slots i None
 
-module _ {A : Type 0} where
-  -- the pair at a place, or none
-  abbrev pub place : List (Option A) → ℕ → Option A
-  place places i = slice_index_or places i None
+-- the pairs of the taken slots
+abbrev pub taken : {A : Type 0} → List (Option A) → List A
+taken [] = []
+taken (None ∷ slots) = taken slots
+taken (Some p ∷ slots) = p ∷ taken slots
 
-  -- the pairs of the taken places
-  abbrev pub taken : List (Option A) → List A
-  taken [] = []
-  taken (None ∷ places) = taken places
-  taken (Some p ∷ places) = p ∷ taken places
-
-  -- r is the lowest taken place not below i, or none
-  abbrev pub IsNextTaken : List (Option A) → ℕ → Option ℕ → Type 0
-  IsNextTaken places i None = (j : ℕ) → i ≤ j → place places j ≡ None
-  IsNextTaken places i (Some r) = (i ≤ r) × IsSome (place places r) × ((j : ℕ) → i ≤ j → j < r → place places j ≡ None)
+-- r is the lowest taken slot not below i, or none
+abbrev pub IsNextTaken : {A : Type 0} → List (Option A) → ℕ → Option ℕ → Type 0
+IsNextTaken slots i None = (j : ℕ) → i ≤ j → slot slots j ≡ None
+IsNextTaken slots i (Some r) = (i ≤ r) × IsSome (slot slots r) × ((j : ℕ) → i ≤ j → j < r → slot slots j ≡ None)
 
 module _ {K V S : Type 0} where
   -- the contents of a shard
   abbrev pub pairs : ShardState K V S → List (K × V)
-  pairs s = taken s.places
+  pairs s = taken s.slots
 
   -- how many pairs
   abbrev pub shard_len : ShardState K V S → ℕ
   shard_len s = length (pairs s)
 
-  -- the place i has a pair whose key is equal to k
+  -- the slot i has a pair whose key is equal to k
   abbrev pub HasKey : (K → K → Bool) → ShardState K V S → K → ℕ → Type 0
-  HasKey eq s k i = IsSomeAnd (place s.places i) (λ p. IsTrue (eq p.0 k))
+  HasKey eq s k i = IsSomeAnd (slot s.slots i) (λ p. IsTrue (eq p.0 k))
 
   -- number, amount and hasher stay
   pub record SameShard (old new : ShardState K V S) : Type 0 where
@@ -56,31 +46,27 @@ module _ {K V S : Type 0} where
     pub amount : new.amount ≡ old.amount
     pub hasher : new.hasher ≡ old.hasher
 
-  -- the shard with another value in the pair of the place i
+  -- the shard with another value in the pair of the slot i
   abbrev pub with_value_in : ShardState K V S → ℕ → V → ShardState K V S
-  with_value_in s i v = record s { places = slice_set s.places i (option_map (λ p. (p.0, v)) (place s.places i)) }
+  with_value_in s i v = record s { slots = slice_set s.slots i (option_map (λ p. (p.0, v)) (slot s.slots i)) }
 
   -- the shard with another value in the pair whose key is equal to k
   abbrev pub with_value_of : (K → K → Bool) → ShardState K V S → K → V → ShardState K V S
-  with_value_of eq s k v = record s { places = map (option_map (λ p. (p.0, if eq p.0 k then v else p.1))) s.places }
+  with_value_of eq s k v = record s { slots = map (option_map (λ p. (p.0, if eq p.0 k then v else p.1))) s.slots }
 
   module _ (h : KeyHash K S) where
-    -- what a map of the shard's hasher and amount knows of its keys
-    abbrev pub keys_of : ShardState K V S → Keys K
-    keys_of s = keys h.eq (route_by h s.hasher s.amount) s.amount
-
     -- a key goes to this shard
     abbrev pub Routes : ShardState K V S → K → Type 0
     Routes s k = route_by h s.hasher s.amount k ≡ s.number
 
     -- no two keys are equal, each goes to this shard, and the shard is one of a lawful amount
     pub record IsShard (s : ShardState K V S) : Type 0 where
-      pub contents : IsOnShard (keys_of s) s.number (pairs s)
+      pub contents : IsOnShard (keys h.eq (route_by h s.hasher s.amount) s.amount) s.number (pairs s)
       pub number : s.number < s.amount
       pub amount : IsAmount s.amount
 
     -- shard i of n, of a map with a hasher of this meaning
-    pub record IsPlaced (meaning : S) (n i : ℕ) (s : ShardState K V S) : Type 0 where
+    pub record IsTagged (meaning : S) (n i : ℕ) (s : ShardState K V S) : Type 0 where
       pub number : s.number ≡ i
       pub amount : s.amount ≡ n
       pub hashes : HashAlike h meaning s.hasher
@@ -100,15 +86,19 @@ module _ {K V S : Type 0} where
       pub table : IsTaken (own_keys old) step reply (pairs old) (pairs new)
       pub stays : SameShard old new
 
-    -- each pair stays in its place, where the place has afterwards what the table makes of the pair
+    -- each pair stays in its slot, which has afterwards what the table makes of the pair
     abbrev pub StaysPut : ShardState K V S → ShardState K V S → Step K V → Type 0
-    StaysPut old new step = (i : ℕ) (p : K × V) → place old.places i ≡ Some p → place new.places i ≡ after (own_keys old) step p.0 (Some p)
+    StaysPut old new step = (i : ℕ) (p : K × V) → slot old.slots i ≡ Some p → slot new.slots i ≡ after (own_keys old) step p.0 (Some p)
 
-    -- the same in place: the pairs keep their places, and the room stays
+    -- the same in place: the pairs keep their slots, and the room stays
     pub record TakesInPlace (old new : ShardState K V S) (step : Step K V) (reply : Reply K V) : Type 0 where
       pub taken : TakesStep old new step reply
-      pub places : StaysPut old new step
+      pub slots : StaysPut old new step
       pub room : new.capacity ≡ old.capacity
+
+    -- the same on each key that is equal to the one in a slot
+    abbrev pub TakesAt : ShardState K V S → ShardState K V S → ℕ → (K → Step K V) → Reply K V → Type 0
+    TakesAt old new position step reply = (key : K) → HasKey eq old key position → TakesInPlace old new (step key) reply
 
     -- the same by some action, which may do on the pair with an equal key what it does
     abbrev pub TakesBy : ShardState K V S → ShardState K V S → (K → Act K V → Step K V) → K → Reply K V → (K × V → V × Bool → Type 0) → Type 0

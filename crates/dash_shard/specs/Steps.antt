@@ -1,5 +1,6 @@
 -- The step table: what each kind of step does to the contents of a map, and what it replies.
 use Rattle.std.specs.Prelude.{ℕ, ◌≡◌, ◌-◌, ◌^◌, ◌==◌, min, Bool, List, length, Option, Some, None, option_map, option_and_then, is_some, IfSome, if◌then◌else◌}
+use Rattle.std.specs.Option.{option_map_or}
 use Rattle.dash_shard.specs.Contents.{Keys, at, on, EachOnce}
 
 -- what an action makes of a pair's value, and what it answers: yes or no
@@ -7,17 +8,11 @@ abbrev pub Act : Type 0 → Type 0 → Type 0
 Act K V = K → V → V × Bool
 
 pub data Step (K V : Type 0) : Type 0 where
-  Get : K → Step K V
-  Contains : K → Step K V
+  Get Contains Remove : K → Step K V
   Insert : K → V → Step K V
-  Remove : K → Step K V
-  RemoveIf : K → Act K V → Step K V
-  RemoveIfMut : K → Act K V → Step K V
-  Alter : K → Act K V → Step K V
-  Read : ℕ → Step K V
-  Count : ℕ → Step K V
-  AlterAll : ℕ → Act K V → Step K V
-  Retain : ℕ → Act K V → Step K V
+  RemoveIf RemoveIfMut Alter : K → Act K V → Step K V
+  Read Count : ℕ → Step K V
+  AlterAll Retain : ℕ → Act K V → Step K V
 
 pub data Reply (K V : Type 0) : Type 0 where
   Pair : Option (K × V) → Reply K V
@@ -34,14 +29,6 @@ pub data Line (K V : Type 0) : Type 0 where
   on_shard : ℕ → (K × V → Option (K × V)) → (List (K × V) → Reply K V) → Line K V
 
 module _ {K V : Type 0} where
-  -- the stored key, or k where there is none
-  abbrev pub key_or : K → Option (K × V) → K
-  key_or k None = k
-  key_or k (Some p) = p.0
-
-  abbrev pub value : Option (K × V) → Option V
-  value o = option_map (λ p. p.1) o
-
   -- the pair with the action's new value
   abbrev pub changed : Act K V → K × V → K × V
   changed f p = (p.0, (f p.0 p.1).0)
@@ -57,7 +44,7 @@ module _ {K V : Type 0} where
   abbrev pub line : Step K V → Line K V
   line (Get k) = at_key k (λ o. o) Pair
   line (Contains k) = at_key k (λ o. o) (λ o. Found (is_some o))
-  line (Insert k v) = at_key k (λ o. Some (key_or k o, v)) (λ o. Old (value o))
+  line (Insert k v) = at_key k (λ o. Some (option_map_or (λ p. p.0) o k, v)) (λ o. Old (option_map (λ p. p.1) o))
   line (Remove k) = at_key k (λ _. None) Pair
   line (RemoveIf k f) = at_key k (option_and_then (λ p. if_no f p p)) (λ o. Pair (option_and_then (λ p. if_yes f p p) o))
   line (RemoveIfMut k f) = at_key k (option_and_then (λ p. if_no f p (changed f p))) (λ o. Pair (option_and_then (λ p. if_yes f p (changed f p)) o))
@@ -69,9 +56,9 @@ module _ {K V : Type 0} where
 
 -- How a line is read, on the contents of a map.
 module _ {K V : Type 0} (w : Keys K) where
-  abbrev pub line_place : Line K V → ℕ
-  line_place (at_key k _ _) = w.route k
-  line_place (on_shard i _ _) = i
+  abbrev pub line_shard : Line K V → ℕ
+  line_shard (at_key k _ _) = w.route k
+  line_shard (on_shard i _ _) = i
 
   abbrev pub line_after : Line K V → K → Option (K × V) → Option (K × V)
   line_after (at_key k becomes _) j o = if w.eq k j then becomes o else o
@@ -81,9 +68,9 @@ module _ {K V : Type 0} (w : Keys K) where
   LineReplies (at_key k _ replies) ps r = r ≡ replies (at w.eq ps k)
   LineReplies (on_shard i _ replies) ps r = (l : List (K × V)) × EachOnce w.eq (on w i ps) l × (r ≡ replies l)
 
-  -- the place of a step: the route of its key, or the number that it names
-  abbrev pub place : Step K V → ℕ
-  place step = line_place (line step)
+  -- the shard of a step: the route of its key, or the number that it names
+  abbrev pub step_shard : Step K V → ℕ
+  step_shard step = line_shard (line step)
 
   -- what stands at the key j after a step, from what stood there
   abbrev pub after : Step K V → K → Option (K × V) → Option (K × V)
@@ -93,14 +80,10 @@ module _ {K V : Type 0} (w : Keys K) where
   abbrev pub Replies : Step K V → List (K × V) → Reply K V → Type 0
   Replies step ps r = LineReplies (line step) ps r
 
-  -- a step makes qs of the contents ps
-  abbrev pub Becomes : Step K V → List (K × V) → List (K × V) → Type 0
-  Becomes step ps qs = (j : K) → at w.eq qs j ≡ after step j (at w.eq ps j)
-
   -- A STEP IS TAKEN: from the contents ps it gets this reply, and makes the contents qs
   pub record IsTaken (step : Step K V) (reply : Reply K V) (ps qs : List (K × V)) : Type 0 where
     pub replies : Replies step ps reply
-    pub becomes : Becomes step ps qs
+    pub becomes : (j : K) → at w.eq qs j ≡ after step j (at w.eq ps j)
 
 -- by some action, which may do on the pair that stands there what it does
 abbrev pub BySome : {K V : Type 0} → (K × V → V × Bool → Type 0) → Option (K × V) → (Act K V → Type 0) → Type 0

@@ -21,7 +21,7 @@ pub enum ConstructError {
     Callers,
 }
 
-/// There is no memory for so many places (11), or they are more than there can be. All pairs are kept.
+/// There is no memory for so many slots (11), or they are more than there can be. All pairs are kept.
 #[derive(Clone, Copy, Debug, PartialEq, Eq, Error)]
 #[error("no memory (11)")]
 pub struct TryReserveError {}

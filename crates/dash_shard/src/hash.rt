@@ -1,6 +1,7 @@
 //! Hashers of fixed meaning, and the route from a hash to a shard.
 ghost use Rattle.std.specs.Prelude.{◌≡◌, ◌↔◌, ◌<◌, IsTrue};
-ghost use Rattle.dash_shard.specs.Hashing.{IsAmount, route_of_hash, fnv_start, fnv_from, placed};
+ghost use Rattle.std.specs.List.{fold};
+ghost use Rattle.dash_shard.specs.Hashing.{IsAmount, route_of_hash, fnv_start, fnv_step, placed};
 
 use std::hash::{BuildHasher, Hasher};
 
@@ -48,7 +49,7 @@ pub struct FixedHasher {
 }
 
 impl Hasher for FixedHasher {
-    ghost write = { λ s bytes. record { hash = fnv_from s.hash bytes } };
+    ghost write = { λ s bytes. record { hash = fold fnv_step s.hash bytes } };
 
     ghost finish = { λ s. s.hash };
 

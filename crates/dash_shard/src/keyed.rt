@@ -1,4 +1,4 @@
-//! The keys of a type, by a name for its contracts. It has no counterpart in the original.
+//! Names for contracts: of a type's keys, and of a type that lends. They have no counterpart in the original.
 ghost use Rattle.dash_shard.specs.Hashing.{KeyHash};
 
 /// Names, for contracts alone, which keys of a type are equal and the hash that each gets. It has no function and no code.
@@ -8,4 +8,11 @@ pub trait Keyed {
     type State;
 
     ghost by: { KeyHash Self.Key Self.State };
+}
+
+/// Names, for contracts alone, a type whose values lend a value of theirs for writing. It has no function and no code.
+pub trait Lender {
+    ghost use Rattle.std.specs.Borrow.{RattleType};
+
+    ghost row: { RattleType };
 }

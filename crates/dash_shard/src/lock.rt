@@ -1,12 +1,12 @@
 //! The reader-writer lock round each shard: a value in place beside one word.
 //!
 //! The word is 0 where nobody has the lock, r for r readers, at most 2^62 - 2, and 2^64 - 1 for a writer. It changes in four kinds of
-//! atomic step: a reader takes its place and a writer the whole lock by a compare-exchange, a reader goes by a subtraction and a writer
+//! atomic step: a reader counts itself and a writer the whole lock by a compare-exchange, a reader goes by a subtraction and a writer
 //! by a swap to 0. Whoever can't have the lock turns: it pauses, for longer each time, and then yields the processor.
 ghost use Rattle.std.specs.Prelude.{◌≡◌, IfOk, IfSome};
 ghost use Rattle.std.specs.Fn.{FnOnceReturnsAtMut, FnOnceTakesAtMut};
 ghost use Rattle.dash_shard.specs.Guarded.{KeepsFit};
-ghost use Rattle.dash_shard.specs.Holding.{lock_owns, lock_shares};
+ghost use Rattle.dash_shard.specs.inner.Holding.{lock_owns, lock_shares};
 
 use crossbeam_utils::Backoff;
 use hold::Hold;
@@ -235,7 +235,8 @@ pub struct RwLockReadGuard<'a, T: Tagged> {
 
 impl<'a, T: Tagged> Model for RwLockReadGuard<'a, T> {
     ghost use Rattle.std.specs.Prelude.{◌≡◌};
-    ghost use Rattle.dash_shard.specs.Guarded.{Guarded, guarded_code};
+    ghost use Rattle.dash_shard.specs.Guarded.{Guarded};
+    ghost use Rattle.dash_shard.specs.inner.Codes.{guarded_code};
 
     ghost Value = { Guarded T.Tag T };
 
@@ -277,7 +278,8 @@ pub struct RwLockWriteGuard<'a, T: Tagged> {
 
 impl<'a, T: Tagged> Model for RwLockWriteGuard<'a, T> {
     ghost use Rattle.std.specs.Prelude.{◌≡◌};
-    ghost use Rattle.dash_shard.specs.Guarded.{Guarded, guarded_code};
+    ghost use Rattle.dash_shard.specs.Guarded.{Guarded};
+    ghost use Rattle.dash_shard.specs.inner.Codes.{guarded_code};
 
     ghost Value = { Guarded T.Tag T };
 

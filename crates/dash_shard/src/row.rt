@@ -1,21 +1,112 @@
-//! The items of a row, moved from one list into the room of another.
-ghost use Rattle.std.specs.Prelude.{◌≡◌, ℕ, ◌≤◌, [], Some, slice_get, vec_len, vec_capacity};
-ghost use Rattle.dash_shard.specs.Rows.{Moved};
+//! A row of items that can turn into a row of another kind, and back, without memory.
+ghost use Rattle.std.specs.Prelude.{◌≡◌, ℕ, ◌<◌, IfOk, Some, slice_get, slice_set, slice_index_or, length};
+ghost use Rattle.std.specs.Borrow.{Lends, sem};
+ghost use Rattle.dash_shard.specs.inner.Rows.{Moved};
 
-/// Moves each item through `f`, with its place, into an empty list that has room for all. The items keep their order.
+use crate::keyed::Lender;
+use std::alloc::{AllocError, Global};
+use std::marker::Model;
+use std::ops::{Index, IndexMut};
+
+/// Items in order, with room for as many of another kind.
 ///
-/// It takes no memory. Both lists keep their room.
-pub fn move_all<A, B, F: Fn(usize, A) -> B>(from: &mut Vec<A>, to: &mut Vec<B>, f: F)
-    requires callable { (i : ℕ) (x : A) → slice_get from.old.items i ≡ Some x → F.pre f i x }
-    requires empty { to.old.items ≡ [] }
-    requires room { vec_len from.old ≤ vec_capacity to.old }
-    ensures moved { Moved (F.post f) 0 from.old.items to.new.items }
-    ensures empty { from.new.items ≡ [] }
-    ensures from_room { vec_capacity from.new ≡ vec_capacity from.old }
-    ensures to_room { vec_capacity to.new ≡ vec_capacity to.old }
-{
-    while let Some(item) = from.pop() {
-        to.push_reserved(f(from.len(), item));
+/// A contract sees the items.
+#[derive(Drop)]
+pub struct Row<A, B> {
+    items: Vec<A>,
+    // Empty, with room for all items.
+    room: Vec<B>,
+}
+
+impl<A, B> Model for Row<A, B> {
+    ghost use Rattle.std.specs.Prelude.{◌≡◌, ◌≤◌, List, [], vec_len, vec_capacity};
+
+    ghost Value = { List A };
+
+    ghost view = { λ r. r.items.items };
+
+    ghost invariant = { λ r. (r.room.items ≡ []) × (vec_len r.items ≤ vec_capacity r.room) };
+}
+
+impl<A, B> Lender for Row<A, B> {
+    ghost use Rattle.dash_shard.specs.contracts.row.Row.{the_row};
+
+    ghost row = { the_row A.row B.row };
+}
+
+impl<A, B> Row<A, B> {
+    /// These items, and room beside them, which takes memory.
+    pub fn of(alloc: Global, items: Vec<A>) -> Result<Row<A, B>, AllocError>
+    where
+        A: Drop,
+        ensures { IfOk result (λ row. row ≡ items.items) }
+    {
+        let room = Vec::with_capacity(alloc, items.len())?;
+        Ok(Row { items, room })
     }
-    to.reverse();
+
+    /// How many items there are.
+    #[inline]
+    pub fn len(&self) -> usize
+        ensures { result ≡ length self.now }
+    {
+        self.items.len()
+    }
+
+    /// The items.
+    #[inline]
+    pub fn items(&self) -> &[A]
+        ensures { result.now ≡ self.now }
+    {
+        self.items.as_slice()
+    }
+
+    /// The allocator of the items.
+    #[inline]
+    pub fn allocator(&self) -> Global {
+        *self.items.allocator()
+    }
+
+    /// Each item through `f`, with its slot. The items keep their order. It takes no memory.
+    pub fn turn<F: Fn(usize, A) -> B>(self, f: F) -> Row<B, A>
+        requires { (i : ℕ) (x : A) → slice_get self i ≡ Some x → F.pre f i x }
+        ensures { Moved (F.post f) 0 self result }
+    {
+        let Row {
+            mut items,
+            mut room,
+        } = self;
+        while let Some(item) = items.pop() {
+            room.push_reserved(f(items.len(), item));
+        }
+        room.reverse();
+        Row {
+            items: room,
+            room: items,
+        }
+    }
+}
+
+impl<A, B> Index<usize> for Row<A, B> {
+    type Output = A;
+
+    ghost can_index = { λ row slot. slot < length row };
+
+    ghost index_gives = { λ row slot item. item ≡ slice_index_or row slot item };
+
+    #[inline]
+    fn index(&self, slot: usize) -> &A {
+        &self.items[slot]
+    }
+}
+
+impl<A, B> IndexMut<usize> for Row<A, B> {
+    #[inline]
+    fn index_mut(&mut self, slot: usize) -> &mut A
+        requires { slot < length self.old }
+        ensures* writes_back { sem 𝓛 (Lends ⟦<Self as Lender>⟧.row A.row self.entry result (slice_set self.old slot)) }
+        ensures value { result.now ≡ slice_index_or self.old slot result.now }
+    {
+        &mut self.items[slot]
+    }
 }

@@ -1,19 +1,19 @@
 //! One shard: pairs with distinct keys, all routed to the shard's number.
-ghost use Rattle.std.specs.Prelude.{◌≡◌, ◌+◌, ◌<◌, ◌≤◌, ◌↔◌, IsTrue, IsOk, IfOk, OnOk, OnErr, IfErr, IfSome, is_some, Some, None, if◌then◌else◌};
+ghost use Rattle.std.specs.Prelude.{◌≡◌, ◌+◌, ◌<◌, ◌≤◌, ◌↔◌, IsTrue, IsOk, IfOk, IfErr, IfSome, is_some, Some, None, if◌then◌else◌};
 ghost use Rattle.std.specs.Option.{option_map, option_copied_mut};
 ghost use Rattle.std.specs.Map.Iter.{deref_pair};
-ghost use Rattle.std.specs.Borrow.{sem};
+ghost use Rattle.std.specs.Borrow.{LendsIf, sem};
 ghost use Rattle.dash_shard.specs.Hashing.{by, IsAmount};
 ghost use Rattle.dash_shard.specs.Contents.{at};
-ghost use Rattle.dash_shard.specs.Steps.{Get, Contains, Insert, Remove, Pair, Found, Old, RemoveIf, RemoveIfMut, Alter, Done};
-ghost use Rattle.dash_shard.specs.Shard.{pairs, shard_len, Routes, IsShard, RepliesOn, TakesStep, StaysPut, TakesInPlace, TakesBy};
+ghost use Rattle.dash_shard.specs.Steps.{Get, Contains, Remove, Pair, Found, RemoveIf, RemoveIfMut, Alter, Done};
+ghost use Rattle.dash_shard.specs.Shard.{pairs, shard_len, Routes, IsShard, RepliesOn, TakesInPlace, TakesBy, with_value_of};
 ghost use Rattle.dash_shard.specs.Held.{Inserts, Reserves, Loses};
 ghost use Rattle.dash_shard.specs.Closures.{MayAsk, Viewed, MayChange, ChangesOn, MayGive, Answered, Given};
 ghost use Rattle.dash_shard.specs.declared.error.ConstructError.TheVariants.{Memory};
 
 use crate::error::{ConstructError, TryReserveError};
 use crate::hash::determine_shard;
-use crate::keyed::Keyed;
+use crate::keyed::{Keyed, Lender};
 use std::alloc::Global;
 use std::hash::{BuildHasher, Hash};
 use std::marker::Model;
@@ -38,17 +38,18 @@ pub struct Shard<K: Eq + Hash, V, S: BuildHasher> {
 
 impl<K: Eq + Hash, V, S: BuildHasher> Model for Shard<K, V, S> {
     ghost use Rattle.std.specs.Prelude.{length};
-    ghost use Rattle.dash_shard.specs.Shard.{ShardState, shard_code};
-    ghost use Rattle.dash_shard.specs.Table.{IsInside, pairs_of};
+    ghost use Rattle.dash_shard.specs.Shard.{ShardState};
+    ghost use Rattle.dash_shard.specs.inner.Codes.{shard_code};
+    ghost use Rattle.dash_shard.specs.inner.Table.{IsInside, pairs_of};
     ghost use Rattle.dash_shard.specs.Hashing.{key_hash};
 
     ghost Value = { ShardState K V S };
 
     ghost coded = { shard_code K.code V.code S.code };
 
-    ghost view = { λ s. record { places = pairs_of s.table.nodes.items; number = s.number; amount = s.amount; hasher = s.hasher; capacity = length s.table.nodes.items } };
+    ghost view = { λ s. record { slots = pairs_of s.table.nodes.items; number = s.number; amount = s.amount; hasher = s.hasher; capacity = length s.table.nodes.items } };
 
-    ghost invariant = { λ s. IsInside (key_hash K.eq K.hash_input S.BuildHasher S.Hasher.Hasher) s.table (record { places = pairs_of s.table.nodes.items; number = s.number; amount = s.amount; hasher = s.hasher; capacity = length s.table.nodes.items }) };
+    ghost invariant = { λ s. IsInside (key_hash K.eq K.hash_input S.BuildHasher S.Hasher.Hasher) s.table (record { slots = pairs_of s.table.nodes.items; number = s.number; amount = s.amount; hasher = s.hasher; capacity = length s.table.nodes.items }) };
 }
 
 impl<K: Eq + Hash, V, S: BuildHasher> Keyed for Shard<K, V, S> {
@@ -59,6 +60,12 @@ impl<K: Eq + Hash, V, S: BuildHasher> Keyed for Shard<K, V, S> {
     ghost by = { by K.Hash S.BuildHasher S.Hasher.Hasher };
 }
 
+impl<K: Eq + Hash, V, S: BuildHasher> Lender for Shard<K, V, S> {
+    ghost use Rattle.dash_shard.specs.contracts.shard.Shard.{the_row};
+
+    ghost row = { the_row K.row V.row S.row S.Hasher.row (record { eq = K.eq }) (record { hash_input = K.hash_input }) S.BuildHasher S.Hasher.Hasher };
+}
+
 /// No memory for a new key (1). The pair comes back, and the shard or map is as it was.
 #[derive(Debug, Drop)]
 pub struct InsertRefused<K, V> {
@@ -67,8 +74,6 @@ pub struct InsertRefused<K, V> {
 }
 
 impl<K: Eq + Hash, V, S: BuildHasher> Shard<K, V, S> {
-    ghost use Rattle.dash_shard.specs.Lends.{lends_get};
-
     /// An empty shard with room for `capacity` pairs, the one of this number among `amount`.
     ///
     /// Takes memory, but for a capacity of 0.
@@ -131,6 +136,14 @@ impl<K: Eq + Hash, V, S: BuildHasher> Shard<K, V, S> {
         determine_shard(self.hasher.hash_one(key), self.amount) == self.number
     }
 
+    /// The hasher, for calls that take the key's hash.
+    #[inline]
+    pub fn hasher(&self) -> &S
+        ensures { result.now ≡ self.now.hasher }
+    {
+        &self.hasher
+    }
+
     // The hash of a key, by the shard's hasher.
     #[inline(always)]
     fn hash_one(&self, key: &K) -> u64
@@ -148,16 +161,8 @@ impl<K: Eq + Hash, V, S: BuildHasher> Shard<K, V, S> {
         K: Drop,
         V: Drop,
         requires { Routes ⟦<Self as Keyed>⟧.by self.old key }
-        ensures taken { IfOk result (λ old. TakesStep K.eq self.old self.new (Insert key value) (Old old)) }
+        ensures inserts { Inserts K.eq self.old self.new key value result }
         ensures lawful { IsShard ⟦<Self as Keyed>⟧.by self.new }
-        ensures len { IfOk result (λ old. shard_len self.new ≡ shard_len self.old + (if is_some old then 0 else 1)) }
-        ensures room { shard_len self.old < self.old.capacity → self.new.capacity ≡ self.old.capacity }
-        ensures places { OnOk result (self.new.capacity ≡ self.old.capacity → StaysPut K.eq self.old self.new (Insert key value)) }
-
-        // A refusal hands the pair back, and comes only for a new key in a full shard.
-        ensures refused { IfErr result (λ e. (e.key ≡ key) × (e.value ≡ value) × (self.new ≡ self.old)) }
-        ensures absent { OnErr result (at K.eq (pairs self.old) key ≡ None) }
-        ensures full { OnErr result (shard_len self.old ≡ self.old.capacity) }
     {
         let hash = self.hash_one(&key);
         self.insert_hashed(hash, key, value)
@@ -179,8 +184,8 @@ impl<K: Eq + Hash, V, S: BuildHasher> Shard<K, V, S> {
         ensures inserts { Inserts K.eq self.old self.new key value result }
         ensures lawful { IsShard ⟦<Self as Keyed>⟧.by self.new }
     {
-        if let Some(place) = self.table.find(hash, &key) {
-            return Ok(Some(self.table.replace(place, value)));
+        if let Some(slot) = self.table.find(hash, &key) {
+            return Ok(Some(self.table.replace(slot, value)));
         }
         let Ok(()) = self.table.make_room() else {
             return Err(InsertRefused { key, value });
@@ -196,9 +201,8 @@ impl<K: Eq + Hash, V, S: BuildHasher> Shard<K, V, S> {
     pub fn remove(&mut self, key: &K) -> Option<(K, V)>
         requires { Routes ⟦<Self as Keyed>⟧.by self.old key.now }
         ensures removes { TakesInPlace K.eq self.old self.new (Remove key.now) (Pair result) }
+        ensures len { Loses self.old self.new result }
         ensures lawful { IsShard ⟦<Self as Keyed>⟧.by self.new }
-        ensures len { shard_len self.old ≡ shard_len self.new + (if is_some result then 1 else 0) }
-        ensures room { self.new.capacity ≡ self.old.capacity }
     {
         let hash = self.hash_one(key);
         self.remove_hashed(hash, key)
@@ -213,8 +217,8 @@ impl<K: Eq + Hash, V, S: BuildHasher> Shard<K, V, S> {
         ensures len { Loses self.old self.new result }
         ensures lawful { IsShard ⟦<Self as Keyed>⟧.by self.new }
     {
-        let position = self.table.find(hash, key)?;
-        Some(self.table.take(position))
+        let position = self.position_of_hashed(hash, key)?;
+        Some(self.remove_at(position))
     }
 
     /// Takes the pair whose key equals `key` out if `f` answers yes on it, and answers it. It takes no memory, and can't be refused.
@@ -245,10 +249,10 @@ impl<K: Eq + Hash, V, S: BuildHasher> Shard<K, V, S> {
         ensures len { Loses self.old self.new result }
         ensures lawful { IsShard ⟦<Self as Keyed>⟧.by self.new }
     {
-        let place = self.position_of_hashed(hash, key)?;
-        let (stored, value) = self.at(place);
+        let slot = self.position_of_hashed(hash, key)?;
+        let (stored, value) = self.at(slot);
         if f(stored, value) {
-            return Some(self.table.take(place));
+            return Some(self.remove_at(slot));
         }
         None
     }
@@ -281,10 +285,10 @@ impl<K: Eq + Hash, V, S: BuildHasher> Shard<K, V, S> {
         ensures len { Loses self.old self.new result }
         ensures lawful { IsShard ⟦<Self as Keyed>⟧.by self.new }
     {
-        let place = self.position_of_hashed(hash, key)?;
-        let (key, value) = self.table.pair_mut(place);
+        let slot = self.position_of_hashed(hash, key)?;
+        let (key, value) = self.table.pair_mut(slot);
         if f(key, value) {
-            return Some(self.table.take(place));
+            return Some(self.table.take(slot));
         }
         None
     }
@@ -313,8 +317,8 @@ impl<K: Eq + Hash, V, S: BuildHasher> Shard<K, V, S> {
         ensures len { shard_len self.new ≡ shard_len self.old }
         ensures lawful { IsShard ⟦<Self as Keyed>⟧.by self.new }
     {
-        if let Some(place) = self.position_of_hashed(hash, key) {
-            self.table.alter(place, f);
+        if let Some(slot) = self.position_of_hashed(hash, key) {
+            self.table.alter(slot, f);
         }
     }
 
@@ -331,7 +335,7 @@ impl<K: Eq + Hash, V, S: BuildHasher> Shard<K, V, S> {
     /// The value of the pair whose key equals `key`, to be written. For the stored key beside it there are `position_of` and `at_mut`.
     #[inline]
     pub fn get_mut(&mut self, key: &K) -> Option<&mut V>
-        ensures* writes_back { sem 𝓛 (lends_get K.row V.row S.row S.Hasher.row K.Hash S.BuildHasher S.Hasher.Hasher self.entry key.now result) }
+        ensures* writes_back { sem 𝓛 (LendsIf ⟦<Self as Lender>⟧.row V.row self.entry result (with_value_of K.eq self.old key.now) self.old) }
         ensures value { option_copied_mut result ≡ option_map (λ p. p.1) (at K.eq (pairs self.old) key.now) }
         ensures lawful { IsShard ⟦<Self as Keyed>⟧.by self.old }
     {
@@ -343,7 +347,7 @@ impl<K: Eq + Hash, V, S: BuildHasher> Shard<K, V, S> {
     #[inline]
     pub fn get_mut_hashed(&mut self, hash: u64, key: &K) -> Option<&mut V>
         requires { hash ≡ ⟦<Self as Keyed>⟧.by.hash self.old.hasher key.now }
-        ensures* writes_back { sem 𝓛 (lends_get K.row V.row S.row S.Hasher.row K.Hash S.BuildHasher S.Hasher.Hasher self.entry key.now result) }
+        ensures* writes_back { sem 𝓛 (LendsIf ⟦<Self as Lender>⟧.row V.row self.entry result (with_value_of K.eq self.old key.now) self.old) }
         ensures value { option_copied_mut result ≡ option_map (λ p. p.1) (at K.eq (pairs self.old) key.now) }
         ensures lawful { IsShard ⟦<Self as Keyed>⟧.by self.old }
     {
@@ -369,8 +373,8 @@ impl<K: Eq + Hash, V, S: BuildHasher> Shard<K, V, S> {
         ensures viewed { Viewed F.FnOnce f (at K.eq (pairs self.now) key.now) result }
         ensures lawful { IsShard ⟦<Self as Keyed>⟧.by self.now }
     {
-        let place = self.position_of(key)?;
-        let (key, value) = self.at(place);
+        let slot = self.position_of(key)?;
+        let (key, value) = self.at(slot);
         Some(f(key, value))
     }
 
@@ -389,11 +393,11 @@ impl<K: Eq + Hash, V, S: BuildHasher> Shard<K, V, S> {
     pub fn capacity(&self) -> usize
         ensures { result ≡ self.now.capacity }
     {
-        self.table.places()
+        self.table.slots()
     }
 
     /// Makes room for so many pairs more, where there is less. It is refused (11) only where there is no memory for it; the pairs stay, and
-    /// so do their places.
+    /// so do their slots.
     pub fn try_reserve(&mut self, additional: usize) -> Result<(), TryReserveError>
         ensures reserves { Reserves additional self.old self.new result }
         ensures lawful { IsShard ⟦<Self as Keyed>⟧.by self.new }

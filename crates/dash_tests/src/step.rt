@@ -1,4 +1,4 @@
-//! Copies of steps and replies, and the places of steps.
+//! Copies of steps and replies, and the shards of steps.
 use crate::places::is;
 use dash_history::step::{Reply, ShardStep};
 use dash_shard::hash::{PlaceState, is_shard_amount};
@@ -29,14 +29,14 @@ fn copies(rt: HostRuntime) -> Result<(), Fail> {
 }
 
 #[test]
-fn places(rt: HostRuntime) {
-    for (step, place) in [
+fn shards(rt: HostRuntime) {
+    for (step, shard) in [
         (Step::Get(6), 2),
         (Step::Insert(7, 1), 3),
         (Step::Remove(9), 1),
         (Step::Count(9), 9),
     ] {
         assert!(rt; is_shard_amount(4));
-        assert_eq!(rt; step.place(&PlaceState, 4), place, "{step:?}");
+        assert_eq!(rt; step.shard(&PlaceState, 4), shard, "{step:?}");
     }
 }

@@ -8,7 +8,7 @@ use Rattle.std.specs.Str.Parse.{ParsesUnsigned, IsNumeral, digits_value, without
 use Rattle.std.proofs.lemmas.Bool.{cases_lt, ne_eqb}
 use Rattle.std.proofs.lemmas.Str.Parse.{numerals_by_value, tells_digits, tells_by_index}
 use Rattle.std.proofs.lemmas.Fmt.{decimal_nonempty, first_decimal, decimal_digit, digits_decimal, decimal_is_IsNumeral, decimal-digits_value}
-use Rattle.dashcheck.specs.Script.{IsPlain}
+use Rattle.dashcheck.specs.inner.Words.{IsPlain}
 
 -- what `{}` prints is plain
 pub plain-decimal : (n : ℕ) → n < 2 ^ 64 → IsPlain (decimal n)

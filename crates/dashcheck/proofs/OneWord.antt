@@ -2,7 +2,8 @@
 use Rattle.std.proofs.Common.{◌≡◌, ℕ, ◌*◌, ◌<◌, ◌^◌, List, [], ◌∷◌, length, get_or, map, refl, ap, sym, ◌∙◌, arith}
 use Rattle.std.specs.Fmt.{decimal}
 use Rattle.std.proofs.lemmas.Fmt.{decimal_injective}
-use Rattle.dashcheck.specs.Threads.{IsThreads, threads}
+use Rattle.dashcheck.specs.Threads.{IsThreads}
+use Rattle.dashcheck.specs.inner.Command.{threads}
 
 module _ {A B : Type 0} (f : A → B) where
   -- its words are the first

@@ -3,7 +3,7 @@ use Rattle.std.proofs.Common.{◌≡◌, ℕ, zero, suc, List, [], ◌∷◌, �
 use Rattle.std.specs.Prelude.{◌≢◌, All, IfOk, Result, if◌then◌else◌}
 use Rattle.std.specs.Io.KnownBytes.{Consumes}
 use Rattle.std.proofs.lemmas.List.Elements.{All-append}
-use Rattle.dashcheck.specs.Lines.{ReadsPart}
+use Rattle.dashcheck.specs.inner.Lines.{ReadsPart}
 
 -- so far the line was read, and no line end is in it
 pub record Reading (over : Bool) (old now : Option (List ℕ)) (line : List ℕ) : Type 0 where

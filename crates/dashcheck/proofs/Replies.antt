@@ -6,27 +6,35 @@ use Rattle.dash_shard.specs.Hashing.{IsAmount}
 use Rattle.dash_shard.specs.declared.error.ConstructError.{ConstructError}
 use Rattle.dash_shard.specs.declared.error.ConstructError.TheVariants.{ShardAmount, Memory, Callers}
 use Rattle.dash_history.specs.Alone.{IsCallers}
-use Rattle.dash_history.specs.History.{place_of}
-use Rattle.dash_history.specs.Takes.{kinds, rules}
-use Rattle.dashcheck.specs.Change.{acts, alike_change}
+use Rattle.dash_shard.specs.Steps.{step_shard}
+use Rattle.dash_history.specs.Steps.{step_of}
+use Rattle.dash_history.specs.History.{shard_of}
+use Rattle.dash_history.specs.Takes.{rules}
+use Rattle.dash_history.specs.inner.Kinds.{kinds}
+use Rattle.dashcheck.specs.Change.{acts}
+use Rattle.dashcheck.specs.inner.AlikeChange.{alike_change}
 use Rattle.dash_history.specs.declared.step.ShardStep.TheVariants.{Get, Contains, Insert, Remove, RemoveIf, RemoveIfMut, Alter, Read, Count, AlterAll, Retain}
 use Rattle.dash_history.specs.declared.record.RecordFault.{RecordFault}
 use Rattle.dash_history.specs.declared.record.RecordFault.TheVariants.{NoSuchShard}
-use Rattle.dashcheck.specs.Script.{ScriptStep, NamesMissing, IsFaultOf}
+use Rattle.dashcheck.specs.Script.{ScriptStep, IsFaultOf}
 
 -- the step goes outside a map of four shards exactly where it names a missing one
 module _ (route : ℕ → ℕ) (below : (k : ℕ) → route k < 4) where
-  abbrev place-in : ScriptStep → ℕ
-  place-in step = place_of (kinds alike_change acts (rules nat_eq nat_eq (keys nat_eq route 4))) step
+  abbrev shard-in : ScriptStep → ℕ
+  shard-in step = shard_of (kinds alike_change acts (rules nat_eq nat_eq (keys nat_eq route 4))) step
 
-  outside : (step : ScriptStep) → (4 ≤ place-in step) ↔ NamesMissing step
-  outside (Get k) = ((λ far. absurd (omega (arith, below k, far))), (λ named. absurd named))
-  outside (Contains k) = ((λ far. absurd (omega (arith, below k, far))), (λ named. absurd named))
-  outside (Insert k v) = ((λ far. absurd (omega (arith, below k, far))), (λ named. absurd named))
-  outside (Remove k) = ((λ far. absurd (omega (arith, below k, far))), (λ named. absurd named))
-  outside (RemoveIf k f) = ((λ far. absurd (omega (arith, below k, far))), (λ named. absurd named))
-  outside (RemoveIfMut k f) = ((λ far. absurd (omega (arith, below k, far))), (λ named. absurd named))
-  outside (Alter k f) = ((λ far. absurd (omega (arith, below k, far))), (λ named. absurd named))
+  -- on a map that sends each key to a shard that is there
+  abbrev NamesMissing : ScriptStep → Type 0
+  NamesMissing step = 4 ≤ step_shard (keys nat_eq (λ _. 0) 4) (step_of acts step)
+
+  outside : (step : ScriptStep) → (4 ≤ shard-in step) ↔ NamesMissing step
+  outside (Get k) = ((λ far. absurd (omega (arith, below k, far))), (λ named. absurd (omega (arith, named))))
+  outside (Contains k) = ((λ far. absurd (omega (arith, below k, far))), (λ named. absurd (omega (arith, named))))
+  outside (Insert k v) = ((λ far. absurd (omega (arith, below k, far))), (λ named. absurd (omega (arith, named))))
+  outside (Remove k) = ((λ far. absurd (omega (arith, below k, far))), (λ named. absurd (omega (arith, named))))
+  outside (RemoveIf k f) = ((λ far. absurd (omega (arith, below k, far))), (λ named. absurd (omega (arith, named))))
+  outside (RemoveIfMut k f) = ((λ far. absurd (omega (arith, below k, far))), (λ named. absurd (omega (arith, named))))
+  outside (Alter k f) = ((λ far. absurd (omega (arith, below k, far))), (λ named. absurd (omega (arith, named))))
   outside (Read i) = ((λ far. far), (λ named. named))
   outside (Count i) = ((λ far. far), (λ named. named))
   outside (AlterAll i f) = ((λ far. far), (λ named. named))
@@ -34,7 +42,7 @@ module _ (route : ℕ → ℕ) (below : (k : ℕ) → route k < 4) where
 
   -- a map of four shards refuses a step for want of its shard exactly where it names a missing one
   pub faulted : {R : Type 0} (step : ScriptStep) (r : Result R (ScriptStep × RecordFault)) (e : ScriptStep × RecordFault) → r ≡ Err e → e.0 ≡ step
-      → ((r ≡ Err (step, NoSuchShard)) ↔ (4 ≤ place-in step)) → IsFaultOf step e.1
+      → ((r ≡ Err (step, NoSuchShard)) ↔ (4 ≤ shard-in step)) → IsFaultOf step e.1
   faulted step r e is back missing = (
     (λ none. (outside step).0 (missing.0 (is ∙ ap (λ s. Err (s, e.1)) back ∙ ap (λ w. Err (step, w)) none))),
     (λ named. let same = missing.1 ((outside step).1 named) in cc),

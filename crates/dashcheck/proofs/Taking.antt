@@ -7,8 +7,9 @@ use Rattle.std.proofs.lemmas.List.Elements.{All-append, All-nil}
 use Rattle.dash_history.specs.declared.step.Reply.{Reply}
 use Rattle.dash_history.specs.declared.record.RecordFault.{RecordFault}
 use Rattle.dashcheck.specs.declared.script.Stop.TheVariants.{BadStep, Step}
-use Rattle.dashcheck.specs.Script.{ScriptStep, HasWords, line_of, text_of, StartsWithLines, IsToldOf, Took, IsNext, IsFaultOf, StopsAt, step_lines, reply_lines}
-use Rattle.dashcheck.specs.Lines.{ReadsPart, ReadsLine}
+use Rattle.dashcheck.specs.Script.{ScriptStep, HasWords, line_of, text_of, StartsWithLines, Took, IsNext, IsFaultOf, StopsAt}
+use Rattle.dashcheck.specs.inner.Words.{IsToldOf, step_lines, reply_lines}
+use Rattle.dashcheck.specs.inner.Lines.{ReadsPart, ReadsLine}
 use Rattle.dashcheck.proofs.Texts.{short-line, clean-line, same-word, no-longer}
 
 -- so many steps were taken, and this is left of the input

@@ -1,5 +1,5 @@
 -- Words of a text, and lines of steps.
-use Rattle.std.proofs.Common.{◌≡◌, ℕ, suc, ◌<◌, ◌^◌, List, [], ◌∷◌, ◌++◌, length, length-append, get_or, drop, Option, Some, None, Ok, Err, Bor, ◌⊎◌, inl, inr, refl, sym, ap, ◌∙◌, arith}
+use Rattle.std.proofs.Common.{◌≡◌, ℕ, suc, ◌<◌, ◌^◌, List, [], ◌∷◌, ◌++◌, length, length-append, get_or, drop, Option, Some, None, Ok, Err, Bor, ◌⊎◌, inl, inr, refl, sym, ap, subst, ◌∙◌, arith}
 use Rattle.std.specs.declared.result.Result.{Result}
 use Rattle.std.specs.Option.{IfSome, IfNone}
 use Rattle.std.specs.Prelude.{codes, ◌≢◌, ◌≤◌, ◌+◌, ◌&&◌, nat_lt, true, All}
@@ -18,7 +18,8 @@ use Rattle.std.proofs.lemmas.Str.Pattern.{IsSplitOnceResult, split_parts, split_
 use Rattle.dash_history.specs.declared.step.ShardStep.TheVariants.{Get, Contains, Insert, Remove, RemoveIf, RemoveIfMut, Alter, Read, Count, AlterAll, Retain}
 use Rattle.dashcheck.specs.declared.change.Change.{Change}
 use Rattle.dashcheck.specs.declared.change.Change.TheVariants.{Add, Below, AddBelow}
-use Rattle.dashcheck.specs.Script.{IsFirst, ScriptStep, HasChange, HasWords, change_word, change_rest, change_text, step_word, step_rest, line_of}
+use Rattle.dashcheck.specs.Script.{ScriptStep, HasChange, HasWords, change_text, line_of}
+use Rattle.dashcheck.specs.inner.Words.{change_word, change_rest, step_word, step_rest, IsFirst}
 
 -- what `split_once` at a space gives
 pub split-some : (text : List ℕ) (r : Option (Bor (List ℕ) × Bor (List ℕ))) → IsSplitOnceResult 32 text r → IfSome r (λ p. IsFirst text p.0.now p.1.now)
@@ -97,12 +98,31 @@ letters-step (Count i) = refl
 letters-step (AlterAll i f) = refl
 letters-step (Retain i f) = refl
 
+-- a change and a line are their first word, a space and the rest
+change-parts : (f : Change) → change_word f ++ 32 ∷ change_rest f ≡ change_text f
+change-parts (Add n) = refl
+change-parts (Below n) = refl
+change-parts (AddBelow n m) = refl
+
+line-parts : (step : ScriptStep) → step_word step ++ 32 ∷ step_rest step ≡ line_of step
+line-parts (Get k) = refl
+line-parts (Contains k) = refl
+line-parts (Insert k v) = refl
+line-parts (Remove k) = refl
+line-parts (RemoveIf k f) = refl
+line-parts (RemoveIfMut k f) = refl
+line-parts (Alter k f) = refl
+line-parts (Read i) = refl
+line-parts (Count i) = refl
+line-parts (AlterAll i f) = refl
+line-parts (Retain i f) = refl
+
 -- the first word of a step's line, of a change, and of a key with a change
 pub first-kind : (step : ScriptStep) → IsFirst (line_of step) (step_word step) (step_rest step)
-first-kind step = first-letters (step_word step) (letters-step step) (step_rest step)
+first-kind step = subst (λ t. IsFirst t (step_word step) (step_rest step)) (line-parts step) (first-letters (step_word step) (letters-step step) (step_rest step))
 
 pub first-change : (f : Change) → IsFirst (change_text f) (change_word f) (change_rest f)
-first-change f = first-letters (change_word f) (letters-change f) (change_rest f)
+first-change f = subst (λ t. IsFirst t (change_word f) (change_rest f)) (change-parts f) (first-letters (change_word f) (letters-change f) (change_rest f))
 
 pub first-changed : (k : ℕ) (f : Change) → k < 2 ^ 64 → IsFirst (decimal k ++ 32 ∷ change_text f) (decimal k) (change_text f)
 first-changed k f small = record { parts = refl; free = free-decimal k small }
@@ -137,7 +157,7 @@ IsAscii-rest_of (Below n) small = IsAscii-decimal n small
 IsAscii-rest_of (AddBelow n m) small = IsAscii-two n (decimal m) small.0 (IsAscii-decimal m small.1)
 
 IsAscii-change : (f : Change) → HasChange f → IsAscii (change_text f)
-IsAscii-change f small = IsAscii-letters (change_word f) (letters-change f) (change_rest f) (IsAscii-rest_of f small)
+IsAscii-change f small = subst IsAscii (change-parts f) (IsAscii-letters (change_word f) (letters-change f) (change_rest f) (IsAscii-rest_of f small))
 
 IsAscii-rest : (step : ScriptStep) → HasWords step → IsAscii (step_rest step)
 IsAscii-rest (Get k) small = IsAscii-decimal k small
@@ -153,7 +173,7 @@ IsAscii-rest (AlterAll i f) small = IsAscii-two i (change_text f) small.0 (IsAsc
 IsAscii-rest (Retain i f) small = IsAscii-two i (change_text f) small.0 (IsAscii-change f small.1)
 
 pub IsAscii-line : (step : ScriptStep) → HasWords step → IsAscii (line_of step)
-IsAscii-line step small = IsAscii-letters (step_word step) (letters-step step) (step_rest step) (IsAscii-rest step small)
+IsAscii-line step small = subst IsAscii (line-parts step) (IsAscii-letters (step_word step) (letters-step step) (step_rest step) (IsAscii-rest step small))
 
 -- what `from_utf8` refuses isn't ASCII
 pub no-text : (E : Type 0) (P : E → Type 0) (line : List ℕ) (r : Result (Bor (List ℕ)) E) → MatchResult r (λ s. (s.now ≡ line) × IsUtf8 line) (λ e. ¬ (IsUtf8 line) × P e) → IfNone (result_ok r) (IsAscii line → ⊥)
@@ -199,7 +219,7 @@ short-word (Retain i f) = omega arith
 
 -- a line of a step is short, and no line end is in it
 pub short-line : (step : ScriptStep) → HasWords step → length (line_of step) < 128
-short-line step small = omega (arith, length-append (step_word step) (32 ∷ step_rest step), short-word step, short-rest step small)
+short-line step small = subst (λ t. length t < 128) (line-parts step) (omega (arith, length-append (step_word step) (32 ∷ step_rest step), short-word step, short-rest step small))
 
 clean-decimal : (n : ℕ) → n < 2 ^ 64 → All (λ b. b ≢ 10) (decimal n)
 clean-decimal n small = All-from_get_or (λ b. b ≢ 10) (decimal n) 0 (λ i inside e. let digit = digits_decimal (numerals_by_value _ tells_by_index) n small i inside in omega (arith, digit, e))
@@ -226,4 +246,4 @@ clean-rest (AlterAll i f) small = clean-two i (change_text f) small.0 (clean-cha
 clean-rest (Retain i f) small = clean-two i (change_text f) small.0 (clean-change f small.1)
 
 pub clean-line : (step : ScriptStep) → HasWords step → All (λ b. b ≢ 10) (line_of step)
-clean-line step small = clean-letters (step_word step) (letters-step step) (step_rest step) (clean-rest step small)
+clean-line step small = subst (All (λ b. b ≢ 10)) (line-parts step) (clean-letters (step_word step) (letters-step step) (step_rest step) (clean-rest step small))

@@ -7,15 +7,17 @@ use Rattle.std.proofs.lemmas.List.Sums.{sum_by-cons}
 use Rattle.std.proofs.lemmas.Nat.{mul-le}
 use Rattle.dash_shard.specs.Contents.{Keys, keys}
 use Rattle.dash_history.specs.Alone.{fresh_logs}
-use Rattle.dash_history.specs.History.{LogState, place_of}
+use Rattle.dash_history.specs.History.{LogState, shard_of}
 use Rattle.dash_history.specs.Map.{Logged}
 use Rattle.dash_history.specs.Steps.{alike_step}
-use Rattle.dash_history.specs.Takes.{kinds, rules}
+use Rattle.dash_history.specs.Takes.{rules}
+use Rattle.dash_history.specs.inner.Kinds.{kinds}
 use Rattle.dash_history.specs.declared.step.ShardStep.{ShardStep}
 use Rattle.dash_history.specs.declared.step.ShardStep.TheVariants.{Get, Contains, Insert, Remove, RemoveIf, RemoveIfMut, Alter, Read, Count, AlterAll, Retain}
 use Rattle.dash_history.specs.declared.step.Reply.{Reply}
 use Rattle.dashcheck.specs.declared.threads.Worker.{Worker}
-use Rattle.dashcheck.specs.Threads.{IsSize, LogsStep, HasDone, IsIdle, Works, AllDone, idle, steps_in, IsThreadStep, thread_step, thread_steps}
+use Rattle.dashcheck.specs.Threads.{IsSize}
+use Rattle.dashcheck.specs.inner.Threads.{LogsStep, HasDone, IsIdle, Works, AllDone, idle, steps_in, IsThreadStep, thread_step, thread_steps}
 
 -- steps of threads: they carry no action
 abbrev idle_acts : Unit {0} → ℕ → ℕ → ℕ × Bool
@@ -37,7 +39,7 @@ same-step (Retain i a) t known same = absurd known
 same-step s t known same = cc
 
 -- a step of a thread goes to the shard of its key, so to one of the shards
-pub not-outside : (route : ℕ → ℕ) (n : ℕ) (step : ShardStep ℕ ℕ (Unit {0})) → IsThreadStep step → ((k : ℕ) → route k < n) → n ≤ place_of (kinds (λ _ _. true) idle_acts (rules nat_eq nat_eq (keys nat_eq route n))) step → ⊥
+pub not-outside : (route : ℕ → ℕ) (n : ℕ) (step : ShardStep ℕ ℕ (Unit {0})) → IsThreadStep step → ((k : ℕ) → route k < n) → n ≤ shard_of (kinds (λ _ _. true) idle_acts (rules nat_eq nat_eq (keys nat_eq route n))) step → ⊥
 not-outside route n (Get k) known below outside = omega (arith, below k, outside)
 not-outside route n (Insert k v) known below outside = omega (arith, below k, outside)
 not-outside route n (Remove k) known below outside = omega (arith, below k, outside)

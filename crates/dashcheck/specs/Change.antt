@@ -1,6 +1,5 @@
 -- The changes of a value that a script writes.
-pub mod Laws
-use Rattle.std.specs.Prelude.{ℕ, ◌+◌, ◌%◌, ◌^◌, ◌==◌, ◌&&◌, Bool, true, false, nat_lt}
+use Rattle.std.specs.Prelude.{ℕ, ◌+◌, ◌%◌, ◌^◌, Bool, true, nat_lt}
 use Rattle.dashcheck.specs.declared.change.Change.{Change}
 use Rattle.dashcheck.specs.declared.change.Change.TheVariants.{Add, Below, AddBelow}
 
@@ -9,10 +8,3 @@ abbrev pub acts : Change → ℕ → ℕ → ℕ × Bool
 acts (Add n) k v = ((v + n) % 2 ^ 64, true)
 acts (Below n) k v = (v, nat_lt v n)
 acts (AddBelow n m) k v = ((v + n) % 2 ^ 64, nat_lt ((v + n) % 2 ^ 64) m)
-
--- the same change
-abbrev pub alike_change : Change → Change → Bool
-alike_change (Add n) (Add m) = n == m
-alike_change (Below n) (Below m) = n == m
-alike_change (AddBelow n m) (AddBelow i j) = (n == i) && (m == j)
-alike_change _ _ = false

@@ -1,23 +1,12 @@
 -- The command line.
 use Rattle.std.specs.Prelude.{◌≡◌, ◌⊎◌, ℕ, List, [], ◌∷◌, codes}
 use Rattle.dashcheck.specs.Threads.{IsThreads}
-use Rattle.dashcheck.specs.declared.command.Command.{Command}
-use Rattle.dashcheck.specs.declared.command.Command.TheVariants.{Script, Threads}
 use Rattle.dashcheck.specs.declared.command.Status.{Status}
 use Rattle.dashcheck.specs.declared.command.Status.TheVariants.{Good, Refused, BadCommandLine}
 
--- the bytes of `script`
-abbrev pub script : List ℕ
-script = 115 ∷ 99 ∷ 114 ∷ 105 ∷ 112 ∷ 116 ∷ []
-
 -- the words, as bytes, are the one word `script`
 abbrev pub IsScript : List (List ℕ) → Type 0
-IsScript words = words ≡ script ∷ []
-
--- the words ask for this
-abbrev pub Asks : List (List ℕ) → Command → Type 0
-Asks words Script = IsScript words
-Asks words (Threads c n) = IsThreads words c n
+IsScript words = words ≡ codes "script" ∷ []
 
 -- the words are one of the two commands
 abbrev pub IsCommand : List (List ℕ) → Type 0

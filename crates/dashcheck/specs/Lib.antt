@@ -1,5 +1,5 @@
 pub mod Change
 pub mod Command
-pub mod Lines
 pub mod Script
 pub mod Threads
+pub mod inner

@@ -1,17 +1,9 @@
 -- `dashcheck threads`: its words, the steps of its threads, and what it prints.
-use Rattle.std.specs.Prelude.{◌≡◌, ℕ, zero, suc, ◌+◌, ◌*◌, ◌%◌, ◌<◌, ◌≤◌, ◌++◌, ◌==◌, List, [], ◌∷◌, Option, None, IfNone, length, map, slice_index_or, codes, ⊤, if◌then◌else◌}
+use Rattle.std.specs.Prelude.{◌≡◌, ℕ, ◌<◌, ◌≤◌, ◌++◌, List, [], ◌∷◌, Option, codes}
 use Rattle.std.specs.Fmt.{decimal}
 use Rattle.std.specs.Io.KnownBytes.{Appends}
-use Rattle.dash_history.specs.History.{LogState}
-use Rattle.dash_history.specs.declared.step.ShardStep.{ShardStep}
-use Rattle.dash_history.specs.declared.step.ShardStep.TheVariants.{Get, Insert, Remove}
-use Rattle.dashcheck.specs.declared.threads.Worker.{Worker}
 use Rattle.dashcheck.specs.declared.threads.Refusal.{Refusal}
 use Rattle.dashcheck.specs.declared.threads.Refusal.TheVariants.{Map, LastStamp, Memory}
-
--- the word `threads`
-abbrev pub threads : List ℕ
-threads = codes "threads"
 
 -- a number of threads, and of the steps of each
 pub record IsSize (callers steps : ℕ) : Type 0 where
@@ -21,54 +13,7 @@ pub record IsSize (callers steps : ℕ) : Type 0 where
 
 -- the words are `threads C N`, with such numbers
 abbrev pub IsThreads : List (List ℕ) → ℕ → ℕ → Type 0
-IsThreads words c n = (words ≡ threads ∷ decimal c ∷ decimal n ∷ []) × IsSize c n
-
--- the step m of thread j
-abbrev pub thread_step : ℕ → ℕ → ShardStep ℕ ℕ (Unit {0})
-thread_step j m = if m % 3 == 0 then Insert ((j + m) % 16) (j * 1000000 + m) else if m % 3 == 1 then Get ((j + m) % 16) else Remove ((j + m) % 16)
-
--- a thread looks up, puts and takes out, and nothing else
-abbrev pub IsThreadStep : ShardStep ℕ ℕ (Unit {0}) → Type 0
-IsThreadStep (Get k) = ⊤
-IsThreadStep (Insert k v) = ⊤
-IsThreadStep (Remove k) = ⊤
-IsThreadStep _ = ⊥
-
--- the steps 0 to n - 1 of thread j
-abbrev pub thread_steps : ℕ → ℕ → List (ShardStep ℕ ℕ (Unit {0}))
-thread_steps j zero = []
-thread_steps j (suc n) = thread_steps j n ++ thread_step j n ∷ []
-
--- the steps of a log
-abbrev pub steps_in : LogState ℕ ℕ (Unit {0}) → List (ShardStep ℕ ℕ (Unit {0}))
-steps_in log = map (λ r. r.step) log.entries
-
--- the log of the same caller is longer by the step
-pub record LogsStep (old new : LogState ℕ ℕ (Unit {0})) (step : ShardStep ℕ ℕ (Unit {0})) : Type 0 where
-  pub caller : new.caller ≡ old.caller
-  pub steps : steps_in new ≡ steps_in old ++ step ∷ []
-
--- the thread that the log is of has done its first n steps, and nothing else
-abbrev pub HasDone : ℕ → LogState ℕ ℕ (Unit {0}) → Type 0
-HasDone n log = steps_in log ≡ thread_steps log.caller n
-
--- the worker of a log
-abbrev pub idle : LogState ℕ ℕ (Unit {0}) → Worker
-idle log = record { log = log; refused = None }
-
--- a worker that has done nothing, for one of c threads
-pub record IsIdle (c : ℕ) (worker : Worker) : Type 0 where
-  pub caller : worker.log.caller < c
-  pub entries : worker.log.entries ≡ []
-
--- the worker took the first n steps of its thread, or was refused one
-pub record Works (n : ℕ) (old new : Worker) : Type 0 where
-  pub caller : new.log.caller ≡ old.log.caller
-  pub done : IfNone new.refused (HasDone n new.log)
-
--- the worker at each place i is the thread i, and has done its first n steps
-abbrev pub AllDone : ℕ → List Worker → Type 0
-AllDone n workers = (i : ℕ) (d : Worker) → i < length workers → ((slice_index_or workers i d).log.caller ≡ i) × HasDone n (slice_index_or workers i d).log
+IsThreads words c n = (words ≡ codes "threads" ∷ decimal c ∷ decimal n ∷ []) × IsSize c n
 
 -- what is printed of so many entries
 abbrev pub entries_line : ℕ → List ℕ

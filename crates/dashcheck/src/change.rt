@@ -1,6 +1,7 @@
 //! Changes of a value that a script writes.
 ghost use Rattle.std.specs.Prelude.{◌≡◌, Bool, true, IfOk, IsTrue};
-ghost use Rattle.dashcheck.specs.Change.{acts, alike_change};
+ghost use Rattle.dashcheck.specs.Change.{acts};
+ghost use Rattle.dashcheck.specs.inner.AlikeChange.{alike_change};
 
 use dash_history::action::{Action, KeptAction};
 use dash_history::kept::Kept;
@@ -18,7 +19,7 @@ pub enum Change {
 }
 
 impl Kept for Change {
-    ghost use Rattle.dashcheck.specs.Change.Laws.{change_equiv};
+    ghost use Rattle.dashcheck.specs.inner.Changes.{change_equiv};
 
     ghost alike = { alike_change };
 
@@ -39,7 +40,7 @@ impl Kept for Change {
 }
 
 impl Action<u64, u64> for Change {
-    ghost use Rattle.dashcheck.specs.Change.Laws.{acts_along};
+    ghost use Rattle.dashcheck.specs.inner.Changes.{acts_along};
 
     ghost acts = { acts };
 
@@ -61,7 +62,7 @@ impl Action<u64, u64> for Change {
 }
 
 impl KeptAction<u64, u64> for Change {
-    ghost use Rattle.dashcheck.specs.Change.Laws.{alike_along};
+    ghost use Rattle.dashcheck.specs.inner.Changes.{alike_along};
 
     ghost alike_acts = { alike_along };
 }

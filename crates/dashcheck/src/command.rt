@@ -1,7 +1,8 @@
 //! The command line.
 ghost use Rattle.std.specs.Prelude.{◌≡◌, ◌↔◌, ℕ, ◌*◌, ◌++◌, ◌∷◌, [], IsTrue, IfSome, IfNone, IfOk, OnOk, OnErr, map, string_bytes};
 ghost use Rattle.std.specs.Io.KnownBytes.{Appends};
-ghost use Rattle.dashcheck.specs.Command.{IsScript, IsCommand, Asks, code_of, usage};
+ghost use Rattle.dashcheck.specs.Command.{IsScript, IsCommand, code_of, usage};
+ghost use Rattle.dashcheck.specs.inner.Command.{Asks};
 ghost use Rattle.dashcheck.specs.Script.{TakesAll, Refuses, stop_text};
 ghost use Rattle.dashcheck.specs.Threads.{IsThreads, SaysRefusal, entries_line};
 

@@ -16,7 +16,7 @@ pub struct Lines<R> {
 }
 
 impl<R: Read + Drop> Lines<R> {
-    ghost use Rattle.dashcheck.specs.Lines.{left_of, line_in, ReadsLine};
+    ghost use Rattle.dashcheck.specs.inner.Lines.{left_of, line_in, ReadsLine};
 
     /// It takes memory for what is read ahead and for a line.
     pub fn new(alloc: Global, reader: R) -> io::Result<Lines<R>>

@@ -3,7 +3,8 @@ ghost use Rattle.std.specs.Prelude.{◌≡◌, ◌↔◌, ℕ, ◌<◌, ◌^◌,
 ghost use Rattle.std.specs.Fmt.{decimal};
 ghost use Rattle.std.specs.Str.{IsAscii};
 ghost use Rattle.dashcheck.specs.declared.change.Change.{Change};
-ghost use Rattle.dashcheck.specs.Script.{IsPlain, IsFirst, ScriptStep, HasChange, HasWords, IsInOrder, change_text, line_of};
+ghost use Rattle.dashcheck.specs.Script.{ScriptStep, HasChange, HasWords, IsInOrder, change_text, line_of};
+ghost use Rattle.dashcheck.specs.inner.Words.{IsPlain, IsFirst};
 
 use crate::change::Change;
 use dash_history::step::{Reply, ShardStep};

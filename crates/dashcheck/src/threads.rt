@@ -2,7 +2,8 @@
 ghost use Rattle.std.specs.Prelude.{◌≡◌, ◌≢◌, ℕ, ◌+◌, ◌*◌, ◌%◌, ◌^◌, ◌<◌, ◌≤◌, ◌∷◌, ◌++◌, [], All, Some, IsSomeAnd, IfOk, IfErr, IfSome, IfNone, OnOk, OnErr, length, map, sum_by, slice_get, slice_index_or, vec_len};
 ghost use Rattle.std.specs.Io.KnownBytes.{Appends};
 ghost use Rattle.dash_history.specs.Alone.{fresh_logs};
-ghost use Rattle.dashcheck.specs.Threads.{IsSize, LogsStep, HasDone, IsIdle, Works, AllDone, idle, refusal_text, SaysRefusal, IsThreadStep, thread_step, entries_line};
+ghost use Rattle.dashcheck.specs.Threads.{IsSize, refusal_text, SaysRefusal, entries_line};
+ghost use Rattle.dashcheck.specs.inner.Threads.{LogsStep, HasDone, IsIdle, Works, AllDone, idle, IsThreadStep, thread_step};
 
 use crate::command::Status;
 use dash_history::record::map::RecordedMap;

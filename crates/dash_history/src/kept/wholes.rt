@@ -1,7 +1,9 @@
 //! Exact copies of pairs, options and lists, whose parts are copied one by one.
 ghost use Rattle.std.specs.Prelude.{◌≡◌};
-ghost use Rattle.dash_history.specs.Alike.{alike_list, alike_option, alike_pair};
-ghost use Rattle.dash_history.specs.Alike.Laws.{list_equal, list_equiv, option_equal, option_equiv, pair_equal, pair_equiv};
+ghost use Rattle.std.specs.Option.{option_eq};
+ghost use Rattle.std.specs.Cmp.Lexicographic.{lists_equiv, options_equiv, pointwise};
+ghost use Rattle.dash_history.specs.Alike.{alike_pair};
+ghost use Rattle.dash_history.specs.inner.AlikeLaws.{list_equal, option_equal, pair_equal, pair_equiv};
 
 use crate::kept::{Kept, KeptKey};
 use std::alloc::AllocError;
@@ -26,7 +28,7 @@ impl<A: KeptKey + Drop, B: KeptKey> KeptKey for (A, B) {
 }
 
 impl<T: Kept> Kept for Option<T> {
-    ghost alike = { alike_option T.alike };
+    ghost alike = { option_eq T.alike };
 
     fn copy(&self) -> Result<Option<T>, AllocError> {
         match self {
@@ -43,7 +45,7 @@ impl<T: Kept> Kept for Option<T> {
         }
     }
 
-    ghost alike_laws = { option_equiv T.alike_laws };
+    ghost alike_laws = { options_equiv T.alike_laws };
 }
 
 impl<T: KeptKey> KeptKey for Option<T> {
@@ -54,7 +56,7 @@ impl<T: KeptKey> KeptKey for Option<T> {
 impl<T: Kept + Drop> Kept for Vec<T> {
     ghost use Rattle.std.specs.Cmp.{on_equiv};
 
-    ghost alike = { λ v w. alike_list T.alike v.items w.items };
+    ghost alike = { λ v w. pointwise T.alike v.items w.items };
 
     fn copy(&self) -> Result<Vec<T>, AllocError> {
         let mut copies = Vec::with_capacity(*self.allocator(), self.len())?;
@@ -76,7 +78,7 @@ impl<T: Kept + Drop> Kept for Vec<T> {
         true
     }
 
-    ghost alike_laws = { on_equiv (λ v. v.items) (list_equiv T.alike_laws) };
+    ghost alike_laws = { on_equiv (λ v. v.items) (lists_equiv T.alike_laws) };
 }
 
 impl<T: KeptKey + Drop> KeptKey for Vec<T> {

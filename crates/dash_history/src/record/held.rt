@@ -3,25 +3,28 @@ ghost use Rattle.std.specs.Prelude.{◌≡◌, ◌-◌, ◌<◌, ◌^◌, ◌↔
 ghost use Rattle.dash_shard.specs.Hashing.{by};
 ghost use Rattle.dash_shard.specs.Shard.{Routes};
 ghost use Rattle.dash_history.specs.History.{IsRecorded, GoesTo, Records};
-ghost use Rattle.dash_history.specs.Held.{FitsPlace, Grows};
+ghost use Rattle.dash_history.specs.inner.Hashed.{HasHash};
+ghost use Rattle.dash_history.specs.Held.{FitsTag, Promises};
+ghost use Rattle.dash_history.specs.inner.Grows.{Grows};
 ghost use Rattle.dash_history.specs.Refused.{Refuses, HandsBack, NoStamp, IsShardFault};
 ghost use Rattle.dash_history.specs.Takes.{known};
 ghost use Rattle.dash_history.specs.declared.record.RecordFault.TheVariants.{LastStamp};
 
-use super::{CallerLog, RecShard, RecordFault, make_room};
+use super::{CallerLog, RecShard, RecordFault};
 use crate::action::KeptAction;
 use crate::kept::{Kept, KeptKey};
 use crate::known::Recorded;
-use crate::step::{Record, Reply, ShardStep};
+use crate::step::{Reply, ShardStep};
 use dash_shard::lock::{RwLockWriteGuard, Tagged};
 use std::hash::BuildHasher;
 use std::marker::Model;
+use std::mem;
 use std::snapshot::Snapshot;
 
-/// What a recorded shard's lock is made for: the shard's place among the others, the number of callers, and what its hasher means.
+/// What a recorded shard's lock is made for: the shard's number, how many there are, the number of callers, and what its hasher means.
 /// The snapshot has no bytes.
 #[derive(Drop)]
-pub struct Place<S> {
+pub struct RecTag<S> {
     pub number: usize,
     pub amount: usize,
     pub callers: u32,
@@ -29,9 +32,9 @@ pub struct Place<S> {
 }
 
 impl<K: KeptKey, V: Kept, S: BuildHasher, A: KeptAction<K, V>> Tagged for RecShard<K, V, S, A> {
-    type Tag = Place<S>;
+    type Tag = RecTag<S>;
 
-    ghost fits = { λ tag shard. FitsPlace (by K.Hash S.BuildHasher S.Hasher.Hasher) tag shard };
+    ghost fits = { λ tag shard. FitsTag (by K.Hash S.BuildHasher S.Hasher.Hasher) tag shard };
 }
 
 /// A recorded shard that is held for writing: the hold ends when it is dropped. A contract sees it as the shard with its history.
@@ -76,7 +79,7 @@ impl<'a, K: KeptKey, V: Kept, S: BuildHasher, A: KeptAction<K, V>> RecShardMut<'
     #[inline]
     pub fn of(guard: RwLockWriteGuard<'a, RecShard<K, V, S, A>>) -> RecShardMut<'a, K, V, S, A>
         ensures value { result ≡ guard.entry.value }
-        ensures fits { FitsPlace ⟦<Self as Recorded>⟧.known.keys guard.entry.tag result }
+        ensures fits { FitsTag ⟦<Self as Recorded>⟧.known.keys guard.entry.tag result }
     {
         RecShardMut { guard }
     }
@@ -130,31 +133,6 @@ impl<K: KeptKey + Drop, V: Kept + Drop, S: BuildHasher, A: KeptAction<K, V> + Dr
         self.guard.shard.routes(key)
     }
 
-    // Takes a step at a stamp, in place.
-    fn grow(
-        &mut self,
-        stamp: u64,
-        caller: u32,
-        step: ShardStep<K, V, A>,
-    ) -> Result<(Reply<K, V>, Record<K, V, A>), ShardStep<K, V, A>>
-        requires place { GoesTo ⟦<Self as Recorded>⟧.known self.old.shard step }
-        requires caller { caller < self.old.callers }
-        requires above { self.old.last < stamp }
-        ensures { Grows ⟦<Self as Recorded>⟧.known self.old self.new stamp caller step result }
-    {
-        self.guard.change(
-            |shard: &mut RecShard<K, V, S, A>| -> Result<
-                (Reply<K, V>, Record<K, V, A>),
-                ShardStep<K, V, A>,
-            >
-                requires place { GoesTo (known K.KeptKey V.alike A.KeptAction S.BuildHasher S.Hasher.Hasher) shard.old.shard step }
-                requires caller { caller < shard.old.callers }
-                requires above { shard.old.last < stamp }
-                ensures { Grows (known K.KeptKey V.alike A.KeptAction S.BuildHasher S.Hasher.Hasher) shard.old shard.new stamp caller step result }
-            { shard.grow(stamp, caller, step) },
-        )
-    }
-
     /// Takes a step of this shard, and adds one same record of it at the end of its history and of the caller's log.
     ///
     /// Takes memory for the copies and the records, before anything changes. Where it is refused (18, 19), the step is handed back, and
@@ -164,7 +142,7 @@ impl<K: KeptKey + Drop, V: Kept + Drop, S: BuildHasher, A: KeptAction<K, V> + Dr
         log: &mut CallerLog<K, V, A>,
         step: ShardStep<K, V, A>,
     ) -> Result<Reply<K, V>, (ShardStep<K, V, A>, RecordFault)>
-        requires place { GoesTo ⟦<Self as Recorded>⟧.known self.old.shard step }
+        requires goes { GoesTo ⟦<Self as Recorded>⟧.known self.old.shard step }
         requires caller { log.old.caller < self.old.callers }
         ensures ok { Records ⟦<Self as Recorded>⟧.known self.old self.new log.old log.new step result }
         ensures refused { HandsBack step self.old self.new log.old log.new result }
@@ -172,20 +150,41 @@ impl<K: KeptKey + Drop, V: Kept + Drop, S: BuildHasher, A: KeptAction<K, V> + Dr
         ensures log_last { log.old.last ≡ 2 ^ 64 - 1 → Refuses step LastStamp result }
         ensures faults { IfErr result (λ e. IsShardFault e.1) }
     {
-        let last = self.last_stamp().max(log.last);
-        if last == u64::MAX {
-            return Err((step, RecordFault::LastStamp));
-        }
-        if !make_room(&mut log.entries) {
-            return Err((step, RecordFault::Memory));
-        }
-        match self.grow(last + 1, log.caller, step) {
-            Ok((reply, record)) => {
-                log.entries.push_reserved(record);
-                log.last = last + 1;
-                Ok(reply)
-            }
-            Err(step) => Err((step, RecordFault::Memory)),
-        }
+        let hash = self.guard.hash_of(&step);
+        self.record_hashed(log, hash, step)
+    }
+
+    // As `record`, for a caller who has the hash of the step's key.
+    pub(crate) fn record_hashed(
+        &mut self,
+        log: &mut CallerLog<K, V, A>,
+        hash: u64,
+        step: ShardStep<K, V, A>,
+    ) -> Result<Reply<K, V>, (ShardStep<K, V, A>, RecordFault)>
+        requires goes { GoesTo ⟦<Self as Recorded>⟧.known self.old.shard step }
+        requires hash { HasHash ⟦<Self as Recorded>⟧.known self.old.shard step hash }
+        requires caller { log.old.caller < self.old.callers }
+        ensures { Promises ⟦<Self as Recorded>⟧.known self.old self.new log.old log.new step result }
+    {
+        // The closure takes the log and gives it back, and a log with no entries stands in its place meanwhile.
+        let blank = CallerLog::new(*log.entries.allocator(), log.caller);
+        let mine = mem::replace(log, blank);
+        let (mine, answer) = self.guard.change(
+            |shard: &mut RecShard<K, V, S, A>| -> (
+                CallerLog<K, V, A>,
+                Result<Reply<K, V>, (ShardStep<K, V, A>, RecordFault)>,
+            )
+                requires goes { GoesTo (known K.KeptKey V.alike A.KeptAction S.BuildHasher S.Hasher.Hasher) shard.old.shard step }
+                requires hash { HasHash (known K.KeptKey V.alike A.KeptAction S.BuildHasher S.Hasher.Hasher) shard.old.shard step hash }
+                requires caller { mine.caller < shard.old.callers }
+                ensures { Promises (known K.KeptKey V.alike A.KeptAction S.BuildHasher S.Hasher.Hasher) shard.old shard.new mine result.0 step result.1 }
+            {
+                let mut log = mine;
+                let answer = shard.record_hashed(&mut log, hash, step);
+                (log, answer)
+            },
+        );
+        *log = mine;
+        answer
     }
 }

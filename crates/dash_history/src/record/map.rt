@@ -2,13 +2,15 @@
 ghost use Rattle.std.specs.Prelude.{◌≡◌, ◌<◌, ◌↔◌, IsErrOf, IfOk, IfErr, length};
 ghost use Rattle.crossbeam_utils.specs.Padded.{padded_value};
 ghost use Rattle.dash_shard.specs.Hashing.{by, IsAmount, HashAlike};
-ghost use Rattle.dash_history.specs.Alone.{BadCallers, IsMapError, IsAlone, IsCallers, IsPlaced, fresh_logs};
-ghost use Rattle.dash_history.specs.Held.{FitsPlace};
-ghost use Rattle.dash_history.specs.History.{IsRecorded, place_of};
-ghost use Rattle.dash_history.specs.Map.{map_of, IsAt, IsShardOf, kinds_on};
+ghost use Rattle.dash_history.specs.Alone.{BadCallers, IsMapError, IsAlone, IsCallers, IsTagged, fresh_logs};
+ghost use Rattle.dash_history.specs.Held.{FitsTag};
+ghost use Rattle.dash_history.specs.History.{IsRecorded, shard_of};
+ghost use Rattle.dash_history.specs.Map.{map_of, IsShardOf, kinds_on};
+ghost use Rattle.dash_history.specs.inner.Locks.{IsAt};
+ghost use Rattle.dash_history.specs.inner.Hashed.{IsHashBy};
 ghost use Rattle.dash_history.specs.Takes.{known};
 
-use super::held::{Place, RecShardMut};
+use super::held::{RecShardMut, RecTag};
 use super::{CallerLog, RecShard};
 use crate::action::KeptAction;
 use crate::alone::RecAlone;
@@ -18,7 +20,7 @@ use crate::step::ShardStep;
 use crossbeam_utils::CachePadded;
 use dash_shard::error::ConstructError;
 use dash_shard::lock::RwLock;
-use dash_shard::row::move_all;
+use dash_shard::row::Row;
 use std::alloc::Global;
 use std::hash::BuildHasher;
 use std::marker::Model;
@@ -36,20 +38,19 @@ pub(crate) type Locked<K, V, S, A> = CachePadded<RwLock<RecShard<K, V, S, A>>>;
 pub struct RecordedMap<K: KeptKey, V: Kept, S: BuildHasher, A: KeptAction<K, V> = ()> {
     hasher: S,
     callers: u32,
-    row: Vec<Locked<K, V, S, A>>,
-    // Empty, with room for all shards.
-    shards: Vec<RecShard<K, V, S, A>>,
+    row: Row<Locked<K, V, S, A>, RecShard<K, V, S, A>>,
 }
 
 impl<K: KeptKey, V: Kept, S: BuildHasher, A: KeptAction<K, V>> Model for RecordedMap<K, V, S, A> {
     ghost use Rattle.std.specs.Prelude.{◌≡◌, ◌≤◌, [], length, vec_len, vec_capacity};
-    ghost use Rattle.dash_history.specs.Map.{MapState, IsMap};
+    ghost use Rattle.dash_history.specs.Map.{MapState};
+    ghost use Rattle.dash_history.specs.inner.Locks.{IsMap};
 
     ghost Value = { MapState S };
 
-    ghost view = { λ m. record { hasher = m.hasher; callers = m.callers; amount = length m.row.items } };
+    ghost view = { λ m. record { hasher = m.hasher; callers = m.callers; amount = length m.row } };
 
-    ghost invariant = { λ m. IsMap (record { hasher = m.hasher; callers = m.callers; amount = length m.row.items }) m.row.items × (m.shards.items ≡ []) × (vec_len m.row ≤ vec_capacity m.shards) };
+    ghost invariant = { λ m. IsMap (record { hasher = m.hasher; callers = m.callers; amount = length m.row }) m.row };
 }
 
 impl<K: KeptKey, V: Kept, S: BuildHasher, A: KeptAction<K, V>> Recorded
@@ -114,19 +115,20 @@ impl<K: KeptKey + Drop, V: Kept + Drop, S: BuildHasher, A: KeptAction<K, V> + Dr
         self.row.len()
     }
 
-    /// The number of the shard that a step goes to.
+    /// The hash of a step's key, or 0 where it has none, and the number of the shard that the step goes to.
     #[inline]
-    pub(crate) fn place(&self, step: &ShardStep<K, V, A>) -> usize
-        ensures { result ≡ place_of (kinds_on ⟦<Self as Recorded>⟧.known self.now) step.now }
+    pub(crate) fn route(&self, step: &ShardStep<K, V, A>) -> (u64, usize)
+        ensures hash { IsHashBy A.acts ⟦<Self as Recorded>⟧.known.keys self.now.hasher step.now result.0 }
+        ensures shard { result.1 ≡ shard_of (kinds_on ⟦<Self as Recorded>⟧.known self.now) step.now }
     {
-        step.place(&self.hasher, self.row.len())
+        step.route(&self.hasher, self.row.len())
     }
 
     /// Waits until nobody has the shard, and holds it for writing.
     #[inline]
     pub fn held<R: Wait + Clock>(&self, rt: &R, shard: usize) -> RecShardMut<'_, K, V, S, A>
         requires { shard < self.now.amount }
-        ensures placed { IsShardOf ⟦<Self as Recorded>⟧.known.keys self.now shard result }
+        ensures tagged { IsShardOf ⟦<Self as Recorded>⟧.known.keys self.now shard result }
         ensures legal { IsRecorded ⟦<Self as Recorded>⟧.known result }
     {
         RecShardMut::of(self.row[shard].write(rt))
@@ -142,21 +144,17 @@ impl<K: KeptKey + Drop, V: Kept + Drop, S: BuildHasher, A: KeptAction<K, V> + Dr
         let RecordedMap {
             hasher,
             callers,
-            mut row,
-            mut shards,
+            row,
         } = self;
-        move_all(
-            &mut row,
-            &mut shards,
+        let row = row.turn(
             |_: usize, lock: Locked<K, V, S, A>| -> RecShard<K, V, S, A>
-                ensures { FitsPlace (by K.Hash S.BuildHasher S.Hasher.Hasher) (padded_value lock) result }
+                ensures { FitsTag (by K.Hash S.BuildHasher S.Hasher.Hasher) (padded_value lock) result }
             { lock.into_inner().into_inner() },
         );
         RecAlone {
             hasher,
             callers,
-            row: shards,
-            locks: row,
+            row,
         }
     }
 }
@@ -174,31 +172,27 @@ impl<K: KeptKey + Drop, V: Kept + Drop, S: BuildHasher, A: KeptAction<K, V> + Dr
         let RecAlone {
             hasher,
             callers,
-            mut row,
-            mut locks,
+            row,
         } = self;
         let amount = row.len();
-        move_all(
-            &mut row,
-            &mut locks,
+        let row = row.turn(
             |number: usize, shard: RecShard<K, V, S, A>| -> Locked<K, V, S, A>
-                requires { IsPlaced (by K.Hash S.BuildHasher S.Hasher.Hasher) hasher amount callers number shard }
+                requires { IsTagged (by K.Hash S.BuildHasher S.Hasher.Hasher) hasher amount callers number shard }
                 ensures { IsAt (map_of hasher callers amount) number result }
             {
-                let place = Place {
+                let tag = RecTag {
                     number,
                     amount,
                     callers,
                     hasher: Snapshot::of(&hasher),
                 };
-                CachePadded::new(RwLock::new(shard, &place))
+                CachePadded::new(RwLock::new(shard, &tag))
             },
         );
         RecordedMap {
             hasher,
             callers,
-            row: locks,
-            shards: row,
+            row,
         }
     }
 }

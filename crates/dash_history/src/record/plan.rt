@@ -1,12 +1,15 @@
 //! What a step will do to a shard: it is made first, since it takes memory, and carried out once all copies are there.
 ghost use Rattle.std.specs.Prelude.{◌≡◌, IfOk, IfErr, OnOk};
-ghost use Rattle.dash_shard.specs.Contents.{at};
+ghost use Rattle.std.specs.Option.{option_map};
+ghost use Rattle.std.specs.Map.Iter.{deref_pair};
 ghost use Rattle.dash_shard.specs.Shard.{pairs, Routes, SameShard};
 ghost use Rattle.dash_history.specs.History.{GoesTo};
-ghost use Rattle.dash_history.specs.Plan.{MayAnswer, Decides, HasPair, Makes, PutsChange, StaysLawful, Leaves};
+ghost use Rattle.dash_history.specs.inner.Hashed.{HasHash};
+ghost use Rattle.dash_history.specs.inner.Plan.{MayAnswer, Decides, HasPair, Makes, StaysLawful, Leaves, IsFound, IsTakenSlot, pair_in, MakesAt};
+ghost use Rattle.dash_shard.specs.Held.{Finds};
 
 use crate::action::KeptAction;
-use crate::change::{Change, copy_found, plan_alter, plan_remove_if, plan_remove_if_mut};
+use crate::change::{Change, copy_found, plan_asked};
 use crate::kept::{Kept, KeptKey};
 use crate::known::Recorded;
 use crate::record::RecShard;
@@ -17,7 +20,44 @@ use dash_shard::shard::{InsertRefused, Shard};
 use std::alloc::{AllocError, Global};
 use std::hash::BuildHasher;
 
-/// What the step may reply now, and what its action makes of the pair at its key, or of each pair. It takes memory for copies.
+/// The slot of the pair at the step's key, if it has a key and there is such a pair.
+pub(super) fn find<K: KeptKey, V: Kept, S: BuildHasher, A: KeptAction<K, V>>(
+    shard: &Shard<K, V, S>,
+    hash: u64,
+    step: &ShardStep<K, V, A>,
+) -> Option<usize>
+    requires { HasHash ⟦<RecShard<K, V, S, A> as Recorded>⟧.known shard.now step.now hash }
+    ensures { IsFound ⟦<RecShard<K, V, S, A> as Recorded>⟧.known shard.now step.now result }
+{
+    match step {
+        ShardStep::Get(key)
+        | ShardStep::Contains(key)
+        | ShardStep::Insert(key, _)
+        | ShardStep::Remove(key)
+        | ShardStep::RemoveIf(key, _)
+        | ShardStep::RemoveIfMut(key, _)
+        | ShardStep::Alter(key, _) => shard.position_of_hashed(hash, key),
+        ShardStep::Read(_)
+        | ShardStep::Count(_)
+        | ShardStep::AlterAll(_, _)
+        | ShardStep::Retain(_, _) => None,
+    }
+}
+
+// The pair of the slot that was found.
+#[inline]
+fn look<K: KeptKey, V: Kept, S: BuildHasher>(
+    shard: &Shard<K, V, S>,
+    found: Option<usize>,
+) -> Option<(&K, &V)>
+    requires { IsTakenSlot shard.now found }
+    ensures { option_map deref_pair result ≡ pair_in shard.now found }
+{
+    let slot = found?;
+    Some(shard.at(slot))
+}
+
+/// What the step may reply now, and what it makes of the pair at its key, or its action of each pair. It takes memory for copies.
 pub(super) fn prepare<
     K: KeptKey + Drop,
     V: Kept + Drop,
@@ -26,24 +66,26 @@ pub(super) fn prepare<
 >(
     alloc: Global,
     shard: &Shard<K, V, S>,
+    found: Option<usize>,
     step: &ShardStep<K, V, A>,
 ) -> Result<(Reply<K, V>, Change<V>), AllocError>
-    requires { GoesTo ⟦<RecShard<K, V, S, A> as Recorded>⟧.known shard.now step.now }
+    requires goes { GoesTo ⟦<RecShard<K, V, S, A> as Recorded>⟧.known shard.now step.now }
+    requires found { IsFound ⟦<RecShard<K, V, S, A> as Recorded>⟧.known shard.now step.now found }
     ensures answers { IfOk result (λ plan. MayAnswer ⟦<RecShard<K, V, S, A> as Recorded>⟧.known shard.now step.now plan.0) }
     ensures decides { IfOk result (λ plan. Decides ⟦<RecShard<K, V, S, A> as Recorded>⟧.known shard.now step.now plan.1) }
 {
+    let pair = look(shard, found);
     match step {
-        ShardStep::Get(key) | ShardStep::Remove(key) => {
-            Ok((Reply::Pair(copy_found(shard.get(key))?), Change::Stays))
-        }
-        ShardStep::Contains(key) => Ok((Reply::Found(shard.contains_key(key)), Change::Stays)),
-        ShardStep::Insert(key, _) => match shard.get(key) {
+        ShardStep::Get(_) => Ok((Reply::Pair(copy_found(pair)?), Change::Stays)),
+        ShardStep::Contains(_) => Ok((Reply::Found(pair.is_some()), Change::Stays)),
+        ShardStep::Insert(_, _) => match pair {
             Some((_, value)) => Ok((Reply::Old(Some(value.copy()?)), Change::Stays)),
             None => Ok((Reply::Old(None), Change::Stays)),
         },
-        ShardStep::RemoveIf(key, action) => plan_remove_if(shard.get(key), action),
-        ShardStep::RemoveIfMut(key, action) => plan_remove_if_mut(shard.get(key), action),
-        ShardStep::Alter(key, action) => plan_alter(shard.get(key), action),
+        ShardStep::Remove(_) => Ok((Reply::Pair(copy_found(pair)?), Change::Goes)),
+        ShardStep::RemoveIf(_, _) | ShardStep::RemoveIfMut(_, _) | ShardStep::Alter(_, _) => {
+            plan_asked(pair, step)
+        }
         ShardStep::Read(_) => Ok((
             Reply::Pairs(copy_pairs(alloc, shard.iter())?),
             Change::Stays,
@@ -60,41 +102,56 @@ pub(super) fn prepare<
     }
 }
 
-// Makes of the pair at a key what was decided.
-fn make_change<K: KeptKey + Drop, V: Kept + Drop, S: BuildHasher>(
+// Puts the pair in the slot that was found, under the stored key, or in room that is made for it.
+fn put<K: KeptKey + Drop, V: Kept + Drop, S: BuildHasher>(
     shard: &mut Shard<K, V, S>,
+    hash: u64,
+    found: Option<usize>,
     key: K,
-    change: Change<V>,
-)
+    value: V,
+) -> Result<(), InsertRefused<K, V>>
+    requires hash { hash ≡ ⟦<Shard<K, V, S> as Keyed>⟧.by.hash shard.old.hasher key }
     requires route { Routes ⟦<Shard<K, V, S> as Keyed>⟧.by shard.old key }
-    requires there { HasPair change (at K.eq (pairs shard.old) key) }
-    ensures becomes { Makes ⟦<Shard<K, V, S> as Keyed>⟧.by shard.old shard.new key change }
+    requires found { Finds K.eq shard.old key found }
+    ensures puts { OnOk result (Makes ⟦<Shard<K, V, S> as Keyed>⟧.by shard.old shard.new key (Change.Becomes value)) }
+    ensures refused { IfErr result (λ e. (e.key ≡ key) × (e.value ≡ value) × (shard.new ≡ shard.old)) }
     ensures stays { SameShard shard.old shard.new }
     ensures lawful { StaysLawful ⟦<Shard<K, V, S> as Keyed>⟧.by shard.old shard.new }
 {
+    if let Some(slot) = found {
+        drop(shard.set_at(slot, value));
+        return Ok(());
+    }
+    let Ok(()) = shard.try_reserve(1) else {
+        return Err(InsertRefused { key, value });
+    };
+    shard.insert_new_hashed(hash, key, value);
+    Ok(())
+}
+
+// Makes of the pair in the slot that was found what was decided.
+fn make_change<K: KeptKey + Drop, V: Kept + Drop, S: BuildHasher>(
+    shard: &mut Shard<K, V, S>,
+    found: Option<usize>,
+    change: Change<V>,
+)
+    requires { IsTakenSlot shard.old found }
+    ensures becomes { MakesAt ⟦<Shard<K, V, S> as Keyed>⟧.by shard.old shard.new found change }
+    ensures stays { SameShard shard.old shard.new }
+    ensures lawful { StaysLawful ⟦<Shard<K, V, S> as Keyed>⟧.by shard.old shard.new }
+{
+    let Some(slot) = found else {
+        drop(change);
+        return;
+    };
     match change {
         Change::Stays | Change::Each(_) => (),
-        Change::Goes => drop(shard.remove(&key)),
-        Change::Becomes(value) => drop(shard.insert(key, value)),
+        Change::Goes => drop(shard.remove_at(slot)),
+        Change::Becomes(value) => drop(shard.set_at(slot, value)),
     }
 }
 
-// Makes of each pair what was decided.
-fn change_each<K: KeptKey + Drop, V: Kept + Drop, S: BuildHasher>(
-    shard: &mut Shard<K, V, S>,
-    change: Change<V>,
-)
-    ensures leaves { PutsChange K.eq K.alike V.alike change (pairs shard.old) (pairs shard.new) }
-    ensures stays { SameShard shard.old shard.new }
-    ensures lawful { StaysLawful ⟦<Shard<K, V, S> as Keyed>⟧.by shard.old shard.new }
-{
-    let Change::Each(made) = change else {
-        return;
-    };
-    put_each(shard, made);
-}
-
-/// Does to the shard what the step says, where its action decided so, or hands the step back, where there is no memory for a new key.
+/// Does to the shard what the step says and what was decided, or hands the step back, where there is no memory for a new key.
 pub(super) fn carry_out<
     K: KeptKey + Drop,
     V: Kept + Drop,
@@ -102,10 +159,14 @@ pub(super) fn carry_out<
     A: KeptAction<K, V> + Drop,
 >(
     shard: &mut Shard<K, V, S>,
+    hash: u64,
+    found: Option<usize>,
     step: ShardStep<K, V, A>,
     decided: Change<V>,
 ) -> Result<(), ShardStep<K, V, A>>
-    requires place { GoesTo ⟦<RecShard<K, V, S, A> as Recorded>⟧.known shard.old step }
+    requires goes { GoesTo ⟦<RecShard<K, V, S, A> as Recorded>⟧.known shard.old step }
+    requires hash { HasHash ⟦<RecShard<K, V, S, A> as Recorded>⟧.known shard.old step hash }
+    requires found { IsFound ⟦<RecShard<K, V, S, A> as Recorded>⟧.known shard.old step found }
     requires decides { Decides ⟦<RecShard<K, V, S, A> as Recorded>⟧.known shard.old step decided }
     ensures ok { OnOk result (Leaves ⟦<RecShard<K, V, S, A> as Recorded>⟧.known shard.old step shard.new) }
     ensures stays { SameShard shard.old shard.new }
@@ -114,25 +175,25 @@ pub(super) fn carry_out<
 {
     match step {
         ShardStep::Get(_key) | ShardStep::Contains(_key) => Ok(()),
-        ShardStep::Insert(key, value) => match shard.insert(key, value) {
-            Ok(_) => Ok(()),
+        ShardStep::Insert(key, value) => match put(shard, hash, found, key, value) {
+            Ok(()) => Ok(()),
             Err(InsertRefused { key, value }) => Err(ShardStep::Insert(key, value)),
         },
-        ShardStep::Remove(key) => {
-            drop(shard.remove(&key));
+        ShardStep::Remove(_key) => {
+            make_change(shard, found, decided);
             Ok(())
         }
-        ShardStep::RemoveIf(key, _action)
-        | ShardStep::RemoveIfMut(key, _action)
-        | ShardStep::Alter(key, _action) => {
-            make_change(shard, key, decided);
+        ShardStep::RemoveIf(_key, _action)
+        | ShardStep::RemoveIfMut(_key, _action)
+        | ShardStep::Alter(_key, _action) => {
+            make_change(shard, found, decided);
             Ok(())
         }
         ShardStep::Read(_) | ShardStep::Count(_) => Ok(()),
         ShardStep::AlterAll(_shard, _action) | ShardStep::Retain(_shard, _action) => {
             // The number's contract says that all pairs go to the shard.
             let _ = shard.number();
-            change_each(shard, decided);
+            put_each(shard, decided);
             Ok(())
         }
     }

@@ -1,10 +1,8 @@
 //! The calls on all pairs of a map of one owner: shard after shard, in rising order.
-ghost use Rattle.std.specs.Prelude.{◌≡◌};
 ghost use Rattle.std.specs.Map.Calls.{CalledAtPair, TakesPair, CallableOnEachPair};
 ghost use Rattle.dash_shard.specs.Each.{CalledOnPair, TakesOnPair};
-ghost use Rattle.dash_map.specs.Alone.{contents};
+ghost use Rattle.dash_map.specs.Alone.{contents, IsAlone};
 ghost use Rattle.dash_map.specs.AllPairs.{ClearsAlone, ShrinksAlone, RetainsAlone, AltersAllAlone};
-ghost use Rattle.dash_map.specs.Alone.{IsAlone};
 
 use super::Alone;
 use dash_shard::keyed::Keyed;
@@ -19,9 +17,8 @@ impl<K: Eq + Hash + Drop, V: Drop, S: BuildHasher> Alone<K, V, S> {
         ensures retains { RetainsAlone K.eq (CalledAtPair F.FnMut) f self.old self.new }
         ensures lawful { IsAlone ⟦<Self as Keyed>⟧.by self.new }
     {
-        let _ = &self.hasher;
-        for place in 0..self.row.len() {
-            self.row[place].retain_by(&mut f);
+        for idx in 0..self.row.len() {
+            self.row[idx].retain_by(&mut f);
         }
     }
 
@@ -30,13 +27,12 @@ impl<K: Eq + Hash + Drop, V: Drop, S: BuildHasher> Alone<K, V, S> {
         ensures clears { ClearsAlone self.old self.new }
         ensures lawful { IsAlone ⟦<Self as Keyed>⟧.by self.new }
     {
-        let _ = &self.hasher;
-        for place in 0..self.row.len() {
-            self.row[place].clear();
+        for idx in 0..self.row.len() {
+            self.row[idx].clear();
         }
     }
 
-    /// Puts what `f` makes of each value in its place.
+    /// Puts what `f` makes of each value where it stood.
     ///
     /// `f` is called once at each pair, shard after shard. It takes no memory, can't be refused, and waits for nobody.
     pub fn alter_all<F: FnMut(&K, V) -> V>(&mut self, mut f: F)
@@ -44,22 +40,20 @@ impl<K: Eq + Hash + Drop, V: Drop, S: BuildHasher> Alone<K, V, S> {
         ensures alters { AltersAllAlone K.eq (CalledOnPair F.FnMut) f self.old self.new }
         ensures lawful { IsAlone ⟦<Self as Keyed>⟧.by self.new }
     {
-        let _ = &self.hasher;
-        for place in 0..self.row.len() {
-            self.row[place].alter_all_by(&mut f);
+        for idx in 0..self.row.len() {
+            self.row[idx].alter_all_by(&mut f);
         }
     }
 
-    /// Moves each shard's pairs to as few places as hold them, which gives the rest of the memory back.
+    /// Moves each shard's pairs to as few slots as hold them, which gives the rest of the memory back.
     ///
-    /// A shard takes memory for its new places, and keeps the old ones where there is none. It waits for nobody.
+    /// A shard takes memory for its new slots, and keeps the old ones where there is none. It waits for nobody.
     pub fn shrink_to_fit(&mut self)
         ensures shrinks { ShrinksAlone K.eq self.old self.new }
         ensures lawful { IsAlone ⟦<Self as Keyed>⟧.by self.new }
     {
-        let _ = &self.hasher;
-        for place in 0..self.row.len() {
-            self.row[place].shrink_to_fit();
+        for idx in 0..self.row.len() {
+            self.row[idx].shrink_to_fit();
         }
     }
 }

@@ -23,8 +23,8 @@ impl<K: Eq + Hash, V, S: BuildHasher> DashMap<K, V, S> {
         requires { CallableOnPairs (CalledAtPair F.FnMut) (TakesPair F.FnMut) f }
         ensures { LeavesShards ⟦<Self as Keyed>⟧.by self.now (RetainsAlone K.eq (CalledAtPair F.FnMut) f) }
     {
-        for place in 0..self.row.len() {
-            f = self.shards_mut(rt, place).retain_by(f);
+        for idx in 0..self.row.len() {
+            f = self.shards_mut(rt, idx).retain_by(f);
         }
     }
 
@@ -36,33 +36,33 @@ impl<K: Eq + Hash, V, S: BuildHasher> DashMap<K, V, S> {
         V: Drop,
         ensures { LeavesShards {V = V} ⟦<Self as Keyed>⟧.by self.now ClearsAlone }
     {
-        for place in 0..self.row.len() {
-            self.shards_mut(rt, place).clear();
+        for idx in 0..self.row.len() {
+            self.shards_mut(rt, idx).clear();
         }
     }
 
-    /// Puts what `f` makes of each value in its place. It waits as `retain` does, and holds each shard while `f` runs over its pairs. It takes
+    /// Puts what `f` makes of each value where it stood. It waits as `retain` does, and holds each shard while `f` runs over its pairs. It takes
     /// no memory, and can't be refused.
     pub fn alter_all<R: Wait + Clock, F: FnMut(&K, V) -> V>(&self, rt: &R, mut f: F)
         requires { CallableOnPairs (CalledOnPair F.FnMut) (TakesOnPair F.FnMut) f }
         ensures { LeavesShards ⟦<Self as Keyed>⟧.by self.now (AltersAllAlone K.eq (CalledOnPair F.FnMut) f) }
     {
-        for place in 0..self.row.len() {
-            f = self.shards_mut(rt, place).alter_all_by(f);
+        for idx in 0..self.row.len() {
+            f = self.shards_mut(rt, idx).alter_all_by(f);
         }
     }
 
     /// Gives back what memory the shards have for more pairs than they hold; the pairs stay. It waits as `clear` does.
     ///
-    /// A shard takes memory for its new places, and keeps the old ones where there is none, so that it can't be refused.
+    /// A shard takes memory for its new slots, and keeps the old ones where there is none, so that it can't be refused.
     pub fn shrink_to_fit<R: Wait + Clock>(&self, rt: &R)
     where
         K: Drop,
         V: Drop,
         ensures { LeavesShards {V = V} ⟦<Self as Keyed>⟧.by self.now (ShrinksAlone K.eq) }
     {
-        for place in 0..self.row.len() {
-            self.shards_mut(rt, place).shrink_to_fit();
+        for idx in 0..self.row.len() {
+            self.shards_mut(rt, idx).shrink_to_fit();
         }
     }
 }

@@ -5,7 +5,7 @@ ghost use Rattle.std.specs.Map.Iter.{deref_pair};
 ghost use Rattle.dash_shard.specs.Hashing.{by};
 ghost use Rattle.dash_shard.specs.Contents.{at};
 ghost use Rattle.dash_shard.specs.Steps.{Get, Pair};
-ghost use Rattle.dash_shard.specs.Shard.{place, pairs, IsShard, RepliesOn};
+ghost use Rattle.dash_shard.specs.Shard.{slot, pairs, IsShard, RepliesOn};
 ghost use Rattle.dash_ref.specs.Ref.{Stands, pair_of};
 
 use dash_shard::keyed::Keyed;
@@ -33,8 +33,9 @@ pub struct Ref<'a, K: Eq + Hash, V, S: BuildHasher> {
 
 impl<'a, K: Eq + Hash, V, S: BuildHasher> Model for Ref<'a, K, V, S> {
     ghost use Rattle.std.specs.Prelude.{◌≡◌, Some};
-    ghost use Rattle.dash_shard.specs.Shard.{place};
-    ghost use Rattle.dash_ref.specs.Ref.{RefState, ref_code};
+    ghost use Rattle.dash_shard.specs.Shard.{slot};
+    ghost use Rattle.dash_ref.specs.Ref.{RefState};
+    ghost use Rattle.dash_ref.specs.inner.Codes.{ref_code};
 
     ghost Value = { RefState K V S };
 
@@ -42,7 +43,7 @@ impl<'a, K: Eq + Hash, V, S: BuildHasher> Model for Ref<'a, K, V, S> {
 
     ghost view = { λ s. record { shard = s.guard.value; position = s.position; key = s.key.value; value = s.value.value } };
 
-    ghost invariant = { λ s. place s.guard.value.places s.position ≡ Some (s.key.value, s.value.value) };
+    ghost invariant = { λ s. slot s.guard.value.slots s.position ≡ Some (s.key.value, s.value.value) };
 }
 
 impl<K: Eq + Hash, V, S: BuildHasher> Keyed for Ref<'_, K, V, S> {
@@ -67,10 +68,10 @@ impl<K: Eq + Hash, V, S: BuildHasher> Drop for Ref<'_, K, V, S> {
 }
 
 impl<'a, K: Eq + Hash, V, S: BuildHasher> Ref<'a, K, V, S> {
-    /// The pair at a taken place of the shard that the guard holds.
+    /// The pair at a taken slot of the shard that the guard holds.
     #[inline]
     pub fn new(guard: RwLockReadGuard<'a, Shard<K, V, S>>, position: usize) -> Ref<'a, K, V, S>
-        requires { IsSome (place guard.value.places position) }
+        requires { IsSome (slot guard.value.slots position) }
         ensures shard { result.shard ≡ guard.entry.value }
         ensures position { result.position ≡ position }
         ensures stands { Stands result }
@@ -125,7 +126,7 @@ impl<'a, K: Eq + Hash, V, S: BuildHasher> Ref<'a, K, V, S> {
         self.pair().1
     }
 
-    /// Key and value, of one read of the place.
+    /// Key and value, of one read of the slot.
     #[inline]
     pub fn pair(&self) -> (&K, &V)
         ensures pair { deref_pair result ≡ pair_of self.now }

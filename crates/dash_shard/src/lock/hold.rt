@@ -2,7 +2,7 @@
 ghost use Rattle.std.specs.Prelude.{◌≡◌, ℕ, ◌<◌, OnOk, OnErr};
 ghost use Rattle.std.specs.Fn.{FnOnceReturnsAtMut, FnOnceTakesAtMut};
 ghost use Rattle.dash_shard.specs.Guarded.{KeepsFit};
-ghost use Rattle.dash_shard.specs.Holding.{hold_owns, hold_shares, IsTake, Gains};
+ghost use Rattle.dash_shard.specs.inner.Holding.{hold_owns, hold_shares, IsTake, Gains};
 
 use crate::lock::{ONE_READER, RwLock, Tagged};
 use std::marker::{Brand, Model, PhantomData};

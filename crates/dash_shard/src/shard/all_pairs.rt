@@ -2,7 +2,8 @@
 ghost use Rattle.std.specs.Prelude.{◌≡◌, ◌≤◌};
 ghost use Rattle.std.specs.Map.Calls.{CalledAtPair, TakesPair, CallableOnEachPair};
 ghost use Rattle.dash_shard.specs.Shard.{pairs, IsShard, shard_len};
-ghost use Rattle.dash_shard.specs.Each.{CalledOnPair, TakesOnPair, if_kept, altered, SweepsShard, Clears, Shrinks, SweepsBy};
+ghost use Rattle.dash_shard.specs.Each.{CalledOnPair, TakesOnPair, Clears, Shrinks, SweepsBy};
+ghost use Rattle.dash_shard.specs.inner.Walks.{if_kept, altered, SweepsShard};
 ghost use Rattle.dash_shard.specs.Steps.{Retain, AlterAll};
 
 use super::Shard;
@@ -13,7 +14,7 @@ use std::hash::{BuildHasher, Hash};
 impl<K: Eq + Hash, V, S: BuildHasher> Shard<K, V, S> {
     /// Keeps the pairs on which `f` answers yes, each with the value that `f` leaves, and lets the others go.
     ///
-    /// `f` is called once at each pair, in rising order of places. The pairs that stay keep their places, and the room stays. It takes
+    /// `f` is called once at each pair, in rising order of slots. The pairs that stay keep their slots, and the room stays. It takes
     /// no memory, and can't be refused.
     pub fn retain<F: FnMut(&K, &mut V) -> bool>(&mut self, mut f: F)
     where
@@ -41,7 +42,7 @@ impl<K: Eq + Hash, V, S: BuildHasher> Shard<K, V, S> {
 
     /// Puts what `f` makes of each value in its place.
     ///
-    /// `f` is called once at each pair, in rising order of places. The pairs keep their places. It takes no memory, and can't be refused.
+    /// `f` is called once at each pair, in rising order of slots. The pairs keep their slots. It takes no memory, and can't be refused.
     pub fn alter_all<F: FnMut(&K, V) -> V>(&mut self, mut f: F)
         requires { CallableOnEachPair (CalledOnPair F.FnMut) (TakesOnPair F.FnMut) f (pairs self.old) }
         ensures alters { SweepsBy (CalledOnPair F.FnMut) K.eq f self.old self.new (AlterAll self.old.number) }
@@ -71,10 +72,10 @@ impl<K: Eq + Hash, V, S: BuildHasher> Shard<K, V, S> {
         self.table.clear();
     }
 
-    /// Moves the pairs to as few places as hold them, which gives the rest of the memory back: a power of two of places, and none for no
+    /// Moves the pairs to as few slots as hold them, which gives the rest of the memory back: a power of two of slots, and none for no
     /// pairs.
     ///
-    /// It takes memory for the new places, and keeps the old ones where there is none. Places change.
+    /// It takes memory for the new slots, and keeps the old ones where there is none. Slots change.
     pub fn shrink_to_fit(&mut self)
     where
         K: Drop,
@@ -85,7 +86,7 @@ impl<K: Eq + Hash, V, S: BuildHasher> Shard<K, V, S> {
         self.table.shrink();
     }
 
-    /// The pairs, in rising order of places.
+    /// The pairs, in rising order of slots.
     #[inline]
     pub fn iter(&self) -> Iter<'_, K, V>
         ensures pairs { result ≡ pairs self.now }

@@ -7,15 +7,15 @@ ghost use Rattle.dash_shard.specs.Contents.{at};
 ghost use Rattle.dash_shard.specs.Steps.{Get, Contains, Pair, Found, Remove, RemoveIf, RemoveIfMut, Alter, Done};
 ghost use Rattle.dash_shard.specs.Shard.{pairs, shard_len, Routes, IsShard, RepliesOn, TakesInPlace, TakesBy};
 ghost use Rattle.dash_shard.specs.Closures.{MayAsk, Viewed, MayChange, ChangesOn, MayGive, Answered, Given};
-ghost use Rattle.dash_shard.specs.Held.{FitsPlace, Inserts, Reserves, Loses};
-ghost use Rattle.dash_shard.specs.Table.{IsInside, with_table};
+ghost use Rattle.dash_shard.specs.Held.{FitsTag, Inserts, Reserves, Loses};
+ghost use Rattle.dash_shard.specs.inner.Table.{IsInside, with_table};
 
 use crate::error::TryReserveError;
 use crate::keyed::Keyed;
 use crate::lock::{RwLockWriteGuard, Tagged};
 use crate::shard::table::Table;
 use crate::shard::{InsertRefused, Shard};
-use lent::put_back;
+use lent::move_table;
 use std::hash::{BuildHasher, Hash};
 use std::marker::{Model, PhantomData};
 use std::snapshot::Snapshot;
@@ -24,7 +24,7 @@ mod all_pairs;
 mod lent;
 mod positions;
 
-/// What a shard's lock is made for: the shard's place among the others, and what its hasher means. The snapshot has no bytes.
+/// What a shard's lock is made for: the shard's number, how many there are, and what its hasher means. The snapshot has no bytes.
 #[derive(Drop)]
 pub struct ShardTag<S> {
     pub number: usize,
@@ -38,7 +38,7 @@ impl<S: BuildHasher> ShardTag<S> {
         ensures number { result.number ≡ shard.now.number }
         ensures amount { result.amount ≡ shard.now.amount }
         ensures hasher { result.hasher.value ≡ shard.now.hasher }
-        ensures fits { FitsPlace ⟦<Shard<K, V, S> as Keyed>⟧.by result shard.now }
+        ensures fits { FitsTag ⟦<Shard<K, V, S> as Keyed>⟧.by result shard.now }
     {
         ShardTag {
             number: shard.number,
@@ -51,7 +51,7 @@ impl<S: BuildHasher> ShardTag<S> {
 impl<K: Eq + Hash, V, S: BuildHasher> Tagged for Shard<K, V, S> {
     type Tag = ShardTag<S>;
 
-    ghost fits = { λ tag shard. FitsPlace (by K.Hash S.BuildHasher S.Hasher.Hasher) tag shard };
+    ghost fits = { λ tag shard. FitsTag (by K.Hash S.BuildHasher S.Hasher.Hasher) tag shard };
 }
 
 /// A shard that is held for writing, as the original's write guard of one shard: the hold ends when it is dropped.
@@ -68,8 +68,9 @@ pub struct ShardMut<'a, K: Eq + Hash, V, S: BuildHasher> {
 }
 
 impl<'a, K: Eq + Hash, V, S: BuildHasher> Model for ShardMut<'a, K, V, S> {
-    ghost use Rattle.dash_shard.specs.Shard.{ShardState, shard_code};
-    ghost use Rattle.dash_shard.specs.Table.{held_state, IsHeld};
+    ghost use Rattle.dash_shard.specs.Shard.{ShardState};
+    ghost use Rattle.dash_shard.specs.inner.Codes.{shard_code};
+    ghost use Rattle.dash_shard.specs.inner.Table.{held_state, IsHeld};
     ghost use Rattle.dash_shard.specs.Hashing.{key_hash};
 
     ghost Value = { ShardState K V S };
@@ -98,7 +99,7 @@ impl<K: Eq + Hash, V, S: BuildHasher> Drop for ShardMut<'_, K, V, S> {
             is_lent,
             marker: _,
         } = self;
-        put_back(&mut guard, &mut table, is_lent);
+        move_table(&mut guard, &mut table, is_lent, false);
         table.end_blank();
         drop(guard);
     }
@@ -109,7 +110,7 @@ impl<'a, K: Eq + Hash, V, S: BuildHasher> RwLockWriteGuard<'a, Shard<K, V, S>> {
     #[inline]
     pub fn shard(self) -> ShardMut<'a, K, V, S>
         ensures value { result ≡ self.entry.value }
-        ensures fits { FitsPlace ⟦<Shard<K, V, S> as Keyed>⟧.by self.entry.tag result }
+        ensures fits { FitsTag ⟦<Shard<K, V, S> as Keyed>⟧.by self.entry.tag result }
     {
         let table = Table::new(self.table.allocator());
         ShardMut {
@@ -193,7 +194,7 @@ impl<K: Eq + Hash, V, S: BuildHasher> ShardMut<'_, K, V, S> {
         ensures inserts { Inserts K.eq self.old self.new key value result }
         ensures lawful { IsShard ⟦<Self as Keyed>⟧.by self.new }
     {
-        put_back(&mut self.guard, &mut self.table, self.is_lent);
+        move_table(&mut self.guard, &mut self.table, self.is_lent, false);
         self.is_lent = false;
         self.guard.change(
             |shard: &mut Shard<K, V, S>| -> Result<Option<V>, InsertRefused<K, V>>
@@ -228,7 +229,7 @@ impl<K: Eq + Hash, V, S: BuildHasher> ShardMut<'_, K, V, S> {
         ensures len { Loses self.old self.new result }
         ensures lawful { IsShard ⟦<Self as Keyed>⟧.by self.new }
     {
-        put_back(&mut self.guard, &mut self.table, self.is_lent);
+        move_table(&mut self.guard, &mut self.table, self.is_lent, false);
         self.is_lent = false;
         self.guard.change(
             |shard: &mut Shard<K, V, S>| -> Option<(K, V)>
@@ -269,7 +270,7 @@ impl<K: Eq + Hash, V, S: BuildHasher> ShardMut<'_, K, V, S> {
         ensures len { Loses self.old self.new result }
         ensures lawful { IsShard ⟦<Self as Keyed>⟧.by self.new }
     {
-        put_back(&mut self.guard, &mut self.table, self.is_lent);
+        move_table(&mut self.guard, &mut self.table, self.is_lent, false);
         self.is_lent = false;
         self.guard.change(
             |shard: &mut Shard<K, V, S>| -> Option<(K, V)>
@@ -311,7 +312,7 @@ impl<K: Eq + Hash, V, S: BuildHasher> ShardMut<'_, K, V, S> {
         ensures len { Loses self.old self.new result }
         ensures lawful { IsShard ⟦<Self as Keyed>⟧.by self.new }
     {
-        put_back(&mut self.guard, &mut self.table, self.is_lent);
+        move_table(&mut self.guard, &mut self.table, self.is_lent, false);
         self.is_lent = false;
         self.guard.change(
             |shard: &mut Shard<K, V, S>| -> Option<(K, V)>
@@ -349,7 +350,7 @@ impl<K: Eq + Hash, V, S: BuildHasher> ShardMut<'_, K, V, S> {
         ensures len { shard_len self.new ≡ shard_len self.old }
         ensures lawful { IsShard ⟦<Self as Keyed>⟧.by self.new }
     {
-        put_back(&mut self.guard, &mut self.table, self.is_lent);
+        move_table(&mut self.guard, &mut self.table, self.is_lent, false);
         self.is_lent = false;
         self.guard.change(
             |shard: &mut Shard<K, V, S>|
@@ -389,8 +390,8 @@ impl<K: Eq + Hash, V, S: BuildHasher> ShardMut<'_, K, V, S> {
         ensures viewed { Viewed F.FnOnce f (at K.eq (pairs self.now) key.now) result }
         ensures lawful { IsShard ⟦<Self as Keyed>⟧.by self.now }
     {
-        let place = self.position_of(key)?;
-        let (key, value) = self.at(place);
+        let slot = self.position_of(key)?;
+        let (key, value) = self.at(slot);
         Some(f(key, value))
     }
 
@@ -409,16 +410,16 @@ impl<K: Eq + Hash, V, S: BuildHasher> ShardMut<'_, K, V, S> {
     pub fn capacity(&self) -> usize
         ensures { result ≡ self.now.capacity }
     {
-        self.table().places()
+        self.table().slots()
     }
 
     /// Makes room for so many pairs more, where there is less. It is refused (11) only where there is no memory for it; the pairs stay, and
-    /// so do their places.
+    /// so do their slots.
     pub fn try_reserve(&mut self, additional: usize) -> Result<(), TryReserveError>
         ensures reserves { Reserves additional self.old self.new result }
         ensures lawful { IsShard ⟦<Self as Keyed>⟧.by self.new }
     {
-        put_back(&mut self.guard, &mut self.table, self.is_lent);
+        move_table(&mut self.guard, &mut self.table, self.is_lent, false);
         self.is_lent = false;
         self.guard.change(
             |shard: &mut Shard<K, V, S>| -> Result<(), TryReserveError>

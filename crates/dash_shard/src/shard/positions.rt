@@ -1,25 +1,22 @@
-//! A shard's calls by place: a look-up's answer for calls that make no other.
-ghost use Rattle.std.specs.Prelude.{◌≡◌, ℕ, ◌+◌, ◌<◌, ◌↔◌, IsSome, IfSome, IsNone, Some, None};
+//! A shard's calls by slot: a look-up's answer for calls that make no other.
+ghost use Rattle.std.specs.Prelude.{◌≡◌, ◌+◌, ◌<◌, IsSome, Some, None, ℕ, ◌↔◌, IfSome, IsNone};
+ghost use Rattle.std.specs.Option.{option_map};
 ghost use Rattle.std.specs.Map.Iter.{deref_pair, deref_pair_mut};
-ghost use Rattle.std.specs.Borrow.{sem};
+ghost use Rattle.std.specs.Borrow.{Lends, sem};
 ghost use Rattle.dash_shard.specs.Contents.{at};
-ghost use Rattle.dash_shard.specs.Shard.{place, pairs, shard_len, HasKey, IsNextTaken, Routes, IsShard, TakesInPlace};
+ghost use Rattle.dash_shard.specs.Shard.{slot, pairs, shard_len, HasKey, IsNextTaken, Routes, IsShard, TakesInPlace, with_value_in, SameShard, TakesAt};
 ghost use Rattle.dash_shard.specs.Held.{Finds, Replaces};
-ghost use Rattle.dash_shard.specs.Steps.{Insert, Old};
+ghost use Rattle.dash_shard.specs.Steps.{Insert, Remove, Old, Pair};
 
 use super::Shard;
-use crate::keyed::Keyed;
+use crate::keyed::{Keyed, Lender};
 use std::hash::{BuildHasher, Hash};
 
 impl<K: Eq + Hash, V, S: BuildHasher> Shard<K, V, S> {
-    ghost use Rattle.dash_shard.specs.Lends.{lends_at};
-
-    /// The place of the pair whose key equals `key`, for `at`. It is good while the shard isn't changed.
+    /// The slot of the pair whose key equals `key`, for `at`. It is good while the shard isn't changed.
     #[inline(always)]
     pub fn position_of(&self, key: &K) -> Option<usize>
-        ensures position { (i : ℕ) → (result ≡ Some i) ↔ HasKey K.eq self.now key.now i }
-        ensures pair { IfSome result (λ i. place self.now.places i ≡ at K.eq (pairs self.now) key.now) }
-        ensures absent { IsNone result ↔ (at K.eq (pairs self.now) key.now ≡ None) }
+        ensures finds { Finds K.eq self.now key.now result }
         ensures lawful { IsShard ⟦<Self as Keyed>⟧.by self.now }
     {
         self.position_of_hashed(self.hash_one(key), key)
@@ -35,11 +32,11 @@ impl<K: Eq + Hash, V, S: BuildHasher> Shard<K, V, S> {
         self.table.find(hash, key)
     }
 
-    /// The pair of a taken place, without a look at any other.
+    /// The pair of a taken slot, without a look at any other.
     #[inline(always)]
     pub fn at(&self, position: usize) -> (&K, &V)
-        requires { IsSome (place self.now.places position) }
-        ensures pair { place self.now.places position ≡ Some (deref_pair result) }
+        requires { IsSome (slot self.now.slots position) }
+        ensures pair { slot self.now.slots position ≡ Some (deref_pair result) }
         ensures lawful { IsShard ⟦<Self as Keyed>⟧.by self.now }
     {
         self.table.at(position)
@@ -48,15 +45,15 @@ impl<K: Eq + Hash, V, S: BuildHasher> Shard<K, V, S> {
     /// As `at`, for a value to be written.
     #[inline(always)]
     pub fn at_mut(&mut self, position: usize) -> (&K, &mut V)
-        requires { IsSome (place self.old.places position) }
-        ensures* writes_back { sem 𝓛 (lends_at K.row V.row S.row S.Hasher.row K.Hash S.BuildHasher S.Hasher.Hasher self.entry position result.1) }
-        ensures pair { place self.old.places position ≡ Some (deref_pair_mut result) }
+        requires { IsSome (slot self.old.slots position) }
+        ensures* writes_back { sem 𝓛 (Lends ⟦<Self as Lender>⟧.row V.row self.entry result.1 (with_value_in self.old position)) }
+        ensures pair { slot self.old.slots position ≡ Some (deref_pair_mut result) }
         ensures lawful { IsShard ⟦<Self as Keyed>⟧.by self.old }
     {
         self.table.pair_mut(position)
     }
 
-    /// Puts a pair whose key is new in room that is there, and answers its place. It takes no memory, and can't be refused.
+    /// Puts a pair whose key is new in room that is there, and answers its slot. It takes no memory, and can't be refused.
     #[inline]
     pub fn insert_new(&mut self, key: K, value: V) -> usize
     where
@@ -66,15 +63,59 @@ impl<K: Eq + Hash, V, S: BuildHasher> Shard<K, V, S> {
         requires absent { at K.eq (pairs self.old) key ≡ None }
         requires room { shard_len self.old < self.old.capacity }
         ensures inserts { TakesInPlace K.eq self.old self.new (Insert key value) (Old None) }
-        ensures place { place self.new.places result ≡ Some (key, value) }
+        ensures slot { slot self.new.slots result ≡ Some (key, value) }
         ensures len { shard_len self.new ≡ shard_len self.old + 1 }
         ensures lawful { IsShard ⟦<Self as Keyed>⟧.by self.new }
     {
         let hash = self.hash_one(&key);
+        self.insert_new_hashed(hash, key, value)
+    }
+
+    /// As `insert_new`, for a caller who has the key's hash.
+    #[inline]
+    pub fn insert_new_hashed(&mut self, hash: u64, key: K, value: V) -> usize
+    where
+        K: Drop,
+        V: Drop,
+        requires hash { hash ≡ ⟦<Self as Keyed>⟧.by.hash self.old.hasher key }
+        requires route { Routes ⟦<Self as Keyed>⟧.by self.old key }
+        requires absent { at K.eq (pairs self.old) key ≡ None }
+        requires room { shard_len self.old < self.old.capacity }
+        ensures inserts { TakesInPlace K.eq self.old self.new (Insert key value) (Old None) }
+        ensures slot { slot self.new.slots result ≡ Some (key, value) }
+        ensures len { shard_len self.new ≡ shard_len self.old + 1 }
+        ensures lawful { IsShard ⟦<Self as Keyed>⟧.by self.new }
+    {
         self.table.push(hash, key, value)
     }
 
-    /// Puts a pair in the place of the one with an equal key, and answers that one: the new key is stored too. It makes no look-up, takes
+    /// Puts a value in the pair of a taken slot, and answers the old one. It makes no look-up, takes no memory, and can't be refused.
+    #[inline]
+    pub fn set_at(&mut self, position: usize, value: V) -> V
+        requires { IsSome (slot self.old.slots position) }
+        ensures sets { TakesAt K.eq self.old self.new position (λ key. Insert key value) (Old (Some result)) }
+        ensures value { option_map (λ p. p.1) (slot self.old.slots position) ≡ Some result }
+        ensures stays { SameShard self.old self.new }
+        ensures len { shard_len self.new ≡ shard_len self.old }
+        ensures lawful { IsShard ⟦<Self as Keyed>⟧.by self.new }
+    {
+        self.table.replace(position, value)
+    }
+
+    /// Takes the pair of a taken slot out, and answers it. It makes no look-up, takes no memory, and can't be refused.
+    #[inline]
+    pub fn remove_at(&mut self, position: usize) -> (K, V)
+        requires { IsSome (slot self.old.slots position) }
+        ensures removes { TakesAt K.eq self.old self.new position Remove (Pair (Some result)) }
+        ensures pair { slot self.old.slots position ≡ Some result }
+        ensures stays { SameShard self.old self.new }
+        ensures len { shard_len self.old ≡ shard_len self.new + 1 }
+        ensures lawful { IsShard ⟦<Self as Keyed>⟧.by self.new }
+    {
+        self.table.take(position)
+    }
+
+    /// Puts a pair in the slot of the one with an equal key, and answers that one: the new key is stored too. It makes no look-up, takes
     /// no memory, and can't be refused.
     #[inline]
     pub fn replace_at(&mut self, position: usize, key: K, value: V) -> (K, V)
@@ -85,10 +126,10 @@ impl<K: Eq + Hash, V, S: BuildHasher> Shard<K, V, S> {
         self.table.exchange(position, key, value)
     }
 
-    /// The lowest taken place not below `position`, for `at`: a walk over the pairs goes on behind it.
+    /// The lowest taken slot not below `position`, for `at`: a walk over the pairs goes on behind it.
     #[inline]
     pub fn next_taken(&self, position: usize) -> Option<usize>
-        ensures next { IsNextTaken self.now.places position result }
+        ensures next { IsNextTaken self.now.slots position result }
         ensures lawful { IsShard ⟦<Self as Keyed>⟧.by self.now }
     {
         self.table.next_taken(position)

@@ -1,7 +1,7 @@
 //! A table of pairs, found by the buckets of their hashes.
 ghost use Rattle.std.specs.Prelude.{ℕ, ◌≡◌, ◌+◌, ◌-◌, ◌<◌, ◌≤◌, ◌==◌, ◌++◌, IfSome, IfNone, IsOk, IfOk, OnOk, OnErr, IsSome, IsNone, length, map, false, [], ◌∷◌, if◌then◌else◌, vec_len, vec_capacity, slice_set, replicate, max};
-ghost use Rattle.dash_shard.specs.Table.{IsTable, Holds, IsAbsent, blank, pairs_of, next_place, IsGrown, pairs_in, hashes_in};
-ghost use Rattle.dash_shard.specs.Shard.{place, taken, IsNextTaken};
+ghost use Rattle.dash_shard.specs.inner.Table.{IsTable, Holds, IsAbsent, blank, pairs_of, next_slot, IsGrown, pairs_in, hashes_in};
+ghost use Rattle.dash_shard.specs.Shard.{slot, taken, IsNextTaken};
 ghost use Rattle.std.specs.Option.{option_map};
 ghost use Rattle.std.specs.Map.Iter.{deref_pair};
 
@@ -15,8 +15,8 @@ mod sweep;
 mod values;
 pub mod walk;
 
-// A place: a pair with its hash, or none; the link to the next pair of the pair's bucket, or for a free place to the next free one;
-// and the first link of the bucket that has the place's number.
+// A slot: a pair with its hash, or none; the link to the next pair of the pair's bucket, or for a free slot to the next free one;
+// and the first link of the bucket that has the slot's number.
 #[derive(Drop)]
 pub struct Node<K, V> {
     head: usize,
@@ -25,16 +25,16 @@ pub struct Node<K, V> {
     pair: Option<(K, V)>,
 }
 
-/// Pairs by the buckets of their hashes, in places that they keep. An empty one takes no memory.
+/// Pairs by the buckets of their hashes, in slots that they keep. An empty one takes no memory.
 #[derive(Drop)]
 pub struct Table<K, V> {
     nodes: Vec<Node<K, V>>,
     len: usize,
-    // The link to the free place that the next pair takes.
+    // The link to the free slot that the next pair takes.
     free: usize,
 }
 
-// Adds places with no pair, in room that is there.
+// Adds slots with no pair, in room that is there.
 fn push_blanks<K, V>(nodes: &mut Vec<Node<K, V>>, count: usize)
     requires { vec_len nodes.old + count ≤ vec_capacity nodes.old }
     ensures { nodes.new.items ≡ nodes.old.items ++ replicate count blank }
@@ -50,7 +50,7 @@ fn push_blanks<K, V>(nodes: &mut Vec<Node<K, V>>, count: usize)
 }
 
 impl<K, V> Table<K, V> {
-    /// A table with no places, which takes no memory.
+    /// A table with no slots, which takes no memory.
     #[inline]
     pub fn new(alloc: Global) -> Self
         ensures table { IsTable result }
@@ -63,13 +63,13 @@ impl<K, V> Table<K, V> {
         }
     }
 
-    /// Where the places are taken from.
+    /// Where the slots are taken from.
     #[inline]
     pub fn allocator(&self) -> Global {
         *self.nodes.allocator()
     }
 
-    /// Ends a table with no places.
+    /// Ends a table with no slots.
     #[inline]
     pub fn end_blank(self)
         requires { length self.nodes.items ≡ 0 }
@@ -78,7 +78,7 @@ impl<K, V> Table<K, V> {
         let _ = unsafe { ManuallyDrop::new_unchecked(self) };
     }
 
-    /// An empty table of at least `capacity` places, a power of two unless 0.
+    /// An empty table of at least `capacity` slots, a power of two unless 0.
     pub fn with_capacity(alloc: Global, capacity: usize) -> Result<Self, AllocError>
     where
         K: Drop,
@@ -86,7 +86,7 @@ impl<K, V> Table<K, V> {
         ensures table { IfOk result IsTable }
         ensures empty { IfOk result (λ t. taken (pairs_of t.nodes.items) ≡ []) }
         ensures len { IfOk result (λ t. t.len ≡ 0) }
-        ensures places { IfOk result (λ t. capacity ≤ length t.nodes.items) }
+        ensures slots { IfOk result (λ t. capacity ≤ length t.nodes.items) }
         ensures free { capacity ≡ 0 → IsOk result }
     {
         let mut table = Table::new(alloc);
@@ -100,15 +100,15 @@ impl<K, V> Table<K, V> {
         Ok(table)
     }
 
-    /// How many places there are.
+    /// How many slots there are.
     #[inline]
-    pub fn places(&self) -> usize
+    pub fn slots(&self) -> usize
         ensures { result ≡ length self.now.nodes.items }
     {
         self.nodes.len()
     }
 
-    /// The place of the pair of this hash whose key is equal.
+    /// The slot of the pair of this hash whose key is equal.
     #[inline(always)]
     pub fn find(&self, hash: u64, key: &K) -> Option<usize>
     where
@@ -134,11 +134,11 @@ impl<K, V> Table<K, V> {
         None
     }
 
-    /// The pair of a taken place.
+    /// The pair of a taken slot.
     #[inline(always)]
     pub fn at(&self, position: usize) -> (&K, &V)
-        requires { IsSome (place (pairs_in self.now) position) }
-        ensures { Some (deref_pair result) ≡ place (pairs_in self.now) position }
+        requires { IsSome (slot (pairs_in self.now) position) }
+        ensures { Some (deref_pair result) ≡ slot (pairs_in self.now) position }
     {
         match &self.nodes[position].pair {
             Some((key, value)) => (key, value),
@@ -146,17 +146,17 @@ impl<K, V> Table<K, V> {
         }
     }
 
-    /// Puts a value in the place of the one at a taken place.
+    /// Puts a value in the slot of the one at a taken slot.
     #[inline(always)]
     pub fn replace(&mut self, position: usize, value: V) -> V
         requires within { position < length self.old.nodes.items }
-        requires taken { IsSome (place (pairs_in self.old) position) }
+        requires taken { IsSome (slot (pairs_in self.old) position) }
         requires table { IsTable self.old }
-        ensures old { Some result ≡ option_map (λ p. p.1) (place (pairs_in self.old) position) }
-        ensures pairs { pairs_in self.new ≡ slice_set (pairs_in self.old) position (option_map (λ p. (p.0, value)) (place (pairs_in self.old) position)) }
+        ensures old { Some result ≡ option_map (λ p. p.1) (slot (pairs_in self.old) position) }
+        ensures pairs { pairs_in self.new ≡ slice_set (pairs_in self.old) position (option_map (λ p. (p.0, value)) (slot (pairs_in self.old) position)) }
         ensures hashes { hashes_in self.new ≡ hashes_in self.old }
         ensures len { self.new.len ≡ self.old.len }
-        ensures places { length self.new.nodes.items ≡ length self.old.nodes.items }
+        ensures slots { length self.new.nodes.items ≡ length self.old.nodes.items }
         ensures table { IsTable self.new }
     {
         match &mut self.nodes[position].pair {
@@ -165,7 +165,7 @@ impl<K, V> Table<K, V> {
         }
     }
 
-    /// Puts a pair on the next free place, and answers the place.
+    /// Puts a pair on the next free slot, and answers the slot.
     #[inline(always)]
     pub fn push(&mut self, hash: u64, key: K, value: V) -> usize
     where
@@ -173,31 +173,31 @@ impl<K, V> Table<K, V> {
         V: Drop,
         requires table { IsTable self.old }
         requires room { self.old.len < length self.old.nodes.items }
-        ensures place { result ≡ next_place self.old }
-        ensures pairs { pairs_in self.new ≡ slice_set (pairs_in self.old) (next_place self.old) (Some (key, value)) }
-        ensures hashes { hashes_in self.new ≡ slice_set (hashes_in self.old) (next_place self.old) hash }
+        ensures slot { result ≡ next_slot self.old }
+        ensures pairs { pairs_in self.new ≡ slice_set (pairs_in self.old) (next_slot self.old) (Some (key, value)) }
+        ensures hashes { hashes_in self.new ≡ slice_set (hashes_in self.old) (next_slot self.old) hash }
         ensures len { self.new.len ≡ self.old.len + 1 }
-        ensures places { length self.new.nodes.items ≡ length self.old.nodes.items }
+        ensures slots { length self.new.nodes.items ≡ length self.old.nodes.items }
         ensures table { IsTable self.new }
     {
-        let place = self.free - 1;
-        self.free = self.nodes[place].next;
-        put(&mut self.nodes, place, hash, key, value);
+        let slot = self.free - 1;
+        self.free = self.nodes[slot].next;
+        put(&mut self.nodes, slot, hash, key, value);
         self.len += 1;
-        place
+        slot
     }
 
-    /// Takes the pair of a taken place, which is then the next free one.
+    /// Takes the pair of a taken slot, which is then the next free one.
     #[inline(always)]
     pub fn take(&mut self, position: usize) -> (K, V)
         requires table { IsTable self.old }
-        requires taken { IsSome (place (pairs_in self.old) position) }
+        requires taken { IsSome (slot (pairs_in self.old) position) }
         requires some { 0 < self.old.len }
-        ensures old { place (pairs_in self.old) position ≡ Some result }
+        ensures old { slot (pairs_in self.old) position ≡ Some result }
         ensures pairs { pairs_in self.new ≡ slice_set (pairs_in self.old) position None }
         ensures hashes { hashes_in self.new ≡ hashes_in self.old }
         ensures len { self.new.len + 1 ≡ self.old.len }
-        ensures places { length self.new.nodes.items ≡ length self.old.nodes.items }
+        ensures slots { length self.new.nodes.items ≡ length self.old.nodes.items }
         ensures table { IsTable self.new }
     {
         let pair = take(&mut self.nodes, position, self.free);
@@ -206,20 +206,20 @@ impl<K, V> Table<K, V> {
         pair
     }
 
-    /// The lowest taken place not below `position`.
+    /// The lowest taken slot not below `position`.
     #[inline]
     pub fn next_taken(&self, position: usize) -> Option<usize>
         ensures { IsNextTaken (pairs_in self.now) position result }
     {
-        for place in position..self.nodes.len() {
-            if self.nodes[place].pair.is_some() {
-                return Some(place);
+        for slot in position..self.nodes.len() {
+            if self.nodes[slot].pair.is_some() {
+                return Some(slot);
             }
         }
         None
     }
 
-    /// Makes `count` places of what there are, which takes memory.
+    /// Makes `count` slots of what there are, which takes memory.
     pub fn grow(&mut self, count: usize) -> Result<(), AllocError>
         requires table { IsTable self.old }
         requires more { length self.old.nodes.items ≤ count }
@@ -237,7 +237,7 @@ impl<K, V> Table<K, V> {
         Ok(())
     }
 
-    /// Makes room for one more pair where there is none: twice the places.
+    /// Makes room for one more pair where there is none: twice the slots.
     #[inline]
     pub fn make_room(&mut self) -> Result<(), AllocError>
         requires { IsTable self.old }
@@ -291,7 +291,7 @@ impl<K, V> Table<K, V> {
         }
     }
 
-    /// How many places are taken.
+    /// How many slots are taken.
     #[inline]
     pub fn len(&self) -> usize
         ensures { result ≡ self.now.len }

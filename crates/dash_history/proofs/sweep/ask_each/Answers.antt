@@ -1,5 +1,5 @@
 use Rattle.std.proofs.Common.{◌≡◌, ◌||◌, ◌++◌, ◌∷◌, [], Bool, refl, sym, subst, append-nil, append_assoc, ◌∙◌, ap}
-use Rattle.dash_history.specs.Sweep.{keeping, GivesEach}
+use Rattle.dash_history.specs.inner.Sweep.{keeping, GivesEach}
 use Rattle.dash_history.proofs.sweep.ask_each.Goals as goal
 use Rattle.dash_history.proofs.sweep.ask_each.Goals.{then-all, else-all}
 

@@ -1,5 +1,5 @@
 use Rattle.std.proofs.Common.{◌++◌, Bool, List}
-use Rattle.dash_history.specs.Sweep.{keeping, GivesEach}
+use Rattle.dash_history.specs.inner.Sweep.{keeping, GivesEach}
 use Rattle.dash_history.proofs.sweep.ask_each.Given as goal
 
 -- what is given along the pairs that are left, behind what was given, is given along all

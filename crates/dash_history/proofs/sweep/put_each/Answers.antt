@@ -1,6 +1,6 @@
 use Rattle.std.proofs.Common.{rules}
 use Rattle.dash_history.specs.Takes as takes
-use Rattle.dash_shard.specs.Shard.{keys_of}
+use Rattle.dash_shard.specs.inner.Keys.{keys_of}
 use Rattle.dash_shard.specs.Hashing.{key_hash}
 use Rattle.dash_history.proofs.Recording.{lawful-by}
 use Rattle.dash_history.proofs.Sweeping.{swept}
@@ -12,4 +12,4 @@ returns-clause-leaves g c f gives =
     let s = c.args.shard.now in
     let laws = lawful-by _ (lawful-of g.S.BuildHasher g.S.Hasher.Hasher g.met.K.Eq.laws g.met.K.Hash.respects_eq) _ _ g.met.K.Kept.alike_laws g.met.V.Kept.alike_laws g.met.K.KeptKey.alike_equal s.hasher s.amount in
     let m = takes.rules g.K.Kept.alike g.V.Kept.alike (keys_of (key_hash g.K.PartialEq.eq g.K.Hash.hash_input g.S.BuildHasher g.S.Hasher.Hasher) s) in
-    swept m _ _ s c.retain.new.self c.retain.ensures.retains (λ x. x.0.now.items) laws f _ c.from-made.ensures.0 gives (λ x k v b w y called. search rules)
+    swept m _ _ s c.retain.new.self c.retain.ensures.retains (λ x. x.0.now.items) laws f _ c.from-made.ensures.0 (rw c.in-Each.is at gives) (λ x k v b w y called. search rules)

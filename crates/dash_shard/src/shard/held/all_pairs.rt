@@ -3,11 +3,12 @@ ghost use Rattle.std.specs.Prelude.{◌≡◌, ◌≤◌};
 ghost use Rattle.dash_shard.specs.Hashing.{by};
 ghost use Rattle.std.specs.Map.Calls.{CalledAtPair, TakesPair, CallableOnEachPair};
 ghost use Rattle.dash_shard.specs.Shard.{pairs, IsShard, shard_len};
-ghost use Rattle.dash_shard.specs.Each.{CalledOnPair, TakesOnPair, if_kept, altered, SweepsShard, Clears, Shrinks, SweepsBy};
+ghost use Rattle.dash_shard.specs.Each.{CalledOnPair, TakesOnPair, Clears, Shrinks, SweepsBy};
+ghost use Rattle.dash_shard.specs.inner.Walks.{if_kept, altered, SweepsShard};
 ghost use Rattle.dash_shard.specs.Steps.{Retain, AlterAll};
 
 use super::ShardMut;
-use super::lent::put_back;
+use super::lent::move_table;
 use crate::keyed::Keyed;
 use crate::shard::{Iter, Shard};
 use std::hash::{BuildHasher, Hash};
@@ -15,7 +16,7 @@ use std::hash::{BuildHasher, Hash};
 impl<K: Eq + Hash, V, S: BuildHasher> ShardMut<'_, K, V, S> {
     /// Keeps the pairs on which `f` answers yes, each with the value that `f` leaves, and lets the others go.
     ///
-    /// `f` is called once at each pair, in rising order of places. The pairs that stay keep their places, and the room stays. It takes
+    /// `f` is called once at each pair, in rising order of slots. The pairs that stay keep their slots, and the room stays. It takes
     /// no memory, and can't be refused.
     pub fn retain<F: FnMut(&K, &mut V) -> bool>(&mut self, f: F)
     where
@@ -26,7 +27,7 @@ impl<K: Eq + Hash, V, S: BuildHasher> ShardMut<'_, K, V, S> {
         ensures len { shard_len self.new ≤ shard_len self.old }
         ensures lawful { IsShard ⟦<Self as Keyed>⟧.by self.new }
     {
-        put_back(&mut self.guard, &mut self.table, self.is_lent);
+        move_table(&mut self.guard, &mut self.table, self.is_lent, false);
         self.is_lent = false;
         self.guard.change(
             |shard: &mut Shard<K, V, S>|
@@ -47,7 +48,7 @@ impl<K: Eq + Hash, V, S: BuildHasher> ShardMut<'_, K, V, S> {
         ensures sweeps { SweepsShard (CalledAtPair F.FnMut) if_kept f result self.old self.new }
         ensures lawful { IsShard ⟦<Self as Keyed>⟧.by self.new }
     {
-        put_back(&mut self.guard, &mut self.table, self.is_lent);
+        move_table(&mut self.guard, &mut self.table, self.is_lent, false);
         self.is_lent = false;
         self.guard.change(
             |shard: &mut Shard<K, V, S>| -> F
@@ -64,14 +65,14 @@ impl<K: Eq + Hash, V, S: BuildHasher> ShardMut<'_, K, V, S> {
 
     /// Puts what `f` makes of each value in its place.
     ///
-    /// `f` is called once at each pair, in rising order of places. The pairs keep their places. It takes no memory, and can't be refused.
+    /// `f` is called once at each pair, in rising order of slots. The pairs keep their slots. It takes no memory, and can't be refused.
     pub fn alter_all<F: FnMut(&K, V) -> V>(&mut self, f: F)
         requires { CallableOnEachPair (CalledOnPair F.FnMut) (TakesOnPair F.FnMut) f (pairs self.old) }
         ensures alters { SweepsBy (CalledOnPair F.FnMut) K.eq f self.old self.new (AlterAll self.old.number) }
         ensures len { shard_len self.new ≡ shard_len self.old }
         ensures lawful { IsShard ⟦<Self as Keyed>⟧.by self.new }
     {
-        put_back(&mut self.guard, &mut self.table, self.is_lent);
+        move_table(&mut self.guard, &mut self.table, self.is_lent, false);
         self.is_lent = false;
         self.guard.change(
             |shard: &mut Shard<K, V, S>|
@@ -89,7 +90,7 @@ impl<K: Eq + Hash, V, S: BuildHasher> ShardMut<'_, K, V, S> {
         ensures sweeps { SweepsShard (CalledOnPair F.FnMut) altered f result self.old self.new }
         ensures lawful { IsShard ⟦<Self as Keyed>⟧.by self.new }
     {
-        put_back(&mut self.guard, &mut self.table, self.is_lent);
+        move_table(&mut self.guard, &mut self.table, self.is_lent, false);
         self.is_lent = false;
         self.guard.change(
             |shard: &mut Shard<K, V, S>| -> F
@@ -112,7 +113,7 @@ impl<K: Eq + Hash, V, S: BuildHasher> ShardMut<'_, K, V, S> {
         ensures clears { Clears self.old self.new }
         ensures lawful { IsShard ⟦<Self as Keyed>⟧.by self.new }
     {
-        put_back(&mut self.guard, &mut self.table, self.is_lent);
+        move_table(&mut self.guard, &mut self.table, self.is_lent, false);
         self.is_lent = false;
         self.guard.change(
             |shard: &mut Shard<K, V, S>|
@@ -122,10 +123,10 @@ impl<K: Eq + Hash, V, S: BuildHasher> ShardMut<'_, K, V, S> {
         )
     }
 
-    /// Moves the pairs to as few places as hold them, which gives the rest of the memory back: a power of two of places, and none for no
+    /// Moves the pairs to as few slots as hold them, which gives the rest of the memory back: a power of two of slots, and none for no
     /// pairs.
     ///
-    /// It takes memory for the new places, and keeps the old ones where there is none. Places change.
+    /// It takes memory for the new slots, and keeps the old ones where there is none. Slots change.
     pub fn shrink_to_fit(&mut self)
     where
         K: Drop,
@@ -133,7 +134,7 @@ impl<K: Eq + Hash, V, S: BuildHasher> ShardMut<'_, K, V, S> {
         ensures shrinks { Shrinks K.eq self.old self.new }
         ensures lawful { IsShard ⟦<Self as Keyed>⟧.by self.new }
     {
-        put_back(&mut self.guard, &mut self.table, self.is_lent);
+        move_table(&mut self.guard, &mut self.table, self.is_lent, false);
         self.is_lent = false;
         self.guard.change(
             |shard: &mut Shard<K, V, S>|
@@ -143,7 +144,7 @@ impl<K: Eq + Hash, V, S: BuildHasher> ShardMut<'_, K, V, S> {
         )
     }
 
-    /// The pairs, in rising order of places.
+    /// The pairs, in rising order of slots.
     #[inline]
     pub fn iter(&self) -> Iter<'_, K, V>
         ensures pairs { result ≡ pairs self.now }

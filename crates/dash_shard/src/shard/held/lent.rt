@@ -1,16 +1,16 @@
 //! A held shard's calls that lend a value for writing. No lock lends what it guards, so the hold takes the shard's table out first.
-ghost use Rattle.std.specs.Prelude.{◌≡◌, IsSome, true, false};
-ghost use Rattle.std.specs.Borrow.{sem};
+ghost use Rattle.std.specs.Prelude.{◌≡◌, [], IsSome};
+ghost use Rattle.std.specs.Borrow.{Lends, LendsIf, sem};
 ghost use Rattle.std.specs.Map.Iter.{deref_pair_mut};
 ghost use Rattle.std.specs.Option.{option_map, option_copied_mut};
 ghost use Rattle.core.specs.Mem.{manually_drop_value};
 ghost use Rattle.dash_shard.specs.Hashing.{by};
 ghost use Rattle.dash_shard.specs.Contents.{at};
-ghost use Rattle.dash_shard.specs.Shard.{place, pairs, IsShard};
-ghost use Rattle.dash_shard.specs.Table.{IsHeld, MayHave, SwapsTable, with_table, held_state};
+ghost use Rattle.dash_shard.specs.Shard.{slot, pairs, IsShard, with_value_in, with_value_of};
+ghost use Rattle.dash_shard.specs.inner.Table.{IsHeld, MayHave, SwapsTable, held_state};
 
 use super::ShardMut;
-use crate::keyed::Keyed;
+use crate::keyed::{Keyed, Lender};
 use crate::lock::RwLockWriteGuard;
 use crate::shard::Shard;
 use crate::shard::table::Table;
@@ -48,50 +48,39 @@ pub(super) fn swap_tables<K: Eq + Hash, V, S: BuildHasher>(
     mem::replace(table, theirs).end_blank();
 }
 
-// Takes the table out from behind the lock.
+// Moves the shard's table to the hold, to be lent from, or back behind the lock, if it isn't there.
 #[inline]
-fn take_out<K: Eq + Hash, V, S: BuildHasher>(
+pub(super) fn move_table<K: Eq + Hash, V, S: BuildHasher>(
     guard: &mut RwLockWriteGuard<'_, Shard<K, V, S>>,
     table: &mut Table<K, V>,
     is_lent: bool,
+    lend: bool,
 )
     requires { IsHeld ⟦<Shard<K, V, S> as Keyed>⟧.by guard.old.value table.old is_lent }
     ensures tag { guard.new.tag ≡ guard.old.tag }
-    ensures value { with_table guard.new.value table.new ≡ held_state guard.old.value table.old is_lent }
-    ensures held { IsHeld ⟦<Shard<K, V, S> as Keyed>⟧.by guard.new.value table.new true }
+    ensures value { held_state guard.new.value table.new lend ≡ held_state guard.old.value table.old is_lent }
+    ensures held { IsHeld ⟦<Shard<K, V, S> as Keyed>⟧.by guard.new.value table.new lend }
 {
-    if !is_lent {
+    if is_lent != lend {
         swap_tables(guard, table);
     }
 }
 
-// Puts a table that was lent from back behind the lock.
-#[inline]
-pub(super) fn put_back<K: Eq + Hash, V, S: BuildHasher>(
-    guard: &mut RwLockWriteGuard<'_, Shard<K, V, S>>,
-    table: &mut Table<K, V>,
-    is_lent: bool,
-)
-    requires { IsHeld ⟦<Shard<K, V, S> as Keyed>⟧.by guard.old.value table.old is_lent }
-    ensures tag { guard.new.tag ≡ guard.old.tag }
-    ensures value { guard.new.value ≡ held_state guard.old.value table.old is_lent }
-    ensures held { IsHeld ⟦<Shard<K, V, S> as Keyed>⟧.by guard.new.value table.new false }
-{
-    if is_lent {
-        swap_tables(guard, table);
-    }
+impl<K: Eq + Hash, V, S: BuildHasher> Lender for ShardMut<'_, K, V, S> {
+    ghost use mir.Syntax.{named};
+    ghost use Rattle.dash_shard.specs.contracts.shard.held.ShardMut.{the_row};
+
+    ghost row = { the_row (record { mir = named 1; lft = [] }) K.row V.row S.row S.Hasher.row (record {}) (record { eq = K.eq }) (record { hash_input = K.hash_input }) S.BuildHasher S.Hasher.Hasher };
 }
 
 impl<K: Eq + Hash, V, S: BuildHasher> ShardMut<'_, K, V, S> {
-    ghost use Rattle.dash_shard.specs.Lends.{held_lends_at, held_lends_get};
-
     /// The value of the pair whose key equals `key`, to be written. For the stored key beside it there are `position_of` and `at_mut`.
     ///
     /// It moves the shard's table to the hold, and the next change or the end of the hold moves it back: some words each, and no memory. So
     /// a hold that is leaked between the two leaks the pairs too, and leaves an empty shard.
     #[inline]
     pub fn get_mut(&mut self, key: &K) -> Option<&mut V>
-        ensures* writes_back { sem 𝓛 (held_lends_get K.row V.row S.row S.Hasher.row K.Hash S.BuildHasher S.Hasher.Hasher self.entry key.now result) }
+        ensures* writes_back { sem 𝓛 (LendsIf ⟦<Self as Lender>⟧.row V.row self.entry result (with_value_of K.eq self.old key.now) self.old) }
         ensures value { option_copied_mut result ≡ option_map (λ p. p.1) (at K.eq (pairs self.old) key.now) }
         ensures lawful { IsShard ⟦<Self as Keyed>⟧.by self.old }
     {
@@ -103,7 +92,7 @@ impl<K: Eq + Hash, V, S: BuildHasher> ShardMut<'_, K, V, S> {
     #[inline]
     pub fn get_mut_hashed(&mut self, hash: u64, key: &K) -> Option<&mut V>
         requires { hash ≡ ⟦<Self as Keyed>⟧.by.hash self.old.hasher key.now }
-        ensures* writes_back { sem 𝓛 (held_lends_get K.row V.row S.row S.Hasher.row K.Hash S.BuildHasher S.Hasher.Hasher self.entry key.now result) }
+        ensures* writes_back { sem 𝓛 (LendsIf ⟦<Self as Lender>⟧.row V.row self.entry result (with_value_of K.eq self.old key.now) self.old) }
         ensures value { option_copied_mut result ≡ option_map (λ p. p.1) (at K.eq (pairs self.old) key.now) }
         ensures lawful { IsShard ⟦<Self as Keyed>⟧.by self.old }
     {
@@ -116,12 +105,12 @@ impl<K: Eq + Hash, V, S: BuildHasher> ShardMut<'_, K, V, S> {
     /// As `at`, for a value to be written. It moves the table as `get_mut` does.
     #[inline]
     pub fn at_mut(&mut self, position: usize) -> (&K, &mut V)
-        requires { IsSome (place self.old.places position) }
-        ensures* writes_back { sem 𝓛 (held_lends_at K.row V.row S.row S.Hasher.row K.Hash S.BuildHasher S.Hasher.Hasher self.entry position result.1) }
-        ensures pair { place self.old.places position ≡ Some (deref_pair_mut result) }
+        requires { IsSome (slot self.old.slots position) }
+        ensures* writes_back { sem 𝓛 (Lends ⟦<Self as Lender>⟧.row V.row self.entry result.1 (with_value_in self.old position)) }
+        ensures pair { slot self.old.slots position ≡ Some (deref_pair_mut result) }
         ensures lawful { IsShard ⟦<Self as Keyed>⟧.by self.old }
     {
-        take_out(&mut self.guard, &mut self.table, self.is_lent);
+        move_table(&mut self.guard, &mut self.table, self.is_lent, true);
         self.is_lent = true;
         self.table.pair_mut(position)
     }

@@ -1,20 +1,20 @@
-//! A held shard's calls by place.
+//! A held shard's calls by slot.
 ghost use Rattle.std.specs.Prelude.{◌≡◌, ◌+◌, ◌<◌, IsSome, Some, None};
 ghost use Rattle.std.specs.Map.Iter.{deref_pair};
 ghost use Rattle.dash_shard.specs.Hashing.{by};
 ghost use Rattle.dash_shard.specs.Contents.{at};
-ghost use Rattle.dash_shard.specs.Shard.{place, pairs, shard_len, HasKey, IsNextTaken, Routes, IsShard, TakesInPlace};
+ghost use Rattle.dash_shard.specs.Shard.{slot, pairs, shard_len, HasKey, IsNextTaken, Routes, IsShard, SameShard, TakesInPlace, TakesAt};
 ghost use Rattle.dash_shard.specs.Held.{Finds, Replaces};
-ghost use Rattle.dash_shard.specs.Steps.{Insert, Old};
+ghost use Rattle.dash_shard.specs.Steps.{Insert, Remove, Old, Pair};
 
 use super::ShardMut;
-use super::lent::put_back;
+use super::lent::move_table;
 use crate::keyed::Keyed;
 use crate::shard::Shard;
 use std::hash::{BuildHasher, Hash};
 
 impl<K: Eq + Hash, V, S: BuildHasher> ShardMut<'_, K, V, S> {
-    /// The place of the pair whose key equals `key`, for `at`. It is good while the shard isn't changed.
+    /// The slot of the pair whose key equals `key`, for `at`. It is good while the shard isn't changed.
     #[inline]
     pub fn position_of(&self, key: &K) -> Option<usize>
         ensures finds { Finds K.eq self.now key.now result }
@@ -33,17 +33,17 @@ impl<K: Eq + Hash, V, S: BuildHasher> ShardMut<'_, K, V, S> {
         self.table().find(hash, key)
     }
 
-    /// The pair of a taken place, without a look at any other.
+    /// The pair of a taken slot, without a look at any other.
     #[inline]
     pub fn at(&self, position: usize) -> (&K, &V)
-        requires { IsSome (place self.now.places position) }
-        ensures pair { place self.now.places position ≡ Some (deref_pair result) }
+        requires { IsSome (slot self.now.slots position) }
+        ensures pair { slot self.now.slots position ≡ Some (deref_pair result) }
         ensures lawful { IsShard ⟦<Self as Keyed>⟧.by self.now }
     {
         self.table().at(position)
     }
 
-    /// Puts a pair whose key is new in room that is there, and answers its place. It takes no memory, and can't be refused.
+    /// Puts a pair whose key is new in room that is there, and answers its slot. It takes no memory, and can't be refused.
     #[inline]
     pub fn insert_new(&mut self, key: K, value: V) -> usize
     where
@@ -53,11 +53,11 @@ impl<K: Eq + Hash, V, S: BuildHasher> ShardMut<'_, K, V, S> {
         requires absent { at K.eq (pairs self.old) key ≡ None }
         requires room { shard_len self.old < self.old.capacity }
         ensures inserts { TakesInPlace K.eq self.old self.new (Insert key value) (Old None) }
-        ensures place { place self.new.places result ≡ Some (key, value) }
+        ensures slot { slot self.new.slots result ≡ Some (key, value) }
         ensures len { shard_len self.new ≡ shard_len self.old + 1 }
         ensures lawful { IsShard ⟦<Self as Keyed>⟧.by self.new }
     {
-        put_back(&mut self.guard, &mut self.table, self.is_lent);
+        move_table(&mut self.guard, &mut self.table, self.is_lent, false);
         self.is_lent = false;
         self.guard.change(
             |shard: &mut Shard<K, V, S>| -> usize
@@ -65,14 +65,14 @@ impl<K: Eq + Hash, V, S: BuildHasher> ShardMut<'_, K, V, S> {
                 requires absent { at K.eq (pairs shard.old) key ≡ None }
                 requires room { shard_len shard.old < shard.old.capacity }
                 ensures inserts { TakesInPlace K.eq shard.old shard.new (Insert key value) (Old None) }
-                ensures place { place shard.new.places result ≡ Some (key, value) }
+                ensures slot { slot shard.new.slots result ≡ Some (key, value) }
                 ensures len { shard_len shard.new ≡ shard_len shard.old + 1 }
                 ensures lawful { IsShard (by K.Hash S.BuildHasher S.Hasher.Hasher) shard.new }
             { shard.insert_new(key, value) },
         )
     }
 
-    /// Puts a pair in the place of the one with an equal key, and answers that one: the new key is stored too. It makes no look-up, takes
+    /// Puts a pair in the slot of the one with an equal key, and answers that one: the new key is stored too. It makes no look-up, takes
     /// no memory, and can't be refused.
     #[inline]
     pub fn replace_at(&mut self, position: usize, key: K, value: V) -> (K, V)
@@ -83,7 +83,7 @@ impl<K: Eq + Hash, V, S: BuildHasher> ShardMut<'_, K, V, S> {
         ensures replaces { Replaces K.eq self.old self.new position key value result }
         ensures lawful { IsShard ⟦<Self as Keyed>⟧.by self.new }
     {
-        put_back(&mut self.guard, &mut self.table, self.is_lent);
+        move_table(&mut self.guard, &mut self.table, self.is_lent, false);
         self.is_lent = false;
         self.guard.change(
             |shard: &mut Shard<K, V, S>| -> (K, V)
@@ -94,10 +94,37 @@ impl<K: Eq + Hash, V, S: BuildHasher> ShardMut<'_, K, V, S> {
         )
     }
 
-    /// The lowest taken place not below `position`, for `at`: a walk over the pairs goes on behind it.
+    /// Takes the pair of a taken slot out, and answers it. It makes no look-up, takes no memory, and can't be refused.
+    #[inline]
+    pub fn remove_at(&mut self, position: usize) -> (K, V)
+    where
+        K: Drop,
+        V: Drop,
+        requires { IsSome (slot self.old.slots position) }
+        ensures removes { TakesAt K.eq self.old self.new position Remove (Pair (Some result)) }
+        ensures pair { slot self.old.slots position ≡ Some result }
+        ensures stays { SameShard self.old self.new }
+        ensures len { shard_len self.old ≡ shard_len self.new + 1 }
+        ensures lawful { IsShard ⟦<Self as Keyed>⟧.by self.new }
+    {
+        move_table(&mut self.guard, &mut self.table, self.is_lent, false);
+        self.is_lent = false;
+        self.guard.change(
+            |shard: &mut Shard<K, V, S>| -> (K, V)
+                requires { IsSome (slot shard.old.slots position) }
+                ensures removes { TakesAt K.eq shard.old shard.new position Remove (Pair (Some result)) }
+                ensures pair { slot shard.old.slots position ≡ Some result }
+                ensures stays { SameShard shard.old shard.new }
+                ensures len { shard_len shard.old ≡ shard_len shard.new + 1 }
+                ensures lawful { IsShard (by K.Hash S.BuildHasher S.Hasher.Hasher) shard.new }
+            { shard.remove_at(position) },
+        )
+    }
+
+    /// The lowest taken slot not below `position`, for `at`: a walk over the pairs goes on behind it.
     #[inline]
     pub fn next_taken(&self, position: usize) -> Option<usize>
-        ensures next { IsNextTaken self.now.places position result }
+        ensures next { IsNextTaken self.now.slots position result }
         ensures lawful { IsShard ⟦<Self as Keyed>⟧.by self.now }
     {
         self.table().next_taken(position)

@@ -1,6 +1,6 @@
-//! The links of a table: the chains of its buckets, and its free places.
+//! The links of a table: the chains of its buckets, and its free slots.
 ghost use Rattle.std.specs.Prelude.{ℕ, ◌≡◌, ◌≢◌, ◌+◌, ◌-◌, ◌<◌, ◌≤◌, Some, None, IsSome, IsNone, length, slice_set};
-ghost use Rattle.dash_shard.specs.Table.{Chained, ChainedBy, With, Without, Passes, Relinked, KeepsPairs, KeepsFree, IsStack, bucket_of, link_at, node, pairs_of, hashes_of};
+ghost use Rattle.dash_shard.specs.inner.Table.{Chained, ChainedBy, With, Without, Passes, Relinked, KeepsPairs, KeepsFree, IsStack, bucket_of, link_at, node, pairs_of, hashes_of};
 
 use super::Node;
 
@@ -23,11 +23,11 @@ fn set_head<K, V>(nodes: &mut [Node<K, V>], bucket: usize, link: usize)
 }
 
 #[inline(always)]
-fn set_next<K, V>(nodes: &mut [Node<K, V>], place: usize, link: usize)
-    requires { place < length nodes.old }
-    ensures { nodes.new ≡ slice_set nodes.old place (record (node nodes.old place) { next = link }) }
+fn set_next<K, V>(nodes: &mut [Node<K, V>], slot: usize, link: usize)
+    requires { slot < length nodes.old }
+    ensures { nodes.new ≡ slice_set nodes.old slot (record (node nodes.old slot) { next = link }) }
 {
-    nodes[place].next = link;
+    nodes[slot].next = link;
 }
 
 // Writes the link at a bound of a bucket's chain.
@@ -44,53 +44,53 @@ fn set_link<K, V>(nodes: &mut [Node<K, V>], bucket: usize, bound: usize, link: u
     }
 }
 
-// The bound where a bucket's chain passes a place, and the link there.
+// The bound where a bucket's chain passes a slot, and the link there.
 #[inline(always)]
-fn seek<K, V>(nodes: &[Node<K, V>], bucket: usize, place: usize) -> (usize, usize)
+fn seek<K, V>(nodes: &[Node<K, V>], bucket: usize, slot: usize) -> (usize, usize)
     requires bucket { bucket < length nodes.now }
-    requires place { place < length nodes.now }
+    requires slot { slot < length nodes.now }
     requires chained { Chained nodes.now }
-    ensures passes { Passes nodes.now bucket place result.0 }
+    ensures passes { Passes nodes.now bucket slot result.0 }
     ensures link { result.1 ≡ link_at nodes.now bucket result.0 }
 {
     let mut bound = nodes.len();
     let mut link = nodes[bucket].head;
-    while link > place + 1 {
+    while link > slot + 1 {
         bound = link - 1;
         link = nodes[bound].next;
     }
     (bound, link)
 }
 
-// Puts a free place into a bucket's chain.
+// Puts a free slot into a bucket's chain.
 #[inline(always)]
-fn link<K, V>(nodes: &mut [Node<K, V>], place: usize, bucket: usize)
-    requires place { place < length nodes.old }
+fn link<K, V>(nodes: &mut [Node<K, V>], slot: usize, bucket: usize)
+    requires slot { slot < length nodes.old }
     requires bucket { bucket < length nodes.old }
-    requires free { IsNone (node nodes.old place).pair }
+    requires free { IsNone (node nodes.old slot).pair }
     requires chained { Chained nodes.old }
     ensures keeps { KeepsPairs nodes.old nodes.new }
-    ensures chained { ChainedBy (With nodes.old place bucket) nodes.new }
-    ensures frees { KeepsFree place nodes.old nodes.new }
+    ensures chained { ChainedBy (With nodes.old slot bucket) nodes.new }
+    ensures frees { KeepsFree slot nodes.old nodes.new }
 {
-    let (bound, link) = seek(nodes, bucket, place);
-    set_next(nodes, place, link);
-    set_link(nodes, bucket, bound, place + 1);
+    let (bound, link) = seek(nodes, bucket, slot);
+    set_next(nodes, slot, link);
+    set_link(nodes, bucket, bound, slot + 1);
 }
 
-// Takes a place out of its bucket's chain.
+// Takes a slot out of its bucket's chain.
 #[inline(always)]
-fn unlink<K, V>(nodes: &mut [Node<K, V>], place: usize)
-    requires place { place < length nodes.old }
-    requires taken { IsSome (node nodes.old place).pair }
+fn unlink<K, V>(nodes: &mut [Node<K, V>], slot: usize)
+    requires slot { slot < length nodes.old }
+    requires taken { IsSome (node nodes.old slot).pair }
     requires chained { Chained nodes.old }
     ensures keeps { KeepsPairs nodes.old nodes.new }
-    ensures chained { ChainedBy (Without nodes.old place) nodes.new }
-    ensures frees { KeepsFree place nodes.old nodes.new }
+    ensures chained { ChainedBy (Without nodes.old slot) nodes.new }
+    ensures frees { KeepsFree slot nodes.old nodes.new }
 {
-    let bucket = bucket(nodes[place].hash, nodes.len());
-    let (bound, _) = seek(nodes, bucket, place);
-    let link = nodes[place].next;
+    let bucket = bucket(nodes[slot].hash, nodes.len());
+    let (bound, _) = seek(nodes, bucket, slot);
+    let link = nodes[slot].next;
     set_link(nodes, bucket, bound, link);
 }
 
@@ -104,58 +104,58 @@ pub(super) fn link_all<K, V>(nodes: &mut [Node<K, V>])
     for bucket in 0..count {
         set_head(nodes, bucket, 0);
     }
-    for place in 0..count {
-        if nodes[place].pair.is_some() {
-            let bucket = bucket(nodes[place].hash, count);
+    for slot in 0..count {
+        if nodes[slot].pair.is_some() {
+            let bucket = bucket(nodes[slot].hash, count);
             let first = nodes[bucket].head;
-            set_next(nodes, place, first);
-            set_link(nodes, bucket, count, place + 1);
+            set_next(nodes, slot, first);
+            set_link(nodes, bucket, count, slot + 1);
         }
     }
 }
 
-// Puts a pair on a place.
+// Puts a pair on a slot.
 #[inline(always)]
-fn fill<K: Drop, V: Drop>(nodes: &mut [Node<K, V>], place: usize, hash: u64, key: K, value: V)
-    requires { place < length nodes.old }
-    ensures { nodes.new ≡ slice_set nodes.old place (record (node nodes.old place) { hash = hash; pair = Some (key, value) }) }
+fn fill<K: Drop, V: Drop>(nodes: &mut [Node<K, V>], slot: usize, hash: u64, key: K, value: V)
+    requires { slot < length nodes.old }
+    ensures { nodes.new ≡ slice_set nodes.old slot (record (node nodes.old slot) { hash = hash; pair = Some (key, value) }) }
 {
-    let node = &mut nodes[place];
+    let node = &mut nodes[slot];
     node.hash = hash;
     node.pair = Some((key, value));
 }
 
-// Puts a pair on a free place.
+// Puts a pair on a free slot.
 #[inline(always)]
 pub(super) fn put<K: Drop, V: Drop>(
     nodes: &mut [Node<K, V>],
-    place: usize,
+    slot: usize,
     hash: u64,
     key: K,
     value: V,
 )
-    requires place { place < length nodes.old }
-    requires free { IsNone (node nodes.old place).pair }
+    requires slot { slot < length nodes.old }
+    requires free { IsNone (node nodes.old slot).pair }
     requires chained { Chained nodes.old }
-    ensures pairs { pairs_of nodes.new ≡ slice_set (pairs_of nodes.old) place (Some (key, value)) }
-    ensures hashes { hashes_of nodes.new ≡ slice_set (hashes_of nodes.old) place hash }
+    ensures pairs { pairs_of nodes.new ≡ slice_set (pairs_of nodes.old) slot (Some (key, value)) }
+    ensures hashes { hashes_of nodes.new ≡ slice_set (hashes_of nodes.old) slot hash }
     ensures chained { Chained nodes.new }
-    ensures frees { KeepsFree place nodes.old nodes.new }
+    ensures frees { KeepsFree slot nodes.old nodes.new }
 {
     let bucket = bucket(hash, nodes.len());
-    link(nodes, place, bucket);
-    fill(nodes, place, hash, key, value);
+    link(nodes, slot, bucket);
+    fill(nodes, slot, hash, key, value);
 }
 
-// Takes the pair off a place, and writes the place's link.
+// Takes the pair off a slot, and writes the slot's link.
 #[inline(always)]
-fn vacate<K, V>(nodes: &mut [Node<K, V>], place: usize, link: usize) -> (K, V)
-    requires place { place < length nodes.old }
-    requires taken { IsSome (node nodes.old place).pair }
-    ensures old { (node nodes.old place).pair ≡ Some result }
-    ensures new { nodes.new ≡ slice_set nodes.old place (record (node nodes.old place) { next = link; pair = None }) }
+fn vacate<K, V>(nodes: &mut [Node<K, V>], slot: usize, link: usize) -> (K, V)
+    requires slot { slot < length nodes.old }
+    requires taken { IsSome (node nodes.old slot).pair }
+    ensures old { (node nodes.old slot).pair ≡ Some result }
+    ensures new { nodes.new ≡ slice_set nodes.old slot (record (node nodes.old slot) { next = link; pair = None }) }
 {
-    let node = &mut nodes[place];
+    let node = &mut nodes[slot];
     node.next = link;
     match node.pair.take() {
         Some(pair) => pair,
@@ -163,24 +163,24 @@ fn vacate<K, V>(nodes: &mut [Node<K, V>], place: usize, link: usize) -> (K, V)
     }
 }
 
-// Takes the pair off a place, and links the place to the free one before it.
+// Takes the pair off a slot, and links the slot to the free one before it.
 #[inline(always)]
-pub(super) fn take<K, V>(nodes: &mut [Node<K, V>], place: usize, free: usize) -> (K, V)
-    requires place { place < length nodes.old }
-    requires taken { IsSome (node nodes.old place).pair }
+pub(super) fn take<K, V>(nodes: &mut [Node<K, V>], slot: usize, free: usize) -> (K, V)
+    requires slot { slot < length nodes.old }
+    requires taken { IsSome (node nodes.old slot).pair }
     requires chained { Chained nodes.old }
-    ensures old { (node nodes.old place).pair ≡ Some result }
-    ensures pairs { pairs_of nodes.new ≡ slice_set (pairs_of nodes.old) place None }
+    ensures old { (node nodes.old slot).pair ≡ Some result }
+    ensures pairs { pairs_of nodes.new ≡ slice_set (pairs_of nodes.old) slot None }
     ensures hashes { hashes_of nodes.new ≡ hashes_of nodes.old }
     ensures chained { Chained nodes.new }
-    ensures frees { KeepsFree place nodes.old nodes.new }
-    ensures next { (node nodes.new place).next ≡ free }
+    ensures frees { KeepsFree slot nodes.old nodes.new }
+    ensures next { (node nodes.new slot).next ≡ free }
 {
-    unlink(nodes, place);
-    vacate(nodes, place, free)
+    unlink(nodes, slot);
+    vacate(nodes, slot, free)
 }
 
-// Puts the places from `start` on the stack of free ones, the lowest last, and answers the link to it.
+// Puts the slots from `start` on the stack of free ones, the lowest last, and answers the link to it.
 pub(super) fn free_from<K, V>(nodes: &mut [Node<K, V>], start: usize, free: usize) -> usize
     requires within { start ≤ length nodes.old }
     requires empty { (j : ℕ) → start ≤ j → IsNone (node nodes.old j).pair }
@@ -188,11 +188,11 @@ pub(super) fn free_from<K, V>(nodes: &mut [Node<K, V>], start: usize, free: usiz
     ensures stack { (m : ℕ) → IsStack nodes.old start free m → IsStack nodes.new (length nodes.old) result (m + (length nodes.old - start)) }
 {
     let mut free = free;
-    let mut place = nodes.len();
-    while place > start {
-        place -= 1;
-        set_next(nodes, place, free);
-        free = place + 1;
+    let mut slot = nodes.len();
+    while slot > start {
+        slot -= 1;
+        set_next(nodes, slot, free);
+        free = slot + 1;
     }
     free
 }

@@ -1,6 +1,6 @@
 //! A table that gives memory back.
 ghost use Rattle.std.specs.Prelude.{◌≡◌, ◌+◌, ◌<◌, ◌≤◌, [], length};
-ghost use Rattle.dash_shard.specs.Table.{IsTable, CarriesOnce, IsCarried, pairs_of, pairs_in};
+ghost use Rattle.dash_shard.specs.inner.Table.{IsTable, CarriesOnce, IsCarried, pairs_of, pairs_in};
 ghost use Rattle.dash_shard.specs.Shard.{taken};
 
 use super::{Node, Table};
@@ -15,7 +15,7 @@ fn move_pairs<K: Drop, V: Drop>(nodes: &mut Vec<Node<K, V>>, table: &mut Table<K
     ensures carried { IsCarried nodes.old.items table.new.nodes.items }
     ensures len { table.new.len ≡ length (taken (pairs_of nodes.old.items)) }
     ensures counted { table.new.len ≡ length (taken (pairs_in table.new)) }
-    ensures places { length table.new.nodes.items ≡ length table.old.nodes.items }
+    ensures slots { length table.new.nodes.items ≡ length table.old.nodes.items }
     ensures table { IsTable table.new }
 {
     while let Some(node) = nodes.pop() {
@@ -27,7 +27,7 @@ fn move_pairs<K: Drop, V: Drop>(nodes: &mut Vec<Node<K, V>>, table: &mut Table<K
 }
 
 impl<K, V> Table<K, V> {
-    /// Moves the pairs to as few places as hold them, a power of two and none for no pairs, where there is memory for these.
+    /// Moves the pairs to as few slots as hold them, a power of two and none for no pairs, where there is memory for these.
     pub fn shrink(&mut self)
     where
         K: Drop,
@@ -38,7 +38,7 @@ impl<K, V> Table<K, V> {
         ensures carried { IsCarried self.old.nodes.items self.new.nodes.items }
         ensures len { self.new.len ≡ self.old.len }
         ensures counted { self.new.len ≡ length (taken (pairs_in self.new)) }
-        ensures places { length self.new.nodes.items ≤ length self.old.nodes.items }
+        ensures slots { length self.new.nodes.items ≤ length self.old.nodes.items }
         ensures none { self.old.len ≡ 0 → length self.new.nodes.items ≡ 0 }
         ensures table { IsTable self.new }
     {

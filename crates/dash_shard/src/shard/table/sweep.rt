@@ -1,23 +1,24 @@
-//! What goes over all pairs of a table, in rising order of places.
+//! What goes over all pairs of a table, in rising order of slots.
 ghost use Rattle.std.specs.Prelude.{ℕ, ◌≡◌, ◌<◌, Option, Some, None, IfSome, true, length, map, slice_set};
 ghost use Rattle.std.specs.Map.Calls.{CalledAtPair, TakesPair, CallableOnEachPair};
-ghost use Rattle.dash_shard.specs.Table.{IsTable, pairs_in, hashes_in};
-ghost use Rattle.dash_shard.specs.Shard.{place, taken};
-ghost use Rattle.dash_shard.specs.Each.{Asks, CalledOnPair, TakesOnPair, Visits, Sweeps, if_kept, altered};
+ghost use Rattle.dash_shard.specs.inner.Table.{IsTable, pairs_in, hashes_in};
+ghost use Rattle.dash_shard.specs.Shard.{slot, taken};
+ghost use Rattle.dash_shard.specs.Each.{CalledOnPair, TakesOnPair};
+ghost use Rattle.dash_shard.specs.inner.Walks.{Asks, Visits, Sweeps, if_kept, altered};
 
 use super::Table;
 
 impl<K, V> Table<K, V> {
-    // Asks `f` at the pair of a place, if there is one. An empty place answers yes.
+    // Asks `f` at the pair of a slot, if there is one. An empty slot answers yes.
     fn ask_at<F: FnMut(&K, &mut V) -> bool>(&mut self, position: usize, f: &mut F) -> bool
         requires within { position < length self.old.nodes.items }
         requires table { IsTable self.old }
-        requires callable { IfSome (place (pairs_in self.old) position) (λ p. TakesPair F.FnMut f.old p.0 p.1) }
-        ensures asks { Asks (CalledAtPair F.FnMut) f.old (place (pairs_in self.old) position) result (place (pairs_in self.new) position) f.new }
-        ensures pairs { pairs_in self.new ≡ slice_set (pairs_in self.old) position (place (pairs_in self.new) position) }
+        requires callable { IfSome (slot (pairs_in self.old) position) (λ p. TakesPair F.FnMut f.old p.0 p.1) }
+        ensures asks { Asks (CalledAtPair F.FnMut) f.old (slot (pairs_in self.old) position) result (slot (pairs_in self.new) position) f.new }
+        ensures pairs { pairs_in self.new ≡ slice_set (pairs_in self.old) position (slot (pairs_in self.new) position) }
         ensures hashes { hashes_in self.new ≡ hashes_in self.old }
         ensures len { self.new.len ≡ self.old.len }
-        ensures places { length self.new.nodes.items ≡ length self.old.nodes.items }
+        ensures slots { length self.new.nodes.items ≡ length self.old.nodes.items }
         ensures table { IsTable self.new }
     {
         match &mut self.nodes[position].pair {
@@ -37,26 +38,26 @@ impl<K, V> Table<K, V> {
         ensures swept { Sweeps (CalledAtPair F.FnMut) if_kept f.old (pairs_in self.old) (pairs_in self.new) f.new }
         ensures hashes { hashes_in self.new ≡ hashes_in self.old }
         ensures counted { self.new.len ≡ length (taken (pairs_in self.new)) }
-        ensures places { length self.new.nodes.items ≡ length self.old.nodes.items }
+        ensures slots { length self.new.nodes.items ≡ length self.old.nodes.items }
         ensures table { IsTable self.new }
     {
-        for place in 0..self.nodes.len() {
-            if !self.ask_at(place, f) {
-                drop(self.take(place));
+        for slot in 0..self.nodes.len() {
+            if !self.ask_at(slot, f) {
+                drop(self.take(slot));
             }
         }
     }
 
-    // Puts what `f` makes of the value at a place there, if there is a pair.
+    // Puts what `f` makes of the value at a slot there, if there is a pair.
     fn alter_at<F: FnMut(&K, V) -> V>(&mut self, position: usize, f: &mut F)
         requires within { position < length self.old.nodes.items }
         requires table { IsTable self.old }
-        requires callable { IfSome (place (pairs_in self.old) position) (λ p. TakesOnPair F.FnMut f.old p.0 p.1) }
-        ensures visits { Visits (CalledOnPair F.FnMut) altered f.old (place (pairs_in self.old) position) (place (pairs_in self.new) position) f.new }
-        ensures pairs { pairs_in self.new ≡ slice_set (pairs_in self.old) position (place (pairs_in self.new) position) }
+        requires callable { IfSome (slot (pairs_in self.old) position) (λ p. TakesOnPair F.FnMut f.old p.0 p.1) }
+        ensures visits { Visits (CalledOnPair F.FnMut) altered f.old (slot (pairs_in self.old) position) (slot (pairs_in self.new) position) f.new }
+        ensures pairs { pairs_in self.new ≡ slice_set (pairs_in self.old) position (slot (pairs_in self.new) position) }
         ensures hashes { hashes_in self.new ≡ hashes_in self.old }
         ensures len { self.new.len ≡ self.old.len }
-        ensures places { length self.new.nodes.items ≡ length self.old.nodes.items }
+        ensures slots { length self.new.nodes.items ≡ length self.old.nodes.items }
         ensures table { IsTable self.new }
     {
         if self.nodes[position].pair.is_none() {
@@ -82,11 +83,11 @@ impl<K, V> Table<K, V> {
         ensures swept { Sweeps (CalledOnPair F.FnMut) altered f.old (pairs_in self.old) (pairs_in self.new) f.new }
         ensures hashes { hashes_in self.new ≡ hashes_in self.old }
         ensures len { self.new.len ≡ self.old.len }
-        ensures places { length self.new.nodes.items ≡ length self.old.nodes.items }
+        ensures slots { length self.new.nodes.items ≡ length self.old.nodes.items }
         ensures table { IsTable self.new }
     {
-        for place in 0..self.nodes.len() {
-            self.alter_at(place, f);
+        for slot in 0..self.nodes.len() {
+            self.alter_at(slot, f);
         }
     }
 
@@ -100,7 +101,7 @@ impl<K, V> Table<K, V> {
         ensures pairs { pairs_in self.new ≡ map (λ _. None) (pairs_in self.old) }
         ensures hashes { hashes_in self.new ≡ hashes_in self.old }
         ensures len { self.new.len ≡ 0 }
-        ensures places { length self.new.nodes.items ≡ length self.old.nodes.items }
+        ensures slots { length self.new.nodes.items ≡ length self.old.nodes.items }
         ensures table { IsTable self.new }
     {
         self.retain(&mut |_, _| false);

@@ -2,7 +2,7 @@
 ghost use Rattle.std.specs.Prelude.{◌≡◌, length, ⊤};
 ghost use Rattle.std.specs.Iterator.{at_most};
 ghost use Rattle.std.specs.Map.Iter.{TakesFirst, deref_pair};
-ghost use Rattle.dash_shard.specs.Table.{pairs_of, pairs_in};
+ghost use Rattle.dash_shard.specs.inner.Table.{pairs_of, pairs_in};
 ghost use Rattle.dash_shard.specs.Shard.{taken};
 
 use super::{Node, Table};
@@ -10,7 +10,7 @@ use std::alloc::AllocError;
 use std::iter::FusedIterator;
 use std::marker::Model;
 
-/// The pairs of a shard, in rising order of places. A contract sees it as the list of those that are left.
+/// The pairs of a shard, in rising order of slots. A contract sees it as the list of those that are left.
 #[derive(Drop)]
 pub struct Iter<'a, K, V> {
     nodes: &'a [Node<K, V>],
@@ -19,7 +19,7 @@ pub struct Iter<'a, K, V> {
 
 impl<'a, K, V> Model for Iter<'a, K, V> {
     ghost use Rattle.std.specs.Prelude.{List, length, ◌≡◌};
-    ghost use Rattle.dash_shard.specs.Table.{pairs_of};
+    ghost use Rattle.dash_shard.specs.inner.Table.{pairs_of};
     ghost use Rattle.dash_shard.specs.Shard.{taken};
 
     ghost Value = { List (K × V) };
@@ -30,7 +30,7 @@ impl<'a, K, V> Model for Iter<'a, K, V> {
 }
 
 impl<K, V> Table<K, V> {
-    /// The pairs, in rising order of places.
+    /// The pairs, in rising order of slots.
     #[inline]
     pub fn iter(&self) -> Iter<'_, K, V>
         requires { self.now.len ≡ length (taken (pairs_in self.now)) }

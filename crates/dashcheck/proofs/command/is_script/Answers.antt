@@ -1,7 +1,7 @@
 use Rattle.std.proofs.Common.{[], ◌∷◌, string_bytes, ap, sym, ◌∙◌}
 use Rattle.std.proofs.lemmas.Slice.Eq.{slice_eq-Decides}
 use Rattle.std.proofs.lemmas.Bool.Decides.{Decides-eqb}
-use Rattle.dashcheck.specs.Command.{script}
+use Rattle.dashcheck.specs.inner.Command.{script}
 use Rattle.dashcheck.proofs.OneWord.{only, first-word}
 use Rattle.dashcheck.proofs.command.is_script.Goals as goal
 

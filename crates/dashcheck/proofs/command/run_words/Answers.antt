@@ -1,6 +1,6 @@
 use Rattle.std.proofs.Common.{map, string_bytes, subst}
 use Rattle.std.specs.Io.KnownBytes.{Appends}
-use Rattle.dashcheck.specs.Command.{Asks}
+use Rattle.dashcheck.specs.inner.Command.{Asks}
 use Rattle.dashcheck.specs.Threads.{entries_line}
 use Rattle.dashcheck.proofs.OneWord.{same-product}
 use Rattle.dashcheck.proofs.command.run_words.Goals as goal

@@ -3,7 +3,7 @@ use Rattle.std.specs.Fmt.{decimal}
 use Rattle.std.proofs.lemmas.Slice.Eq.{slice_eq-Decides}
 use Rattle.std.proofs.lemmas.Bool.{not-false}
 use Rattle.std.proofs.lemmas.Bool.Decides.{Decides-eqb}
-use Rattle.dashcheck.specs.Threads.{threads}
+use Rattle.dashcheck.specs.inner.Command.{threads}
 use Rattle.dashcheck.proofs.OneWord.{three, same-size}
 use Rattle.dashcheck.proofs.command.size.Goals.{then-callers-eq0-via-then-callers-eq0, then-callers-eq0-via-else-callers-eq0+then-callers-gt64, then-callers-eq0-via-else-callers-eq0+else-callers-gt64+then-steps-gt10000}
 use Rattle.dashcheck.proofs.command.size.Goals as goal

@@ -1,4 +1,4 @@
-use Rattle.dashcheck.specs.Lines.{left_of}
+use Rattle.dashcheck.specs.inner.Lines.{left_of}
 use Rattle.dashcheck.proofs.Taking.{Going}
 use Rattle.dashcheck.proofs.script.take_steps.Given as goal
 

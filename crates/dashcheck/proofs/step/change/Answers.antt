@@ -3,7 +3,8 @@ use Rattle.std.specs.Prelude.{codes}
 use Rattle.std.specs.Fmt.{decimal}
 use Rattle.dashcheck.specs.declared.change.Change.{Change}
 use Rattle.dashcheck.specs.declared.change.Change.TheVariants.{Add, Below, AddBelow}
-use Rattle.dashcheck.specs.Script.{IsFirst, HasChange, change_word, change_rest, change_text}
+use Rattle.dashcheck.specs.Script.{HasChange, change_text}
+use Rattle.dashcheck.specs.inner.Words.{change_word, change_rest, IsFirst}
 use Rattle.dashcheck.proofs.Texts.{alone, first-change, words-change}
 use Rattle.dashcheck.proofs.step.change.Goals as goal
 
@@ -13,6 +14,10 @@ two-numbers : (kind rest : List ℕ) (f : Change) → HasChange f → kind ≡ c
 two-numbers kind rest (AddBelow n m) has same after is none = none n m has.0 has.1 after
 two-numbers kind rest (Add n) has same after is none = omega (arith, ap length (sym same ∙ is))
 two-numbers kind rest (Below n) has same after is none = omega (arith, ap length (sym same ∙ is))
+
+pub returns-in_err-kind-clause-none : goal.returns-in_err-kind-clause-none
+returns-in_err-kind-clause-none c = rw c.from_residual.ensures (λ f has is.
+    c.in_err-kind.ensures.none (change_word f) (change_rest f) (subst (λ t. IsFirst t (change_word f) (change_rest f)) (sym is) (first-change f)))
 
 pub returns-in_err-more-in-addbelow-clause-none : goal.returns-in_err-more-in-addbelow-clause-none
 returns-in_err-more-in-addbelow-clause-none c = rw c.from_residual-in_err-more-in-addbelow.ensures (λ f has is.

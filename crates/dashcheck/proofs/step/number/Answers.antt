@@ -1,5 +1,5 @@
 use Rattle.std.proofs.Common.{sym, subst, ◌∙◌}
-use Rattle.dashcheck.specs.Script.{IsPlain}
+use Rattle.dashcheck.specs.inner.Words.{IsPlain}
 use Rattle.dashcheck.proofs.Numbers.{plain-decimal, read}
 use Rattle.dashcheck.proofs.step.number.Goals as goal
 

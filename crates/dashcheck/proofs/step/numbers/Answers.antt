@@ -1,6 +1,6 @@
 use Rattle.std.proofs.Common.{sym, subst}
 use Rattle.std.specs.Fmt.{decimal}
-use Rattle.dashcheck.specs.Script.{IsFirst}
+use Rattle.dashcheck.specs.inner.Words.{IsFirst}
 use Rattle.dashcheck.proofs.Texts.{alone, first-number}
 use Rattle.dashcheck.proofs.step.numbers.Goals as goal
 

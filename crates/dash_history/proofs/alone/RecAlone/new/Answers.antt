@@ -1,34 +1,32 @@
-use Rattle.std.proofs.Common.{arith, subst, sym}
-use Rattle.dash_shard.specs.Hashing.{key_hash, IsAmount}
-use Rattle.dash_history.specs.Alone.{IsCallers, IsPlaced}
+use Rattle.std.proofs.Common.{ℕ, ◌≡◌, List, Some, slice_get, arith, subst, sym}
+use Rattle.dash_shard.specs.Hashing.{IsAmount, key_hash}
+use Rattle.dash_history.specs.Alone.{IsFresh, IsCallers, IsTagged, IsAlone}
+use Rattle.dash_history.specs.History.{RecState}
 use Rattle.dash_history.proofs.Refusals.{made-refused, callers-amount, memory-amount, memory-callers}
 use Rattle.dash_history.proofs.alone.RecAlone.new.Goals as goal
 
 pub invariant_of-alone : goal.invariant_of-alone
 invariant_of-alone g c =
     let lawful : IsAmount c.args.amount = c.is_shard_amount.ensures.0 c.if-not-is_shard_amount.false in
-    let made = c.in-Ok.ensures in (
-      record {
-        amount = subst IsAmount (sym made.len) lawful;
-        callers = record { some = omega arith; few = omega arith };
-        placed = λ i s e. subst (λ n. IsPlaced (key_hash g.K.PartialEq.eq g.K.Hash.hash_input g.S.BuildHasher g.S.Hasher.Hasher) c.args.hasher n c.args.callers i s) (sym made.len) (made.made i s e).0;
-      },
-      c.in-Ok-with_capacity.ensures.items,
-      omega (arith, made.len, c.in-Ok.row.ok, c.in-Ok-with_capacity.ensures.capacity),
-    )
+    let made = c.in-Ok.ensures in
+    subst (λ (row : List (RecState g.row.K.Denot g.row.V.Denot g.row.A.Denot g.row.S.Denot)). IsAlone (key_hash g.K.PartialEq.eq g.K.Hash.hash_input g.S.BuildHasher g.S.Hasher.Hasher) (record { hasher = c.args.hasher; callers = c.args.callers; row = row })) (sym c.in-Ok-of.ensures) (record {
+      amount = subst IsAmount (sym made.len) lawful;
+      callers = record { some = omega arith; few = omega arith };
+      tagged = λ i s e. subst (λ n. IsTagged (key_hash g.K.PartialEq.eq g.K.Hash.hash_input g.S.BuildHasher g.S.Hasher.Hasher) c.args.hasher n c.args.callers i s) (sym made.len) (made.made i s e).0;
+    })
 
 pub returns-clause-fresh : goal.returns-clause-fresh
-returns-clause-fresh g c = λ i s e. (c.in-Ok.ensures.made i s e).1
+returns-clause-fresh g c = subst (λ (row : List (RecState g.row.K.Denot g.row.V.Denot g.row.A.Denot g.row.S.Denot)). (i : ℕ) (s : RecState g.row.K.Denot g.row.V.Denot g.row.A.Denot g.row.S.Denot) → slice_get row i ≡ Some s → IsFresh s) (sym c.in-Ok-of.ensures) (λ i s e. (c.in-Ok.ensures.made i s e).1)
 
 pub returns-clause-lawful : goal.returns-clause-lawful
 returns-clause-lawful g c =
     let lawful : IsAmount c.args.amount = c.is_shard_amount.ensures.0 c.if-not-is_shard_amount.false in
     let made = c.in-Ok.ensures in
-    record {
+    subst (λ (row : List (RecState g.row.K.Denot g.row.V.Denot g.row.A.Denot g.row.S.Denot)). IsAlone (key_hash g.K.PartialEq.eq g.K.Hash.hash_input g.S.BuildHasher g.S.Hasher.Hasher) (record { hasher = c.args.hasher; callers = c.args.callers; row = row })) (sym c.in-Ok-of.ensures) (record {
       amount = subst IsAmount (sym made.len) lawful;
       callers = record { some = omega arith; few = omega arith };
-      placed = λ i s e. subst (λ n. IsPlaced (key_hash g.K.PartialEq.eq g.K.Hash.hash_input g.S.BuildHasher g.S.Hasher.Hasher) c.args.hasher n c.args.callers i s) (sym made.len) (made.made i s e).0;
-    }
+      tagged = λ i s e. subst (λ n. IsTagged (key_hash g.K.PartialEq.eq g.K.Hash.hash_input g.S.BuildHasher g.S.Hasher.Hasher) c.args.hasher n c.args.callers i s) (sym made.len) (made.made i s e).0;
+    })
 
 pub returns-then-callers-eq0-clause-bad_amount : goal.returns-then-callers-eq0-clause-bad_amount
 returns-then-callers-eq0-clause-bad_amount g c =
@@ -45,13 +43,13 @@ returns-in_default-clause-bad_callers g c =
     let callers : IsCallers c.args.callers = record { some = omega arith; few = omega arith } in
     (λ e. absurd (memory-callers e), λ bad. absurd (bad.1 callers))
 
-pub returns-in_default-with_capacity-clause-bad_amount : goal.returns-in_default-with_capacity-clause-bad_amount
-returns-in_default-with_capacity-clause-bad_amount g c =
+pub returns-in_default-of-clause-bad_amount : goal.returns-in_default-of-clause-bad_amount
+returns-in_default-of-clause-bad_amount g c =
     let lawful : IsAmount c.args.amount = c.is_shard_amount.ensures.0 c.if-not-is_shard_amount.false in
     (λ e. absurd (memory-amount e), λ no. absurd (no lawful))
 
-pub returns-in_default-with_capacity-clause-bad_callers : goal.returns-in_default-with_capacity-clause-bad_callers
-returns-in_default-with_capacity-clause-bad_callers g c =
+pub returns-in_default-of-clause-bad_callers : goal.returns-in_default-of-clause-bad_callers
+returns-in_default-of-clause-bad_callers g c =
     let callers : IsCallers c.args.callers = record { some = omega arith; few = omega arith } in
     (λ e. absurd (memory-callers e), λ bad. absurd (bad.1 callers))
 

@@ -1,7 +1,7 @@
 use Rattle.std.proofs.Common.{◌≡◌, ◌+◌, ◌==◌, ◌++◌, ◌∷◌, [], cond, true, false, length, take, arith, refl, sym, ap, ◌∙◌}
 use Rattle.std.proofs.lemmas.List.{take_more, length-append}
 use Rattle.dash_shard.specs.Contents.{on}
-use Rattle.dash_history.specs.Plain.{plain_rules}
+use Rattle.dash_history.specs.inner.Plain.{plain_rules}
 use Rattle.dash_history.proofs.Planning.{on-more}
 use Rattle.dash_history.proofs.plain.Plain.count.Goals as goal
 use Rattle.dash_history.proofs.plain.Plain.count.Goals.{then-goes_to, else-goes_to}

@@ -1,6 +1,6 @@
 use Rattle.std.proofs.Common.{◌≡◌, ◌-◌, ◌^◌, min, length, take}
 use Rattle.dash_shard.specs.Contents.{on}
-use Rattle.dash_history.specs.Plain.{plain_rules}
+use Rattle.dash_history.specs.inner.Plain.{plain_rules}
 use Rattle.dash_history.proofs.plain.Plain.count.Given as goal
 use Rattle.dash_shard.specs.Hashing.{key_hash}
 

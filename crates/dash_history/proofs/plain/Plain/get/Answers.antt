@@ -1,5 +1,6 @@
 use Rattle.std.proofs.Common.{◌≡◌, Some, None, position, sym, ap, subst, ◌∙◌, slice_index_or}
-use Rattle.dash_history.specs.Plain.{PlainState, plain_rules}
+use Rattle.dash_history.specs.Plain.{PlainState}
+use Rattle.dash_history.specs.inner.Plain.{plain_rules}
 use Rattle.dash_history.proofs.Plains.{found, missing}
 use Rattle.dash_history.proofs.plain.Plain.get.Goals as goal
 use Rattle.dash_shard.specs.Hashing.{key_hash}

@@ -1,6 +1,8 @@
 use Rattle.std.proofs.Common.{◌≡◌, Some, None, position, sym, ap, subst, ◌∙◌, slice_index_or}
-use Rattle.dash_shard.specs.Steps.{Old, value}
-use Rattle.dash_history.specs.Plain.{PlainState, plain_rules}
+use Rattle.dash_shard.specs.Steps.{Old}
+use Rattle.dash_shard.specs.inner.Steps.{value}
+use Rattle.dash_history.specs.Plain.{PlainState}
+use Rattle.dash_history.specs.inner.Plain.{plain_rules}
 use Rattle.dash_history.proofs.Plains.{found, revalued, missing, at-pushed}
 use Rattle.dash_history.proofs.plain.Plain.put.Goals.{in-Ok, in-Err}
 use Rattle.dash_history.proofs.plain.Plain.put.Goals as goal
@@ -68,10 +70,7 @@ pub returns-clause-distinct : goal.returns-clause-distinct
 returns-clause-distinct g c =
     let m = plain_rules (key_hash g.K.PartialEq.eq g.K.Hash.hash_input g.S.BuildHasher g.S.Hasher.Hasher) g.K.Kept.alike g.V.Kept.alike c.args.self.now in
     let none = missing m.keys c.args.key c.self.inside.pairs.items (subst (λ ps. position (λ p. g.K.PartialEq.eq p.0 c.args.key) ps ≡ None) c.deref.ensures.value (sym c.in_default.ensures)) in
-    elim c.match-insert.branch [
-      | in-Ok w ↦ rw (w.result-is, w.in-Ok.ensures.items) (none, c.self.invariant.distinct)
-      | in-Err w ↦ rw w.result-is tt
-    ]
+    elim c.match-insert.branch [ in-Ok w ↦ rw (w.result-is, w.in-Ok.ensures.items) (none, c.self.invariant.distinct) | in-Err w ↦ rw w.result-is tt ]
 
 pub returns-clause-absent : goal.returns-clause-absent
 returns-clause-absent g c =

@@ -3,7 +3,7 @@ use Rattle.std.proofs.lemmas.List.{take_more}
 use Rattle.std.specs.Result.{is_ok}
 use Rattle.dash_shard.specs.Contents.{on}
 use Rattle.dash_history.specs.Alike.{alike_pair}
-use Rattle.dash_history.specs.Plain.{plain_rules}
+use Rattle.dash_history.specs.inner.Plain.{plain_rules}
 use Rattle.dash_history.proofs.Items.{pushed}
 use Rattle.dash_history.proofs.PlainSweeps.{ok-is}
 use Rattle.dash_history.proofs.Planning.{on-more}

@@ -1,6 +1,6 @@
 use Rattle.std.proofs.Common.{◌≡◌, Some, None, position, sym, ap, subst}
 use Rattle.dash_shard.specs.Steps.{Pair}
-use Rattle.dash_history.specs.Plain.{plain_rules}
+use Rattle.dash_history.specs.inner.Plain.{plain_rules}
 use Rattle.dash_history.proofs.Plains.{found, missing, removed, absent}
 use Rattle.dash_history.proofs.plain.Plain.remove.Goals as goal
 use Rattle.dash_shard.specs.Hashing.{key_hash}

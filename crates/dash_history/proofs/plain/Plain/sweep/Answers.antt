@@ -2,8 +2,9 @@ use Rattle.std.proofs.Common.{◌≡◌, ◌+◌, ◌++◌, ◌∷◌, [], true,
 use Rattle.std.proofs.lemmas.List.{take_more, take_all}
 use Rattle.std.specs.Result.{is_ok}
 use Rattle.dash_shard.specs.Hashing.{key_hash}
-use Rattle.dash_history.specs.Plain.{PlainState, plain_rules, SweepsPair}
-use Rattle.dash_history.specs.Sweep.{keeping}
+use Rattle.dash_history.specs.Plain.{PlainState}
+use Rattle.dash_history.specs.inner.Plain.{plain_rules, SweepsPair}
+use Rattle.dash_history.specs.inner.Sweep.{keeping}
 use Rattle.dash_history.proofs.PlainSweeps.{ok-is, with_first, Swept, swept-more}
 use Rattle.dash_history.proofs.PlainTakes.{swept-plain}
 use Rattle.dash_history.proofs.plain.Plain.sweep.Goals as goal

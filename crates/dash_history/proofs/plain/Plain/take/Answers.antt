@@ -1,9 +1,8 @@
 use Rattle.std.proofs.Common.{◌∙◌, ap, refl, subst, is_some}
 use Rattle.std.specs.Map.Iter.{deref_pair}
-use Rattle.dash_history.specs.Alike.{AlikeFound}
-use Rattle.dash_history.specs.Plan.{HasPair}
+use Rattle.dash_history.specs.inner.Copied.{AlikeFound}
 use Rattle.dash_shard.proofs.Lawful.{lawful-of}
-use Rattle.dash_history.proofs.PlainTakes.{mapped, taken, takes-got, takes-put, takes-removed, takes-found, takes-asked, takes-counted, takes-read, takes-altered, takes-retained}
+use Rattle.dash_history.proofs.PlainTakes.{mapped, taken, takes-got, takes-put, takes-removed, takes-found, takes-counted, takes-read, takes-altered, takes-retained}
 use Rattle.dash_history.proofs.plain.Plain.take.Goals as goal
 
 pub returns-in-Ok-clause-ok : goal.returns-in-Ok-clause-ok
@@ -20,30 +19,6 @@ pub returns-in-Remove-clause-ok : goal.returns-in-Remove-clause-ok
 returns-in-Remove-clause-ok g c =
     rw c.in-Remove.is (takes-removed _ (lawful-of g.S.BuildHasher g.S.Hasher.Hasher g.met.K.Eq.laws g.met.K.Hash.respects_eq) _ _ g.met.K.Kept.alike_laws g.met.V.Kept.alike_laws g.met.K.KeptKey.alike_equal _ _ c.self.view_is c.self.invariant _ c.in-Remove.key c.remove.result
     c.remove.ensures.pair c.remove.ensures.pairs c.remove.ensures.distinct)
-
-pub make_change-requires : goal.make_change-requires
-make_change-requires g c = subst (λ o. HasPair c.in-Ok-plan_remove_if.change o) c.get-in-RemoveIf.ensures (c.in-Ok-plan_remove_if.ensures.plan c.in-RemoveIf.key).1.there
-
-pub returns-in-Ok-plan_remove_if-clause-ok : goal.returns-in-Ok-plan_remove_if-clause-ok
-returns-in-Ok-plan_remove_if-clause-ok g c =
-    rw (c.in-RemoveIf.is, c.make_change.ensures.reply) (takes-asked _ (lawful-of g.S.BuildHasher g.S.Hasher.Hasher g.met.K.Eq.laws g.met.K.Hash.respects_eq) _ _ g.met.K.Kept.alike_laws g.met.V.Kept.alike_laws g.met.K.KeptKey.alike_equal _ _ c.self.view_is c.self.invariant _ c.in-RemoveIf.key _ _ _ _ _ _
-    c.get-in-RemoveIf.ensures refl (c.in-Ok-plan_remove_if.ensures.plan c.in-RemoveIf.key) c.make_change.ensures.becomes c.make_change.ensures.distinct)
-
-pub make_change-requires-in-Ok-plan_remove_if_mut : goal.make_change-requires-in-Ok-plan_remove_if_mut
-make_change-requires-in-Ok-plan_remove_if_mut g c = subst (λ o. HasPair c.in-Ok-plan_remove_if_mut.change o) c.get-in-RemoveIfMut.ensures (c.in-Ok-plan_remove_if_mut.ensures.plan c.in-RemoveIfMut.key).1.there
-
-pub returns-in-Ok-plan_remove_if_mut-clause-ok : goal.returns-in-Ok-plan_remove_if_mut-clause-ok
-returns-in-Ok-plan_remove_if_mut-clause-ok g c =
-    rw (c.in-RemoveIfMut.is, c.make_change-in-Ok-plan_remove_if_mut.ensures.reply) (takes-asked _ (lawful-of g.S.BuildHasher g.S.Hasher.Hasher g.met.K.Eq.laws g.met.K.Hash.respects_eq) _ _ g.met.K.Kept.alike_laws g.met.V.Kept.alike_laws g.met.K.KeptKey.alike_equal _ _ c.self.view_is c.self.invariant _ c.in-RemoveIfMut.key _ _ _ _ _ _
-    c.get-in-RemoveIfMut.ensures refl (c.in-Ok-plan_remove_if_mut.ensures.plan c.in-RemoveIfMut.key) c.make_change-in-Ok-plan_remove_if_mut.ensures.becomes c.make_change-in-Ok-plan_remove_if_mut.ensures.distinct)
-
-pub make_change-requires-in-Ok-plan_alter : goal.make_change-requires-in-Ok-plan_alter
-make_change-requires-in-Ok-plan_alter g c = subst (λ o. HasPair c.in-Ok-plan_alter.change o) c.get-in-Alter.ensures (c.in-Ok-plan_alter.ensures.plan c.in-Alter.key).1.there
-
-pub returns-in-Ok-plan_alter-clause-ok : goal.returns-in-Ok-plan_alter-clause-ok
-returns-in-Ok-plan_alter-clause-ok g c =
-    rw (c.in-Alter.is, c.make_change-in-Ok-plan_alter.ensures.reply) (takes-asked _ (lawful-of g.S.BuildHasher g.S.Hasher.Hasher g.met.K.Eq.laws g.met.K.Hash.respects_eq) _ _ g.met.K.Kept.alike_laws g.met.V.Kept.alike_laws g.met.K.KeptKey.alike_equal _ _ c.self.view_is c.self.invariant _ c.in-Alter.key _ _ _ _ _ _
-    c.get-in-Alter.ensures refl (c.in-Ok-plan_alter.ensures.plan c.in-Alter.key) c.make_change-in-Ok-plan_alter.ensures.becomes c.make_change-in-Ok-plan_alter.ensures.distinct)
 
 pub returns-in-Contains-clause-ok : goal.returns-in-Contains-clause-ok
 returns-in-Contains-clause-ok g c =

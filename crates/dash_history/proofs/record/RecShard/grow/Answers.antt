@@ -1,5 +1,6 @@
 use Rattle.std.proofs.Common.{◌≡◌, ◌<◌, ◌++◌, ◌∷◌, [], ap, subst, sym, ◌∙◌, refl}
-use Rattle.dash_history.specs.History.{RecState, Tells, place_of, kinds_of}
+use Rattle.dash_history.specs.History.{RecState, Tells, shard_of}
+use Rattle.dash_history.specs.inner.Kinds.{kinds_of}
 use Rattle.dash_history.proofs.Recording.{taken, recorded}
 use Rattle.dash_history.proofs.record.RecShard.grow.Goals as goal
 use Rattle.dash_shard.proofs.Lawful.{lawful-of}
@@ -29,11 +30,11 @@ invariant_of-self-in-Err g c = rw (c.make_room.ensures.items, c.in-Err.ensures.e
 pub returns-in-Err-clause-refused : goal.returns-in-Err-clause-refused
 returns-in-Err-clause-refused g c = rw (c.make_room.ensures.items, c.in-Err.ensures.err.1) (c.in-Err.ensures.err.0, c.self.view_is)
 
-pub carry_out-requires-clause-place : goal.carry_out-requires-clause-place
-carry_out-requires-clause-place g c =
+pub carry_out-requires-clause-goes : goal.carry_out-requires-clause-goes
+carry_out-requires-clause-goes g c =
     let At : Type 0 = RecState g.row.K.Denot g.row.V.Denot g.row.A.Denot g.row.S.Denot in
-    let P = λ (x : At). place_of (kinds_of (known_by g.K.PartialEq.eq g.K.Hash.hash_input g.K.Kept.alike g.V.Kept.alike g.A.Kept.alike g.A.Action.acts g.S.BuildHasher g.S.Hasher.Hasher) x.shard) c.args.step ≡ x.shard.number in
-    subst P (sym c.self.view_is) c.requires.place
+    let P = λ (x : At). shard_of (kinds_of (known_by g.K.PartialEq.eq g.K.Hash.hash_input g.K.Kept.alike g.V.Kept.alike g.A.Kept.alike g.A.Action.acts g.S.BuildHasher g.S.Hasher.Hasher) x.shard) c.args.step ≡ x.shard.number in
+    subst P (sym c.self.view_is) c.requires.goes
 
 pub carry_out-requires-clause-decides : goal.carry_out-requires-clause-decides
 carry_out-requires-clause-decides g c = c.in-Ok.ensures.decides
@@ -45,8 +46,8 @@ pub invariant_of-self-in-Ok-carry_out : goal.invariant_of-self-in-Ok-carry_out
 invariant_of-self-in-Ok-carry_out g c =
     let At : Type 0 = RecState g.row.K.Denot g.row.V.Denot g.row.A.Denot g.row.S.Denot in
     let s : At = record { shard = c.self.inside.shard; callers = c.self.inside.callers; last = c.self.inside.last; history = c.self.inside.history.items } in
-    let P = λ (x : At). place_of (kinds_of (known_by g.K.PartialEq.eq g.K.Hash.hash_input g.K.Kept.alike g.V.Kept.alike g.A.Kept.alike g.A.Action.acts g.S.BuildHasher g.S.Hasher.Hasher) x.shard) c.args.step ≡ x.shard.number in
-    let here = subst P (sym c.self.view_is) c.requires.place in
+    let P = λ (x : At). shard_of (kinds_of (known_by g.K.PartialEq.eq g.K.Hash.hash_input g.K.Kept.alike g.V.Kept.alike g.A.Kept.alike g.A.Action.acts g.S.BuildHasher g.S.Hasher.Hasher) x.shard) c.args.step ≡ x.shard.number in
+    let here = subst P (sym c.self.view_is) c.requires.goes in
     let below = subst (λ (x : At). c.args.caller < x.callers) (sym c.self.view_is) c.requires.caller in
     let above = subst (λ (x : At). x.last < c.args.stamp) (sym c.self.view_is) c.requires.above in
     let old = c.self.invariant in
@@ -62,8 +63,8 @@ invariant_of-self-in-Ok-carry_out g c =
 pub returns-in-Ok-carry_out-clause-ok : goal.returns-in-Ok-carry_out-clause-ok
 returns-in-Ok-carry_out-clause-ok g c =
     let At : Type 0 = RecState g.row.K.Denot g.row.V.Denot g.row.A.Denot g.row.S.Denot in
-    let P = λ (x : At). place_of (kinds_of (known_by g.K.PartialEq.eq g.K.Hash.hash_input g.K.Kept.alike g.V.Kept.alike g.A.Kept.alike g.A.Action.acts g.S.BuildHasher g.S.Hasher.Hasher) x.shard) c.args.step ≡ x.shard.number in
-    let here = subst P (sym c.self.view_is) c.requires.place in
+    let P = λ (x : At). shard_of (kinds_of (known_by g.K.PartialEq.eq g.K.Hash.hash_input g.K.Kept.alike g.V.Kept.alike g.A.Kept.alike g.A.Action.acts g.S.BuildHasher g.S.Hasher.Hasher) x.shard) c.args.step ≡ x.shard.number in
+    let here = subst P (sym c.self.view_is) c.requires.goes in
     let old = c.self.invariant in
     let tells = subst (λ n. Tells g.K.Kept.alike g.V.Kept.alike g.A.Kept.alike c.args.stamp c.args.caller n c.args.step c.in-Ok.reply c.in-Ok-copies.first) c.number-number.ensures.number c.in-Ok-copies.ensures.first in
     rw (← c.self.view_is) (record {

@@ -2,23 +2,37 @@ use Rattle.std.proofs.Common.{⊎_elim, true, false, sym, subst}
 use Rattle.dash_shard.specs.Contents.{at}
 use Rattle.dash_shard.specs.Steps.{Act, Step, AlterAll, Retain, after}
 use Rattle.dash_shard.specs.Shard.{pairs}
-use Rattle.dash_history.specs.Sweep.{keeping}
-use Rattle.dash_history.specs.Takes.{known_by, AlikeAt}
-use Rattle.dash_history.specs.History.{kinds_of}
+use Rattle.dash_history.specs.inner.Sweep.{keeping}
+use Rattle.dash_history.specs.Takes.{known_by}
+use Rattle.dash_history.specs.inner.Copied.{AlikeAt}
+use Rattle.dash_history.specs.inner.Kinds.{kinds_of}
 use Rattle.dash_history.proofs.Recording.{lawful-by}
-use Rattle.dash_history.proofs.Planning.{decided}
+use Rattle.dash_shard.specs.Hashing.{key_hash}
+use Rattle.dash_history.proofs.Finding.{found-taken, decided-at}
 use Rattle.dash_history.proofs.Sweeping.{leaves}
 use Rattle.dash_history.proofs.record.plan.carry_out.Goals as goal
 use Rattle.dash_shard.proofs.Lawful.{lawful-of}
 
+pub make_change-requires : goal.make_change-requires
+make_change-requires g c = found-taken (key_hash g.K.PartialEq.eq g.K.Hash.hash_input g.S.BuildHasher g.S.Hasher.Hasher) c.args.shard.now _ c.args.found c.requires.found
+
+pub make_change-requires-in-RemoveIf : goal.make_change-requires-in-RemoveIf
+make_change-requires-in-RemoveIf g c = found-taken (key_hash g.K.PartialEq.eq g.K.Hash.hash_input g.S.BuildHasher g.S.Hasher.Hasher) c.args.shard.now _ c.args.found c.requires.found
+
+pub returns-in-Remove-clause-ok : goal.returns-in-Remove-clause-ok
+returns-in-Remove-clause-ok g c j =
+    let s = c.args.shard.now in
+    let laws = lawful-by _ (lawful-of g.S.BuildHasher g.S.Hasher.Hasher g.met.K.Eq.laws g.met.K.Hash.respects_eq) _ _ g.met.K.Kept.alike_laws g.met.V.Kept.alike_laws g.met.K.KeptKey.alike_equal s.hasher s.amount in
+    let is = c.in-Remove.is in
+    rw is (decided-at (key_hash g.K.PartialEq.eq g.K.Hash.hash_input g.S.BuildHasher g.S.Hasher.Hasher) s c.make_change.new.shard _ _ laws _ _ c.args.found c.args.decided (rw is at c.requires.decides) (rw is at c.requires.found) c.make_change.ensures.becomes j)
+
 pub returns-in-RemoveIf-clause-ok : goal.returns-in-RemoveIf-clause-ok
 returns-in-RemoveIf-clause-ok g c j =
     let s = c.args.shard.now in
-    let m = kinds_of (known_by g.K.PartialEq.eq g.K.Hash.hash_input g.K.Kept.alike g.V.Kept.alike g.A.Kept.alike g.A.Action.acts g.S.BuildHasher g.S.Hasher.Hasher) s in
     let laws = lawful-by _ (lawful-of g.S.BuildHasher g.S.Hasher.Hasher g.met.K.Eq.laws g.met.K.Hash.respects_eq) _ _ g.met.K.Kept.alike_laws g.met.V.Kept.alike_laws g.met.K.KeptKey.alike_equal s.hasher s.amount in
-    ⊎_elim (λ is. rw is (decided m.rules laws _ _ c.in-RemoveIf.key _ c.args.decided (rw is at c.requires.decides) c.make_change.ensures.becomes j))
-    (⊎_elim (λ is. rw is (decided m.rules laws _ _ c.in-RemoveIf.key _ c.args.decided (rw is at c.requires.decides) c.make_change.ensures.becomes j))
-    (λ is. rw is (decided m.rules laws _ _ c.in-RemoveIf.key _ c.args.decided (rw is at c.requires.decides) c.make_change.ensures.becomes j))) c.in-RemoveIf.is
+    ⊎_elim (λ is. rw is (decided-at (key_hash g.K.PartialEq.eq g.K.Hash.hash_input g.S.BuildHasher g.S.Hasher.Hasher) s c.make_change-in-RemoveIf.new.shard _ _ laws _ _ c.args.found c.args.decided (rw is at c.requires.decides) (rw is at c.requires.found) c.make_change-in-RemoveIf.ensures.becomes j))
+    (⊎_elim (λ is. rw is (decided-at (key_hash g.K.PartialEq.eq g.K.Hash.hash_input g.S.BuildHasher g.S.Hasher.Hasher) s c.make_change-in-RemoveIf.new.shard _ _ laws _ _ c.args.found c.args.decided (rw is at c.requires.decides) (rw is at c.requires.found) c.make_change-in-RemoveIf.ensures.becomes j))
+    (λ is. rw is (decided-at (key_hash g.K.PartialEq.eq g.K.Hash.hash_input g.S.BuildHasher g.S.Hasher.Hasher) s c.make_change-in-RemoveIf.new.shard _ _ laws _ _ c.args.found c.args.decided (rw is at c.requires.decides) (rw is at c.requires.found) c.make_change-in-RemoveIf.ensures.becomes j))) c.in-RemoveIf.is
 
 pub returns-clause-ok : goal.returns-clause-ok
 returns-clause-ok g c j =
@@ -26,7 +40,7 @@ returns-clause-ok g c j =
     let m = kinds_of (known_by g.K.PartialEq.eq g.K.Hash.hash_input g.K.Kept.alike g.V.Kept.alike g.A.Kept.alike g.A.Action.acts g.S.BuildHasher g.S.Hasher.Hasher) s in
     let i = c.in-AlterAll._shard in
     let f = g.A.Action.acts c.in-AlterAll._action in
-    let Left = λ (step : Step g.row.K.Denot g.row.V.Denot). AlikeAt m.rules (after m.rules.keys step j (at m.rules.keys.eq (pairs s) j)) (at m.rules.keys.eq (pairs c.change_each.new.shard) j) in
-    let each = λ (made : Act g.row.K.Denot g.row.V.Denot). leaves m.rules s.number made (pairs s) (pairs c.change_each.new.shard) c.number.ensures.lawful.contents.routed in
-    ⊎_elim (λ is. rw is (subst (λ n. Left (AlterAll n f)) (sym (rw is at c.requires.place)) (each (keeping true f) (c.change_each.ensures.leaves (keeping true f) (rw is at c.requires.decides)) j)))
-    (λ is. rw is (subst (λ n. Left (Retain n f)) (sym (rw is at c.requires.place)) (each (keeping false f) (c.change_each.ensures.leaves (keeping false f) (rw is at c.requires.decides)) j))) c.in-AlterAll.is
+    let Left = λ (step : Step g.row.K.Denot g.row.V.Denot). AlikeAt m.rules (after m.rules.keys step j (at m.rules.keys.eq (pairs s) j)) (at m.rules.keys.eq (pairs c.put_each.new.shard) j) in
+    let each = λ (made : Act g.row.K.Denot g.row.V.Denot). leaves m.rules s.number made (pairs s) (pairs c.put_each.new.shard) c.number.ensures.lawful.contents.routed in
+    ⊎_elim (λ is. rw is (subst (λ n. Left (AlterAll n f)) (sym (rw is at c.requires.goes)) (each (keeping true f) (c.put_each.ensures.leaves (keeping true f) (rw is at c.requires.decides)) j)))
+    (λ is. rw is (subst (λ n. Left (Retain n f)) (sym (rw is at c.requires.goes)) (each (keeping false f) (c.put_each.ensures.leaves (keeping false f) (rw is at c.requires.decides)) j))) c.in-AlterAll.is

@@ -1,7 +1,7 @@
-use Rattle.std.proofs.Common.{◌<◌, refl, sym, ap, subst, length, arith, ◌∙◌}
+use Rattle.std.proofs.Common.{refl, sym, ap, subst, arith, ◌∙◌}
 use Rattle.std.specs.Option.{option_map, ghost_name_of}
 use Rattle.dash_shard.specs.Contents.{at}
-use Rattle.dash_map.specs.Alone.{AloneState, IsAlone, contents, keys_in}
+use Rattle.dash_map.specs.Alone.{AloneState, IsAlone, contents}
 use Rattle.dash_map.proofs.Spots.{Spot, spot-hash, spot-here, spot-stands, spot-unchanged}
 use Rattle.dash_map.proofs.alone.Alone.get_mut.Given.{Over}
 use Rattle.dash_map.proofs.alone.Alone.get_mut.Goals.{After-index_mut}
@@ -12,15 +12,15 @@ use Rattle.dash_shard.proofs.Lawful.{lawful-of}
 use Rattle.dash_shard.specs.Hashing.{key_hash}
 
 -- the fields are taken before the loan, so the map is seen as they are
-abbrev spot : (g : Over) (c : After-index_mut g) → Spot (key_hash g.K.PartialEq.eq g.K.Hash.hash_input g.S.BuildHasher g.S.Hasher.Hasher) (record { hasher = c.self.inside.hasher; row = c.self.inside.row.items }) c.args.key.now c.place_of-hash.result.1 c.index_mut.result.now
+abbrev spot : (g : Over) (c : After-index_mut g) → Spot (key_hash g.K.PartialEq.eq g.K.Hash.hash_input g.S.BuildHasher g.S.Hasher.Hasher) (record { hasher = c.self.inside.hasher; row = c.self.inside.row }) c.args.key.now c.route_of-hash.result.1 c.index_mut.result.now
 spot g c = record {
   law = lawful-of g.S.BuildHasher g.S.Hasher.Hasher g.met.K.Eq.laws g.met.K.Hash.respects_eq;
   base = c.self.inside.hasher;
-  row = c.self.inside.row.items;
+  row = c.self.inside.row;
   view = refl;
-  lawful = c.self.invariant.0;
-  computed = c.place_of-hash.ensures.place;
-  within = omega (arith, c.place_of-hash.ensures.below);
+  lawful = c.self.invariant;
+  computed = c.route_of-hash.ensures.idx;
+  within = omega (arith, c.route_of-hash.ensures.below);
   read = c.index_mut.ensures.value;
 }
 
@@ -28,19 +28,15 @@ pub get_mut_hashed-requires : goal.get_mut_hashed-requires
 get_mut_hashed-requires g c =
     let row = c.self.inside.row in
     let x = spot g c in
-    spot-hash x c.place_of-hash.result.0 c.place_of-hash.ensures.hash
+    spot-hash x c.route_of-hash.result.0 c.route_of-hash.ensures.hash
 
 pub invariant_of-self-lent : goal.invariant_of-self-lent
 invariant_of-self-lent g c lent =
     let row = c.self.inside.row in
     let x = spot g (goal.at.invariant_of-self-lent g c).After-index_mut in
     let row_is = spot-here x in (
-      λ w. (lent-lawful (key_hash g.K.PartialEq.eq g.K.Hash.hash_input g.S.BuildHasher g.S.Hasher.Hasher) g.met.K.Eq.laws _ row.items c.self.invariant.0 c.place_of-hash.result.1 c.index_mut.result.now row_is c.args.key.now w, c.self.invariant.1, c.self.invariant.2),
-      (
-        subst (λ (a : AloneState g.row.K.Denot g.row.V.Denot g.row.S.Denot). IsAlone (key_hash g.K.PartialEq.eq g.K.Hash.hash_input g.S.BuildHasher g.S.Hasher.Hasher) a) (sym (spot-unchanged x c.index_mut.result.now refl)) c.self.invariant.0,
-        c.self.invariant.1,
-        c.self.invariant.2,
-      ),
+      λ w. lent-lawful (key_hash g.K.PartialEq.eq g.K.Hash.hash_input g.S.BuildHasher g.S.Hasher.Hasher) g.met.K.Eq.laws _ row c.self.invariant c.route_of-hash.result.1 c.index_mut.result.now row_is c.args.key.now w,
+      subst (λ (a : AloneState g.row.K.Denot g.row.V.Denot g.row.S.Denot). IsAlone (key_hash g.K.PartialEq.eq g.K.Hash.hash_input g.S.BuildHasher g.S.Hasher.Hasher) a) (sym (spot-unchanged x c.index_mut.result.now refl)) c.self.invariant,
     )
 
 pub returns : goal.returns
@@ -48,11 +44,11 @@ returns g c =
     let row = c.self.inside.row in
     let x = spot g (goal.at.returns g c).After-index_mut in
     let row_is = spot-here x in (
-      λ t. read_of (ghost_name_of c.get_mut_hashed.result) (λ (w : g.row.V.Denot). lent-state (key_hash g.K.PartialEq.eq g.K.Hash.hash_input g.S.BuildHasher g.S.Hasher.Hasher) g.met.K.Eq.laws _ row.items c.self.invariant.0 c.place_of-hash.result.1 c.index_mut.result.now row_is c.args.key.now w c.place_of-hash.ensures.place c.args.self.now c.self.view_is t) ((spot-unchanged x c.index_mut.result.now refl ∙ c.self.view_is) t),
+      λ t. read_of (ghost_name_of c.get_mut_hashed.result) (λ (w : g.row.V.Denot). lent-state (key_hash g.K.PartialEq.eq g.K.Hash.hash_input g.S.BuildHasher g.S.Hasher.Hasher) g.met.K.Eq.laws _ row c.self.invariant c.route_of-hash.result.1 c.index_mut.result.now row_is c.args.key.now w c.route_of-hash.ensures.idx c.args.self.now c.self.view_is t) ((spot-unchanged x c.index_mut.result.now refl ∙ c.self.view_is) t),
       record {
         writes_back = tt;
         value = c.get_mut_hashed.ensures.value ∙ ap (λ o. option_map (λ p. p.1) o) (sym (spot-stands x))
             ∙ ap (λ (a : AloneState g.row.K.Denot g.row.V.Denot g.row.S.Denot). option_map (λ p. p.1) (at g.K.PartialEq.eq (contents a) c.args.key.now)) c.self.view_is;
-        lawful = subst (λ (a : AloneState g.row.K.Denot g.row.V.Denot g.row.S.Denot). IsAlone (key_hash g.K.PartialEq.eq g.K.Hash.hash_input g.S.BuildHasher g.S.Hasher.Hasher) a) c.self.view_is c.self.invariant.0;
+        lawful = subst (λ (a : AloneState g.row.K.Denot g.row.V.Denot g.row.S.Denot). IsAlone (key_hash g.K.PartialEq.eq g.K.Hash.hash_input g.S.BuildHasher g.S.Hasher.Hasher) a) c.self.view_is c.self.invariant;
       },
     )

@@ -1,4 +1,4 @@
-use Rattle.std.proofs.Common.{◌<◌, ◌∙◌, refl, ap, length, arith}
+use Rattle.std.proofs.Common.{◌∙◌, refl, ap, length, arith}
 use Rattle.std.proofs.lemmas.Result.{IfOk-weaker, MatchResult-weaker}
 use Rattle.dash_shard.specs.Steps.{Insert, Old}
 use Rattle.dash_shard.specs.Shard.{TakesStep}
@@ -10,20 +10,20 @@ use Rattle.dash_map.proofs.alone.Alone.insert.Goals as goal
 use Rattle.dash_shard.proofs.Lawful.{lawful-of}
 use Rattle.dash_shard.specs.Hashing.{key_hash}
 
-abbrev spot : (g : Over) (c : After-index_mut g) → Spot (key_hash g.K.PartialEq.eq g.K.Hash.hash_input g.S.BuildHasher g.S.Hasher.Hasher) c.args.self.now c.args.key c.place_of-hash.result.1 c.index_mut.result.now
+abbrev spot : (g : Over) (c : After-index_mut g) → Spot (key_hash g.K.PartialEq.eq g.K.Hash.hash_input g.S.BuildHasher g.S.Hasher.Hasher) c.args.self.now c.args.key c.route_of-hash.result.1 c.index_mut.result.now
 spot g c = record {
   law = lawful-of g.S.BuildHasher g.S.Hasher.Hasher g.met.K.Eq.laws g.met.K.Hash.respects_eq;
   base = c.self.inside.hasher;
-  row = c.self.inside.row.items;
+  row = c.self.inside.row;
   view = c.self.view_is;
-  lawful = c.self.invariant.0;
-  computed = c.place_of-hash.ensures.place;
-  within = omega (arith, c.place_of-hash.ensures.below, ap (λ a. length a.row) c.self.view_is);
+  lawful = c.self.invariant;
+  computed = c.route_of-hash.ensures.idx;
+  within = omega (arith, c.route_of-hash.ensures.below, ap (λ a. length a.row) c.self.view_is);
   read = c.index_mut.ensures.value;
 }
 
 pub insert_hashed-requires-clause-hash : goal.insert_hashed-requires-clause-hash
-insert_hashed-requires-clause-hash g c = spot-hash (spot g c) c.place_of-hash.result.0 c.place_of-hash.ensures.hash
+insert_hashed-requires-clause-hash g c = spot-hash (spot g c) c.route_of-hash.result.0 c.route_of-hash.ensures.hash
 
 pub insert_hashed-requires-clause-route : goal.insert_hashed-requires-clause-route
 insert_hashed-requires-clause-route g c = spot-route (spot g c)
@@ -32,7 +32,7 @@ pub invariant_of-self : goal.invariant_of-self
 invariant_of-self g c =
     let r = c.insert_hashed.ensures in
     let stays = settled (key_hash g.K.PartialEq.eq g.K.Hash.hash_input g.S.BuildHasher g.S.Hasher.Hasher) c.insert_hashed.result c.index_mut.result.now c.insert_hashed.new.self c.args.key c.args.value r.inserts.taken r.inserts.refused in
-    (spot-alone (spot g (goal.at.invariant_of-self g c).After-index_mut) c.insert_hashed.new.self r.lawful stays, c.self.invariant.1, c.self.invariant.2)
+    spot-alone (spot g (goal.at.invariant_of-self g c).After-index_mut) c.insert_hashed.new.self r.lawful stays
 
 pub returns-clause-taken : goal.returns-clause-taken
 returns-clause-taken g c =

@@ -1,4 +1,4 @@
-use Rattle.std.proofs.Common.{◌<◌, refl, ap, length, arith}
+use Rattle.std.proofs.Common.{refl, ap, length, arith}
 use Rattle.dash_shard.specs.Steps.{Remove, Pair}
 use Rattle.dash_map.proofs.Spots.{Spot, spot-route, spot-hash, spot-alone, spot-takes}
 use Rattle.dash_map.proofs.alone.Alone.remove_hashed.Given.{Over}
@@ -7,14 +7,14 @@ use Rattle.dash_map.proofs.alone.Alone.remove_hashed.Goals as goal
 use Rattle.dash_shard.proofs.Lawful.{lawful-of}
 use Rattle.dash_shard.specs.Hashing.{key_hash}
 
-abbrev spot : (g : Over) (c : After-index_mut g) → Spot (key_hash g.K.PartialEq.eq g.K.Hash.hash_input g.S.BuildHasher g.S.Hasher.Hasher) c.args.self.now c.args.key.now c.args.place c.index_mut.result.now
+abbrev spot : (g : Over) (c : After-index_mut g) → Spot (key_hash g.K.PartialEq.eq g.K.Hash.hash_input g.S.BuildHasher g.S.Hasher.Hasher) c.args.self.now c.args.key.now c.args.idx c.index_mut.result.now
 spot g c = record {
   law = lawful-of g.S.BuildHasher g.S.Hasher.Hasher g.met.K.Eq.laws g.met.K.Hash.respects_eq;
   base = c.self.inside.hasher;
-  row = c.self.inside.row.items;
+  row = c.self.inside.row;
   view = c.self.view_is;
-  lawful = c.self.invariant.0;
-  computed = c.requires.place;
+  lawful = c.self.invariant;
+  computed = c.requires.idx;
   within = omega (arith, c.requires.below, ap (λ a. length a.row) c.self.view_is);
   read = c.index_mut.ensures.value;
 }
@@ -28,7 +28,7 @@ remove_hashed-requires-clause-route g c = spot-route (spot g c)
 pub invariant_of-self : goal.invariant_of-self
 invariant_of-self g c =
     let r = c.remove_hashed.ensures in
-    (spot-alone (spot g (goal.at.invariant_of-self g c).After-index_mut) c.remove_hashed.new.self r.lawful r.removes.taken.stays, c.self.invariant.1, c.self.invariant.2)
+    spot-alone (spot g (goal.at.invariant_of-self g c).After-index_mut) c.remove_hashed.new.self r.lawful r.removes.taken.stays
 
 pub returns : goal.returns
 returns g c =

@@ -1,4 +1,4 @@
-use Rattle.std.proofs.Common.{◌<◌, refl, ap, length, arith}
+use Rattle.std.proofs.Common.{refl, ap, length, arith}
 use Rattle.dash_shard.specs.Closures.{MayAsk, Answered}
 use Rattle.dash_shard.specs.Steps.{RemoveIf, Pair}
 use Rattle.dash_map.proofs.Spots.{Spot, spot-route, spot-hash, spot-known, spot-alone, spot-by}
@@ -8,20 +8,20 @@ use Rattle.dash_map.proofs.alone.Alone.remove_if.Goals as goal
 use Rattle.dash_shard.proofs.Lawful.{lawful-of}
 use Rattle.dash_shard.specs.Hashing.{key_hash}
 
-abbrev spot : (g : Over) (c : After-index_mut g) → Spot (key_hash g.K.PartialEq.eq g.K.Hash.hash_input g.S.BuildHasher g.S.Hasher.Hasher) c.args.self.now c.args.key.now c.place_of-hash.result.1 c.index_mut.result.now
+abbrev spot : (g : Over) (c : After-index_mut g) → Spot (key_hash g.K.PartialEq.eq g.K.Hash.hash_input g.S.BuildHasher g.S.Hasher.Hasher) c.args.self.now c.args.key.now c.route_of-hash.result.1 c.index_mut.result.now
 spot g c = record {
   law = lawful-of g.S.BuildHasher g.S.Hasher.Hasher g.met.K.Eq.laws g.met.K.Hash.respects_eq;
   base = c.self.inside.hasher;
-  row = c.self.inside.row.items;
+  row = c.self.inside.row;
   view = c.self.view_is;
-  lawful = c.self.invariant.0;
-  computed = c.place_of-hash.ensures.place;
-  within = omega (arith, c.place_of-hash.ensures.below, ap (λ a. length a.row) c.self.view_is);
+  lawful = c.self.invariant;
+  computed = c.route_of-hash.ensures.idx;
+  within = omega (arith, c.route_of-hash.ensures.below, ap (λ a. length a.row) c.self.view_is);
   read = c.index_mut.ensures.value;
 }
 
 pub remove_if_hashed-requires-clause-hash : goal.remove_if_hashed-requires-clause-hash
-remove_if_hashed-requires-clause-hash g c = spot-hash (spot g c) c.place_of-hash.result.0 c.place_of-hash.ensures.hash
+remove_if_hashed-requires-clause-hash g c = spot-hash (spot g c) c.route_of-hash.result.0 c.route_of-hash.ensures.hash
 
 pub remove_if_hashed-requires-clause-route : goal.remove_if_hashed-requires-clause-route
 remove_if_hashed-requires-clause-route g c = spot-route (spot g c)
@@ -32,7 +32,7 @@ remove_if_hashed-requires-clause-callable g c = spot-known (spot g c) (MayAsk g.
 pub invariant_of-self : goal.invariant_of-self
 invariant_of-self g c =
     let r = c.remove_if_hashed.ensures in
-    (spot-alone (spot g (goal.at.invariant_of-self g c).After-index_mut) c.remove_if_hashed.new.self r.lawful r.removes.1.taken.stays, c.self.invariant.1, c.self.invariant.2)
+    spot-alone (spot g (goal.at.invariant_of-self g c).After-index_mut) c.remove_if_hashed.new.self r.lawful r.removes.1.taken.stays
 
 pub returns : goal.returns
 returns g c =

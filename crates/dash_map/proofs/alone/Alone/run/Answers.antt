@@ -5,9 +5,10 @@ use Rattle.dash_history.specs.declared.step.ShardStep.{ShardStep}
 use Rattle.dash_history.specs.Steps.{step_of, reply_of}
 use Rattle.dash_history.specs.Takes.{Rules, Takes, Runs}
 use Rattle.dash_map.specs.Alone.{AloneState, IsAlone, contents}
-use Rattle.dash_map.specs.Run.{answered, rules_in, IsRefused}
+use Rattle.dash_map.specs.Run.{rules_in, IsRefused}
+use Rattle.dash_map.specs.inner.Run.{answered}
 use Rattle.dash_map.specs.declared.run.Fault.TheVariants.{NoSuchShard}
-use Rattle.dash_shard.specs.Steps.{place}
+use Rattle.dash_shard.specs.Steps.{step_shard}
 use Rattle.dash_map.proofs.Running.{running-none, running-more, refused-first, rules-same}
 use Rattle.dash_map.proofs.alone.Alone.run.Goals as goal
 use Rattle.dash_shard.specs.Hashing.{key_hash}
@@ -15,7 +16,7 @@ use Rattle.dash_shard.specs.Hashing.{key_hash}
 pub returns-in_default-clause-ran : goal.returns-in_default-clause-ran
 returns-in_default-clause-ran g c =
     let m = rules_in (key_hash g.K.PartialEq.eq g.K.Hash.hash_input g.S.BuildHasher g.S.Hasher.Hasher) g.K.Kept.alike g.V.Kept.alike c.args.self.now in
-    let lawful = subst (λ (a : AloneState g.row.K.Denot g.row.V.Denot g.row.S.Denot). IsAlone (key_hash g.K.PartialEq.eq g.K.Hash.hash_input g.S.BuildHasher g.S.Hasher.Hasher) a) c.self.view_is c.self.invariant.0 in
+    let lawful = subst (λ (a : AloneState g.row.K.Denot g.row.V.Denot g.row.S.Denot). IsAlone (key_hash g.K.PartialEq.eq g.K.Hash.hash_input g.S.BuildHasher g.S.Hasher.Hasher) a) c.self.view_is c.self.invariant in
     record {
       front = [];
       in_order = refl;
@@ -31,7 +32,7 @@ loop-step-init g c =
       so_far = running-none m g.A.Action.acts (contents c.args.self.now) c.args.steps.items c.reverse.new.self.items c.in-Ok.replies.items (sym (ap reverse c.reverse.ensures.items ∙ reverse-reverse c.args.steps.items)) c.in-Ok.ensures.items;
       hasher = refl;
       amount = refl;
-      lawful = subst (λ (a : AloneState g.row.K.Denot g.row.V.Denot g.row.S.Denot). IsAlone (key_hash g.K.PartialEq.eq g.K.Hash.hash_input g.S.BuildHasher g.S.Hasher.Hasher) a) c.self.view_is c.self.invariant.0;
+      lawful = subst (λ (a : AloneState g.row.K.Denot g.row.V.Denot g.row.S.Denot). IsAlone (key_hash g.K.PartialEq.eq g.K.Hash.hash_input g.S.BuildHasher g.S.Hasher.Hasher) a) c.self.view_is c.self.invariant;
       room = omega (arith, c.in-Ok.ensures.len, c.in-Ok.ensures.capacity, c.reverse.ensures.len, c.len.ensures);
     }
 
@@ -64,5 +65,5 @@ returns-in-Err-clause-ran g c =
       in_order = so_far.in_order ∙ ap (λ (l : List (ShardStep g.row.K.Denot g.row.V.Denot g.row.A.Denot)). map (λ d. d.0) so_far.front ++ l) (ap reverse c.in-Some.ensures.items ∙ sym put);
       answers = so_far.answers;
       taken = subst (λ (a : At). Runs m (contents c.args.self.now) (map (answered g.A.Action.acts) so_far.front) (contents a)) (sym refused.1) so_far.taken;
-      stops = refused-first m g.A.Action.acts c.pop.new.self.items rest c.in-Some.step c.in-Err.fault put (subst (λ (r : Rules g.row.K.Denot g.row.V.Denot). (c.in-Err.fault ≡ NoSuchShard) ↔ (r.keys.shards ≤ place r.keys (step_of g.A.Action.acts c.in-Some.step))) known c.in-Err.ensures.fault);
+      stops = refused-first m g.A.Action.acts c.pop.new.self.items rest c.in-Some.step c.in-Err.fault put (subst (λ (r : Rules g.row.K.Denot g.row.V.Denot). (c.in-Err.fault ≡ NoSuchShard) ↔ (r.keys.shards ≤ step_shard r.keys (step_of g.A.Action.acts c.in-Some.step))) known c.in-Err.ensures.fault);
     }

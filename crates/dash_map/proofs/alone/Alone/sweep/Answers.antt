@@ -2,7 +2,7 @@ use Rattle.std.proofs.Common.{rules, ◌<◌, Some, sym, ap, subst, ◌∙◌, l
 use Rattle.std.proofs.lemmas.Option.{slice_get-get_or}
 use Rattle.dash_shard.specs.Shard.{pairs}
 use Rattle.dash_shard.specs.Steps.{Retain, Done}
-use Rattle.dash_history.specs.Sweep.{keeping}
+use Rattle.dash_history.specs.inner.Sweep.{keeping}
 use Rattle.dash_history.specs.Takes.{Takes}
 use Rattle.dash_map.specs.Alone.{AloneState, contents}
 use Rattle.dash_map.specs.Run.{rules_in}
@@ -15,27 +15,27 @@ use Rattle.dash_shard.specs.Hashing.{key_hash}
 pub invariant_of-self : goal.invariant_of-self
 invariant_of-self g c =
     let row = c.self.inside.row in
-    let within : c.args.shard < length row.items = omega (arith, c.if-shard-len.false, c.len.ensures, row.ok.0) in
-    let here = slice_get-get_or row.items c.args.shard c.index_mut.result.now within ∙ ap Some (sym c.index_mut.ensures.value) in
+    let within : c.args.shard < length row = omega (arith, c.if-shard-len.false, c.len.ensures) in
+    let here = slice_get-get_or row c.args.shard c.index_mut.result.now within ∙ ap Some (sym c.index_mut.ensures.value) in
     let x = c.retain.ensures in
-    (alone-set (key_hash g.K.PartialEq.eq g.K.Hash.hash_input g.S.BuildHasher g.S.Hasher.Hasher) _ c.args.shard row.items c.index_mut.result.now c.retain.new.self c.self.invariant.0 here x.retains.does.taken.stays x.lawful, c.self.invariant.1, c.self.invariant.2)
+    alone-set (key_hash g.K.PartialEq.eq g.K.Hash.hash_input g.S.BuildHasher g.S.Hasher.Hasher) _ c.args.shard row c.index_mut.result.now c.retain.new.self c.self.invariant here x.retains.does.taken.stays x.lawful
 
 pub returns-clause-lawful : goal.returns-clause-lawful
 returns-clause-lawful g c =
     let row = c.self.inside.row in
-    let within : c.args.shard < length row.items = omega (arith, c.if-shard-len.false, c.len.ensures, row.ok.0) in
-    let here = slice_get-get_or row.items c.args.shard c.index_mut.result.now within ∙ ap Some (sym c.index_mut.ensures.value) in
+    let within : c.args.shard < length row = omega (arith, c.if-shard-len.false, c.len.ensures) in
+    let here = slice_get-get_or row c.args.shard c.index_mut.result.now within ∙ ap Some (sym c.index_mut.ensures.value) in
     let x = c.retain.ensures in
-    alone-set (key_hash g.K.PartialEq.eq g.K.Hash.hash_input g.S.BuildHasher g.S.Hasher.Hasher) _ c.args.shard row.items c.index_mut.result.now c.retain.new.self c.self.invariant.0 here x.retains.does.taken.stays x.lawful
+    alone-set (key_hash g.K.PartialEq.eq g.K.Hash.hash_input g.S.BuildHasher g.S.Hasher.Hasher) _ c.args.shard row c.index_mut.result.now c.retain.new.self c.self.invariant here x.retains.does.taken.stays x.lawful
 
 pub returns-clause-taken : goal.returns-clause-taken
 returns-clause-taken g c =
     let At : Type 0 = AloneState g.row.K.Denot g.row.V.Denot g.row.S.Denot in
     let row = c.self.inside.row in
-    let a : At = record { hasher = c.self.inside.hasher; row = row.items } in
+    let a : At = record { hasher = c.self.inside.hasher; row = row } in
     let f = keeping c.args.all (g.A.Action.acts c.args.action.now) in
-    let within : c.args.shard < length row.items = omega (arith, c.if-shard-len.false, c.len.ensures, row.ok.0) in
-    let here = slice_get-get_or row.items c.args.shard c.index_mut.result.now within ∙ ap Some (sym c.index_mut.ensures.value) in
-    subst (λ (x : At). Takes (rules_in (key_hash g.K.PartialEq.eq g.K.Hash.hash_input g.S.BuildHasher g.S.Hasher.Hasher) g.K.Kept.alike g.V.Kept.alike x) (contents x) (Retain c.args.shard f) Done (flat_map pairs (slice_set row.items c.args.shard c.retain.new.self))) c.self.view_is
-    (takes-sweep _ _ _ (lawful-of g.S.BuildHasher g.S.Hasher.Hasher g.met.K.Eq.laws g.met.K.Hash.respects_eq) g.met.K.Kept.alike_laws g.met.V.Kept.alike_laws g.met.K.KeptKey.alike_equal a c.args.shard c.index_mut.result.now c.retain.new.self c.self.invariant.0 here c.retain.ensures.retains c.retain.ensures.lawful f
+    let within : c.args.shard < length row = omega (arith, c.if-shard-len.false, c.len.ensures) in
+    let here = slice_get-get_or row c.args.shard c.index_mut.result.now within ∙ ap Some (sym c.index_mut.ensures.value) in
+    subst (λ (x : At). Takes (rules_in (key_hash g.K.PartialEq.eq g.K.Hash.hash_input g.S.BuildHasher g.S.Hasher.Hasher) g.K.Kept.alike g.V.Kept.alike x) (contents x) (Retain c.args.shard f) Done (flat_map pairs (slice_set row c.args.shard c.retain.new.self))) c.self.view_is
+    (takes-sweep _ _ _ (lawful-of g.S.BuildHasher g.S.Hasher.Hasher g.met.K.Eq.laws g.met.K.Hash.respects_eq) g.met.K.Kept.alike_laws g.met.V.Kept.alike_laws g.met.K.KeptKey.alike_equal a c.args.shard c.index_mut.result.now c.retain.new.self c.self.invariant here c.retain.ensures.retains c.retain.ensures.lawful f
     (λ k v yes new y called. search rules))

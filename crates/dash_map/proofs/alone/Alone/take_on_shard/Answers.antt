@@ -1,11 +1,11 @@
-use Rattle.std.proofs.Common.{ℕ, true, List, subst}
+use Rattle.std.proofs.Common.{ℕ, true, List}
 use Rattle.std.proofs.lemmas.Result.{IfOk-weaker, MatchResult-weaker}
 use Rattle.dash_shard.specs.Steps.{Act, Reply, Retain, AlterAll}
 use Rattle.dash_history.specs.Steps.{reply_of}
-use Rattle.dash_history.specs.Sweep.{keeping}
+use Rattle.dash_history.specs.inner.Sweep.{keeping}
 use Rattle.dash_history.specs.Takes.{Rules, Takes}
 use Rattle.dash_map.specs.Run.{rules_in}
-use Rattle.dash_map.specs.Alone.{AloneState, IsAlone, contents}
+use Rattle.dash_map.specs.Alone.{contents}
 use Rattle.dash_shard.specs.Hashing.{key_hash}
 use Rattle.dash_map.proofs.alone.Alone.take_on_shard.Goals as goal
 
@@ -24,21 +24,11 @@ returns-in-Read-clause-taken g c = rw c.in-Read.is c.read.ensures.taken
 pub returns-in-Read-clause-fault : goal.returns-in-Read-clause-fault
 returns-in-Read-clause-fault g c = rw c.in-Read.is c.read.ensures.fault
 
-pub returns-in-Read-clause-lawful : goal.returns-in-Read-clause-lawful
-returns-in-Read-clause-lawful g c =
-    let At : Type 0 = AloneState g.row.K.Denot g.row.V.Denot g.row.S.Denot in
-    subst (λ (x : At). IsAlone (key_hash g.K.PartialEq.eq g.K.Hash.hash_input g.S.BuildHasher g.S.Hasher.Hasher) x) c.self.view_is c.self.invariant.0
-
 pub returns-in-Count-clause-taken : goal.returns-in-Count-clause-taken
 returns-in-Count-clause-taken g c = rw c.in-Count.is c.count.ensures.taken
 
 pub returns-in-Count-clause-fault : goal.returns-in-Count-clause-fault
 returns-in-Count-clause-fault g c = rw c.in-Count.is c.count.ensures.fault
-
-pub returns-in-Count-clause-lawful : goal.returns-in-Count-clause-lawful
-returns-in-Count-clause-lawful g c =
-    let At : Type 0 = AloneState g.row.K.Denot g.row.V.Denot g.row.S.Denot in
-    subst (λ (x : At). IsAlone (key_hash g.K.PartialEq.eq g.K.Hash.hash_input g.S.BuildHasher g.S.Hasher.Hasher) x) c.self.view_is c.self.invariant.0
 
 pub returns-in-AlterAll-clause-taken : goal.returns-in-AlterAll-clause-taken
 returns-in-AlterAll-clause-taken g c =

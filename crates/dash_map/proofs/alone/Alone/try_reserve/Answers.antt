@@ -7,31 +7,29 @@ use Rattle.dash_shard.specs.Hashing.{key_hash}
 
 pub returns-in_err-try_reserve : goal.returns-in_err-try_reserve
 returns-in_err-try_reserve g c =
-    let row = c.loop-place.self-inside.row.items in
-    let i = c.loop-place.place in
+    let row = c.loop-idx.self-inside.row in
+    let i = c.loop-idx.idx in
     let s = c.index_mut.result.now in
-    let within : i < length row = omega (arith, c.loop-place.invariant.end) in
+    let within : i < length row = omega (arith, c.loop-idx.invariant.end) in
     let here : slice_get row i ≡ Some s = slice_get-get_or row i s within ∙ ap Some (sym c.index_mut.ensures.value) in
     let x = c.try_reserve.ensures in
     record {
-      reserves = refused (key_hash g.K.PartialEq.eq g.K.Hash.hash_input g.S.BuildHasher g.S.Hasher.Hasher) c.args.additional i c.args.self.now c.loop-place.self-inside.hasher row c.loop-place.invariant.so_far s c.try_reserve.new.self here x.reserves.stays x.lawful x.reserves.pairs c.from_residual.result c.from_residual.ensures.0;
-      lawful = (turned (key_hash g.K.PartialEq.eq g.K.Hash.hash_input g.S.BuildHasher g.S.Hasher.Hasher) c.args.additional i c.args.self.now c.loop-place.self-inside.hasher row c.loop-place.invariant.so_far s c.try_reserve.new.self here x.reserves.stays x.lawful x.reserves.pairs).lawful;
+      reserves = refused (key_hash g.K.PartialEq.eq g.K.Hash.hash_input g.S.BuildHasher g.S.Hasher.Hasher) c.args.additional i c.args.self.now c.loop-idx.self-inside.hasher row c.loop-idx.invariant.so_far s c.try_reserve.new.self here x.reserves.stays x.lawful x.reserves.pairs c.from_residual.result c.from_residual.ensures.0;
+      lawful = (turned (key_hash g.K.PartialEq.eq g.K.Hash.hash_input g.S.BuildHasher g.S.Hasher.Hasher) c.args.additional i c.args.self.now c.loop-idx.self-inside.hasher row c.loop-idx.invariant.so_far s c.try_reserve.new.self here x.reserves.stays x.lawful x.reserves.pairs).lawful;
     }
 
-pub loop-place-preserved : goal.loop-place-preserved
-loop-place-preserved g c =
-    let row = c.loop-place.self-inside.row.items in
-    let i = c.loop-place.place in
+pub loop-idx-preserved : goal.loop-idx-preserved
+loop-idx-preserved g c =
+    let row = c.loop-idx.self-inside.row in
+    let i = c.loop-idx.idx in
     let s = c.index_mut.result.now in
-    let within : i < length row = omega (arith, c.loop-place.invariant.end) in
+    let within : i < length row = omega (arith, c.loop-idx.invariant.end) in
     let here : slice_get row i ≡ Some s = slice_get-get_or row i s within ∙ ap Some (sym c.index_mut.ensures.value) in
     let x = c.in_ok-try_reserve.ensures in
     record {
-      so_far = reserved (key_hash g.K.PartialEq.eq g.K.Hash.hash_input g.S.BuildHasher g.S.Hasher.Hasher) c.args.additional i c.args.self.now c.loop-place.self-inside.hasher row c.loop-place.invariant.so_far s c.try_reserve.new.self here x.reserves.stays x.lawful x.reserves.pairs x.reserves.room;
-      end = c.loop-place.invariant.end ∙ sym (length-set row i c.try_reserve.new.self);
-      locks = c.loop-place.invariant.locks;
-      room = c.loop-place.invariant.room;
+      so_far = reserved (key_hash g.K.PartialEq.eq g.K.Hash.hash_input g.S.BuildHasher g.S.Hasher.Hasher) c.args.additional i c.args.self.now c.loop-idx.self-inside.hasher row c.loop-idx.invariant.so_far s c.try_reserve.new.self here x.reserves.stays x.lawful x.reserves.pairs x.reserves.room;
+      end = c.loop-idx.invariant.end ∙ sym (length-set row i c.try_reserve.new.self);
     }
 
 pub returns-clause-reserves : goal.returns-clause-reserves
-returns-clause-reserves g c = all-reserved (key_hash g.K.PartialEq.eq g.K.Hash.hash_input g.S.BuildHasher g.S.Hasher.Hasher) c.args.additional c.loop-place.place c.args.self.now _ c.loop-place.invariant.so_far (omega (arith, c.loop-place.invariant.end))
+returns-clause-reserves g c = all-reserved (key_hash g.K.PartialEq.eq g.K.Hash.hash_input g.S.BuildHasher g.S.Hasher.Hasher) c.args.additional c.loop-idx.idx c.args.self.now _ c.loop-idx.invariant.so_far (omega (arith, c.loop-idx.invariant.end))

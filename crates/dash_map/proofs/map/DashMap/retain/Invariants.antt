@@ -1,8 +1,8 @@
 use Rattle.std.specs.Map.Calls.{CalledAtPair, TakesPair}
-use Rattle.dash_shard.specs.Each.{if_kept}
+use Rattle.dash_shard.specs.inner.Walks.{if_kept}
 use Rattle.dash_map.proofs.Leaving.{Going}
 use Rattle.dash_map.proofs.map.DashMap.retain.Given as goal
 use Rattle.dash_shard.specs.Hashing.{key_hash}
 
-abbrev pub invariant-loop-place : goal.invariant-loop-place
-invariant-loop-place g l = Going (key_hash g.K.PartialEq.eq g.K.Hash.hash_input g.S.BuildHasher g.S.Hasher.Hasher) l.self (CalledAtPair g.F.FnMut) (TakesPair g.F.FnMut) if_kept l.fn.f l.place l.f
+abbrev pub invariant-loop-idx : goal.invariant-loop-idx
+invariant-loop-idx g l = Going (key_hash g.K.PartialEq.eq g.K.Hash.hash_input g.S.BuildHasher g.S.Hasher.Hasher) l.self (CalledAtPair g.F.FnMut) (TakesPair g.F.FnMut) if_kept l.fn.f l.idx l.f

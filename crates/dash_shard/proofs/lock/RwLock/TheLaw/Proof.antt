@@ -2,7 +2,7 @@
 use Rattle.dash_shard.proofs.Walking.{[], ◌++◌, ◌≡◌, ℕ, ◌+◌, ◌-◌, ◌^◌, ◌<◌, ◌≤◌, List, ◌∷◌, sym, subst, refl, arith, dite, ℕ_discrete, dec_le, Ura, Ty, full_share, Counts-all, gnum, SProp, ent, sep, wand, ex, emp, upd_i, via, apply∗, id⊢, Lft, GName, Share, Incl, Fml, ftrue, fsep, fseps, fex, fwand, fupd, fdead, fbor, flft, finv, fobs, Incl-refl, Incl-trans, before, meet_⊑_left, Toks, span, Logic, sem, lfts, ‵, raw, ◌⊛◌, some, later, ◌$◌, ◌∵◌, !, qed, move, keep, group, use0, use1, use2, split, split3, fsplit, fsplit3, fjoin, fjoin3, fpick, fpack, pick, assume, suffices, await, updating, now, rewrite, done, bor_open, obor_alter, name_new, one_token, out, before-Incl, basic, own_new, RattleType, Lawful, part_at, block_ptr, nothing, Shares, ends, some_shr_laws, beside_shr_laws, ends_shr_laws, always_shr_laws, layout, Laws, Member, row_of, Law, word, by_one}
 use base.Share
 use denote.Sharing.{always}
-use Rattle.dash_shard.specs.Holding.{most, count, rounds, names, parts, Fixed, Phase, away, shared, offset, cell, begun, state, State, Inv, kept, lock_shares}
+use Rattle.dash_shard.specs.inner.Holding.{most, count, rounds, names, parts, Fixed, Phase, away, shared, offset, cell, begun, state, State, Inv, kept, lock_shares}
 use Rattle.dash_shard.specs.declared.lock.Tagged.{Ghosts}
 use Rattle.dash_shard.specs.contracts.lock.RwLock as C
 use Rattle.dash_shard.proofs.lock.RwLock.TheLaw.Statement.{statement}

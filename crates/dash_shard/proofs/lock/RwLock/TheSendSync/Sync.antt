@@ -4,7 +4,7 @@ use base.Shift.{Keyless}
 use denote.RattleType.{RattleType}
 use denote.Param.Send.{IsSend, IsSync, part_keyless}
 use Rattle.core.proofs.atomic.Sent.{chain-Keyless}
-use Rattle.dash_shard.specs.Holding.{Fixed, Phase, away, shared, offset, state}
+use Rattle.dash_shard.specs.inner.Holding.{Fixed, Phase, away, shared, offset, state}
 use Rattle.dash_shard.specs.declared.lock.Tagged.{Ghosts}
 use Rattle.dash_shard.specs.contracts.lock.RwLock.{the_row}
 

@@ -1,6 +1,6 @@
 -- `get` turns the `&mut` into a `&` of the value.
 use Rattle.dash_shard.proofs.Walking.{[], ◌++◌, ℕ, ◌+◌, List, ◌∷◌, refl, dcons, dnil, a_type, named, Val, vptr, inst_fn, full_share, emp, SProp, id⊢, Lft, Share, Fml, ftrue, fsep, flft, fbor, fobs, Incl-refl, Incl-trans, ‵, raw, ◌⊛◌, later, ◌$◌, ◌∵◌, !, qed, by, move, keep, drop, split, split3, join, fsplit, fsplit3, fjoin, fpick, use0, use1, use3, group, await, feq_i, stop, fld, addr, returns, enter, alloc_all, pass_all, free_all, look_at, through, sets, tables, fact, fact_i, ◌⊑◌, ⊑_meet, ⊑_static, meet_⊑_left, meet_⊑_right, no, RattleType, owns, types_at, plain, nothing, heard, part_at, hidden_shr, param, bounded, param_laws, Stays, stay_dropped, walk_of, proved, leaves, mut_vals, mut_Tells, RefMutOf, mem, settles, Goes-spent_ref}
-use Rattle.dash_shard.specs.Holding.{offset}
+use Rattle.dash_shard.specs.inner.Holding.{offset}
 use Rattle.dash_shard.specs.contracts.lock.RwLock as lock
 use Rattle.dash_shard.proofs.LockShown as shown
 use Rattle.dash_shard.specs.contracts.lock.RwLock.get.{ended, clauses}

@@ -12,7 +12,7 @@ pub returns : goal.returns
 returns g c =
     let r = c.alter_all.ensures in
     record {
-      alters = alters _ (lawful-of g.S.BuildHasher g.S.Hasher.Hasher g.met.K.Eq.laws g.met.K.Hash.respects_eq) _ _ _ c.self.inside.table c.alter_all.new.self c.self.invariant (CalledOnPair g.F.FnMut) c.args.f (_, r.swept) r.places _ c.self.view_is;
+      alters = alters _ (lawful-of g.S.BuildHasher g.S.Hasher.Hasher g.met.K.Eq.laws g.met.K.Hash.respects_eq) _ _ _ c.self.inside.table c.alter_all.new.self c.self.invariant (CalledOnPair g.F.FnMut) c.args.f (_, r.swept) r.slots _ c.self.view_is;
       len = as-many _ (lawful-of g.S.BuildHasher g.S.Hasher.Hasher g.met.K.Eq.laws g.met.K.Hash.respects_eq) _ _ _ c.self.inside.table c.alter_all.new.self c.self.invariant (CalledOnPair g.F.FnMut) c.args.f (_, r.swept) _ c.self.view_is;
       lawful = altered-shard _ (lawful-of g.S.BuildHasher g.S.Hasher.Hasher g.met.K.Eq.laws g.met.K.Hash.respects_eq) _ _ _ c.self.inside.table c.alter_all.new.self c.self.invariant (CalledOnPair g.F.FnMut) c.args.f (_, r.swept);
     }

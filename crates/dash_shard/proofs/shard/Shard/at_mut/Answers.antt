@@ -1,5 +1,5 @@
 use Rattle.std.proofs.Common.{refl, sym, ap, subst, ◌∙◌}
-use Rattle.dash_shard.specs.Shard.{place, with_value_in, IsShard}
+use Rattle.dash_shard.specs.Shard.{slot, with_value_in, IsShard}
 use Rattle.dash_shard.proofs.Lending.{lent-inside, lent-state}
 use Rattle.dash_shard.proofs.shard.Shard.at_mut.Goals as goal
 use Rattle.dash_shard.proofs.Lawful.{lawful-of}
@@ -14,7 +14,7 @@ returns g c =
       (refl, λ w. lent-state _ (lawful-of g.S.BuildHasher g.S.Hasher.Hasher g.met.K.Eq.laws g.met.K.Hash.respects_eq) _ _ _ c.self.inside.table c.self.invariant i w ∙ ap (λ s. with_value_in s i w) c.self.view_is),
       record {
         writes_back = tt;
-        pair = ap (λ s. place s.places i) (sym c.self.view_is) ∙ c.pair_mut.ensures.pair;
+        pair = ap (λ s. slot s.slots i) (sym c.self.view_is) ∙ c.pair_mut.ensures.pair;
         lawful = subst (IsShard (key_hash g.K.PartialEq.eq g.K.Hash.hash_input g.S.BuildHasher g.S.Hasher.Hasher)) c.self.view_is c.self.invariant.shard;
       },
     )

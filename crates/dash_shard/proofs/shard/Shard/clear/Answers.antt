@@ -11,6 +11,6 @@ pub returns : goal.returns
 returns g c =
     let r = c.clear.ensures in
     record {
-      clears = clears _ (lawful-of g.S.BuildHasher g.S.Hasher.Hasher g.met.K.Eq.laws g.met.K.Hash.respects_eq) _ _ _ c.self.inside.table c.clear.new.self c.self.invariant r.pairs r.places _ c.self.view_is;
+      clears = clears _ (lawful-of g.S.BuildHasher g.S.Hasher.Hasher g.met.K.Eq.laws g.met.K.Hash.respects_eq) _ _ _ c.self.inside.table c.clear.new.self c.self.invariant r.pairs r.slots _ c.self.view_is;
       lawful = cleared-shard _ (lawful-of g.S.BuildHasher g.S.Hasher.Hasher g.met.K.Eq.laws g.met.K.Hash.respects_eq) _ _ _ c.self.inside.table c.clear.new.self c.self.invariant r.pairs;
     }

@@ -17,7 +17,7 @@ returns-in-Some g c =
     let r = c.replace.ensures in
     let found = c.in-Some.ensures.found in
     let i = replaced _ (lawful-of g.S.BuildHasher g.S.Hasher.Hasher g.met.K.Eq.laws g.met.K.Hash.respects_eq) _ _ _ c.self.inside.table c.self.invariant _ _ c.self.view_is c.requires.route c.args.value c.replace.new.self _ found r.pairs r.hashes r.len r.table in
-    let room = r.places ∙ ap (λ s. s.capacity) c.self.view_is in
+    let room = r.slots ∙ ap (λ s. s.capacity) c.self.view_is in
     record {
       inserts = rw (r.old ∙ ap (λ o. option_map (λ p. p.1) o) found.is) (inserts _ (lawful-of g.S.BuildHasher g.S.Hasher.Hasher g.met.K.Eq.laws g.met.K.Hash.respects_eq) _ _ _ _ _ _ _ _ _ c.self.view_is i (λ _. room));
       lawful = i.inside.shard;
@@ -54,6 +54,6 @@ returns g c =
     c.args.key _ c.self.view_is c.requires.route c.args.value c.push.new.self c.args.hash m.ok (hash-same (lawful-of g.S.BuildHasher g.S.Hasher.Hasher g.met.K.Eq.laws g.met.K.Hash.respects_eq) c.args.key _ _ c.self.view_is c.args.hash c.requires.hash) c.in_default.ensures.absent p.pairs p.hashes p.len p.table in
     record {
       inserts = inserts _ (lawful-of g.S.BuildHasher g.S.Hasher.Hasher g.met.K.Eq.laws g.met.K.Hash.respects_eq) _ _ _ _ _ _ _ _ _ c.self.view_is i
-          (λ room. p.places ∙ ap length (m.kept (omega (arith, c.self.invariant.counted, subst (λ x. shard_len x < x.capacity) (sym c.self.view_is) room))) ∙ ap (λ s. s.capacity) c.self.view_is);
+          (λ room. p.slots ∙ ap length (m.kept (omega (arith, c.self.invariant.counted, subst (λ x. shard_len x < x.capacity) (sym c.self.view_is) room))) ∙ ap (λ s. s.capacity) c.self.view_is);
       lawful = i.inside.shard;
     }

@@ -3,14 +3,13 @@ use Rattle.std.specs.Prelude.{IfSome}
 use Rattle.dash_shard.specs.Shard.{HasKey}
 use Rattle.dash_shard.specs.Closures.{ChangesOn}
 use Rattle.dash_shard.proofs.Altering.{idle, to, unremoved, altered-inside, gone-inside, gone-changed, stays-changed, stood, gone-len, as-many}
-use Rattle.dash_shard.proofs.Rewriting.{holds-pair, valued-rewritten, valued-place}
+use Rattle.dash_shard.proofs.Rewriting.{holds-pair, valued-rewritten, valued-slot}
 use Rattle.dash_shard.proofs.shard.Shard.remove_if_mut_hashed.Goals as goal
 use Rattle.dash_shard.proofs.Lawful.{lawful-of}
-use Rattle.dash_shard.specs.Hashing.{key_hash}
 
-pub returns-in_err-place : goal.returns-in_err-place
-returns-in_err-place g c =
-    let none = c.in_err-place.ensures.finds.absent.0 refl in
+pub returns-in_err-slot : goal.returns-in_err-slot
+returns-in_err-slot g c =
+    let none = c.in_err-slot.ensures.finds.absent.0 refl in
     record {
       removes = rw c.from_residual.ensures (
         idle,
@@ -18,61 +17,61 @@ returns-in_err-place g c =
         subst (λ o. IfSome o (λ p. ChangesOn g.F.FnOnce c.args.f p (p.1, false))) (sym none) tt,
       );
       len = rw c.from_residual.ensures (sym (add-zero _));
-      lawful = c.in_err-place.ensures.lawful;
+      lawful = c.in_err-slot.ensures.lawful;
     }
 
 pub take-requires-clause-table : goal.take-requires-clause-table
-take-requires-clause-table g c = (valued-rewritten c.self.inside.table c.in_ok-place.place _ c.f.new.arg3 c.self.invariant.table c.pair_mut-value.ensures.pair).table
+take-requires-clause-table g c = (valued-rewritten c.self.inside.table c.in_ok-slot.slot _ c.f.new.arg3 c.self.invariant.table c.pair_mut-value.ensures.pair).table
 
 pub take-requires-clause-taken : goal.take-requires-clause-taken
-take-requires-clause-taken g c = ap is_some (valued-place c.self.inside.table c.in_ok-place.place _ c.f.new.arg3 c.self.invariant.table c.pair_mut-value.ensures.pair)
+take-requires-clause-taken g c = ap is_some (valued-slot c.self.inside.table c.in_ok-slot.slot _ c.f.new.arg3 c.self.invariant.table c.pair_mut-value.ensures.pair)
 
 pub invariant_of-self : goal.invariant_of-self
 invariant_of-self g c =
     let t = c.self.inside.table in
     let there = c.pair_mut-value.ensures.pair in
-    let found = holds-pair g.K.PartialEq.eq t.nodes.items c.args.key.now c.in_ok-place.place _ there (subst (λ s. HasKey g.K.PartialEq.eq s c.args.key.now c.in_ok-place.place) (sym c.self.view_is) ((c.in_ok-place.ensures.finds.position c.in_ok-place.place).0 refl)) in
+    let found = holds-pair g.K.PartialEq.eq t.nodes.items c.args.key.now c.in_ok-slot.slot _ there (subst (λ s. HasKey g.K.PartialEq.eq s c.args.key.now c.in_ok-slot.slot) (sym c.self.view_is) ((c.in_ok-slot.ensures.finds.position c.in_ok-slot.slot).0 refl)) in
     let r = c.take.ensures in
-    gone-inside _ (lawful-of g.S.BuildHasher g.S.Hasher.Hasher g.met.K.Eq.laws g.met.K.Hash.respects_eq) _ _ _ _ _ c.self.invariant _ c.in_ok-place.place found _ c.self.view_is c.requires.route c.f.new.arg3 _ (valued-rewritten t c.in_ok-place.place _ c.f.new.arg3 c.self.invariant.table there) r.pairs r.hashes r.len r.table
+    gone-inside _ (lawful-of g.S.BuildHasher g.S.Hasher.Hasher g.met.K.Eq.laws g.met.K.Hash.respects_eq) _ _ _ _ _ c.self.invariant _ c.in_ok-slot.slot found _ c.self.view_is c.requires.route c.f.new.arg3 _ (valued-rewritten t c.in_ok-slot.slot _ c.f.new.arg3 c.self.invariant.table there) r.pairs r.hashes r.len r.table
 
 pub returns-then-f : goal.returns-then-f
 returns-then-f g c =
     let t = c.self.inside.table in
     let there = c.pair_mut-value.ensures.pair in
-    let found = holds-pair g.K.PartialEq.eq t.nodes.items c.args.key.now c.in_ok-place.place _ there (subst (λ s. HasKey g.K.PartialEq.eq s c.args.key.now c.in_ok-place.place) (sym c.self.view_is) ((c.in_ok-place.ensures.finds.position c.in_ok-place.place).0 refl)) in
+    let found = holds-pair g.K.PartialEq.eq t.nodes.items c.args.key.now c.in_ok-slot.slot _ there (subst (λ s. HasKey g.K.PartialEq.eq s c.args.key.now c.in_ok-slot.slot) (sym c.self.view_is) ((c.in_ok-slot.ensures.finds.position c.in_ok-slot.slot).0 refl)) in
     let r = c.take.ensures in
-    let gone = gone-changed _ (lawful-of g.S.BuildHasher g.S.Hasher.Hasher g.met.K.Eq.laws g.met.K.Hash.respects_eq) _ _ _ _ _ c.self.invariant _ c.in_ok-place.place found _ c.self.view_is c.requires.route c.f.new.arg3 _ (valued-rewritten t c.in_ok-place.place _ c.f.new.arg3 c.self.invariant.table there) r.pairs r.hashes r.len r.table in
+    let gone = gone-changed _ (lawful-of g.S.BuildHasher g.S.Hasher.Hasher g.met.K.Eq.laws g.met.K.Hash.respects_eq) _ _ _ _ _ c.self.invariant _ c.in_ok-slot.slot found _ c.self.view_is c.requires.route c.f.new.arg3 _ (valued-rewritten t c.in_ok-slot.slot _ c.f.new.arg3 c.self.invariant.table there) r.pairs r.hashes r.len r.table in
     record {
       removes = (
         to c.f.new.arg3 true,
-        rw (sym r.old ∙ valued-place t c.in_ok-place.place _ c.f.new.arg3 c.self.invariant.table there) gone,
-        stood _ (lawful-of g.S.BuildHasher g.S.Hasher.Hasher g.met.K.Eq.laws g.met.K.Hash.respects_eq) _ _ _ _ t c.self.invariant _ c.in_ok-place.place found _ c.self.view_is (λ p. ChangesOn g.F.FnOnce c.args.f p (c.f.new.arg3, true))
-            (record { key = c.pair_mut-value.result.0; value = c.pair_mut-value.result.1; shows = (refl, refl); left = _; leaves = refl; says = c.if-f.ensures }),
+        rw (sym r.old ∙ valued-slot t c.in_ok-slot.slot _ c.f.new.arg3 c.self.invariant.table there) gone,
+        stood _ (lawful-of g.S.BuildHasher g.S.Hasher.Hasher g.met.K.Eq.laws g.met.K.Hash.respects_eq) _ _ _ _ t c.self.invariant _ c.in_ok-slot.slot found _ c.self.view_is (λ p. ChangesOn g.F.FnOnce c.args.f p (c.f.new.arg3, true))
+            (c.pair_mut-value.result.0, c.pair_mut-value.result.1, _, refl, refl, refl, c.if-f.ensures),
       );
-      len = gone-len _ (lawful-of g.S.BuildHasher g.S.Hasher.Hasher g.met.K.Eq.laws g.met.K.Hash.respects_eq) _ _ _ _ _ c.self.invariant _ c.in_ok-place.place found _ c.self.view_is c.requires.route c.f.new.arg3 _ (valued-rewritten t c.in_ok-place.place _ c.f.new.arg3 c.self.invariant.table there) r.pairs r.hashes r.len r.table;
-      lawful = (gone-inside _ (lawful-of g.S.BuildHasher g.S.Hasher.Hasher g.met.K.Eq.laws g.met.K.Hash.respects_eq) _ _ _ _ _ c.self.invariant _ c.in_ok-place.place found _ c.self.view_is c.requires.route c.f.new.arg3 _ (valued-rewritten t c.in_ok-place.place _ c.f.new.arg3 c.self.invariant.table there) r.pairs r.hashes r.len r.table).shard;
+      len = gone-len _ (lawful-of g.S.BuildHasher g.S.Hasher.Hasher g.met.K.Eq.laws g.met.K.Hash.respects_eq) _ _ _ _ _ c.self.invariant _ c.in_ok-slot.slot found _ c.self.view_is c.requires.route c.f.new.arg3 _ (valued-rewritten t c.in_ok-slot.slot _ c.f.new.arg3 c.self.invariant.table there) r.pairs r.hashes r.len r.table;
+      lawful = (gone-inside _ (lawful-of g.S.BuildHasher g.S.Hasher.Hasher g.met.K.Eq.laws g.met.K.Hash.respects_eq) _ _ _ _ _ c.self.invariant _ c.in_ok-slot.slot found _ c.self.view_is c.requires.route c.f.new.arg3 _ (valued-rewritten t c.in_ok-slot.slot _ c.f.new.arg3 c.self.invariant.table there) r.pairs r.hashes r.len r.table).shard;
     }
 
 pub invariant_of-self-else-f : goal.invariant_of-self-else-f
 invariant_of-self-else-f g c =
     let t = c.self.inside.table in
     let there = c.pair_mut-value.ensures.pair in
-    let found = holds-pair g.K.PartialEq.eq t.nodes.items c.args.key.now c.in_ok-place.place _ there (subst (λ s. HasKey g.K.PartialEq.eq s c.args.key.now c.in_ok-place.place) (sym c.self.view_is) ((c.in_ok-place.ensures.finds.position c.in_ok-place.place).0 refl)) in
-    altered-inside _ (lawful-of g.S.BuildHasher g.S.Hasher.Hasher g.met.K.Eq.laws g.met.K.Hash.respects_eq) _ _ _ _ _ c.self.invariant _ c.in_ok-place.place found _ c.self.view_is c.f.new.arg3 (valued-rewritten t c.in_ok-place.place _ c.f.new.arg3 c.self.invariant.table there)
+    let found = holds-pair g.K.PartialEq.eq t.nodes.items c.args.key.now c.in_ok-slot.slot _ there (subst (λ s. HasKey g.K.PartialEq.eq s c.args.key.now c.in_ok-slot.slot) (sym c.self.view_is) ((c.in_ok-slot.ensures.finds.position c.in_ok-slot.slot).0 refl)) in
+    altered-inside _ (lawful-of g.S.BuildHasher g.S.Hasher.Hasher g.met.K.Eq.laws g.met.K.Hash.respects_eq) _ _ _ _ _ c.self.invariant _ c.in_ok-slot.slot found _ c.self.view_is c.f.new.arg3 (valued-rewritten t c.in_ok-slot.slot _ c.f.new.arg3 c.self.invariant.table there)
 
 pub returns : goal.returns
 returns g c =
     let t = c.self.inside.table in
     let there = c.pair_mut-value.ensures.pair in
-    let found = holds-pair g.K.PartialEq.eq t.nodes.items c.args.key.now c.in_ok-place.place _ there (subst (λ s. HasKey g.K.PartialEq.eq s c.args.key.now c.in_ok-place.place) (sym c.self.view_is) ((c.in_ok-place.ensures.finds.position c.in_ok-place.place).0 refl)) in
-    let r = valued-rewritten t c.in_ok-place.place _ c.f.new.arg3 c.self.invariant.table there in
+    let found = holds-pair g.K.PartialEq.eq t.nodes.items c.args.key.now c.in_ok-slot.slot _ there (subst (λ s. HasKey g.K.PartialEq.eq s c.args.key.now c.in_ok-slot.slot) (sym c.self.view_is) ((c.in_ok-slot.ensures.finds.position c.in_ok-slot.slot).0 refl)) in
+    let r = valued-rewritten t c.in_ok-slot.slot _ c.f.new.arg3 c.self.invariant.table there in
     record {
       removes = (
         to c.f.new.arg3 false,
-        stays-changed _ (lawful-of g.S.BuildHasher g.S.Hasher.Hasher g.met.K.Eq.laws g.met.K.Hash.respects_eq) _ _ _ _ _ c.self.invariant _ c.in_ok-place.place found _ c.self.view_is c.f.new.arg3 r,
-        stood _ (lawful-of g.S.BuildHasher g.S.Hasher.Hasher g.met.K.Eq.laws g.met.K.Hash.respects_eq) _ _ _ _ t c.self.invariant _ c.in_ok-place.place found _ c.self.view_is (λ p. ChangesOn g.F.FnOnce c.args.f p (c.f.new.arg3, false))
-            (record { key = c.pair_mut-value.result.0; value = c.pair_mut-value.result.1; shows = (refl, refl); left = _; leaves = refl; says = c.if-f.ensures }),
+        stays-changed _ (lawful-of g.S.BuildHasher g.S.Hasher.Hasher g.met.K.Eq.laws g.met.K.Hash.respects_eq) _ _ _ _ _ c.self.invariant _ c.in_ok-slot.slot found _ c.self.view_is c.f.new.arg3 r,
+        stood _ (lawful-of g.S.BuildHasher g.S.Hasher.Hasher g.met.K.Eq.laws g.met.K.Hash.respects_eq) _ _ _ _ t c.self.invariant _ c.in_ok-slot.slot found _ c.self.view_is (λ p. ChangesOn g.F.FnOnce c.args.f p (c.f.new.arg3, false))
+            (c.pair_mut-value.result.0, c.pair_mut-value.result.1, _, refl, refl, refl, c.if-f.ensures),
       );
-      len = sym (as-many _ (lawful-of g.S.BuildHasher g.S.Hasher.Hasher g.met.K.Eq.laws g.met.K.Hash.respects_eq) _ _ _ _ _ c.self.invariant _ c.in_ok-place.place found _ c.self.view_is c.f.new.arg3 r) ∙ sym (add-zero _);
-      lawful = (altered-inside _ (lawful-of g.S.BuildHasher g.S.Hasher.Hasher g.met.K.Eq.laws g.met.K.Hash.respects_eq) _ _ _ _ _ c.self.invariant _ c.in_ok-place.place found _ c.self.view_is c.f.new.arg3 r).shard;
+      len = sym (as-many _ (lawful-of g.S.BuildHasher g.S.Hasher.Hasher g.met.K.Eq.laws g.met.K.Hash.respects_eq) _ _ _ _ _ c.self.invariant _ c.in_ok-slot.slot found _ c.self.view_is c.f.new.arg3 r) ∙ sym (add-zero _);
+      lawful = (altered-inside _ (lawful-of g.S.BuildHasher g.S.Hasher.Hasher g.met.K.Eq.laws g.met.K.Hash.respects_eq) _ _ _ _ _ c.self.invariant _ c.in_ok-slot.slot found _ c.self.view_is c.f.new.arg3 r).shard;
     }

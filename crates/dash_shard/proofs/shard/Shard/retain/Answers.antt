@@ -12,7 +12,7 @@ pub returns : goal.returns
 returns g c =
     let r = c.retain.ensures in
     record {
-      retains = retains _ (lawful-of g.S.BuildHasher g.S.Hasher.Hasher g.met.K.Eq.laws g.met.K.Hash.respects_eq) _ _ _ c.self.inside.table c.retain.new.self c.self.invariant (CalledAtPair g.F.FnMut) c.args.f (_, r.swept) r.places _ c.self.view_is;
+      retains = retains _ (lawful-of g.S.BuildHasher g.S.Hasher.Hasher g.met.K.Eq.laws g.met.K.Hash.respects_eq) _ _ _ c.self.inside.table c.retain.new.self c.self.invariant (CalledAtPair g.F.FnMut) c.args.f (_, r.swept) r.slots _ c.self.view_is;
       len = fewer _ (lawful-of g.S.BuildHasher g.S.Hasher.Hasher g.met.K.Eq.laws g.met.K.Hash.respects_eq) _ _ _ c.self.inside.table c.retain.new.self c.self.invariant (CalledAtPair g.F.FnMut) c.args.f (_, r.swept) _ c.self.view_is;
       lawful = retained-shard _ (lawful-of g.S.BuildHasher g.S.Hasher.Hasher g.met.K.Eq.laws g.met.K.Hash.respects_eq) _ _ _ c.self.inside.table c.retain.new.self c.self.invariant (CalledAtPair g.F.FnMut) c.args.f (_, r.swept);
     }

@@ -12,6 +12,6 @@ pub returns : goal.returns
 returns g c =
     let r = c.retain.ensures in
     record {
-      sweeps = sweeps-kept _ (lawful-of g.S.BuildHasher g.S.Hasher.Hasher g.met.K.Eq.laws g.met.K.Hash.respects_eq) _ _ _ c.self.inside.table c.retain.new.self c.self.invariant (CalledAtPair g.F.FnMut) c.args.f.now (_, r.swept) r.places _ c.self.view_is;
+      sweeps = sweeps-kept _ (lawful-of g.S.BuildHasher g.S.Hasher.Hasher g.met.K.Eq.laws g.met.K.Hash.respects_eq) _ _ _ c.self.inside.table c.retain.new.self c.self.invariant (CalledAtPair g.F.FnMut) c.args.f.now (_, r.swept) r.slots _ c.self.view_is;
       lawful = retained-shard _ (lawful-of g.S.BuildHasher g.S.Hasher.Hasher g.met.K.Eq.laws g.met.K.Hash.respects_eq) _ _ _ c.self.inside.table c.retain.new.self c.self.invariant (CalledAtPair g.F.FnMut) c.args.f.now (_, r.swept);
     }

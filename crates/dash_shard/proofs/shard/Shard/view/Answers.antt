@@ -7,5 +7,5 @@ use Rattle.dash_shard.proofs.shard.Shard.view.Goals as goal
 pub returns-clause-viewed : goal.returns-clause-viewed
 returns-clause-viewed g c =
     let there : at g.K.PartialEq.eq (pairs c.args.self.now) c.args.key.now ≡ Some (deref_pair c.at.result) =
-    sym c.in_ok-place.ensures.pair ∙ c.at.ensures.pair in
-    rw there (record { key = c.at.result.0; value = c.at.result.1; shows = (refl, refl); says = c.f.ensures })
+    sym c.in_ok-slot.ensures.finds.pair ∙ c.at.ensures.pair in
+    rw there (c.at.result.0, c.at.result.1, refl, refl, c.f.ensures)

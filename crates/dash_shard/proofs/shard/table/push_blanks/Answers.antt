@@ -1,7 +1,7 @@
 use Rattle.std.proofs.Common.{arith, ◌≡◌, ◌++◌, ◌∷◌, [], ◌∙◌, ap, append_assoc, append-nil, sym}
 use Rattle.std.proofs.Math.ListN.{replicate}
 use Rattle.std.proofs.lemmas.List.{replicate-append-replicate}
-use Rattle.dash_shard.specs.Table.{blank}
+use Rattle.dash_shard.specs.inner.Table.{blank}
 use Rattle.dash_shard.proofs.shard.table.push_blanks.Goals as goal
 
 pub loop-init : goal.loop-init

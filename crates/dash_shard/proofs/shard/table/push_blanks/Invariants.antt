@@ -1,6 +1,6 @@
 use Rattle.std.proofs.Common.{◌≡◌, ◌+◌, ◌≤◌, ◌++◌, vec_len, vec_capacity}
 use Rattle.std.proofs.Math.ListN.{replicate}
-use Rattle.dash_shard.specs.Table.{blank}
+use Rattle.dash_shard.specs.inner.Table.{blank}
 use Rattle.dash_shard.proofs.shard.table.push_blanks.Given as goal
 
 abbrev pub invariant-loop : goal.invariant-loop

@@ -1,4 +1,4 @@
-use Rattle.dashcheck.specs.Lines.{line_in}
+use Rattle.dashcheck.specs.inner.Lines.{line_in}
 use Rattle.dashcheck.proofs.Reading.{line-end, line-more}
 use Rattle.dashcheck.proofs.lines.Lines.read.Goals as goal
 

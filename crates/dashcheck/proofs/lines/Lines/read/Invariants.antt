@@ -1,5 +1,5 @@
 use Rattle.std.proofs.Common.{◌-◌, length}
-use Rattle.dashcheck.specs.Lines.{left_of, line_in}
+use Rattle.dashcheck.specs.inner.Lines.{left_of, line_in}
 use Rattle.dashcheck.proofs.Reading.{Reading}
 use Rattle.dashcheck.proofs.lines.Lines.read.Given as goal
 

@@ -1,5 +1,5 @@
 use Rattle.std.proofs.Common.{◌+◌, ◌&&◌, drop, sym, ap, arith, ◌∙◌}
-use Rattle.dash_history.specs.Alike.{alike_list}
+use Rattle.std.specs.Cmp.Lexicographic.{pointwise}
 use Rattle.dash_history.proofs.Items.{first, last}
 use Rattle.dash_history.proofs.kept.wholes.VecKept.same.Goals as goal
 
@@ -11,7 +11,7 @@ returns-then-not-same g c =
     let x = c.index.result.now in
     let y = c.index-in-loop-i.result.now in
     let one = first g.T.Kept.alike xs ys i x y (omega arith) (omega arith) c.index.ensures c.index-in-loop-i.ensures in
-    sym (sym c.loop-i.invariant ∙ one ∙ ap (λ b. b && alike_list g.T.Kept.alike (drop (i + 1) xs) (drop (i + 1) ys)) (sym c.same.ensures ∙ c.if-not-same.true))
+    sym (sym c.loop-i.invariant ∙ one ∙ ap (λ b. b && pointwise g.T.Kept.alike (drop (i + 1) xs) (drop (i + 1) ys)) (sym c.same.ensures ∙ c.if-not-same.true))
 
 pub loop-i-preserved : goal.loop-i-preserved
 loop-i-preserved g c =
@@ -21,7 +21,7 @@ loop-i-preserved g c =
     let x = c.index.result.now in
     let y = c.index-in-loop-i.result.now in
     let one = first g.T.Kept.alike xs ys i x y (omega arith) (omega arith) c.index.ensures c.index-in-loop-i.ensures in
-    sym (one ∙ ap (λ b. b && alike_list g.T.Kept.alike (drop (i + 1) xs) (drop (i + 1) ys)) (sym c.same.ensures ∙ c.if-not-same.false)) ∙ c.loop-i.invariant
+    sym (one ∙ ap (λ b. b && pointwise g.T.Kept.alike (drop (i + 1) xs) (drop (i + 1) ys)) (sym c.same.ensures ∙ c.if-not-same.false)) ∙ c.loop-i.invariant
 
 pub returns : goal.returns
 returns g c = sym (sym c.loop-i.invariant ∙ last g.T.Kept.alike c.args.self.now.items c.args.other.now.items c.loop-i.i (omega arith) (omega arith))

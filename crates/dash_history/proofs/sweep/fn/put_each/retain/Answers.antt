@@ -1,5 +1,5 @@
 use Rattle.std.proofs.Common.{◌≡◌, Bool, List, [], ◌∷◌, length, arith, refl}
-use Rattle.dash_history.specs.Sweep.{PutsNext}
+use Rattle.dash_history.specs.inner.Sweep.{PutsNext}
 use Rattle.dash_history.proofs.sweep.fn.put_each.retain.Goals as goal
 
 -- nothing was left

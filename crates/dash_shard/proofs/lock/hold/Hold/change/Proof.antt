@@ -1,7 +1,7 @@
 -- `change` ends the writer's round, lends the value that comes back for one call, and begins another round with what the call left.
 use Rattle.dash_shard.proofs.Walking.{[], ◌≡◌, ℕ, ◌+◌, List, ◌∷◌, sym, refl, ap, ◌∙◌, subst, dcons, dnil, a_type, named, Val, vptr, inst_fn, full_share, emp, SProp, ent, apply∗, Lft, Share, GName, ftrue, fsep, fex, flft, flent, fres, fbor, Incl-refl, Incl-trans, before, WpFn, Body, ‵, raw, ◌⊛◌, some, given, later, at_ret, ◌$◌, ◌∵◌, !, qed, by, move, keep, drop, split, split3, join, fsplit, fsplit3, fjoin, fjoin3, fpick, fpack, pick, learn, use0, use1, use2, group, await, rewrite, stop, fld, hop, addr, of_opd, no_more, and_then, first, blocks, exec, returns, enter, alloc_all, pass_all, free_all, look_at, get, through, sets, lands_last, env, sub, whole, look_in, bor_open, obor_close, name_agree, name_set, before_dup, tables, fact, fact_i, ◌⊑◌, meet_⊑_right, Lends-one, no, Is, shows, cell_at, part_at, mem, param, bounded, param_laws, RattleType, owns, Ptr, InBlock, block_ptr, block_of, count_of, at_block, mut_vals, mut_Tells, types_at, plain, named_lft, nothing, peeks, heard, opens, closes, calls_at_last, Stays, stay_dropped, stay_ref, walk_of, Goes-dropped, Goes-ref, tail, El, lawful, Good, one, FnOnceReturnsAtMut, FnOnceTakesAtMut, proved_at, leaves, fm}
 use denote.MutBor.{MutBor}
-use Rattle.dash_shard.specs.Holding.{Fixed, offset, at_home, cell, begun, writer, kept, hold_owns}
+use Rattle.dash_shard.specs.inner.Holding.{Fixed, offset, at_home, cell, begun, writer, kept, hold_owns}
 use Rattle.dash_shard.specs.contracts.lock.hold.Hold as hold
 use Rattle.dash_shard.proofs.lock.hold.apply.Met as apply
 use Rattle.dash_shard.proofs.Changing as changing

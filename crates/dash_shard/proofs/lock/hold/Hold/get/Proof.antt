@@ -1,7 +1,7 @@
 -- `get` shows the value for as long as the hold is borrowed.
 use Rattle.dash_shard.proofs.Walking.{[], ◌++◌, ◌≡◌, ℕ, suc, ◌+◌, ◌-◌, ◌<◌, List, ◌∷◌, sym, refl, ap, ◌∙◌, arith, dcons, dnil, a_type, named, Val, vptr, inst_fn, emp, SProp, Lft, Fml, ftrue, fsep, flft, fhide, Incl-refl, ‵, raw, ◌⊛◌, given, at_ret, ◌$◌, ◌∵◌, !, qed, by, move, keep, drop, split, join, fsplit, fjoin, fpick, learn, use0, use1, rewrite, feq_i, stop, fld, hop, addr, of_opd, first, blocks, exec, returns, enter, alloc_all, pass_all, free_all, look_at, get, through, sets, sets_last, env, sub, whole, look_in, tables, fact, fact_i, ⊑_meet, yes, RattleType, owns, types_at, plain, named_lft, Ptr, InBlock, block_ptr, block_of, count_of, at_block, nothing, peeks, heard, looks, shuts, unhide, Is, shows, cell_at, hidden_shr, param, bounded, param_laws, RefOf, shr_vals, shr_Tells, shortens, lent_out, Stays, stay_dropped, walk_of, Goes-dropped, tail, proved, leaves}
 use Rattle.core.specs.contracts.marker.PhantomData as marker
-use Rattle.dash_shard.specs.Holding.{offset, hold_shares}
+use Rattle.dash_shard.specs.inner.Holding.{offset, hold_shares}
 use Rattle.dash_shard.specs.contracts.lock.hold.Hold as hold
 use Rattle.dash_shard.proofs.HoldFields.{bits_of, Words, told, opened, shares_placed}
 use Rattle.dash_shard.specs.contracts.lock.hold.Hold.get.{ended, clauses}

@@ -1,6 +1,6 @@
 -- `open` gives the round back at the swap.
 use Rattle.dash_shard.proofs.Walking.{[], ◌≡◌, ℕ, ◌+◌, ◌^◌, List, ◌∷◌, refl, ap, lit<, w64, dcons, dnil, a_type, Val, vint, vptr, inst_fn, SProp, via, apply∗, Lft, Share, Fml, ftrue, fsep, flft, ‵, raw, ◌⊛◌, given, later, mean, at_ret, ◌$◌, ◌∵◌, !, qed, by, move, keep, split, join, fsplit, fjoin, fpick, pick, learn, use1, use2, use3, await, rewrite, feq_i, flt_i, stop, fld, addr, lit, of_opd, no_more, and_then, first, blocks, exec, Calls-last, returns, enter, alloc_all, pass_all, free_all, look_at, get, get_in, through, sets, lands_last, is, env, agg, sub, whole, tables, fact, Lends-one, no, RattleType, owns, types_at, plain, named_lft, Ptr, InBlock, block_ptr, ptr_val, block_of, count_of, at_block, nothing, heard, param, bounded, Stays, stay_dropped, walk_of, Goes-dropped, tail, proved, leaves, fm, seq_cst, found, finds, swaps}
-use Rattle.dash_shard.specs.Holding.{hold_owns}
+use Rattle.dash_shard.specs.inner.Holding.{hold_owns}
 use Rattle.dash_shard.specs.contracts.lock.hold.Hold as hold
 use Rattle.dash_shard.proofs.HoldFields.{lent, bits_of, told, typed, owns_placed}
 use Rattle.dash_shard.proofs.WordSteps as steps

@@ -1,5 +1,5 @@
 use Rattle.std.proofs.Common.{sym, subst}
-use Rattle.dash_shard.specs.Table.{IsInside}
+use Rattle.dash_shard.specs.inner.Table.{IsInside}
 use Rattle.dash_shard.specs.Shard.{IsShard}
 use Rattle.dash_shard.proofs.Positions.{located}
 use Rattle.dash_shard.proofs.shard.held.ShardMut.position_of_hashed.Goals as goal

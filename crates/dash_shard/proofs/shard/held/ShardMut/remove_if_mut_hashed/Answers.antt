@@ -8,4 +8,4 @@ pub returns-clause-removes : goal.returns-clause-removes
 returns-clause-removes g c =
     let ran = c.change.ensures.ran in
     let P = λ (old new : ShardState g.row.K.Denot g.row.V.Denot g.row.S.Denot). TakesBy g.K.PartialEq.eq old new RemoveIfMut c.args.key.now (Pair c.change.result) (ChangesOn g.F.FnOnce c.args.f) in
-    subst (λ old. P old c.change.new.self.value) (ran.shows ∙ c.put_back.ensures.value ∙ c.self.view_is) (subst (λ new. P ran.shown.now new) ran.leaves ran.met.0)
+    subst (λ old. P old c.change.new.self.value) (ran.shows ∙ c.move_table.ensures.value ∙ c.self.view_is) (subst (λ new. P ran.shown.now new) ran.leaves ran.met.0)

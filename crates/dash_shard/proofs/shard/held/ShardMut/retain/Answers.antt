@@ -9,4 +9,4 @@ pub returns-clause-retains : goal.returns-clause-retains
 returns-clause-retains g c =
     let ran = c.change.ensures.ran in
     let P = λ (old new : ShardState g.row.K.Denot g.row.V.Denot g.row.S.Denot). SweepsBy (CalledAtPair g.F.FnMut) g.K.PartialEq.eq c.args.f old new (Retain old.number) in
-    subst (λ old. P old c.change.new.self.value) (ran.shows ∙ c.put_back.ensures.value ∙ c.self.view_is) (subst (λ new. P ran.shown.now new) ran.leaves ran.met.0)
+    subst (λ old. P old c.change.new.self.value) (ran.shows ∙ c.move_table.ensures.value ∙ c.self.view_is) (subst (λ new. P ran.shown.now new) ran.leaves ran.met.0)

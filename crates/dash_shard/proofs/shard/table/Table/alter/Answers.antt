@@ -1,4 +1,4 @@
-use Rattle.dash_shard.specs.Closures.{GivesOn}
+use Rattle.dash_shard.specs.inner.Gives.{GivesOn}
 use Rattle.dash_shard.proofs.Rewriting.{spot-within, altered}
 use Rattle.dash_shard.proofs.shard.table.Table.alter.Goals as goal
 

@@ -1,21 +1,21 @@
 use Rattle.std.proofs.Common.{true, refl, sym, ◌∙◌}
 use Rattle.std.proofs.Math.ListN.{length-set}
 use Rattle.dash_shard.proofs.Nodes.{hashes-revalued, chained-revalued, stack-revalued}
-use Rattle.dash_shard.proofs.Sweeping.{place-before, pairs-valued, place-revalued}
+use Rattle.dash_shard.proofs.Sweeping.{slot-before, pairs-valued, slot-revalued}
 use Rattle.dash_shard.proofs.shard.table.Table.alter_at.Goals as goal
 
 pub returns-clause-visits : goal.returns-clause-visits
 returns-clause-visits g c =
     let stored = sym c.take.ensures.value ∙ c.in-Some.is in
-    let before = place-before _ _ _ _ _ c.f-value.result c.requires.within c.index_mut.ensures.value stored in
-    let after = place-revalued _ _ _ _ _ c.f-value.result c.requires.within c.index_mut.ensures.value stored in
+    let before = slot-before _ _ _ _ _ c.f-value.result c.requires.within c.index_mut.ensures.value stored in
+    let after = slot-revalued _ _ _ _ _ c.f-value.result c.requires.within c.index_mut.ensures.value stored in
     rw (c.replace.ensures.after, before, after)
-    (true, c.f-value.result, record { key = _; shows = refl; called = c.f-value.ensures }, refl)
+    (true, c.f-value.result, (_, refl, c.f-value.ensures), refl)
 
 pub returns-clause-pairs : goal.returns-clause-pairs
 returns-clause-pairs g c =
     let stored = sym c.take.ensures.value ∙ c.in-Some.is in
-    let after = place-revalued _ _ _ _ _ c.f-value.result c.requires.within c.index_mut.ensures.value stored in
+    let after = slot-revalued _ _ _ _ _ c.f-value.result c.requires.within c.index_mut.ensures.value stored in
     rw (c.replace.ensures.after, after) (pairs-valued _ _ _ _ _ c.f-value.result c.requires.within c.index_mut.ensures.value stored)
 
 pub returns-clause-hashes : goal.returns-clause-hashes

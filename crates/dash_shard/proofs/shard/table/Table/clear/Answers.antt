@@ -1,5 +1,5 @@
 use Rattle.std.proofs.Common.{rules, ◌∙◌}
-use Rattle.dash_shard.specs.Table.{pairs_of}
+use Rattle.dash_shard.specs.inner.Table.{pairs_of}
 use Rattle.dash_shard.proofs.Sweeping.{swept-none, none-length}
 use Rattle.dash_shard.proofs.shard.table.Table.clear.Goals as goal
 

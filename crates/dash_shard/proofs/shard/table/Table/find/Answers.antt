@@ -1,6 +1,6 @@
 use Rattle.std.proofs.Common.{rules, arith, ◌-◌, ◌<◌, length, sym, ap, ◌∙◌}
 use Rattle.std.proofs.Math.ListN.{get_or-map}
-use Rattle.dash_shard.specs.Table.{blank}
+use Rattle.dash_shard.specs.inner.Table.{blank}
 use Rattle.dash_shard.proofs.Nodes.{part_read}
 use Rattle.dash_shard.proofs.Seeking.{seeks_from, seeks_past, seeks_none}
 use Rattle.dash_shard.proofs.shard.table.Table.find.Goals as goal

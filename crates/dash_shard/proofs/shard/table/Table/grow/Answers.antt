@@ -1,6 +1,6 @@
 use Rattle.std.proofs.Common.{arith, ◌≡◌, ◌-◌, ◌++◌, ℕ, IsNone, ap, subst, ◌∙◌, refl}
 use Rattle.std.proofs.Math.ListN.{replicate}
-use Rattle.dash_shard.specs.Table.{KeepsPairs, node, pairs_of, hashes_of, blank}
+use Rattle.dash_shard.specs.inner.Table.{KeepsPairs, node, pairs_of, hashes_of, blank}
 use Rattle.dash_shard.proofs.Nodes.{written, parts-blank, keeps_both}
 use Rattle.dash_shard.proofs.Tables.{table_grown}
 use Rattle.dash_shard.proofs.shard.table.Table.grow.Goals as goal

@@ -1,15 +1,15 @@
 use Rattle.std.proofs.Common.{set, sym, ap, ◌∙◌}
 use Rattle.std.specs.Option.{option_map}
 use Rattle.std.proofs.Math.ListN.{length-set}
-use Rattle.dash_shard.specs.Table.{pairs_of}
-use Rattle.dash_shard.proofs.Nodes.{place-here, pairs-revalued, hashes-revalued, chained-revalued, stack-revalued}
+use Rattle.dash_shard.specs.inner.Table.{pairs_of}
+use Rattle.dash_shard.proofs.Nodes.{slot-here, pairs-revalued, hashes-revalued, chained-revalued, stack-revalued}
 use Rattle.dash_shard.proofs.shard.table.Table.replace.Goals as goal
 
 pub returns-clause-pairs : goal.returns-clause-pairs
 returns-clause-pairs g c =
     let nodes = c.args.self.now.nodes.items in
     let key = c.in-Some.field-0-0 in
-    let there = place-here nodes c.args.position _ (key, c.in-Some.stored) (key, c.args.value) c.requires.within c.index_mut.ensures.value c.in-Some.is in
+    let there = slot-here nodes c.args.position _ (key, c.in-Some.stored) (key, c.args.value) c.requires.within c.index_mut.ensures.value c.in-Some.is in
     rw c.replace.ensures.after
     (pairs-revalued nodes c.args.position _ (key, c.in-Some.stored) (key, c.args.value) c.requires.within c.index_mut.ensures.value c.in-Some.is
     ∙ ap (λ o. set (pairs_of nodes) c.args.position (option_map (λ p. (p.0, c.args.value)) o)) (sym there))

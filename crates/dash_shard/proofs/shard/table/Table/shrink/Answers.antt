@@ -1,8 +1,8 @@
 use Rattle.std.proofs.Common.{ap, ◌∙◌, [], ◌++◌, None}
 use Rattle.std.proofs.Math.ListN.{replicate}
 use Rattle.dash_shard.specs.Shard.{taken}
-use Rattle.dash_shard.specs.Table.{pairs_of}
-use Rattle.dash_shard.proofs.Places.{taken-empties}
+use Rattle.dash_shard.specs.inner.Table.{pairs_of}
+use Rattle.dash_shard.proofs.Slots.{taken-empties}
 use Rattle.dash_shard.proofs.shard.table.Table.shrink.Goals as goal
 
 pub move_pairs-requires-clause-empty : goal.move_pairs-requires-clause-empty

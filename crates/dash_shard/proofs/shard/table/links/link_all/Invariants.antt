@@ -1,5 +1,5 @@
 use Rattle.std.proofs.Common.{◌≡◌, ℕ, ◌<◌}
-use Rattle.dash_shard.specs.Table.{node, KeepsPairs}
+use Rattle.dash_shard.specs.inner.Table.{node, KeepsPairs}
 use Rattle.dash_shard.proofs.Nodes.{ChainedBelow}
 use Rattle.dash_shard.proofs.shard.table.links.link_all.Given as goal
 
@@ -10,5 +10,5 @@ invariant-loop-bucket g l = record {
   cleared : (b : ℕ) → b < l.bucket → (node l.nodes b).head ≡ 0;
 }
 
-abbrev pub invariant-loop-place : goal.invariant-loop-place
-invariant-loop-place g l = ChainedBelow l.fn.nodes l.place l.nodes
+abbrev pub invariant-loop-slot : goal.invariant-loop-slot
+invariant-loop-slot g l = ChainedBelow l.fn.nodes l.slot l.nodes

@@ -3,7 +3,7 @@ use Rattle.dash_shard.proofs.Passing.{approaches_first, approaches_next, approac
 use Rattle.dash_shard.proofs.shard.table.links.seek.Goals as goal
 
 pub loop-link-init : goal.loop-link-init
-loop-link-init g c = approaches_first _ _ _ c.requires.bucket _ c.requires.place
+loop-link-init g c = approaches_first _ _ _ c.requires.bucket _ c.requires.slot
 
 pub offset_bounds-nodes-bound : goal.offset_bounds-nodes-bound
 offset_bounds-nodes-bound g c = omega (arith, approaches_within _ _ _ c.requires.bucket _ _ c.requires.chained c.loop-link.invariant c.loop-link-test.true)

@@ -6,24 +6,24 @@ use Rattle.dash_shard.proofs.shard.table.shrink.move_pairs.Goals as goal
 pub loop-node-init : goal.loop-node-init
 loop-node-init g c = record {
   carrying = carrying-first _ _ c.requires.table c.requires.empty c.requires.len;
-  places = refl;
+  slots = refl;
 }
 
 pub push-requires-clause-room : goal.push-requires-clause-room
 push-requires-clause-room g c =
     let at = c.loop-node.invariant in
     let ends = c.pop.ensures.items ∙ ap (λ o. c.pop.new.self.items ++ option_to_list o) c.in-Some.is in
-    carrying-room _ _ _ _ c.in-Some.node at.carrying ends _ _ c.in-Some-pair.is (rw at.places c.requires.room)
+    carrying-room _ _ _ _ c.in-Some.node at.carrying ends _ _ c.in-Some-pair.is (rw at.slots c.requires.room)
 
 pub loop-node-preserved-in-Some-pair : goal.loop-node-preserved-in-Some-pair
 loop-node-preserved-in-Some-pair g c =
     let at = c.loop-node.invariant in
     let p = c.push.ensures in
     let ends = c.pop.ensures.items ∙ ap (λ o. c.pop.new.self.items ++ option_to_list o) c.in-Some.is in
-    let room = carrying-room _ _ _ _ c.in-Some.node at.carrying ends _ _ c.in-Some-pair.is (rw at.places c.requires.room) in
+    let room = carrying-room _ _ _ _ c.in-Some.node at.carrying ends _ _ c.in-Some-pair.is (rw at.slots c.requires.room) in
     record {
       carrying = carrying-more _ _ _ _ c.in-Some.node at.carrying ends _ _ c.in-Some-pair.is c.push.new.self c.in-Some.node.hash refl room p.pairs p.hashes p.len p.table;
-      places = p.places ∙ at.places;
+      slots = p.slots ∙ at.slots;
     }
 
 pub loop-node-preserved : goal.loop-node-preserved
@@ -32,5 +32,5 @@ loop-node-preserved g c =
     let ends = c.pop.ensures.items ∙ ap (λ o. c.pop.new.self.items ++ option_to_list o) c.in-Some.is in
     record {
       carrying = carrying-over _ _ _ _ c.in-Some.node at.carrying ends c.in_default-pair.is;
-      places = at.places;
+      slots = at.slots;
     }

@@ -5,7 +5,7 @@ use Rattle.dash_shard.proofs.shard.table.shrink.move_pairs.Given as goal
 abbrev pub invariant-loop-node : goal.invariant-loop-node
 invariant-loop-node g l = record {
   carrying : Carrying l.fn.nodes.items l.nodes.items l.table;
-  places : length l.table.nodes.items ≡ length l.fn.table.nodes.items;
+  slots : length l.table.nodes.items ≡ length l.fn.table.nodes.items;
 }
 
 abbrev pub decreases-loop-node : goal.decreases-loop-node

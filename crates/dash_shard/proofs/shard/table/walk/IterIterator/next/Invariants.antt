@@ -1,9 +1,9 @@
 use Rattle.std.proofs.Common.{◌≡◌, length}
 use Rattle.dash_shard.specs.Shard.{taken}
-use Rattle.dash_shard.specs.Table.{pairs_of}
+use Rattle.dash_shard.specs.inner.Table.{pairs_of}
 use Rattle.dash_shard.proofs.shard.table.walk.IterIterator.next.Given as goal
 
--- only free places were passed over
+-- only free slots were passed over
 abbrev pub invariant-loop-node : goal.invariant-loop-node
 invariant-loop-node g l = record {
   len : l.self-inside.len ≡ length (taken (pairs_of l.self-inside.nodes.now));

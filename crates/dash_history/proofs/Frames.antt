@@ -1,0 +1,114 @@
+-- A step on one shard is the same step on all shards together, and what runs shard by shard runs as a whole.
+use Rattle.std.proofs.Common.{◌≡◌, ◌≢◌, ℕ, ◌+◌, ◌<◌, ◌==◌, cond, List, [], ◌∷◌, filter, length, Option, Some, None, slice_get, slice_set, get_or, flat_map, All, refl, sym, ap, subst, ◌∙◌, inl, inr, arith, eq-eqb, ne_eqb, ext_get_or, get_or-set_same, get_or-set_other}
+use Rattle.std.proofs.Math.ListN.{length-set}
+use Rattle.std.proofs.lemmas.Bool.{cases_Bool, cases_eq}
+use Rattle.std.proofs.lemmas.List.Elements.{All-head, All-tail}
+use Rattle.std.proofs.lemmas.Option.{slice_get-get_or, slice_get_within, same_Some}
+use Rattle.dash_shard.proofs.Rows.{slice_get-set_same, slice_get-set_other}
+use Rattle.dash_shard.proofs.Unions.{OnShards, at-union, distinct-union, each-same}
+use Rattle.dash_shard.specs.Contents.{at, IsOnShard}
+use Rattle.dash_shard.specs.Steps.{Line, at_key, on_shard, line, line_shard, line_after, LineReplies, Step, Reply, step_shard, after}
+use Rattle.dash_history.specs.Takes.{Rules, Takes, Runs}
+use Rattle.dash_history.specs.inner.Copied.{AlikeAt}
+use Rattle.dash_history.proofs.Copies.{Lawful, at_laws}
+
+module _ {K V : Type 0} (m : Rules K V) (laws : Lawful m) where
+  abbrev pub union : List (List (K × V)) → List (K × V)
+  union Ps = flat_map (λ P. P) Ps
+
+  -- the keys of each list go to its shard
+  abbrev pub Spread : List (List (K × V)) → Type 0
+  Spread Ps = OnShards m.keys (λ P. P) 0 Ps
+
+  -- a line leaves what stands at the keys of other shards
+  after-elsewhere : (l : Line K V) (j : K) (o : Option (K × V)) → m.keys.route j ≢ line_shard m.keys l → line_after m.keys l j o ≡ o
+  after-elsewhere (at_key k b r) j o ne = elim (cases_Bool (m.keys.eq k j)) as (λ _. cond (m.keys.eq k j) (b o) o ≡ o) [
+    | inl same ↦ absurd (ne (sym (laws.route_same k j same)))
+    | inr other ↦ ap (λ t. cond t (b o) o) other
+  ]
+  after-elsewhere (on_shard i b r) j o ne = rw (ne_eqb (m.keys.route j) i ne) refl
+
+  -- a line replies by what stands on its shard
+  replies-there : (l : Line K V) (P R : List (K × V)) (r : Reply K V) → ((k : K) → m.keys.route k ≡ line_shard m.keys l → at m.keys.eq P k ≡ at m.keys.eq R k) → LineReplies m.keys l P r → LineReplies m.keys l R r
+  replies-there (at_key k b replies) P R r same h = h ∙ ap replies (same k refl)
+  replies-there (on_shard i b replies) P R r same h = (h.0, each-same m.keys laws.route_same i P R h.0 same h.1, h.2)
+
+  none-alike : (o : Option (K × V)) → AlikeAt m None o → o ≡ None
+  none-alike None a = refl
+  none-alike (Some p) a = cc
+
+  -- what a step on a shard leaves has the keys of that shard
+  on-after : (P Q : List (K × V)) (step : Step K V) (reply : Reply K V) → IsOnShard m.keys (step_shard m.keys step) P → Takes m P step reply Q → IsOnShard m.keys (step_shard m.keys step) Q
+  on-after P Q step reply on t = record {
+    distinct = t.distinct;
+    routed = λ k away. none-alike (at m.keys.eq Q k) (subst (λ o. AlikeAt m o (at m.keys.eq Q k)) (after-elsewhere (line step) k (at m.keys.eq P k) away ∙ on.routed k away) (t.each_key k));
+  }
+
+  module _ (Ps : List (List (K × V))) (below : (k : K) → m.keys.route k < length Ps) (on : Spread Ps) (step : Step K V) (reply : Reply K V) (P Q : List (K × V))
+      (here : slice_get Ps (step_shard m.keys step) ≡ Some P) (t : Takes m P step reply Q) where
+    abbrev s : ℕ
+    s = step_shard m.keys step
+
+    pub spread-set : Spread (slice_set Ps s Q)
+    spread-set = λ j R e. elim (cases_eq j s) as (λ _. IsOnShard m.keys (0 + j) R) [
+      | inl same ↦
+          let is : Q ≡ R = same_Some Q R (sym (slice_get-set_same Ps s Q (slice_get_within Ps s P here)) ∙ ap (slice_get (slice_set Ps s Q)) (sym same) ∙ e) in
+          let one : 0 + s ≡ s = omega arith in
+          let all : IsOnShard m.keys s Q = on-after P Q step reply (subst (λ n. IsOnShard m.keys n P) one (on s P here)) t in
+          subst (IsOnShard m.keys (0 + j)) is (subst (λ n. IsOnShard m.keys n Q) (let two : s ≡ 0 + j = omega (arith, same) in two) all)
+      | inr other ↦ on j R (slice_get-set_other Ps s j Q R other e)
+    ]
+
+    -- THE FRAME
+    pub lift : Takes m (union Ps) step reply (union (slice_set Ps s Q))
+    lift = record {
+      in_range = t.in_range;
+      answers = record {
+        told = t.answers.told;
+        replies = replies-there (line step) P (union Ps) t.answers.told (λ k goes. sym (at-union m.keys (λ P. P) Ps k P on (ap (slice_get Ps) goes ∙ here))) t.answers.replies;
+        alike = t.answers.alike;
+      };
+      each_key = λ j. elim (cases_eq (m.keys.route j) s) as (λ _. AlikeAt m (after m.keys step j (at m.keys.eq (union Ps) j)) (at m.keys.eq (union (slice_set Ps s Q)) j)) [
+        | inl goes ↦
+            let old : at m.keys.eq (union Ps) j ≡ at m.keys.eq P j = at-union m.keys (λ P. P) Ps j P on (ap (slice_get Ps) goes ∙ here) in
+            let new : at m.keys.eq (union (slice_set Ps s Q)) j ≡ at m.keys.eq Q j =
+            at-union m.keys (λ P. P) (slice_set Ps s Q) j Q spread-set (ap (slice_get (slice_set Ps s Q)) goes ∙ slice_get-set_same Ps s Q (slice_get_within Ps s P here)) in
+            rw (old, new) (t.each_key j)
+        | inr other ↦
+            let R = get_or Ps (m.keys.route j) [] in
+            let there : slice_get Ps (m.keys.route j) ≡ Some R = slice_get-get_or Ps (m.keys.route j) [] (below j) in
+            let U = get_or (slice_set Ps s Q) (m.keys.route j) [] in
+            let there' : slice_get (slice_set Ps s Q) (m.keys.route j) ≡ Some U = slice_get-get_or (slice_set Ps s Q) (m.keys.route j) [] (omega (arith, below j, length-set Ps s Q)) in
+            let same : U ≡ R = same_Some U R (sym (slice_get-set_other Ps s (m.keys.route j) Q U other there') ∙ there) in
+            let old : at m.keys.eq (union Ps) j ≡ at m.keys.eq R j = at-union m.keys (λ P. P) Ps j R on there in
+            let new : at m.keys.eq (union (slice_set Ps s Q)) j ≡ at m.keys.eq R j = at-union m.keys (λ P. P) (slice_set Ps s Q) j U spread-set there' ∙ ap (λ l. at m.keys.eq l j) same in
+            rw (old, new, after-elsewhere (line step) j (at m.keys.eq R j) other) ((at_laws m laws).refl (at m.keys.eq R j))
+      ];
+      distinct = distinct-union m.keys (λ P. P) laws.equal 0 (slice_set Ps s Q) spread-set;
+    }
+
+  -- the steps on shard s, with their replies
+  abbrev pub at_shard : ℕ → List (Step K V × Reply K V) → List (Step K V × Reply K V)
+  at_shard s ds = filter (λ d. step_shard m.keys d.0 == s) ds
+
+  pub runs-union : (ds : List (Step K V × Reply K V)) (Ps Qs : List (List (K × V))) → length Qs ≡ length Ps → ((k : K) → m.keys.route k < length Ps) → Spread Ps → All (λ d. step_shard m.keys d.0 < length Ps) ds
+      → ((s : ℕ) → s < length Ps → Runs m (get_or Ps s []) (at_shard s ds) (get_or Qs s [])) → Runs m (union Ps) ds (union Qs)
+  runs-union [] Ps Qs long below on in_range each = ap union (ext_get_or [] Ps Qs (sym long) each)
+  runs-union (d ∷ ds) Ps Qs long below on in_range each =
+      let s = step_shard m.keys d.0 in
+      let within : s < length Ps = All-head (λ d. step_shard m.keys d.0 < length Ps) d ds in_range in
+      let first : Runs m (get_or Ps s []) (d ∷ at_shard s ds) (get_or Qs s []) =
+      subst (λ l. Runs m (get_or Ps s []) l (get_or Qs s [])) (ap (λ b. cond b (d ∷ at_shard s ds) (at_shard s ds)) (eq-eqb s s refl)) (each s within) in
+      let M = first.0 in
+      let here = slice_get-get_or Ps s [] within in
+      let size : length (slice_set Ps s M) ≡ length Ps = length-set Ps s M in (
+        union (slice_set Ps s M),
+        lift Ps below on d.0 d.1 (get_or Ps s []) M here first.1,
+        runs-union ds (slice_set Ps s M) Qs (long ∙ sym size) (λ k. omega (arith, below k, size)) (spread-set Ps below on d.0 d.1 (get_or Ps s []) M here first.1)
+            (subst (λ n. All (λ d. step_shard m.keys d.0 < n) ds) (sym size) (All-tail (λ d. step_shard m.keys d.0 < length Ps) d ds in_range))
+            (λ i lt. elim (cases_eq i s) as (λ _. Runs m (get_or (slice_set Ps s M) i []) (at_shard i ds) (get_or Qs i [])) [
+              | inl same ↦ subst (λ i. Runs m (get_or (slice_set Ps s M) i []) (at_shard i ds) (get_or Qs i [])) (sym same) (subst (λ P. Runs m P (at_shard s ds) (get_or Qs s [])) (sym (get_or-set_same Ps s M [] within)) first.2)
+              | inr other ↦ subst (λ P. Runs m P (at_shard i ds) (get_or Qs i [])) (sym (get_or-set_other Ps s i M [] other))
+                  (subst (λ l. Runs m (get_or Ps i []) l (get_or Qs i [])) (ap (λ b. cond b (d ∷ at_shard i ds) (at_shard i ds)) (ne_eqb s i (λ e. other (sym e)))) (each i (subst (λ n. i < n) size lt)))
+            ]),
+      )

@@ -1,0 +1,31 @@
+use Rattle.std.proofs.Common.{ℕ, ◌≡◌, ◌+◌, ◌++◌, ◌∷◌, [], ap, subst, sym, ◌∙◌, arith, max}
+use Rattle.dash_history.specs.History.{LogState, RecState, Grown, stamp_of}
+use Rattle.dash_history.specs.inner.Kinds.{kinds_of}
+use Rattle.dash_history.proofs.Growing.{log-more}
+use Rattle.dash_history.proofs.Recording.{same-stamp, same-caller}
+use Rattle.dash_history.proofs.record.RecShard.record_hashed.Goals as goal
+use Rattle.dash_history.specs.Takes.{known_by}
+
+pub invariant_of-log-in-Ok : goal.invariant_of-log-in-Ok
+invariant_of-log-in-Ok g c =
+    let l : LogState g.row.K.Denot g.row.V.Denot g.row.A.Denot = record { caller = c.log.inside.caller; last = c.log.inside.last; entries = c.log.inside.entries.items } in
+    let grown = c.in-Ok.ensures.ok in
+    log-more l c.in-Ok.record (c.max-last.result + 1) c.push_reserved.new.self.items c.log.invariant (omega (arith, c.max-last.ensures))
+    (sym (same-stamp _ _ _ grown.kept c.in-Ok.record grown.same) ∙ grown.tells.stamped) (sym (same-caller _ _ _ grown.kept c.in-Ok.record grown.same) ∙ grown.tells.by)
+    (c.push_reserved.ensures.items ∙ ap (λ h. h ++ c.in-Ok.record ∷ []) c.make_room.ensures.items)
+
+pub returns-in-Ok-clause-ok : goal.returns-in-Ok-clause-ok
+returns-in-Ok-clause-ok g c =
+    let Log : Type 0 = LogState g.row.K.Denot g.row.V.Denot g.row.A.Denot in
+    let At : Type 0 = RecState g.row.K.Denot g.row.V.Denot g.row.A.Denot g.row.S.Denot in
+    let P = λ (n k : ℕ). Grown (kinds_of (known_by g.K.PartialEq.eq g.K.Hash.hash_input g.K.Kept.alike g.V.Kept.alike g.A.Kept.alike g.A.Action.acts g.S.BuildHasher g.S.Hasher.Hasher) c.args.self.now.shard) c.args.self.now c.grow.new.self n k c.args.step c.in-Ok.reply c.in-Ok.record in
+    let here : c.max-last.result + 1 ≡ max c.args.self.now.last c.log.inside.last + 1 = subst (λ (x : At). c.max-last.result + 1 ≡ max x.last c.log.inside.last + 1) c.self.view_is (ap (λ n. n + 1) c.max-last.ensures) in
+    let stamp : c.max-last.result + 1 ≡ stamp_of c.args.self.now c.args.log.now = subst (λ (l : Log). c.max-last.result + 1 ≡ max c.args.self.now.last l.last + 1) c.log.view_is here in
+    let caller : c.log.inside.caller ≡ c.args.log.now.caller = ap (λ (l : Log). l.caller) c.log.view_is in
+    record {
+      logged = c.in-Ok.record;
+      grown = subst (λ n. P n c.args.log.now.caller) stamp (subst (λ k. P (c.max-last.result + 1) k) caller c.in-Ok.ensures.ok);
+      entries = c.push_reserved.ensures.items ∙ ap (λ h. h ++ c.in-Ok.record ∷ []) c.make_room.ensures.items ∙ ap (λ (l : Log). l.entries ++ c.in-Ok.record ∷ []) c.log.view_is;
+      log_last = stamp;
+      caller = caller;
+    }

@@ -1,0 +1,81 @@
+-- One history of a recorded map: the merge of the histories of its shards, and when the logs of its callers match them.
+use Rattle.std.specs.Prelude.{ℕ, ◌≡◌, ◌<◌, ◌≤◌, ◌==◌, ◌⊎◌, ◌↔◌, List, [], map, filter, flat_map, length, Option, Some, option_and_then, slice_get, All, IsTrue}
+use Rattle.std.specs.List.{Contains, filter_map}
+use Rattle.dash_shard.specs.Shard.{pairs}
+use Rattle.std.specs.Cmp.Lexicographic.{pointwise}
+use Rattle.dash_history.specs.Steps.{step_of, reply_of, alike_record}
+use Rattle.dash_history.specs.Takes.{Known, Runs}
+use Rattle.dash_history.specs.History.{LogState}
+use Rattle.dash_history.specs.Alone.{AloneState, kinds_in}
+use Rattle.dash_history.specs.declared.step.Record.{Record}
+use Rattle.dash_history.specs.declared.gather.At.{At}
+
+-- first by stamp, and among equal stamps by shard
+abbrev pub Earlier : At → At → Type 0
+Earlier a b = (a.stamp < b.stamp) ⊎ ((a.stamp ≡ b.stamp) × (a.shard < b.shard))
+
+module _ {K V A : Type 0} where
+  -- the record at a place: at the index p of the history of shard s
+  abbrev pub record_at : List (List (Record K V A)) → ℕ → ℕ → Option (Record K V A)
+  record_at hs s p = option_and_then (λ h. slice_get h p) (slice_get hs s)
+
+  -- there is a record at the place of a, and a has its stamp and its caller
+  abbrev pub Names : List (List (Record K V A)) → At → Type 0
+  Names hs a = (r : Record K V A) × (record_at hs a.shard a.place ≡ Some r) × (r.stamp ≡ a.stamp) × (r.caller ≡ a.caller)
+
+  -- MERGE: each record of each history once, first by stamp, and among equal stamps by shard
+  pub record IsMerge (hs : List (List (Record K V A))) (ats : List At) : Type 0 where
+    pub each : (a : At) → Contains ats a ↔ Names hs a
+    pub in_order : (i j : ℕ) (a b : At) → i < j → slice_get ats i ≡ Some a → slice_get ats j ≡ Some b → Earlier a b
+
+  -- the records at these places
+  abbrev pub along : List (List (Record K V A)) → List At → List (Record K V A)
+  along hs ats = filter_map (λ a. record_at hs a.shard a.place) ats
+
+  abbrev pub of_shard : ℕ → List (Record K V A) → List (Record K V A)
+  of_shard s rs = filter (λ r. r.shard == s) rs
+
+  abbrev pub of_caller : ℕ → List (Record K V A) → List (Record K V A)
+  of_caller j rs = filter (λ r. r.caller == j) rs
+
+  -- the logs are those of the callers 0 to c - 1, each once
+  pub record AreCallers (c : ℕ) (logs : List (LogState K V A)) : Type 0 where
+    pub few : (i : ℕ) (l : LogState K V A) → slice_get logs i ≡ Some l → l.caller < c
+    pub all : (j : ℕ) → j < c → (i : ℕ) × (l : LogState K V A) × (slice_get logs i ≡ Some l) × (l.caller ≡ j)
+    pub once : (i k : ℕ) (l m : LogState K V A) → slice_get logs i ≡ Some l → slice_get logs k ≡ Some m → l.caller ≡ m.caller → i ≡ k
+
+-- the histories of the shards, and the pairs of all shards
+module _ {K V A S : Type 0} where
+  abbrev pub histories : AloneState K V A S → List (List (Record K V A))
+  histories a = map (λ s. s.history) a.row
+
+  abbrev pub contents : AloneState K V A S → List (K × V)
+  contents a = flat_map (λ s. pairs s.shard) a.row
+
+module _ {K V A S : Type 0} (w : Known K V A S) where
+  -- the same records in the same order, up to alike
+  abbrev pub Same : List (Record K V A) → List (Record K V A) → Type 0
+  Same rs qs = IsTrue (pointwise (alike_record w.alike_key w.alike_value w.alike_action) rs qs)
+
+  -- MATCH: of each shard and each caller, the shard's history and the caller's log have the same records
+  pub record Matches (a : AloneState K V A S) (logs : List (LogState K V A)) : Type 0 where
+    pub callers : AreCallers a.callers logs
+    pub shards : (i : ℕ) (l : LogState K V A) → slice_get logs i ≡ Some l → All (λ r. r.shard < length a.row) l.entries
+    pub same : (i : ℕ) (l : LogState K V A) (s : ℕ) (h : List (Record K V A)) → slice_get logs i ≡ Some l → slice_get (histories a) s ≡ Some h → Same (of_caller l.caller h) (of_shard s l.entries)
+
+  -- ONE HISTORY: the places are the merge, each shard's records stand in its order, and along them all steps run on one map, from no
+  -- pairs to the pairs of all shards
+  pub record IsOneHistory (a : AloneState K V A S) (ats : List At) : Type 0 where
+    pub merge : IsMerge (histories a) ats
+    pub shards : (s : ℕ) (h : List (Record K V A)) → slice_get (histories a) s ≡ Some h → of_shard s (along (histories a) ats) ≡ h
+    pub runs : Runs (kinds_in w a).rules [] (map (λ r. (step_of w.acts r.step, reply_of r.reply)) (along (histories a) ats)) (contents a)
+
+  -- THE HEADLINE: the logs match, the places are one history, and along it each caller's records stand in its log's order
+  pub record IsGathered (a : AloneState K V A S) (logs : List (LogState K V A)) (ats : List At) : Type 0 where
+    pub matches : Matches a logs
+    pub history : IsOneHistory a ats
+    pub callers : (i : ℕ) (l : LogState K V A) → slice_get logs i ≡ Some l → Same (of_caller l.caller (along (histories a) ats)) l.entries
+
+-- a place of a stamp above t stands after every one of a stamp up to t
+abbrev pub StampsStandInOrder : List At → Type 0
+StampsStandInOrder ats = (t i j : ℕ) (a b : At) → slice_get ats i ≡ Some a → slice_get ats j ≡ Some b → a.stamp ≤ t → t < b.stamp → i < j

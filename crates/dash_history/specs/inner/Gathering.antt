@@ -1,0 +1,49 @@
+-- How a merge is made, and how logs are followed along it.
+use Rattle.std.specs.Prelude.{ℕ, ◌+◌, ◌≡◌, ◌<◌, Bool, false, List, [], ◌∷◌, ◌++◌, length, map, Some, slice_get, slice_index}
+use Rattle.std.specs.Option.{option_map_or}
+use Rattle.dash_history.specs.Takes.{Known}
+use Rattle.dash_history.specs.History.{LogState, RecState, IsLog, IsRecorded}
+use Rattle.dash_history.specs.OneHistory.{IsMerge, along, of_caller, Same}
+use Rattle.dash_history.specs.declared.step.Record.{Record}
+use Rattle.dash_history.specs.declared.gather.At.{At}
+
+module _ {K V A : Type 0} where
+  -- the place of a record: at the index p of the history of shard s
+  abbrev pub place_of : ℕ → ℕ → Record K V A → At
+  place_of s p r = record { stamp = r.stamp; shard = s; place = p; caller = r.caller }
+
+  -- the places of the records of shard s, from the index p on
+  abbrev pub places_from : ℕ → ℕ → List (Record K V A) → List At
+  places_from s p [] = []
+  places_from s p (r ∷ rs) = place_of s p r ∷ places_from s (p + 1) rs
+
+  -- the places of all histories, of the shards from s on
+  abbrev pub places : ℕ → List (List (Record K V A)) → List At
+  places s [] = []
+  places s (h ∷ hs) = places_from s 0 h ++ places (s + 1) hs
+
+  -- each log is lawful
+  abbrev pub EachLog : List (LogState K V A) → Type 0
+  EachLog logs = (i : ℕ) (l : LogState K V A) → slice_get logs i ≡ Some l → IsLog l
+
+  -- of each caller below c, the index of its log
+  abbrev pub Finds : ℕ → List (LogState K V A) → List ℕ → Type 0
+  Finds c logs index = (length index ≡ c) × ((j : ℕ) → j < c → (l : LogState K V A) × (slice_get logs (slice_index index j) ≡ Some l) × (l.caller ≡ j))
+
+-- the record is alike the one at the index k of the entries
+abbrev pub agrees : {K V A : Type 0} → (Record K V A → Record K V A → Bool) → Record K V A → List (Record K V A) → ℕ → Bool
+agrees same r entries k = option_map_or (same r) (slice_get entries k) false
+
+module _ {K V A S : Type 0} (w : Known K V A S) where
+  -- each shard is lawful
+  abbrev pub EachRecorded : List (RecState K V A S) → Type 0
+  EachRecorded row = (i : ℕ) (s : RecState K V A S) → slice_get row i ≡ Some s → IsRecorded w s
+
+  -- the places are the merge of the histories of lawful shards
+  pub record Merges (row : List (RecState K V A S)) (ats : List At) : Type 0 where
+    pub merge : IsMerge (map (λ s. s.history) row) ats
+    pub lawful : EachRecorded row
+
+  -- along the places each caller's records stand in its log's order
+  abbrev pub KeepsCallers : List (List (Record K V A)) → List (LogState K V A) → List At → Type 0
+  KeepsCallers hs logs ats = (i : ℕ) (l : LogState K V A) → slice_get logs i ≡ Some l → Same w (of_caller l.caller (along hs ats)) l.entries

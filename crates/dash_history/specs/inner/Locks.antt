@@ -1,0 +1,22 @@
+-- The locks of a recorded map.
+use Rattle.std.specs.Prelude.{ℕ, ◌≡◌, List, Some, slice_get}
+use Rattle.crossbeam_utils.specs.declared.cache_padded.CachePadded.{CachePadded}
+use Rattle.crossbeam_utils.specs.Padded.{padded_value}
+use Rattle.dash_shard.specs.Hashing.{IsAmount}
+use Rattle.dash_history.specs.Alone.{IsCallers}
+use Rattle.dash_history.specs.declared.record.held.RecTag.{RecTag}
+use Rattle.dash_history.specs.Map.{MapState}
+
+module _ {S : Type 0} where
+  -- the lock was made for shard i of the map
+  pub record IsAt (m : MapState S) (i : ℕ) (lock : CachePadded (RecTag S)) : Type 0 where
+    pub number : (padded_value lock).number ≡ i
+    pub amount : (padded_value lock).amount ≡ m.amount
+    pub callers : (padded_value lock).callers ≡ m.callers
+    pub hasher : (padded_value lock).hasher.value ≡ m.hasher
+
+  -- a lawful map, whose locks stand in rising order of their shards
+  pub record IsMap (m : MapState S) (locks : List (CachePadded (RecTag S))) : Type 0 where
+    pub amount : IsAmount m.amount
+    pub callers : IsCallers m.callers
+    pub tagged : (i : ℕ) (lock : CachePadded (RecTag S)) → slice_get locks i ≡ Some lock → IsAt m i lock

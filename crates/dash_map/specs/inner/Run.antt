@@ -1,0 +1,43 @@
+-- What the parts of a run ask and promise.
+use Rattle.std.specs.Prelude.{◌≡◌, ◌≤◌, ◌↔◌, Bool, length, ⊤}
+use Rattle.dash_shard.specs.Steps as table
+use Rattle.dash_history.specs.Steps.{step_of, reply_of}
+use Rattle.dash_history.specs.Takes.{Takes}
+use Rattle.dash_history.specs.declared.step.ShardStep.{ShardStep}
+use Rattle.dash_history.specs.declared.step.ShardStep.TheVariants.{Get, Contains, Insert, Remove, Read, Count, AlterAll, Retain}
+use Rattle.dash_history.specs.declared.step.Reply.{Reply}
+use Rattle.dash_map.specs.Alone.{AloneState, contents, keys_in}
+use Rattle.dash_map.specs.declared.run.Fault.{Fault}
+use Rattle.dash_map.specs.declared.run.Fault.TheVariants.{NoSuchShard}
+use Rattle.dash_shard.specs.Hashing.{KeyHash}
+use Rattle.dash_map.specs.Run.{rules_in}
+
+-- a step with its reply, in the words of the step table
+abbrev pub answered : {K V A : Type 0} → (A → table.Act K V) → ShardStep K V A × Reply K V → table.Step K V × table.Reply K V
+answered acts d = (step_of acts d.0, reply_of d.1)
+
+module _ {K V A : Type 0} where
+  -- the step is on the pair at its key, and has no action
+  abbrev pub IsBare : ShardStep K V A → Type 0
+  IsBare (Get k) = ⊤
+  IsBare (Contains k) = ⊤
+  IsBare (Insert k v) = ⊤
+  IsBare (Remove k) = ⊤
+  IsBare _ = ⊥
+
+  -- the step names its shard by its number
+  abbrev pub NamesShard : ShardStep K V A → Type 0
+  NamesShard (Read i) = ⊤
+  NamesShard (Count i) = ⊤
+  NamesShard (AlterAll i f) = ⊤
+  NamesShard (Retain i f) = ⊤
+  NamesShard _ = ⊥
+
+-- the fault says that the map has no shard of the step's number, exactly where it has none
+abbrev pub IsMissing : {K V S : Type 0} → KeyHash K S → AloneState K V S → table.Step K V → Fault → Type 0
+IsMissing h a step fault = (fault ≡ NoSuchShard) ↔ (length a.row ≤ table.step_shard (keys_in h a) step)
+
+module _ {K V S : Type 0} (h : KeyHash K S) (k : K → K → Bool) (v : V → V → Bool) where
+  -- from old the step may get this reply, and leaves new, up to alike
+  abbrev pub TakesLike : AloneState K V S → AloneState K V S → table.Step K V → Reply K V → Type 0
+  TakesLike old new step reply = Takes (rules_in h k v old) (contents old) step (reply_of reply) (contents new)

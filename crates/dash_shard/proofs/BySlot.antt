@@ -1,0 +1,82 @@
+-- The calls on a taken slot, as the step table says them.
+use Rattle.std.proofs.Common.{◌≡◌, ℕ, ◌+◌, length, set, Option, Some, None, is_some, IsSome, refl, sym, ap, subst, ◌∙◌, inl, inr}
+use Rattle.std.specs.Option.{option_map}
+use Rattle.std.proofs.lemmas.Bool.{true≢false, cases_Bool, cases_eq}
+use Rattle.std.proofs.lemmas.Option.{none-some}
+use Rattle.dash_shard.specs.declared.shard.table.Table.{Table}
+use Rattle.dash_shard.specs.inner.Keys.{IsLawful, keys_of}
+use Rattle.dash_shard.specs.Hashing.{KeyHash}
+use Rattle.dash_shard.specs.Contents.{at}
+use Rattle.dash_shard.specs.Steps.{Insert, Remove, Old, Pair, after}
+use Rattle.dash_shard.specs.Shard.{ShardState, slot, pairs, own_keys, HasKey, Routes, SameShard, TakesInPlace, TakesAt}
+use Rattle.dash_shard.specs.inner.Table.{Holds, IsTable, pairs_of, hashes_of}
+use Rattle.dash_shard.proofs.Equals.{at-equal}
+use Rattle.dash_shard.proofs.Rewriting.{spot-within}
+use Rattle.dash_shard.proofs.Shards.{state, Inside, Inserted, Removed, holds-key, at-found, replaced, removed, removes}
+use Rattle.dash_shard.proofs.Slots.{absent-at}
+
+module _ {K V S : Type 0} (h : KeyHash K S) (law : IsLawful h) where
+  -- nothing goes where no key is equal
+  pub unmoved : (z : ShardState K V S) (k : K) → at h.eq (pairs z) k ≡ None → TakesInPlace h.eq z z (Remove k) (Pair None)
+  unmoved z k none =
+      let w = own_keys h.eq z in
+      record {
+        taken = record {
+          table = record {
+            replies = ap Pair (sym none);
+            becomes = λ j. elim (cases_Bool (h.eq k j)) as (λ _. at w.eq (pairs z) j ≡ after w (Remove k) j (at w.eq (pairs z) j)) [
+              | inl same ↦ rw same (sym (at-equal w law.laws (pairs z) k j same) ∙ none)
+              | inr other ↦ rw other refl
+            ];
+          };
+          stays = record { number = refl; amount = refl; hasher = refl };
+        };
+        room = refl;
+        slots = λ i p e. e ∙ sym (rw (law.laws.symm k p.0 ∙ absent-at w z.slots k none i p e) refl);
+      }
+
+  module _ (s : S) (number amount : ℕ) (t new : Table K V) (inside : Inside h law s number amount t) (z : ShardState K V S) (view : state h law s number amount t ≡ z) (i : ℕ) where
+    abbrev now : ShardState K V S
+    now = state h law s number amount new
+
+    -- whatever the table, the shard stays the one that it is
+    pub same : SameShard z now
+    same = subst (λ x. SameShard x now) view (record { number = refl; amount = refl; hasher = refl })
+
+    -- a look-up of the key that stands there finds it
+    pub own : IsSome (slot z.slots i) → (k : K) × Holds h.eq t.nodes.items k i
+    own some = from (slot (pairs_of t.nodes.items) i) refl (subst (λ x. IsSome (slot x.slots i)) (sym view) some)
+      where
+        from : (o : Option (K × V)) → slot (pairs_of t.nodes.items) i ≡ o → IsSome o → (k : K) × Holds h.eq t.nodes.items k i
+        from None e none = absurd (true≢false (sym none))
+        from (Some p) e _ = (p.0, record { within = spot-within t.nodes.items i (ap is_some e); pair = p; is = e; equal = law.laws.refl p.0 })
+
+    pub held : (k : K) → HasKey h.eq z k i → Holds h.eq t.nodes.items k i
+    held k has = holds-key h.eq t.nodes.items k i (subst (λ x. HasKey h.eq x k i) (sym view) has)
+
+    -- a key that is there goes there
+    pub route : (k : K) → Holds h.eq t.nodes.items k i → Routes h z k
+    route k found = subst (λ x. Routes h x k) view (elim (cases_eq ((keys_of h (state h law s number amount t)).route k) number) as (λ _. Routes h (state h law s number amount t) k) [
+      | inl here ↦ here
+      | inr away ↦ absurd (none-some found.pair (sym (inside.shard.contents.routed k away) ∙ at-found h law s number amount t inside k i found))
+    ])
+
+    module _ (v : V) (slots : pairs_of new.nodes.items ≡ set (pairs_of t.nodes.items) i (option_map (λ p. (p.0, v)) (slot (pairs_of t.nodes.items) i)))
+        (hashes : hashes_of new.nodes.items ≡ hashes_of t.nodes.items) (len : new.len ≡ t.len) (table : IsTable new) where
+      pub set-there : (k : K) (found : Holds h.eq t.nodes.items k i) → Inserted h law s number amount t new k v (Some found.pair.1)
+      set-there k found = replaced h law s number amount t inside k z view (route k found) v new i found slots hashes len table
+
+      pub sets : length new.nodes.items ≡ length t.nodes.items → (old : V) → Some old ≡ option_map (λ p. p.1) (slot (pairs_of t.nodes.items) i) → TakesAt h.eq z now i (λ k. Insert k v) (Old (Some old))
+      sets long old was k has =
+          let found = held k has in
+          let x = set-there k found in
+          rw (was ∙ ap (λ o. option_map (λ p. p.1) o) found.is) (subst (λ y. TakesInPlace h.eq y now (Insert k v) (Old (Some found.pair.1))) view (record { taken = x.takes; slots = x.stays; room = long }))
+
+    module _ (slots : pairs_of new.nodes.items ≡ set (pairs_of t.nodes.items) i None) (hashes : hashes_of new.nodes.items ≡ hashes_of t.nodes.items) (len : new.len + 1 ≡ t.len) (table : IsTable new) where
+      pub gone-there : (k : K) (found : Holds h.eq t.nodes.items k i) → Removed h law s number amount t new k (Some found.pair)
+      gone-there k found = removed h law s number amount t inside k z view (route k found) new i found slots hashes len table
+
+      pub removes-at : (old : K × V) → slot (pairs_of t.nodes.items) i ≡ Some old → TakesAt h.eq z now i Remove (Pair (Some old))
+      removes-at old was k has =
+          let found = held k has in
+          rw (sym was ∙ found.is) (removes h law s number amount t inside k z view (route k found) new i found slots hashes len table)

@@ -1,0 +1,8 @@
+-- Rows of items that stand slot by slot.
+use Rattle.std.specs.Prelude.{ℕ, ◌+◌, List, [], ◌∷◌, ⊤}
+
+-- the items of ys are what R says of the items of xs, slot by slot from the slot i
+abbrev pub Moved : {A B : Type 0} → (ℕ → A → B → Type 0) → ℕ → List A → List B → Type 0
+Moved R i [] [] = ⊤
+Moved R i (x ∷ xs) (y ∷ ys) = R i x y × Moved R (i + 1) xs ys
+Moved R i _ _ = ⊥

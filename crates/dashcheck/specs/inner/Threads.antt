@@ -1,0 +1,53 @@
+-- The steps of a thread, and what it has done.
+use Rattle.std.specs.Prelude.{◌≡◌, ℕ, zero, suc, ◌+◌, ◌*◌, ◌%◌, ◌<◌, ◌++◌, ◌==◌, List, [], ◌∷◌, None, IfNone, length, map, slice_index_or, ⊤, if◌then◌else◌}
+use Rattle.dash_history.specs.History.{LogState}
+use Rattle.dash_history.specs.declared.step.ShardStep.{ShardStep}
+use Rattle.dash_history.specs.declared.step.ShardStep.TheVariants.{Get, Insert, Remove}
+use Rattle.dashcheck.specs.declared.threads.Worker.{Worker}
+
+-- the step m of thread j
+abbrev pub thread_step : ℕ → ℕ → ShardStep ℕ ℕ (Unit {0})
+thread_step j m = if m % 3 == 0 then Insert ((j + m) % 16) (j * 1000000 + m) else if m % 3 == 1 then Get ((j + m) % 16) else Remove ((j + m) % 16)
+
+-- a thread looks up, puts and takes out, and nothing else
+abbrev pub IsThreadStep : ShardStep ℕ ℕ (Unit {0}) → Type 0
+IsThreadStep (Get k) = ⊤
+IsThreadStep (Insert k v) = ⊤
+IsThreadStep (Remove k) = ⊤
+IsThreadStep _ = ⊥
+
+-- the steps 0 to n - 1 of thread j
+abbrev pub thread_steps : ℕ → ℕ → List (ShardStep ℕ ℕ (Unit {0}))
+thread_steps j zero = []
+thread_steps j (suc n) = thread_steps j n ++ thread_step j n ∷ []
+
+-- the steps of a log
+abbrev pub steps_in : LogState ℕ ℕ (Unit {0}) → List (ShardStep ℕ ℕ (Unit {0}))
+steps_in log = map (λ r. r.step) log.entries
+
+-- the log of the same caller is longer by the step
+pub record LogsStep (old new : LogState ℕ ℕ (Unit {0})) (step : ShardStep ℕ ℕ (Unit {0})) : Type 0 where
+  pub caller : new.caller ≡ old.caller
+  pub steps : steps_in new ≡ steps_in old ++ step ∷ []
+
+-- the thread that the log is of has done its first n steps, and nothing else
+abbrev pub HasDone : ℕ → LogState ℕ ℕ (Unit {0}) → Type 0
+HasDone n log = steps_in log ≡ thread_steps log.caller n
+
+-- the worker of a log
+abbrev pub idle : LogState ℕ ℕ (Unit {0}) → Worker
+idle log = record { log = log; refused = None }
+
+-- a worker that has done nothing, for one of c threads
+pub record IsIdle (c : ℕ) (worker : Worker) : Type 0 where
+  pub caller : worker.log.caller < c
+  pub entries : worker.log.entries ≡ []
+
+-- the worker took the first n steps of its thread, or was refused one
+pub record Works (n : ℕ) (old new : Worker) : Type 0 where
+  pub caller : new.log.caller ≡ old.log.caller
+  pub done : IfNone new.refused (HasDone n new.log)
+
+-- the worker at each place i is the thread i, and has done its first n steps
+abbrev pub AllDone : ℕ → List Worker → Type 0
+AllDone n workers = (i : ℕ) (d : Worker) → i < length workers → ((slice_index_or workers i d).log.caller ≡ i) × HasDone n (slice_index_or workers i d).log
