@@ -1,15 +1,26 @@
 -- The shards of a map, in their two homes: behind locks, and in the row of one owner.
-use Rattle.std.proofs.Common.{◌≡◌, ℕ, List, length, sym, subst, ◌∙◌}
+use Rattle.std.proofs.Common.{◌≡◌, ◌<◌, ℕ, List, Some, Result, length, slice_get, slice_index_or, ap, sym, subst, ◌∙◌}
+use Rattle.std.specs.Prelude.{IfOk}
+use Rattle.std.proofs.lemmas.Option.{slice_get-get_or}
+use Rattle.std.proofs.lemmas.Result.{IfOk-weaker}
+use Rattle.std.specs.Cmp.{IsEquivalence}
 use Rattle.crossbeam_utils.specs.declared.cache_padded.CachePadded.{CachePadded}
 use Rattle.crossbeam_utils.specs.Padded.{padded_value}
 use Rattle.dash_shard.specs.Hashing.{KeyHash, IsAmount, HashAlike}
 use Rattle.dash_shard.specs.inner.Rows.{Moved}
 use Rattle.dash_shard.proofs.Rows.{moved-length, moved-from}
 use Rattle.dash_history.specs.declared.record.held.RecTag.{RecTag}
-use Rattle.dash_history.specs.History.{RecState}
+use Rattle.dash_history.specs.History.{RecState, LogState, Recorded, shard_of}
 use Rattle.dash_history.specs.Alone.{IsTagged, IsAlone}
 use Rattle.dash_history.specs.Held.{FitsTag}
-use Rattle.dash_history.specs.Map.{MapState}
+use Rattle.dash_history.specs.Map.{MapState, Logged, kinds_on}
+use Rattle.dash_history.specs.Takes.{Known}
+use Rattle.dash_history.specs.inner.Kinds.{kinds_of}
+use Rattle.dash_history.specs.declared.step.ShardStep.{ShardStep}
+use Rattle.dash_history.specs.declared.step.Reply.{Reply}
+use Rattle.dash_history.specs.declared.record.RecordFault.{RecordFault}
+use Rattle.dash_history.proofs.Alones.{kinds-same}
+use Rattle.dash_history.proofs.Logging.{logged}
 use Rattle.dash_history.specs.inner.Locks.{IsAt, IsMap}
 
 module _ {K V A S : Type 0} (h : KeyHash K S) where
@@ -21,6 +32,13 @@ module _ {K V A S : Type 0} (h : KeyHash K S) where
     callers = p.callers ∙ at.callers;
     hashes = subst (λ x. HashAlike h x s.shard.hasher) at.hasher p.hashes;
   }
+
+  -- the shard of an index, behind its lock in the row
+  pub shard-behind : (m n : MapState S) (locks : List (CachePadded (RecTag S))) (i : ℕ) (lock : CachePadded (RecTag S)) (s : RecState K V A S) → m ≡ n → IsMap m locks → i < length locks → lock ≡ slice_index_or locks i lock
+      → FitsTag h (padded_value lock) s → IsTagged h n.hasher n.amount n.callers i s
+  shard-behind m n locks i lock s same map within here fits =
+      let there : slice_get locks i ≡ Some lock = slice_get-get_or locks i lock within ∙ ap Some (sym here) in
+      subst (λ m. IsTagged h m.hasher m.amount m.callers i s) same (tagged-behind m i lock s (map.tagged i lock there) fits)
 
   -- and the other way round
   pub fits-at : (m : MapState S) (i : ℕ) (lock : CachePadded (RecTag S)) (s : RecState K V A S) → IsAt m i lock → IsTagged h m.hasher m.amount m.callers i s → FitsTag h (padded_value lock) s
@@ -53,3 +71,12 @@ module _ {K V A S : Type 0} (h : KeyHash K S) where
         callers = a.callers;
         tagged = λ i lock e. subst (λ k. IsAt (record { hasher = base; callers = c; amount = k }) i lock) (count ∙ sym long) (moved-from R row locks moved i lock e).2;
       }
+
+module _ {K V A S : Type 0} (w : Known K V A S) (lk : IsEquivalence w.alike_key) (lv : IsEquivalence w.alike_value) (lf : IsEquivalence w.alike_action) where
+  -- what was recorded on the step's shard behind its lock is in the log
+  pub logged-behind : (m : MapState S) (i : ℕ) (s s' : RecState K V A S) (l l' : LogState K V A) (step : ShardStep K V A) (result : Result (Reply K V) (ShardStep K V A × RecordFault))
+      → IsTagged w.keys m.hasher m.amount m.callers i s → i ≡ shard_of (kinds_on w m) step → IfOk result (λ reply. Recorded (kinds_of w s.shard) s s' l l' step reply) → IfOk result (λ reply. Logged (kinds_on w m) l l' step reply)
+  logged-behind m i s s' l l' step result at goes ok =
+      let same : kinds_of w s.shard ≡ kinds_on w m = kinds-same w m.hasher m.amount m.callers i s at in
+      IfOk-weaker result (λ reply. Recorded (kinds_of w s.shard) s s' l l' step reply) _
+      (λ reply recorded. logged (kinds_on w m) lk lv lf s s' l l' step reply (sym (at.number ∙ goes)) (subst (λ x. Recorded x s s' l l' step reply) same recorded)) ok

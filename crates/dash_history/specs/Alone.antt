@@ -1,10 +1,10 @@
 -- A recorded map of one owner: a row of recorded shards.
-use Rattle.std.specs.Prelude.{ℕ, zero, suc, ◌≡◌, ◌<◌, ◌≤◌, List, [], ◌∷◌, ◌++◌, ◌⊎◌, length, Some, slice_get, slice_set}
+use Rattle.std.specs.Prelude.{ℕ, zero, suc, ◌≡◌, ◌<◌, ◌≤◌, List, [], ◌∷◌, ◌++◌, ◌⊎◌, length, Some, IsSomeAnd, slice_get, slice_set}
 use Rattle.std.specs.Option.{option_map_or}
 use Rattle.dash_shard.specs.Hashing.{KeyHash, IsAmount, HashAlike}
 use Rattle.dash_shard.specs.Shard.{pairs}
 use Rattle.dash_history.specs.Takes.{Known, kinds_at, Kinds}
-use Rattle.dash_history.specs.History.{LogState, RecState, Recorded, shard_of}
+use Rattle.dash_history.specs.History.{LogState, RecState, Recorded, last_or, shard_of}
 use Rattle.dash_history.specs.Refused.{NoStamp}
 use Rattle.dash_history.specs.declared.step.ShardStep.{ShardStep}
 use Rattle.dash_history.specs.declared.step.Reply.{Reply}
@@ -45,6 +45,10 @@ module _ {K V A S : Type 0} where
   -- the last stamp of shard i, 0 where there is none
   abbrev pub last_at : AloneState K V A S → ℕ → ℕ
   last_at a i = option_map_or (λ s. s.last) (slice_get a.row i) 0
+
+  -- the last stamp of the history of shard i, 0 where it has none
+  abbrev pub IsLastOf : AloneState K V A S → ℕ → ℕ → Type 0
+  IsLastOf a i last = IsSomeAnd (slice_get a.row i) (λ s. last ≡ last_or 0 s.history)
 
   -- the shard i of n, of a map with c callers and a hasher of this meaning
   pub record IsTagged (h : KeyHash K S) (meaning : S) (n c i : ℕ) (s : RecState K V A S) : Type 0 where

@@ -1,10 +1,10 @@
 -- A recorded map behind its locks, and what a step through them leaves in the caller's log.
-use Rattle.std.specs.Prelude.{ℕ, ◌≡◌, ◌<◌, List, [], ◌∷◌, ◌++◌}
+use Rattle.std.specs.Prelude.{ℕ, ◌≡◌, ◌<◌, List, [], ◌∷◌, ◌++◌, length}
 use Rattle.dash_shard.specs.Hashing.{KeyHash}
 use Rattle.dash_history.specs.Steps.{step_of, reply_of}
 use Rattle.dash_history.specs.Takes.{Known, kinds_at, Kinds, Answers}
 use Rattle.dash_history.specs.History.{RecState, LogState, Tells, shard_of}
-use Rattle.dash_history.specs.Alone.{IsTagged}
+use Rattle.dash_history.specs.Alone.{AloneState, IsTagged, IsAlone}
 use Rattle.dash_history.specs.declared.step.ShardStep.{ShardStep}
 use Rattle.dash_history.specs.declared.step.Reply.{Reply}
 use Rattle.dash_history.specs.declared.step.Record.{Record}
@@ -26,6 +26,18 @@ kinds_on w m = kinds_at w m.hasher m.amount
 -- it is shard i of the map
 abbrev pub IsShardOf : {K V A S : Type 0} → KeyHash K S → MapState S → ℕ → RecState K V A S → Type 0
 IsShardOf h m i s = IsTagged h m.hasher m.amount m.callers i s
+
+module _ {K V A S : Type 0} (w : Known K V A S) where
+  -- shards that may stand behind the locks of this map
+  pub record IsBehind (m : MapState S) (a : AloneState K V A S) : Type 0 where
+    pub hasher : a.hasher ≡ m.hasher
+    pub callers : a.callers ≡ m.callers
+    pub amount : length a.row ≡ m.amount
+    pub lawful : IsAlone w.keys a
+
+  -- P is so of shards that stood behind the locks
+  abbrev pub SawShards : MapState S → (AloneState K V A S → Type 0) → Type 0
+  SawShards m P = (a : AloneState K V A S) × IsBehind m a × P a
 
 -- The log is longer by one record of the step, with the reply, the step's shard and a stamp above the log's last. The reply is one
 -- that the step gets from some contents of its shard.

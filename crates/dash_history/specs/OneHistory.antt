@@ -1,14 +1,18 @@
 -- One history of a recorded map: the merge of the histories of its shards, and when the logs of its callers match them.
-use Rattle.std.specs.Prelude.{ℕ, ◌≡◌, ◌<◌, ◌≤◌, ◌==◌, ◌⊎◌, ◌↔◌, List, [], map, filter, flat_map, length, Option, Some, option_and_then, slice_get, All, IsTrue}
+use Rattle.std.specs.Prelude.{ℕ, ◌≡◌, ◌<◌, ◌≤◌, ◌==◌, ◌⊎◌, ◌↔◌, List, [], map, filter, flat_map, length, Option, Some, option_and_then, slice_get, All, IsTrue, Result, IfOk, Err, Vec}
 use Rattle.std.specs.List.{Contains, filter_map}
 use Rattle.dash_shard.specs.Shard.{pairs}
+use Rattle.std.specs.Option.{option_eq}
 use Rattle.std.specs.Cmp.Lexicographic.{pointwise}
+use Rattle.dash_history.specs.Alike.{alike_pair}
 use Rattle.dash_history.specs.Steps.{step_of, reply_of, alike_record}
 use Rattle.dash_history.specs.Takes.{Known, Runs}
 use Rattle.dash_history.specs.History.{LogState}
 use Rattle.dash_history.specs.Alone.{AloneState, kinds_in}
 use Rattle.dash_history.specs.declared.step.Record.{Record}
 use Rattle.dash_history.specs.declared.gather.At.{At}
+use Rattle.dash_history.specs.declared.gather.GatherError.{GatherError}
+use Rattle.dash_history.specs.declared.gather.GatherError.TheVariants.{Mismatch}
 
 -- first by stamp, and among equal stamps by shard
 abbrev pub Earlier : At → At → Type 0
@@ -57,6 +61,14 @@ module _ {K V A S : Type 0} (w : Known K V A S) where
   abbrev pub Same : List (Record K V A) → List (Record K V A) → Type 0
   Same rs qs = IsTrue (pointwise (alike_record w.alike_key w.alike_value w.alike_action) rs qs)
 
+  -- a copy of the record at a place, or none where there is none
+  abbrev pub CopiesEntry : AloneState K V A S → ℕ → ℕ → Option (Record K V A) → Type 0
+  CopiesEntry a s p found = IsTrue (option_eq (alike_record w.alike_key w.alike_value w.alike_action) (record_at (histories a) s p) found)
+
+  -- copies of the pairs of all shards, each once
+  abbrev pub CopiesPairs : AloneState K V A S → List (K × V) → Type 0
+  CopiesPairs a copies = IsTrue (pointwise (alike_pair w.alike_key w.alike_value) (contents a) copies)
+
   -- MATCH: of each shard and each caller, the shard's history and the caller's log have the same records
   pub record Matches (a : AloneState K V A S) (logs : List (LogState K V A)) : Type 0 where
     pub callers : AreCallers a.callers logs
@@ -75,6 +87,11 @@ module _ {K V A S : Type 0} (w : Known K V A S) where
     pub matches : Matches a logs
     pub history : IsOneHistory a ats
     pub callers : (i : ℕ) (l : LogState K V A) → slice_get logs i ≡ Some l → Same (of_caller l.caller (along (histories a) ats)) l.entries
+
+  -- what an answer of gather says: the headline, or that the logs don't match; want of memory says nothing of them
+  pub record Gathers {G : Type 0} (a : AloneState K V A S) (logs : List (LogState K V A)) (answer : Result (Vec At G) GatherError) : Type 0 where
+    pub gathered : IfOk answer (λ ats. IsGathered a logs ats.items)
+    pub mismatch : answer ≡ Err Mismatch → Matches a logs → ⊥
 
 -- a place of a stamp above t stands after every one of a stamp up to t
 abbrev pub StampsStandInOrder : List At → Type 0

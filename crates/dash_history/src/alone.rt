@@ -1,17 +1,14 @@
 //! A recorded map of one owner, without locks.
-ghost use Rattle.std.specs.Prelude.{◌≡◌, ℕ, ◌<◌, ◌↔◌, Some, IsErrOf, IsSomeAnd, IfOk, IfErr, length, slice_get, Err, IsTrue, flat_map, option_map};
+ghost use Rattle.std.specs.Prelude.{◌≡◌, ℕ, ◌<◌, ◌↔◌, Some, IsErrOf, IfOk, IfErr, length, slice_get, Err, IsTrue, flat_map, option_map};
 ghost use Rattle.dash_shard.specs.Hashing.{IsAmount, HashAlike};
-ghost use Rattle.dash_history.specs.History.{NoShard, last_or};
-ghost use Rattle.dash_history.specs.Alone.{BadCallers, IsMapError, IsFresh, IsAlone, Applied, NoStampIn, fresh_logs, kinds_in, last_at};
+ghost use Rattle.dash_history.specs.History.{NoShard};
+ghost use Rattle.dash_history.specs.Alone.{BadCallers, IsMapError, IsFresh, IsAlone, Applied, NoStampIn, IsLastOf, fresh_logs, kinds_in, last_at};
 ghost use Rattle.dash_history.specs.inner.Fresh.{FreshRow};
 ghost use Rattle.dash_shard.specs.Shard.{pairs};
-ghost use Rattle.std.specs.Cmp.Lexicographic.{pointwise};
-ghost use Rattle.dash_history.specs.Alike.{alike_pair};
 ghost use Rattle.dash_history.specs.inner.Copied.{alike_pairs};
-ghost use Rattle.dash_history.specs.OneHistory.{IsOneHistory, IsGathered, Matches, contents, histories, record_at};
-ghost use Rattle.dash_history.specs.declared.gather.GatherError.TheVariants.{Mismatch};
+ghost use Rattle.dash_history.specs.OneHistory.{IsOneHistory, Gathers, CopiesEntry, CopiesPairs, histories, record_at};
 ghost use Rattle.dash_history.specs.Refused.{Refuses, HandsBack};
-ghost use Rattle.dash_history.specs.declared.record.RecordFault.TheVariants.{LastStamp, NoSuchShard};
+ghost use Rattle.dash_history.specs.declared.record.RecordFault.TheVariants.{LastStamp, NoSuchShard, Locked};
 ghost use Rattle.dash_history.specs.Takes.{known};
 
 use crate::action::KeptAction;
@@ -203,6 +200,7 @@ impl<K: KeptKey + Drop, V: Kept + Drop, S: BuildHasher, A: KeptAction<K, V> + Dr
         // In this order; else there was no memory.
         ensures no_such_shard { Refuses step NoSuchShard result ↔ NoShard (kinds_in ⟦<Self as Recorded>⟧.known self.old) step }
         ensures last_stamp { Refuses step LastStamp result ↔ NoStampIn ⟦<Self as Recorded>⟧.known self.old log.old step }
+        ensures locked { Refuses step Locked result → ⊥ }
     {
         let (hash, idx) = step.route(&self.hasher, self.row.len());
         if idx >= self.row.len() {
@@ -225,8 +223,7 @@ impl<K: KeptKey + Drop, V: Kept + Drop, S: BuildHasher, A: KeptAction<K, V> + Dr
     /// The logs may stand in any order. It compares each record of each history with its caller's log, by `Kept::same`. It is refused where
     /// the logs don't match (22), or where there is no memory (23), which says nothing of the logs.
     pub fn gather(&self, logs: &[CallerLog<K, V, A>]) -> Result<Vec<At>, GatherError>
-        ensures gathered { IfOk result (λ ats. IsGathered ⟦<Self as Recorded>⟧.known self.now logs.now ats.items) }
-        ensures mismatch { result ≡ Err Mismatch → Matches ⟦<Self as Recorded>⟧.known self.now logs.now → ⊥ }
+        ensures { Gathers ⟦<Self as Recorded>⟧.known self.now logs.now result }
     {
         let alloc = self.row.allocator();
         let Ok(ats) = merge(alloc, self.row.items()) else {
@@ -252,9 +249,24 @@ impl<K: KeptKey + Drop, V: Kept + Drop, S: BuildHasher, A: KeptAction<K, V> + Dr
         self.row[shard].history().get(place)
     }
 
+    // A copy of the record at a place.
+    pub(crate) fn copy_entry(
+        &self,
+        shard: usize,
+        place: usize,
+    ) -> Result<Option<Record<K, V, A>>, AllocError>
+        requires { shard < length self.now.row }
+        ensures { IfOk result (CopiesEntry ⟦<Self as Recorded>⟧.known self.now shard place) }
+    {
+        match self.entry_at(shard, place) {
+            Some(entry) => Ok(Some(entry.copy()?)),
+            None => Ok(None),
+        }
+    }
+
     /// Copies of the pairs of all shards, each once (4).
     pub fn pairs(&self) -> Result<Vec<(K, V)>, AllocError>
-        ensures { IfOk result (λ pairs. IsTrue (pointwise (alike_pair K.alike V.alike) (contents self.now) pairs.items)) }
+        ensures { IfOk result (λ pairs. CopiesPairs ⟦<Self as Recorded>⟧.known self.now pairs.items) }
     {
         copy_contents(self.row.allocator(), self.row.items())
     }
@@ -262,7 +274,7 @@ impl<K: KeptKey + Drop, V: Kept + Drop, S: BuildHasher, A: KeptAction<K, V> + Dr
     /// The stamp of the last step of a shard, 0 for none.
     pub fn last_of(&self, shard: usize) -> u64
         requires { shard < length self.now.row }
-        ensures last { IsSomeAnd (slice_get self.now.row shard) (λ s. result ≡ last_or 0 s.history) }
+        ensures last { IsLastOf self.now shard result }
         ensures same { result ≡ last_at self.now shard }
     {
         self.row[shard].last_stamp()

@@ -1,9 +1,9 @@
 //! Steps of callers on a map that threads share.
-ghost use Rattle.std.specs.Prelude.{◌≡◌, ◌-◌, ◌^◌, ◌<◌, ◌↔◌, IfOk, IfErr};
+ghost use Rattle.std.specs.Prelude.{◌≡◌, ◌-◌, ◌^◌, ◌<◌, ◌↔◌, ◌⊎◌, IfOk, IfErr};
 ghost use Rattle.dash_history.specs.History.{NoShard, shard_of};
 ghost use Rattle.dash_history.specs.Map.{Logged, kinds_on};
 ghost use Rattle.dash_history.specs.Refused.{Refuses};
-ghost use Rattle.dash_history.specs.declared.record.RecordFault.TheVariants.{LastStamp, NoSuchShard};
+ghost use Rattle.dash_history.specs.declared.record.RecordFault.TheVariants.{LastStamp, NoSuchShard, Locked};
 
 use crate::action::KeptAction;
 use crate::kept::{Kept, KeptKey};
@@ -39,11 +39,39 @@ impl<K: KeptKey + Drop, V: Kept + Drop, S: BuildHasher, A: KeptAction<K, V> + Dr
         // The shard's last stamp is not known here, the log's is.
         ensures last_stamp { shard_of (kinds_on ⟦<Self as Recorded>⟧.known self.now) step < self.now.amount
             → log.old.last ≡ 2 ^ 64 - 1 → Refuses step LastStamp result }
+        ensures locked { Refuses step Locked result → ⊥ }
     {
         let (hash, idx) = self.route(&step);
         if idx >= self.shard_count() {
             return Err((step, RecordFault::NoSuchShard));
         }
         self.held(rt, idx).record_hashed(log, hash, step)
+    }
+
+    /// As `apply`, but it waits for nobody: where somebody holds the shard, the step is refused.
+    ///
+    /// Where it is refused (20, then 21, then 18, then 19), the step is handed back, and pairs, history and log stay as they were.
+    pub fn try_apply(
+        &self,
+        log: &mut CallerLog<K, V, A>,
+        step: ShardStep<K, V, A>,
+    ) -> Result<Reply<K, V>, (ShardStep<K, V, A>, RecordFault)>
+        requires { log.old.caller < self.now.callers }
+        ensures ok { IfOk result (λ reply. Logged (kinds_on ⟦<Self as Recorded>⟧.known self.now) log.old log.new step reply) }
+        ensures refused { IfErr result (λ e. (e.0 ≡ step) × (log.new ≡ log.old)) }
+        ensures no_such_shard { Refuses step NoSuchShard result ↔ NoShard (kinds_on ⟦<Self as Recorded>⟧.known self.now) step }
+
+        // Whether the shard is free is not known here; where it is, the log's last stamp is looked at.
+        ensures last_stamp { shard_of (kinds_on ⟦<Self as Recorded>⟧.known self.now) step < self.now.amount
+            → log.old.last ≡ 2 ^ 64 - 1 → Refuses step Locked result ⊎ Refuses step LastStamp result }
+    {
+        let (hash, idx) = self.route(&step);
+        if self.shard_count() <= idx {
+            return Err((step, RecordFault::NoSuchShard));
+        }
+        match self.try_held(idx) {
+            Some(mut held) => held.record_hashed(log, hash, step),
+            None => Err((step, RecordFault::Locked)),
+        }
     }
 }

@@ -2,10 +2,18 @@
 ghost use Rattle.std.specs.Prelude.{◌≡◌, List};
 ghost use Rattle.dash_history.specs.Alone.{AloneState};
 ghost use Rattle.dash_history.specs.History.{LogState};
-ghost use Rattle.dash_history.specs.OneHistory.{IsGathered, StampsStandInOrder};
+ghost use Rattle.dash_history.specs.Map.{SawShards};
+ghost use Rattle.dash_history.specs.OneHistory.{IsGathered, Gathers, StampsStandInOrder};
 ghost use Rattle.dash_history.specs.Takes.{Known};
 ghost use Rattle.dash_history.specs.declared.gather.At.{At};
 
+use crate::action::KeptAction;
+use crate::kept::{Kept, KeptKey};
+use crate::known::Recorded;
+use crate::record::CallerLog;
+use crate::record::map::RecordedMap;
+use core::mem::replace_with;
+use std::hash::BuildHasher;
 use thiserror::Error;
 
 pub(crate) mod matching;
@@ -29,6 +37,44 @@ pub enum GatherError {
     /// There is no memory.
     #[error("no memory (23)")]
     Memory,
+}
+
+/// As `RecAlone::gather`, on a recorded map between its two moves, `alone` and `end`.
+///
+/// As nobody else has the map, it waits for nobody, even where a hold was leaked.
+pub fn gather<K, V, S, A>(
+    map: &mut RecordedMap<K, V, S, A>,
+    logs: &[CallerLog<K, V, A>],
+) -> Result<Vec<At>, GatherError>
+where
+    K: KeptKey + Drop,
+    V: Kept + Drop,
+    S: BuildHasher,
+    A: KeptAction<K, V> + Drop,
+    ensures gathers { SawShards ⟦<RecordedMap<K, V, S, A> as Recorded>⟧.known map.old
+        (λ a. Gathers ⟦<RecordedMap<K, V, S, A> as Recorded>⟧.known a logs.now result) }
+    ensures same { map.new ≡ map.old }
+{
+    replace_with(map, logs, gather_alone)
+}
+
+// The gathering, and the map after it.
+fn gather_alone<K, V, S, A>(
+    map: RecordedMap<K, V, S, A>,
+    logs: &[CallerLog<K, V, A>],
+) -> (RecordedMap<K, V, S, A>, Result<Vec<At>, GatherError>)
+where
+    K: KeptKey + Drop,
+    V: Kept + Drop,
+    S: BuildHasher,
+    A: KeptAction<K, V> + Drop,
+    ensures gathers { SawShards ⟦<RecordedMap<K, V, S, A> as Recorded>⟧.known map
+        (λ a. Gathers ⟦<RecordedMap<K, V, S, A> as Recorded>⟧.known a logs.now result.1) }
+    ensures same { result.0 ≡ map }
+{
+    let alone = map.alone();
+    let gathered = alone.gather(logs);
+    (alone.end(), gathered)
 }
 
 /// A law, with no code: there is one history. Two that `gather` gave of one map with the same logs are the same list.

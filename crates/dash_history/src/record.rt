@@ -38,6 +38,9 @@ pub enum RecordFault {
     /// The map has no shard of the number that the step names.
     #[error("no such shard (20)")]
     NoSuchShard,
+    /// Somebody holds the step's shard, and the call waits for nobody.
+    #[error("locked (21)")]
+    Locked,
 }
 
 /// What one caller did, in its order.
@@ -157,13 +160,7 @@ fn copies<K: Kept + Drop, V: Kept + Drop, A: Kept + Drop>(
         step: step.copy()?,
         reply: reply.copy()?,
     };
-    let second = Record {
-        stamp,
-        caller,
-        shard,
-        step: first.step.copy()?,
-        reply: first.reply.copy()?,
-    };
+    let second = first.copy()?;
     Ok((first, second))
 }
 

@@ -251,6 +251,21 @@ impl<K: Kept + Drop, V: Kept + Drop> Reply<K, V> {
 impl<K: Kept + Drop, V: Kept + Drop, A: Kept> Record<K, V, A> {
     ghost use Rattle.dash_history.specs.Steps.{alike_record};
 
+    /// A copy of the record, alike it.
+    pub fn copy(&self) -> Result<Record<K, V, A>, AllocError>
+    where
+        A: Drop,
+        ensures { IfOk result (λ copy. IsTrue (alike_record K.alike V.alike A.alike self.now copy)) }
+    {
+        Ok(Record {
+            stamp: self.stamp,
+            caller: self.caller,
+            shard: self.shard,
+            step: self.step.copy()?,
+            reply: self.reply.copy()?,
+        })
+    }
+
     /// Whether the two are alike.
     pub fn same(&self, other: &Self) -> bool
         ensures { result ≡ alike_record K.alike V.alike A.alike self.now other.now }

@@ -1,11 +1,12 @@
 //! A recorded map that threads share, and its two moves: shards out of their locks, and behind them again.
-ghost use Rattle.std.specs.Prelude.{◌≡◌, ◌<◌, ◌↔◌, IsErrOf, IfOk, IfErr, length};
+ghost use Rattle.std.specs.Prelude.{◌≡◌, ◌<◌, ◌↔◌, IsErrOf, IfOk, IfErr, IfSome, IsSomeAnd, length, slice_get};
 ghost use Rattle.crossbeam_utils.specs.Padded.{padded_value};
 ghost use Rattle.dash_shard.specs.Hashing.{by, IsAmount, HashAlike};
-ghost use Rattle.dash_history.specs.Alone.{BadCallers, IsMapError, IsAlone, IsCallers, IsTagged, fresh_logs};
+ghost use Rattle.dash_history.specs.Alone.{BadCallers, IsMapError, IsCallers, IsLastOf, IsTagged, fresh_logs};
 ghost use Rattle.dash_history.specs.Held.{FitsTag};
-ghost use Rattle.dash_history.specs.History.{IsRecorded, shard_of};
-ghost use Rattle.dash_history.specs.Map.{map_of, IsShardOf, kinds_on};
+ghost use Rattle.dash_history.specs.History.{IsRecorded, last_or, shard_of};
+ghost use Rattle.dash_history.specs.Map.{map_of, IsBehind, IsShardOf, SawShards, kinds_on};
+ghost use Rattle.dash_history.specs.OneHistory.{CopiesEntry, CopiesPairs};
 ghost use Rattle.dash_history.specs.inner.Locks.{IsAt};
 ghost use Rattle.dash_history.specs.inner.Hashed.{IsHashBy};
 ghost use Rattle.dash_history.specs.Takes.{known};
@@ -16,12 +17,13 @@ use crate::action::KeptAction;
 use crate::alone::RecAlone;
 use crate::kept::{Kept, KeptKey};
 use crate::known::Recorded;
-use crate::step::ShardStep;
+use crate::step::{Record, ShardStep};
+use core::mem::replace_with;
 use crossbeam_utils::CachePadded;
 use dash_shard::error::ConstructError;
 use dash_shard::lock::RwLock;
 use dash_shard::row::Row;
-use std::alloc::Global;
+use std::alloc::{AllocError, Global};
 use std::hash::BuildHasher;
 use std::marker::Model;
 use std::rt::Clock;
@@ -134,12 +136,21 @@ impl<K: KeptKey + Drop, V: Kept + Drop, S: BuildHasher, A: KeptAction<K, V> + Dr
         RecShardMut::of(self.row[shard].write(rt))
     }
 
+    // As `held`, where nobody has the shard.
+    pub(crate) fn try_held(&self, shard: usize) -> Option<RecShardMut<'_, K, V, S, A>>
+        requires { shard < self.now.amount }
+        ensures tagged { IfSome result (IsShardOf ⟦<Self as Recorded>⟧.known.keys self.now shard) }
+        ensures legal { IfSome result (IsRecorded ⟦<Self as Recorded>⟧.known) }
+    {
+        match self.row[shard].try_write() {
+            Some(guard) => Some(RecShardMut::of(guard)),
+            None => None,
+        }
+    }
+
     /// The map without its locks. It takes no memory, and waits for nobody, even where a hold was leaked.
     pub fn alone(self) -> RecAlone<K, V, S, A>
-        ensures hasher { result.hasher ≡ self.hasher }
-        ensures callers { result.callers ≡ self.callers }
-        ensures amount { length result.row ≡ self.amount }
-        ensures lawful { IsAlone ⟦<Self as Recorded>⟧.known.keys result }
+        ensures { IsBehind ⟦<Self as Recorded>⟧.known self result }
     {
         let RecordedMap {
             hasher,
@@ -156,6 +167,74 @@ impl<K: KeptKey + Drop, V: Kept + Drop, S: BuildHasher, A: KeptAction<K, V> + Dr
             callers,
             row,
         }
+    }
+
+    /// A copy of the record at a place: at the index `place` of the history of a shard, if it has so many (4).
+    ///
+    /// As nobody else has the map, it waits for nobody, even where a hold was leaked. The shards leave their locks for it and go back.
+    pub fn entry_at(
+        &mut self,
+        shard: usize,
+        place: usize,
+    ) -> Result<Option<Record<K, V, A>>, AllocError>
+        requires { shard < self.old.amount }
+        ensures entry { IfOk result (λ found.
+            SawShards ⟦<Self as Recorded>⟧.known self.old (λ a. CopiesEntry ⟦<Self as Recorded>⟧.known a shard place found)) }
+        ensures same { self.new ≡ self.old }
+    {
+        replace_with(self, (shard, place), Self::entry_alone)
+    }
+
+    /// The stamp of the last step of a shard, 0 for none. It waits as `entry_at` does.
+    pub fn last_of(&mut self, shard: usize) -> u64
+        requires { shard < self.old.amount }
+        ensures last { SawShards ⟦<Self as Recorded>⟧.known self.old (λ a. IsLastOf a shard result) }
+        ensures same { self.new ≡ self.old }
+    {
+        replace_with(self, shard, Self::last_alone)
+    }
+
+    /// Copies of the pairs of all shards, each once (4). It waits as `entry_at` does.
+    pub fn pairs(&mut self) -> Result<Vec<(K, V)>, AllocError>
+        ensures pairs { IfOk result (λ pairs.
+            SawShards ⟦<Self as Recorded>⟧.known self.old (λ a. CopiesPairs ⟦<Self as Recorded>⟧.known a pairs.items)) }
+        ensures same { self.new ≡ self.old }
+    {
+        replace_with(self, (), Self::pairs_alone)
+    }
+
+    // The copy, and the map after it.
+    fn entry_alone(self, at: (usize, usize)) -> (Self, Result<Option<Record<K, V, A>>, AllocError>)
+        requires { at.0 < self.amount }
+        ensures entry { IfOk result.1 (λ found.
+            SawShards ⟦<Self as Recorded>⟧.known self (λ a. CopiesEntry ⟦<Self as Recorded>⟧.known a at.0 at.1 found)) }
+        ensures same { result.0 ≡ self }
+    {
+        let alone = self.alone();
+        let found = alone.copy_entry(at.0, at.1);
+        (alone.end(), found)
+    }
+
+    // The stamp, and the map after it.
+    fn last_alone(self, shard: usize) -> (Self, u64)
+        requires { shard < self.amount }
+        ensures last { SawShards ⟦<Self as Recorded>⟧.known self (λ a. IsLastOf a shard result.1) }
+        ensures same { result.0 ≡ self }
+    {
+        let alone = self.alone();
+        let last = alone.last_of(shard);
+        (alone.end(), last)
+    }
+
+    // The copies, and the map after them.
+    fn pairs_alone(self, _nothing: ()) -> (Self, Result<Vec<(K, V)>, AllocError>)
+        ensures pairs { IfOk result.1 (λ pairs.
+            SawShards ⟦<Self as Recorded>⟧.known self (λ a. CopiesPairs ⟦<Self as Recorded>⟧.known a pairs.items)) }
+        ensures same { result.0 ≡ self }
+    {
+        let alone = self.alone();
+        let pairs = alone.pairs();
+        (alone.end(), pairs)
     }
 }
 

@@ -7,6 +7,7 @@ use Rattle.dash_history.specs.inner.Gathering.{Finds}
 use Rattle.dash_history.specs.Takes.{known_by}
 use Rattle.dash_history.proofs.Gathering.{below-seen, gathered-seen, mismatch-seen}
 use Rattle.dash_history.proofs.Recording.{lawful-by}
+use Rattle.dash_history.proofs.Refusals.{made-refused}
 use Rattle.dash_history.proofs.alone.RecAlone.gather.Goals as goal
 
 pub follows-requires-clause-callers : goal.follows-requires-clause-callers
@@ -24,21 +25,23 @@ follows-requires-clause-finds g c =
     let found = rw c.in-Ok-Some.field-0-is at c.in-Ok-Some.ensures in
     subst (λ t. Finds (length t) c.args.logs.now t) (sym c.deref-2.ensures.value) (refl, λ j lt. found.1.1 j (omega (arith, lt, found.1.0)))
 
-pub returns-in-Ok-true-clause-gathered : goal.returns-in-Ok-true-clause-gathered
-returns-in-Ok-true-clause-gathered g c =
+pub returns-in-Ok-true : goal.returns-in-Ok-true
+returns-in-Ok-true g c =
     let w = known_by g.K.PartialEq.eq g.K.Hash.hash_input g.K.Kept.alike g.V.Kept.alike g.A.Kept.alike g.A.Action.acts g.S.BuildHasher g.S.Hasher.Hasher in
     let laws = lawful-by (key_hash g.K.PartialEq.eq g.K.Hash.hash_input g.S.BuildHasher g.S.Hasher.Hasher) (lawful-of g.S.BuildHasher g.S.Hasher.Hasher g.met.K.Eq.laws g.met.K.Hash.respects_eq)
     g.K.Kept.alike g.V.Kept.alike g.met.K.Kept.alike_laws g.met.V.Kept.alike_laws g.met.K.KeptKey.alike_equal in
     let found = rw c.in-Ok-Some.field-0-is at c.in-Ok-Some.ensures in
-    gathered-seen w laws c.self.inside.hasher c.self.inside.callers c.self.inside.row c.args.self.now c.self.view_is c.self.invariant c.items.result.now c.items.ensures c.in-Ok.ats.items c.in-Ok.ensures
-    c.args.logs.now found.2 c.items-2.result.now c.items-2.ensures c.deref.result.now c.deref.ensures.value found.0 (c.in-Ok-true.ensures.0 c.in-Ok-true.field-0-test)
+    let gathered = gathered-seen w laws c.self.inside.hasher c.self.inside.callers c.self.inside.row c.args.self.now c.self.view_is c.self.invariant c.items.result.now c.items.ensures c.in-Ok.ats.items c.in-Ok.ensures
+    c.args.logs.now found.2 c.items-2.result.now c.items-2.ensures c.deref.result.now c.deref.ensures.value found.0 (c.in-Ok-true.ensures.0 c.in-Ok-true.field-0-test) in
+    record { gathered = gathered; mismatch = λ e. absurd (made-refused _ _ e) }
 
-pub returns-in-Ok-false-clause-mismatch : goal.returns-in-Ok-false-clause-mismatch
-returns-in-Ok-false-clause-mismatch g c =
+pub returns-in-Ok-false : goal.returns-in-Ok-false
+returns-in-Ok-false g c =
     let w = known_by g.K.PartialEq.eq g.K.Hash.hash_input g.K.Kept.alike g.V.Kept.alike g.A.Kept.alike g.A.Action.acts g.S.BuildHasher g.S.Hasher.Hasher in
     let laws = lawful-by (key_hash g.K.PartialEq.eq g.K.Hash.hash_input g.S.BuildHasher g.S.Hasher.Hasher) (lawful-of g.S.BuildHasher g.S.Hasher.Hasher g.met.K.Eq.laws g.met.K.Hash.respects_eq)
     g.K.Kept.alike g.V.Kept.alike g.met.K.Kept.alike_laws g.met.V.Kept.alike_laws g.met.K.KeptKey.alike_equal in
     let found = rw c.in-Ok-Some.field-0-is at c.in-Ok-Some.ensures in
-    λ e. mismatch-seen w laws c.self.inside.hasher c.self.inside.callers c.self.inside.row c.args.self.now c.self.view_is c.self.invariant c.items.result.now c.items.ensures c.in-Ok.ats.items c.in-Ok.ensures
+    let mismatch = mismatch-seen w laws c.self.inside.hasher c.self.inside.callers c.self.inside.row c.args.self.now c.self.view_is c.self.invariant c.items.result.now c.items.ensures c.in-Ok.ats.items c.in-Ok.ensures
     c.args.logs.now found.2 c.items-2.result.now c.items-2.ensures c.deref.result.now c.deref.ensures.value
-    (λ keeps. absurd (both_ways c.in-Ok-false.field-0 c.in-Ok-false.field-0-test (c.in-Ok-false.ensures.1 keeps)))
+    (λ keeps. absurd (both_ways c.in-Ok-false.field-0 c.in-Ok-false.field-0-test (c.in-Ok-false.ensures.1 keeps))) in
+    record { gathered = tt; mismatch = λ _. mismatch }

@@ -10,9 +10,12 @@ pub invariant_of-result : goal.invariant_of-result
 invariant_of-result g c =
     alone-of_map (key_hash g.K.PartialEq.eq g.K.Hash.hash_input g.S.BuildHasher g.S.Hasher.Hasher) c.self.inside.hasher c.self.inside.callers c.self.inside.row c.turn-row.result c.self.invariant c.turn-row.ensures
 
-pub returns-clause-amount : goal.returns-clause-amount
-returns-clause-amount g c =
-    moved-length (λ _ lock s. FitsTag (key_hash g.K.PartialEq.eq g.K.Hash.hash_input g.S.BuildHasher g.S.Hasher.Hasher) (padded_value lock) s) 0 c.self.inside.row c.turn-row.result c.turn-row.ensures ∙ ap (λ m. m.amount) c.self.view_is
-
-pub returns-clause-lawful : goal.returns-clause-lawful
-returns-clause-lawful g c = alone-of_map (key_hash g.K.PartialEq.eq g.K.Hash.hash_input g.S.BuildHasher g.S.Hasher.Hasher) c.self.inside.hasher c.self.inside.callers c.self.inside.row c.turn-row.result c.self.invariant c.turn-row.ensures
+pub returns : goal.returns
+returns g c =
+    let keys = key_hash g.K.PartialEq.eq g.K.Hash.hash_input g.S.BuildHasher g.S.Hasher.Hasher in
+    record {
+      hasher = ap (λ m. m.hasher) c.self.view_is;
+      callers = ap (λ m. m.callers) c.self.view_is;
+      amount = moved-length (λ _ lock s. FitsTag keys (padded_value lock) s) 0 c.self.inside.row c.turn-row.result c.turn-row.ensures ∙ ap (λ m. m.amount) c.self.view_is;
+      lawful = alone-of_map keys c.self.inside.hasher c.self.inside.callers c.self.inside.row c.turn-row.result c.self.invariant c.turn-row.ensures;
+    }
