@@ -40,6 +40,7 @@ fn texts(rt: HostRuntime) -> Result<(), Fail> {
         (RecordFault::LastStamp, "last stamp (18)"),
         (RecordFault::Memory, "no memory (19)"),
         (RecordFault::NoSuchShard, "no such shard (20)"),
+        (RecordFault::Locked, "locked (21)"),
     ] {
         assert_text(&rt, rt.alloc(), &fault, text)?;
     }

@@ -58,6 +58,7 @@ fn fault_text(fault: RecordFault) -> &'static str
         RecordFault::LastStamp => "last stamp (18)",
         RecordFault::Memory => "no memory (19)",
         RecordFault::NoSuchShard => "no such shard (20)",
+        RecordFault::Locked => "locked (21)",
     }
 }
 
@@ -170,6 +171,7 @@ mod tests {
             RecordFault::LastStamp,
             RecordFault::Memory,
             RecordFault::NoSuchShard,
+            RecordFault::Locked,
         ] {
             assert_eq!(rt;
                 format!(in rt.alloc(); "{fault}")?.as_str(),

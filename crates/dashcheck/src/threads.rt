@@ -208,6 +208,7 @@ fn take<T: Wait + Clock>(
         Err((_, RecordFault::LastStamp)) => Err(Refusal::LastStamp),
         Err((_, RecordFault::Memory)) => Err(Refusal::Memory),
         Err((_, RecordFault::NoSuchShard)) => unreachable!(),
+        Err((_, RecordFault::Locked)) => unreachable!(),
     }
 }
 
