@@ -1,2 +1,4 @@
+pub mod Part
 pub mod Ref
+pub mod Try
 pub mod inner

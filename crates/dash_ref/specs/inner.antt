@@ -1,2 +1,3 @@
 -- What only proofs, invariants and the contracts of private functions use.
 pub mod Codes
+pub mod Parts

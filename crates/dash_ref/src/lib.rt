@@ -2,3 +2,5 @@
 #![tactic(auto)]
 
 pub mod mapref;
+pub mod try_result;
+pub mod util;

@@ -11,11 +11,16 @@ ghost use Rattle.dash_ref.specs.Ref.{Stands, pair_of};
 use dash_shard::keyed::Keyed;
 use dash_shard::lock::RwLockReadGuard;
 use dash_shard::shard::Shard;
+pub use mapped::MappedRef;
+pub use projection::{Compose, Projection};
 use std::fmt;
 use std::hash::{BuildHasher, Hash};
 use std::marker::Model;
 use std::ops::Deref;
 use std::snapshot::Snapshot;
+
+mod mapped;
+mod projection;
 
 /// A pair of a map, and a hold of its shard's lock for reading, as the original's `Ref`: the hold ends when this is dropped, and till
 /// then the pair stays as it is.

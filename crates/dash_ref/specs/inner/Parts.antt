@@ -1,0 +1,26 @@
+-- The part of a part is a part.
+use Rattle.std.specs.Prelude.{◌≡◌, Option, Some, None, IsSome, option_and_then, refl}
+use Rattle.std.specs.Option.{option_map_or}
+use Rattle.std.proofs.Common.{ap, ◌∙◌, subst, sym}
+use Rattle.std.proofs.lemmas.Bool.{false≢true}
+use Rattle.dash_ref.specs.Part.{IsPart, inner_part, inner_with}
+
+module _ {V M T : Type 0} (p : V → Option M) (w : V → M → V) (q : M → Option T) (x : M → T → M) where
+  pub inner_is_part : IsPart p w → IsPart q x → IsPart (inner_part p w q x) (inner_with p w q x)
+  inner_is_part a b = record { put = λ v t s. put v t (p v) refl s; own = λ v t s. own v t (p v) refl s; last = λ v t u s. last v t u (p v) refl s }
+    where
+      there : (v : V) (m : M) (t : T) → p v ≡ Some m → p (w v (x m t)) ≡ Some (x m t)
+      there v m t e = a.put v (x m t) (subst IsSome (sym e) refl)
+
+      put : (v : V) (t : T) (o : Option M) → p v ≡ o → IsSome (option_and_then q o) → option_and_then q (p (option_map_or (λ m. w v (x m t)) o v)) ≡ Some t
+      put v t None e s = absurd (false≢true s)
+      put v t (Some m) e s = ap (option_and_then q) (there v m t e) ∙ b.put m t s
+
+      own : (v : V) (t : T) (o : Option M) → p v ≡ o → option_and_then q o ≡ Some t → option_map_or (λ m. w v (x m t)) o v ≡ v
+      own v t None e s = refl
+      own v t (Some m) e s = ap (w v) (b.own m t s) ∙ a.own v m e
+
+      last : (v : V) (t u : T) (o : Option M) → p v ≡ o → IsSome (option_and_then q o) → inner_with p w q x (option_map_or (λ m. w v (x m t)) o v) u ≡ option_map_or (λ m. w v (x m u)) o v
+      last v t u None e s = absurd (false≢true s)
+      last v t u (Some m) e s =
+          ap (λ o. option_map_or (λ n. w (w v (x m t)) (x n u)) o (w v (x m t))) (there v m t e) ∙ (a.last v (x m t) (x (x m t) u) (subst IsSome (sym e) refl) ∙ ap (w v) (b.last m t u s))
