@@ -94,10 +94,15 @@ module _ {K V S : Type 0} (h : KeyHash K S)
       retained-shard = remade-shard t new inside _ (kept-key did.act) did.made
 
       pub retains : length new.nodes.items ≡ length t.nodes.items → (z : ShardState K V S) → of t ≡ z → SweepsBy T h.eq f z (of new) (Retain z.number)
-      retains room z view = subst (λ x. SweepsBy T h.eq f x (of new) (Retain x.number)) view (did.act, swept.0, did.called, record {
-        taken = remade-takes t new inside _ (kept-key did.act) did.made (Retain number did.act) refl;
-        slots = remade-stays t new inside _ (kept-key did.act) did.made (Retain number did.act) refl;
-        room = room;
+      retains room z view = subst (λ x. SweepsBy T h.eq f x (of new) (Retain x.number)) view (record {
+        act = did.act;
+        last = swept.0;
+        called = did.called;
+        does = record {
+          taken = remade-takes t new inside _ (kept-key did.act) did.made (Retain number did.act) refl;
+          slots = remade-stays t new inside _ (kept-key did.act) did.made (Retain number did.act) refl;
+          room = room;
+        };
       })
 
       pub fewer : (z : ShardState K V S) → of t ≡ z → length (pairs (of new)) ≤ length (pairs z)
@@ -125,10 +130,15 @@ module _ {K V S : Type 0} (h : KeyHash K S)
       altered-shard = remade-shard t new inside _ (altered-key made.act) made.made
 
       pub alters : length new.nodes.items ≡ length t.nodes.items → (z : ShardState K V S) → of t ≡ z → SweepsBy T h.eq f z (of new) (AlterAll z.number)
-      alters room z view = subst (λ x. SweepsBy T h.eq f x (of new) (AlterAll x.number)) view (made.act, swept.0, made.called, record {
-        taken = remade-takes t new inside _ (altered-key made.act) made.made (AlterAll number made.act) refl;
-        slots = remade-stays t new inside _ (altered-key made.act) made.made (AlterAll number made.act) refl;
-        room = room;
+      alters room z view = subst (λ x. SweepsBy T h.eq f x (of new) (AlterAll x.number)) view (record {
+        act = made.act;
+        last = swept.0;
+        called = made.called;
+        does = record {
+          taken = remade-takes t new inside _ (altered-key made.act) made.made (AlterAll number made.act) refl;
+          slots = remade-stays t new inside _ (altered-key made.act) made.made (AlterAll number made.act) refl;
+          room = room;
+        };
       })
 
       pub as-many : (z : ShardState K V S) → of t ≡ z → length (pairs (of new)) ≡ length (pairs z)

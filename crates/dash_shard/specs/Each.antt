@@ -21,8 +21,11 @@ CalledAlong T act f [] last = f ≡ last
 CalledAlong {F = F} T act f (p ∷ ps) last = (f' : F) × T f p.0 p.1 (act p.0 p.1).1 (act p.0 p.1).0 f' × CalledAlong T act f' ps last
 
 -- P is so of the action that says what these calls of f did
-abbrev pub ByCalls : {F K V : Type 0} → (F → K → V → Bool → V → F → Type 0) → F → List (K × V) → (Act K V → Type 0) → Type 0
-ByCalls {F} {K} {V} T f ps P = (act : Act K V) × (last : F) × CalledAlong T act f ps last × P act
+pub record ByCalls {F K V : Type 0} (T : F → K → V → Bool → V → F → Type 0) (f : F) (ps : List (K × V)) (P : Act K V → Type 0) : Type 0 where
+  pub act : Act K V
+  pub last : F
+  pub called : CalledAlong T act f ps last
+  pub does : P act
 
 -- the step is taken in place, by the action that says what f did at the pairs
 abbrev pub SweepsBy : {K V S F : Type 0} → (F → K → V → Bool → V → F → Type 0) → (K → K → Bool) → F → ShardState K V S → ShardState K V S → (Act K V → Step K V) → Type 0
