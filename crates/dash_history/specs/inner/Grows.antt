@@ -16,13 +16,6 @@ module _ {K V A S : Type 0} (w : Known K V A S) where
   abbrev pub Adds : RecState K V A S → RecState K V A S → ℕ → ℕ → ShardStep K V A → Result (Reply K V × Record K V A) (ShardStep K V A) → Type 0
   Adds s s' stamp caller step result = IfOk result (λ p. Grown (kinds_of w s.shard) s s' stamp caller step p.0 p.1)
 
--- all that a step at a stamp promises
-pub record Grows {K V A S : Type 0} (w : Known K V A S) (s s' : RecState K V A S) (stamp caller : ℕ) (step : ShardStep K V A) (result : Result (Reply K V × Record K V A) (ShardStep K V A)) : Type 0 where
-  pub ok : Adds w s s' stamp caller step result
-  pub refused : IfErr result (λ back. (back ≡ step) × (s' ≡ s))
-  pub stays : SameShard s.shard s'.shard
-  pub callers : s'.callers ≡ s.callers
-
 -- all that a recorded step promises of its shard and of its caller's log
 pub record Promises {K V A S : Type 0} (w : Known K V A S) (s s' : RecState K V A S) (l l' : LogState K V A) (step : ShardStep K V A) (result : Result (Reply K V) (ShardStep K V A × RecordFault)) : Type 0 where
   pub ok : Records w s s' l l' step result
