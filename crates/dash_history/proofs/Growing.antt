@@ -6,7 +6,7 @@ use Rattle.dash_shard.specs.Steps.{Step, Reply}
 use Rattle.dash_history.specs.declared.step.Record.{Record}
 use Rattle.dash_history.specs.inner.Done.{done}
 use Rattle.dash_history.specs.Takes.{Rules, Kinds, Takes, Runs}
-use Rattle.dash_history.specs.History.{last_or, Rises, IsOf, IsHistory, LogState, IsLog}
+use Rattle.dash_history.specs.History.{last_or, Rises, shard_of, IsHistory, LogState, IsLog}
 
 -- a run with one more step
 pub runs-more : {K V : Type 0} (m : Rules K V) (P M Q : List (K × V)) (ds : List (Step K V × Reply K V)) (d : Step K V × Reply K V) → Runs m P ds M → Takes m M d.0 d.1 Q → Runs m P (ds ++ d ∷ []) Q
@@ -36,17 +36,17 @@ module _ {K V A : Type 0} where
 
   module _ (m : Kinds K V A) where
     -- a history with one more record
-    pub history-more : (callers s : ℕ) (h : List (Record K V A)) (P Q : List (K × V)) (r : Record K V A) → IsHistory m callers s h P → last_or 0 h < r.stamp → IsOf m callers s r
+    pub history-more : (callers s : ℕ) (h : List (Record K V A)) (P Q : List (K × V)) (r : Record K V A) → IsHistory m callers s h P → last_or 0 h < r.stamp → (r.shard ≡ s) × (shard_of m r.step ≡ s) × (r.caller < callers)
         → Takes m.rules P (done m.acts r).0 (done m.acts r).1 Q → IsHistory m callers s (h ++ r ∷ []) Q
     history-more callers s h P Q r legal above of t = record {
-      of = all-more (IsOf m callers s) h r legal.of of;
+      of = all-more (λ q. (q.shard ≡ s) × (shard_of m q.step ≡ s) × (q.caller < callers)) h r legal.of of;
       rises = rises-more 0 h r legal.rises above;
       runs = subst (λ ds. Runs m.rules [] ds Q) (sym (map-append (done m.acts) h (r ∷ []))) (runs-more m.rules [] P Q (map (done m.acts) h) (done m.acts r) legal.runs t);
     }
 
     -- nothing was recorded yet
     pub history-none : (callers s : ℕ) (h : List (Record K V A)) (P : List (K × V)) → h ≡ [] → length P ≡ 0 → IsHistory m callers s h P
-    history-none callers s h P none empty = rw none (record { of = All-nil (IsOf m callers s); rises = tt; runs = nothing P empty })
+    history-none callers s h P none empty = rw none (record { of = All-nil (λ q. (q.shard ≡ s) × (shard_of m q.step ≡ s) × (q.caller < callers)); rises = tt; runs = nothing P empty })
       where
         nothing : (Q : List (K × V)) → length Q ≡ 0 → [] ≡ Q
         nothing [] e = refl

@@ -1,5 +1,5 @@
 -- What a step leaves in the caller's log.
-use Rattle.std.proofs.Common.{◌≡◌, ◌==◌, ℕ, ◌&&◌, Bool, true, sym, ◌∙◌, arith, IsTrue, eqb-true}
+use Rattle.std.proofs.Common.{◌≡◌, ◌==◌, ℕ, ◌&&◌, Bool, true, sym, ap, ◌∙◌, arith, IsTrue, eqb-true}
 use Rattle.std.proofs.lemmas.Bool.{and_parts, and_from}
 use Rattle.std.specs.Cmp.{IsEquivalence, nat_eq_equiv}
 use Rattle.dash_history.specs.declared.step.ShardStep.{ShardStep}
@@ -61,12 +61,14 @@ module _ {K V A : Type 0} {k : K → K → Bool} {v : V → V → Bool} {f : A �
 module _ {K V A S : Type 0} (m : Kinds K V A) (lk : IsEquivalence m.rules.alike_key) (lv : IsEquivalence m.rules.alike_value) (lf : IsEquivalence m.alike_action) where
   -- a step that was recorded on the step's shard is in the log
   pub logged : (s s' : RecState K V A S) (l l' : LogState K V A) (step : ShardStep K V A) (reply : program.Reply K V) → shard_of m step ≡ s.shard.number → Recorded m s s' l l' step reply → Logged m l l' step reply
-  logged s s' l l' step reply here r = record {
-    entry = r.logged;
-    tells = rw (here, r.log_last) (tells-same lk lv lf (stamp_of s l) l.caller s.shard.number step reply r.grown.kept r.logged r.grown.tells r.grown.same);
-    above = omega (arith, r.log_last);
-    entries = r.entries;
-    caller = r.caller;
-    contents = _;
-    answers = r.grown.takes.answers;
-  }
+  logged s s' l l' step reply here r =
+      let last : l'.last ≡ stamp_of s l = ap (λ x. x.last) r.log in
+      record {
+        entry = r.logged;
+        tells = rw (here, last) (tells-same lk lv lf (stamp_of s l) l.caller s.shard.number step reply r.grown.kept r.logged r.grown.tells r.grown.same);
+        above = omega (arith, last);
+        entries = ap (λ x. x.entries) r.log;
+        caller = ap (λ x. x.caller) r.log;
+        contents = _;
+        answers = r.grown.takes.answers;
+      }

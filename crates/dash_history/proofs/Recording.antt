@@ -75,7 +75,7 @@ module _ {K V S : Type 0} (h : KeyHash K S) (law : IsLawful h) (k : K → K → 
           history = rw (stays.hasher, stays.amount, stays.number, e)
               (history-more (kinds_of w s.shard) s.callers s.shard.number s.history (pairs s.shard) (pairs t) r old.history
               (omega (arith, above, old.last, tells.stamped))
-              (record { shard = tells.of; goes = sym (shard-alike m.rules laws _ _ line) ∙ here; caller = subst (λ n. n < s.callers) (sym tells.by) below })
+              (tells.of, sym (shard-alike m.rules laws _ _ line) ∙ here, subst (λ n. n < s.callers) (sym tells.by) below)
               (takes-alike m.rules laws (pairs s.shard) (pairs t) (step_of acts step) (step_of acts r.step) (reply_of reply) (reply_of r.reply) line tells.replied takes));
           last = sym (ap (last_or 0) e ∙ last_or-more 0 s.history r ∙ tells.stamped);
         }

@@ -9,7 +9,7 @@ use Rattle.dash_shard.specs.Steps.{step_shard}
 use Rattle.dash_shard.specs.Shard.{pairs}
 use Rattle.dash_history.specs.Alone.{AloneState, IsAlone, kinds_in}
 use Rattle.dash_history.specs.inner.Gathering.{EachRecorded}
-use Rattle.dash_history.specs.History.{RecState, IsHistory, IsOf, Rises, shard_of}
+use Rattle.dash_history.specs.History.{RecState, IsHistory, Rises, shard_of}
 use Rattle.dash_history.specs.OneHistory.{IsMerge, IsOneHistory, along, of_shard, histories, contents}
 use Rattle.dash_history.specs.inner.Done.{done}
 use Rattle.dash_history.specs.Takes.{Known, Kinds, Runs}
@@ -62,25 +62,25 @@ module _ {K V A S : Type 0} (w : Known K V A S) (a : AloneState K V A S) (alone 
       (subst (λ c. IsHistory m c s.shard.number s.history (pairs s.shard)) t.callers
       (subst (λ k. IsHistory k s.callers s.shard.number s.history (pairs s.shard)) (kinds-same w a.hasher (length a.row) a.callers i s t) (each i s e).history))
 
-  of-shard : (i : ℕ) (h : List (Record K V A)) (r : Record K V A) → slice_get (histories a) i ≡ Some h → Has h r → IsOf m a.callers i r
+  of-shard : (i : ℕ) (h : List (Record K V A)) (r : Record K V A) → slice_get (histories a) i ≡ Some h → Has h r → (r.shard ≡ i) × (shard_of m r.step ≡ i) × (r.caller < a.callers)
   of-shard i h r e x =
       let f = mapped-get (λ s. s.history) a.row i h e in
-      all-has (IsOf m a.callers i) h r (subst (λ l. All (IsOf m a.callers i) l) f.2 (legal i f.0 f.1).of) x
+      all-has (λ r. (r.shard ≡ i) × (shard_of m r.step ≡ i) × (r.caller < a.callers)) h r (subst (λ l. All (λ r. (r.shard ≡ i) × (shard_of m r.step ≡ i) × (r.caller < a.callers)) l) f.2 (legal i f.0 f.1).of) x
 
   pub tidy : Tidy (histories a)
   tidy = record {
-    of = λ s h r e x. (of-shard s h r e x).shard;
+    of = λ s h r e x. (of-shard s h r e x).0;
     rises = λ s h e. let f = mapped-get (λ s. s.history) a.row s h e in subst (Rises 0) f.2 (legal s f.0 f.1).rises;
   }
 
   module _ (ats : List At) (merge : IsMerge (histories a) ats) where
     pub caller-below : (x : At) → Has ats x → x.caller < a.callers
-    caller-below x h = let f = caller-along (histories a) ats tidy merge x h in subst (λ n. n < a.callers) f.5 (of-shard f.0 f.1 f.2 f.3 f.4).caller
+    caller-below x h = let f = caller-along (histories a) ats tidy merge x h in subst (λ n. n < a.callers) f.5 (of-shard f.0 f.1 f.2 f.3 f.4).2
 
     goes : (r : Record K V A) → Has (along (histories a) ats) r → (shard_of m r.step ≡ r.shard) × (r.shard < length a.row)
     goes r x =
         let f = along-has (histories a) ats tidy merge r x in
-        ((of-shard r.shard f.0 r f.1 f.2).goes, omega (arith, slice_get_within (histories a) r.shard f.0 f.1, length-map a.row (λ s. s.history)))
+        ((of-shard r.shard f.0 r f.1 f.2).1, omega (arith, slice_get_within (histories a) r.shard f.0 f.1, length-map a.row (λ s. s.history)))
 
     -- the steps on a shard are those of the records that name it
     steps-of : (s : ℕ) (rs : List (Record K V A)) → ((r : Record K V A) → Has rs r → shard_of m r.step ≡ r.shard) → filter (λ d. step_shard m.rules.keys d.0 == s) (map (done w.acts) rs) ≡ map (done w.acts) (of_shard s rs)

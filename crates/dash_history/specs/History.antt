@@ -29,15 +29,9 @@ module _ {K V A : Type 0} (m : Kinds K V A) where
   abbrev pub NoShard : ShardStep K V A → Type 0
   NoShard step = m.rules.keys.shards ≤ shard_of step
 
-  -- a record of shard s, by one of the callers, of a step that goes to s
-  pub record IsOf (callers s : ℕ) (r : Record K V A) : Type 0 where
-    pub shard : r.shard ≡ s
-    pub goes : shard_of r.step ≡ s
-    pub caller : r.caller < callers
-
-  -- shard history: the history of shard s, from no pairs to the pairs P
+  -- shard history: the callers' records of shard s, of steps that go to s, from no pairs to the pairs P
   pub record IsHistory (callers s : ℕ) (h : List (Record K V A)) (P : List (K × V)) : Type 0 where
-    pub of : All (IsOf callers s) h
+    pub of : All (λ r. (r.shard ≡ s) × (shard_of r.step ≡ s) × (r.caller < callers)) h
     pub rises : Rises 0 h
     pub runs : Runs m.rules [] (map (λ r. (step_of m.acts r.step, reply_of r.reply)) h) P
 
@@ -78,18 +72,14 @@ pub record Grown {K V A S : Type 0} (m : Kinds K V A) (s s' : RecState K V A S) 
   pub kept : Record K V A
   pub tells : Tells m.rules.alike_key m.rules.alike_value m.alike_action stamp caller s.shard.number step reply kept
   pub same : IsTrue (alike_record m.rules.alike_key m.rules.alike_value m.alike_action kept logged)
-  pub history : s'.history ≡ s.history ++ kept ∷ []
-  pub last : s'.last ≡ stamp
+  pub grown : s' ≡ record s { shard = s'.shard; last = stamp; history = s.history ++ kept ∷ [] }
   pub stays : SameShard s.shard s'.shard
-  pub callers : s'.callers ≡ s.callers
 
 -- The step was taken on the shard, and one same record of it was added at the end of the history and of the log.
 pub record Recorded {K V A S : Type 0} (m : Kinds K V A) (s s' : RecState K V A S) (l l' : LogState K V A) (step : ShardStep K V A) (reply : Reply K V) : Type 0 where
   pub logged : Record K V A
   pub grown : Grown m s s' (stamp_of s l) l.caller step reply logged
-  pub entries : l'.entries ≡ l.entries ++ logged ∷ []
-  pub log_last : l'.last ≡ stamp_of s l
-  pub caller : l'.caller ≡ l.caller
+  pub log : l' ≡ record l { last = stamp_of s l; entries = l.entries ++ logged ∷ [] }
 
 -- the step goes to the shard
 abbrev pub GoesTo : {K V A S : Type 0} → Known K V A S → ShardState K V S → ShardStep K V A → Type 0

@@ -1,18 +1,13 @@
 -- Why a step is refused, and what is left then.
-use Rattle.std.specs.Prelude.{ℕ, ◌≡◌, ◌-◌, ◌^◌, ◌⊎◌, max, Result, Err, IfErr}
+use Rattle.std.specs.Prelude.{ℕ, ◌≡◌, ◌-◌, ◌^◌, max, Result, Err, IfErr}
 use Rattle.dash_history.specs.History.{LogState}
 use Rattle.dash_history.specs.declared.step.ShardStep.{ShardStep}
 use Rattle.dash_history.specs.declared.step.Reply.{Reply}
 use Rattle.dash_history.specs.declared.record.RecordFault.{RecordFault}
-use Rattle.dash_history.specs.declared.record.RecordFault.TheVariants.{LastStamp, Memory}
 
 -- no stamp is above both
 abbrev pub NoStamp : ℕ → ℕ → Type 0
 NoStamp last other = max last other ≡ 2 ^ 64 - 1
-
--- a shard refuses a step for these alone
-abbrev pub IsShardFault : RecordFault → Type 0
-IsShardFault fault = (fault ≡ LastStamp) ⊎ (fault ≡ Memory)
 
 -- the step is refused for this fault, and handed back
 abbrev pub Refuses : {K V A : Type 0} → ShardStep K V A → RecordFault → Result (Reply K V) (ShardStep K V A × RecordFault) → Type 0

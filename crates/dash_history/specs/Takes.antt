@@ -56,14 +56,9 @@ pub record Known (K V A S : Type 0) : Type 0 where
 abbrev pub known_by : {K V A S H : Type 0} → (K → K → Bool) → (K → HashWrites) → (K → K → Bool) → (V → V → Bool) → (A → A → Bool) → (A → Act K V) → builder.Ghosts S H → hasher.Ghosts H → Known K V A S
 known_by eq input k v f acts b h = record { keys = key_hash eq input b h; alike_key = k; alike_value = v; alike_action = f; acts = acts }
 
--- what a clause has as K.KeptKey, and as A.KeptAction
-abbrev pub KeptKeyMembers : Type 0 → Type 0
-KeptKeyMembers K = record { hash_input : K → HashWrites; eq : K → K → Bool; alike : K → K → Bool }
-
-abbrev pub ActionMembers : Type 0 → Type 0 → Type 0 → Type 0
-ActionMembers A K V = record { alike : A → A → Bool; acts : A → Act K V }
-
-abbrev pub known : {K V A S H : Type 0} → KeptKeyMembers K → (V → V → Bool) → ActionMembers A K V → builder.Ghosts S H → hasher.Ghosts H → Known K V A S
+-- the same, from what a clause has as K.KeptKey, V.alike, A.KeptAction, S.BuildHasher and S.Hasher.Hasher
+abbrev pub known : {K V A S H : Type 0} → record { hash_input : K → HashWrites; eq : K → K → Bool; alike : K → K → Bool } → (V → V → Bool)
+    → record { alike : A → A → Bool; acts : A → Act K V } → builder.Ghosts S H → hasher.Ghosts H → Known K V A S
 known key v action b h = known_by key.eq key.hash_input key.alike v action.alike action.acts b h
 
 -- on a map with this hasher and amount

@@ -1,5 +1,5 @@
 //! Recorded shards and callers' logs, and the one call that lengthens both.
-ghost use Rattle.std.specs.Prelude.{◌≡◌, ◌-◌, ◌<◌, ◌^◌, ◌↔◌, [], IsTrue, IfOk, IfErr, vec_len, vec_capacity, max};
+ghost use Rattle.std.specs.Prelude.{◌≡◌, ◌-◌, ◌<◌, ◌^◌, ◌↔◌, ◌⊎◌, [], IsTrue, IfOk, IfErr, vec_len, vec_capacity, max};
 ghost use Rattle.dash_shard.specs.Hashing.{IsAmount};
 ghost use Rattle.dash_shard.specs.Shard.{SameShard, pairs, shard_len};
 ghost use Rattle.dash_history.specs.Steps.{alike_record};
@@ -7,8 +7,8 @@ ghost use Rattle.dash_history.specs.Takes.{known};
 ghost use Rattle.dash_history.specs.History.{IsLog, IsRecorded, Tells, GoesTo, Records};
 ghost use Rattle.dash_history.specs.inner.Grows.{Adds};
 ghost use Rattle.dash_history.specs.inner.Hashed.{HasHash};
-ghost use Rattle.dash_history.specs.Refused.{Refuses, HandsBack, NoStamp, IsShardFault};
-ghost use Rattle.dash_history.specs.declared.record.RecordFault.TheVariants.{LastStamp};
+ghost use Rattle.dash_history.specs.Refused.{Refuses, HandsBack, NoStamp};
+ghost use Rattle.dash_history.specs.declared.record.RecordFault.TheVariants.{LastStamp, Memory};
 ghost use Rattle.dash_history.specs.Alone.{IsFresh};
 
 use crate::action::KeptAction;
@@ -320,7 +320,7 @@ impl<K: KeptKey + Drop, V: Kept + Drop, S: BuildHasher, A: KeptAction<K, V> + Dr
         ensures refused { HandsBack step self.old self.new log.old log.new result }
         ensures last_stamp { Refuses step LastStamp result ↔ NoStamp self.old.last log.old.last }
         ensures log_last { log.old.last ≡ 2 ^ 64 - 1 → Refuses step LastStamp result }
-        ensures faults { IfErr result (λ e. IsShardFault e.1) }
+        ensures faults { IfErr result (λ e. (e.1 ≡ LastStamp) ⊎ (e.1 ≡ Memory)) }
         ensures stays { SameShard self.old.shard self.new.shard }
         ensures callers { self.new.callers ≡ self.old.callers }
     {

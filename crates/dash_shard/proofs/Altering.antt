@@ -1,8 +1,8 @@
 -- The calls that change one pair in its slot, as the step table says them.
-use Rattle.std.proofs.Common.{◌≡◌, ℕ, ◌+◌, Bool, true, false, cond, length, set, Option, Some, None, refl, sym, ap, subst, ◌∙◌, inl, inr, eq-eqb}
+use Rattle.std.proofs.Common.{◌≡◌, ℕ, ◌+◌, Bool, true, false, cond, List, length, set, slice_set, Option, Some, None, refl, sym, ap, subst, ◌∙◌, inl, inr}
 use Rattle.std.specs.Prelude.{option_and_then, IfSome, if◌then◌else◌}
 use Rattle.std.specs.Option.{option_map}
-use Rattle.std.proofs.lemmas.Bool.{cases_Bool, ne_eqb}
+use Rattle.std.proofs.lemmas.Bool.{cases_Bool}
 use Rattle.std.proofs.Math.Seq.{set-set}
 use Rattle.dash_shard.specs.declared.shard.table.Table.{Table}
 use Rattle.dash_shard.specs.Contents.{Keys, at}
@@ -11,7 +11,7 @@ use Rattle.dash_shard.specs.Shard.{ShardState, slot, pairs, own_keys, Routes, Ta
 use Rattle.dash_shard.specs.Held.{Loses, Replaces}
 use Rattle.dash_shard.specs.inner.Table.{Holds, IsTable, IsRewritten, pairs_of, hashes_of}
 use Rattle.dash_shard.proofs.Shards.{state, Inside, at-found, removed, removes, lost}
-use Rattle.dash_shard.proofs.Rewriting.{found-at, rewritten-len, rewritten-inside, rewritten-slot, rewritten-at, rewritten-becomes, rewritten-stays}
+use Rattle.dash_shard.proofs.Rewriting.{found-at, rewritten-len, rewritten-inside, rewritten-at, rewritten-becomes, rewritten-stays}
 use Rattle.dash_shard.specs.Hashing.{KeyHash}
 use Rattle.dash_shard.specs.inner.Keys.{IsLawful}
 
@@ -180,12 +180,11 @@ module _ {K V S : Type 0} (h : KeyHash K S) where
 
     -- a new pair with an equal key stands there
     pub replaces : (q : K × V) (equal : h.eq q.0 k ≡ true) → IsRewritten i q t new → (old : K × V) → slot (pairs_of t.nodes.items) i ≡ Some old → k ≡ q.0 → Replaces h.eq z now i q.0 q.1 old
-    replaces q equal r old there same = subst (λ x. Replaces h.eq x now i q.0 q.1 old) view (record {
+    replaces q equal r old there same =
+        let of : List (Option (K × V)) → ℕ → ShardState K V S = λ ps n. record { slots = ps; number = number; amount = amount; hasher = s; capacity = n } in
+        subst (λ x. Replaces h.eq x now i q.0 q.1 old) view (record {
       answers = there;
-      here = rewritten-slot h law s number amount t new inside k i found q equal r i ∙ rw (eq-eqb i i refl) refl;
-      others = λ j other. rewritten-slot h law s number amount t new inside k i found q equal r j ∙ rw (ne_eqb j i other) refl;
+      here = ap (λ ps. of ps (length new.nodes.items)) r.pairs ∙ ap (of (slice_set (pairs_of t.nodes.items) i (Some q))) r.slots;
       contents = λ j. rewritten-at h law s number amount t new inside k i found q equal r j ∙ ap (λ x. cond (h.eq x j) (Some q) (at h.eq (pairs (state h law s number amount t)) j)) same;
       len = rewritten-len h law s number amount t new inside k i found q equal r;
-      room = r.slots;
-      stays = record { number = refl; amount = refl; hasher = refl };
     })

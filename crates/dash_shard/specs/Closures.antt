@@ -1,5 +1,5 @@
 -- What a closure may do on a pair.
-use Rattle.std.specs.Prelude.{◌≡◌, Bool, Option, Some, None, ⊤}
+use Rattle.std.specs.Prelude.{◌≡◌, Bool, Option, None, MatchOption, IsSomeAnd}
 use Rattle.std.specs.Fn.{Once}
 use denote.Ref.{Bor, MutBor}
 
@@ -11,11 +11,9 @@ MayAsk {K = K} {V = V} g f p = (k : Bor K) (v : Bor V) → k.now ≡ p.0 → v.n
 abbrev pub AnswersOn : {F K V R : Type 0} → Once F (Bor K × (Bor V × Unit {0})) R → F → K × V → R → Type 0
 AnswersOn {K = K} {V = V} g f p r = (k : Bor K) × (v : Bor V) × (k.now ≡ p.0) × (v.now ≡ p.1) × g.post f (k, (v, tt)) r
 
--- f was called at the pair, if there is one
+-- the result is what f may answer at the pair that is there, and none where there is none
 abbrev pub Viewed : {F K V R : Type 0} → Once F (Bor K × (Bor V × Unit {0})) R → F → Option (K × V) → Option R → Type 0
-Viewed g f None None = ⊤
-Viewed g f (Some p) (Some r) = AnswersOn g f p r
-Viewed g f _ _ = ⊥
+Viewed g f there result = MatchOption there (result ≡ None) (λ p. IsSomeAnd result (AnswersOn g f p))
 
 -- f may give the action's answer on the pair
 abbrev pub Answered : {F K V : Type 0} → Once F (Bor K × (Bor V × Unit {0})) Bool → F → K × V → V × Bool → Type 0

@@ -1,5 +1,5 @@
 -- What a shard's calls promise, and those of a held one, and those for a caller who has the key's hash.
-use Rattle.std.specs.Prelude.{◌≡◌, ◌≢◌, ℕ, ◌+◌, ◌<◌, ◌≤◌, ◌↔◌, Bool, Option, Some, None, IfSome, IsNone, Result, IfOk, OnOk, IfErr, OnErr, is_some, if◌then◌else◌}
+use Rattle.std.specs.Prelude.{◌≡◌, ℕ, ◌+◌, ◌<◌, ◌≤◌, ◌↔◌, Bool, Option, Some, None, IfSome, IsNone, Result, IfOk, OnOk, IfErr, OnErr, is_some, slice_set, if◌then◌else◌}
 use Rattle.dash_shard.specs.Hashing.{KeyHash}
 use Rattle.dash_shard.specs.Contents.{at}
 use Rattle.dash_shard.specs.Steps.{Insert, Old}
@@ -26,12 +26,9 @@ pub record Finds {K V S : Type 0} (eq : K → K → Bool) (s : ShardState K V S)
 -- all that a new pair promises in the slot of one with an equal key
 pub record Replaces {K V S : Type 0} (eq : K → K → Bool) (old new : ShardState K V S) (position : ℕ) (key : K) (value : V) (result : K × V) : Type 0 where
   pub answers : slot old.slots position ≡ Some result
-  pub here : slot new.slots position ≡ Some (key, value)
-  pub others : (i : ℕ) → i ≢ position → slot new.slots i ≡ slot old.slots i
+  pub here : new ≡ record old { slots = slice_set old.slots position (Some (key, value)) }
   pub contents : (j : K) → at eq (pairs new) j ≡ (if eq key j then Some (key, value) else at eq (pairs old) j)
   pub len : shard_len new ≡ shard_len old
-  pub room : new.capacity ≡ old.capacity
-  pub stays : SameShard old new
 
 -- the pair that is answered, if one is, is one less
 abbrev pub Loses : {K V S : Type 0} → ShardState K V S → ShardState K V S → Option (K × V) → Type 0

@@ -1,5 +1,6 @@
 -- What contracts see of a shard: a row of slots, each with a pair or none, and where the shard stands among the others.
-use Rattle.std.specs.Prelude.{◌≡◌, ℕ, ◌<◌, ◌≤◌, Bool, IsTrue, List, [], ◌∷◌, length, Option, Some, None, IsSome, IsSomeAnd, slice_index_or, slice_set, map, if◌then◌else◌}
+use Rattle.std.specs.Prelude.{◌≡◌, ℕ, ◌<◌, ◌≤◌, Bool, IsTrue, List, length, Option, Some, None, IsSome, IsSomeAnd, slice_index_or, slice_set, map, if◌then◌else◌}
+use Rattle.std.specs.List.{filter_map}
 use Rattle.std.specs.Option.{option_map}
 use Rattle.dash_shard.specs.Hashing.{KeyHash, IsAmount, HashAlike, route_by}
 use Rattle.dash_shard.specs.Contents.{Keys, keys, at, IsOnShard}
@@ -18,9 +19,7 @@ slot slots i = slice_index_or slots i None
 
 -- the pairs of the taken slots
 abbrev pub taken : {A : Type 0} → List (Option A) → List A
-taken [] = []
-taken (None ∷ slots) = taken slots
-taken (Some p ∷ slots) = p ∷ taken slots
+taken slots = filter_map (λ o. o) slots
 
 -- r is the lowest taken slot not below i, or none
 abbrev pub IsNextTaken : {A : Type 0} → List (Option A) → ℕ → Option ℕ → Type 0

@@ -7,7 +7,8 @@ use Rattle.std.proofs.lemmas.List.Elements.{All-append, All-nil}
 use Rattle.dash_history.specs.declared.step.Reply.{Reply}
 use Rattle.dash_history.specs.declared.record.RecordFault.{RecordFault}
 use Rattle.dashcheck.specs.declared.script.Stop.TheVariants.{BadStep, Step}
-use Rattle.dashcheck.specs.Script.{ScriptStep, HasWords, line_of, text_of, StartsWithLines, Took, IsNext, IsFaultOf, StopsAt}
+use Rattle.dashcheck.specs.Script.{ScriptStep, text_of, StartsWithLines, Took, IsNext, IsFaultOf, StopsAt}
+use Rattle.dashcheck.specs.inner.Words.{HasWords, line_of}
 use Rattle.dashcheck.specs.inner.Words.{IsToldOf, step_lines, reply_lines}
 use Rattle.dashcheck.specs.inner.Lines.{ReadsPart, ReadsLine}
 use Rattle.dashcheck.proofs.Texts.{short-line, clean-line, same-word, no-longer}
@@ -130,7 +131,7 @@ module _ (input left new old now : Option (List ℕ)) (line : ℕ) (text : List 
   bad (Some bytes) p other = (not-empty bytes new text p, not-next bytes new text part.0 p other)
 
   pub stops-bad : ((step : ScriptStep) → HasWords step → text ≡ line_of step → ⊥) → StopsAt (BadStep line) input old now
-  stops-bad other = record { done = g.done; left = left; took = g.took; why = (g.count, bad left part.1 other) }
+  stops-bad other = (g.done, left, g.took, (g.count, bad left part.1 other))
 
   module _ (step : ScriptStep) (same : text ≡ line_of step) (words : HasWords step) where
     known : ReadsPart left new (line_of step)
@@ -141,7 +142,7 @@ module _ (input left new old now : Option (List ℕ)) (line : ℕ) (text : List 
     refused fault of (Some bytes) p = let next = next-line bytes new step words p in (step, (words, next.0, starts-next bytes (line_of step) next.0 next.2), of)
 
     pub stops-fault : (fault : RecordFault) → IsFaultOf step fault → StopsAt (Step line fault) input old now
-    stops-fault fault of = record { done = g.done; left = left; took = g.took; why = (g.count, refused fault of left known) }
+    stops-fault fault of = (g.done, left, g.took, (g.count, refused fault of left known))
 
     pub going-more : (now' : Option (List ℕ)) (reply : Reply ℕ ℕ) → IsToldOf step reply → Appends now now' (text_of reply ++ 10 ∷ []) → Going input new old now' (line + 1)
     going-more now' reply answered printed = record {

@@ -18,7 +18,8 @@ use Rattle.std.proofs.lemmas.Str.Pattern.{IsSplitOnceResult, split_parts, split_
 use Rattle.dash_history.specs.declared.step.ShardStep.TheVariants.{Get, Contains, Insert, Remove, RemoveIf, RemoveIfMut, Alter, Read, Count, AlterAll, Retain}
 use Rattle.dashcheck.specs.declared.change.Change.{Change}
 use Rattle.dashcheck.specs.declared.change.Change.TheVariants.{Add, Below, AddBelow}
-use Rattle.dashcheck.specs.Script.{ScriptStep, HasChange, HasWords, change_text, line_of}
+use Rattle.dashcheck.specs.Script.{ScriptStep}
+use Rattle.dashcheck.specs.inner.Words.{HasChange, HasWords, change_text, line_of}
 use Rattle.dashcheck.specs.inner.Words.{change_word, change_rest, step_word, step_rest, IsFirst}
 
 -- what `split_once` at a space gives

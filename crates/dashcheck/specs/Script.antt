@@ -1,5 +1,6 @@
 -- How steps and replies are written in a script, and what a script reads and prints.
-use Rattle.std.specs.Prelude.{◌≡◌, ◌≢◌, ◌↔◌, ℕ, true, false, ◌+◌, ◌<◌, ◌≤◌, ◌^◌, ◌++◌, ◌⊎◌, List, [], ◌∷◌, length, All, flat_map, Option, Some, None, IfSome, IsSomeAnd, nat_eq, codes, ⊤}
+use Rattle.std.specs.Prelude.{◌≡◌, ◌≢◌, ◌↔◌, ℕ, ◌+◌, ◌<◌, ◌≤◌, ◌^◌, ◌++◌, ◌⊎◌, List, [], ◌∷◌, length, All, flat_map, Option, Some, IfSome, IsSomeAnd, nat_eq, codes, if◌then◌else◌, ⊤}
+use Rattle.std.specs.Option.{option_map_or}
 use Rattle.std.specs.Fmt.{decimal}
 use Rattle.std.specs.List.Sorted.{IsPermutation, IsNonDecreasingBy}
 use Rattle.std.specs.Io.KnownBytes.{Appends}
@@ -23,52 +24,38 @@ use Rattle.dashcheck.specs.declared.script.Stop.TheVariants as stops
 abbrev pub ScriptStep : Type 0
 ScriptStep = ShardStep ℕ ℕ Change
 
--- a change as it is written, and that its numbers have 64 bits
-abbrev pub written_change : Change → List ℕ × Type 0
-written_change (Add n) = (codes "add" ++ 32 ∷ decimal n, n < 2 ^ 64)
-written_change (Below n) = (codes "below" ++ 32 ∷ decimal n, n < 2 ^ 64)
-written_change (AddBelow n m) = (codes "addbelow" ++ 32 ∷ decimal n ++ 32 ∷ decimal m, (n < 2 ^ 64) × (m < 2 ^ 64))
+-- a text, and that its numbers have 64 bits
+pub record Written : Type 1 where
+  pub text : List ℕ
+  pub fits : Type 0
 
-abbrev pub change_text : Change → List ℕ
-change_text f = (written_change f).0
+-- a change as it is written
+abbrev pub written_change : Change → Written
+written_change (Add n) = record { text = codes "add" ++ 32 ∷ decimal n; fits = n < 2 ^ 64 }
+written_change (Below n) = record { text = codes "below" ++ 32 ∷ decimal n; fits = n < 2 ^ 64 }
+written_change (AddBelow n m) = record { text = codes "addbelow" ++ 32 ∷ decimal n ++ 32 ∷ decimal m; fits = (n < 2 ^ 64) × (m < 2 ^ 64) }
 
-abbrev pub HasChange : Change → Type 0
-HasChange f = (written_change f).1
-
--- a step as its line, and that its numbers have 64 bits
-abbrev pub written : ScriptStep → List ℕ × Type 0
-written (Get k) = (codes "get" ++ 32 ∷ decimal k, k < 2 ^ 64)
-written (Contains k) = (codes "contains" ++ 32 ∷ decimal k, k < 2 ^ 64)
-written (Insert k v) = (codes "insert" ++ 32 ∷ decimal k ++ 32 ∷ decimal v, (k < 2 ^ 64) × (v < 2 ^ 64))
-written (Remove k) = (codes "remove" ++ 32 ∷ decimal k, k < 2 ^ 64)
-written (RemoveIf k f) = (codes "removeif" ++ 32 ∷ decimal k ++ 32 ∷ change_text f, (k < 2 ^ 64) × HasChange f)
-written (RemoveIfMut k f) = (codes "removeifmut" ++ 32 ∷ decimal k ++ 32 ∷ change_text f, (k < 2 ^ 64) × HasChange f)
-written (Alter k f) = (codes "alter" ++ 32 ∷ decimal k ++ 32 ∷ change_text f, (k < 2 ^ 64) × HasChange f)
-written (Read i) = (codes "read" ++ 32 ∷ decimal i, i < 2 ^ 64)
-written (Count i) = (codes "count" ++ 32 ∷ decimal i, i < 2 ^ 64)
-written (AlterAll i f) = (codes "alterall" ++ 32 ∷ decimal i ++ 32 ∷ change_text f, (i < 2 ^ 64) × HasChange f)
-written (Retain i f) = (codes "retain" ++ 32 ∷ decimal i ++ 32 ∷ change_text f, (i < 2 ^ 64) × HasChange f)
-
-abbrev pub line_of : ScriptStep → List ℕ
-line_of step = (written step).0
-
-abbrev pub HasWords : ScriptStep → Type 0
-HasWords step = (written step).1
-
--- ` K:V`
-abbrev pub pair_text : ℕ × ℕ → List ℕ
-pair_text p = 32 ∷ decimal p.0 ++ 58 ∷ decimal p.1
+-- a step as its line
+abbrev pub written : ScriptStep → Written
+written (Get k) = record { text = codes "get" ++ 32 ∷ decimal k; fits = k < 2 ^ 64 }
+written (Contains k) = record { text = codes "contains" ++ 32 ∷ decimal k; fits = k < 2 ^ 64 }
+written (Insert k v) = record { text = codes "insert" ++ 32 ∷ decimal k ++ 32 ∷ decimal v; fits = (k < 2 ^ 64) × (v < 2 ^ 64) }
+written (Remove k) = record { text = codes "remove" ++ 32 ∷ decimal k; fits = k < 2 ^ 64 }
+written (RemoveIf k f) = record { text = codes "removeif" ++ 32 ∷ decimal k ++ 32 ∷ (written_change f).text; fits = (k < 2 ^ 64) × (written_change f).fits }
+written (RemoveIfMut k f) = record { text = codes "removeifmut" ++ 32 ∷ decimal k ++ 32 ∷ (written_change f).text; fits = (k < 2 ^ 64) × (written_change f).fits }
+written (Alter k f) = record { text = codes "alter" ++ 32 ∷ decimal k ++ 32 ∷ (written_change f).text; fits = (k < 2 ^ 64) × (written_change f).fits }
+written (Read i) = record { text = codes "read" ++ 32 ∷ decimal i; fits = i < 2 ^ 64 }
+written (Count i) = record { text = codes "count" ++ 32 ∷ decimal i; fits = i < 2 ^ 64 }
+written (AlterAll i f) = record { text = codes "alterall" ++ 32 ∷ decimal i ++ 32 ∷ (written_change f).text; fits = (i < 2 ^ 64) × (written_change f).fits }
+written (Retain i f) = record { text = codes "retain" ++ 32 ∷ decimal i ++ 32 ∷ (written_change f).text; fits = (i < 2 ^ 64) × (written_change f).fits }
 
 -- a reply as it is printed: `pair none` or `pair K V`, `found yes` or `found no`, `old none` or `old V`, `pairs` with ` K:V` for each pair,
 -- `number N`, `done`
 abbrev pub text_of : Reply ℕ ℕ → List ℕ
-text_of (Pair None) = codes "pair none"
-text_of (Pair (Some p)) = codes "pair " ++ decimal p.0 ++ 32 ∷ decimal p.1
-text_of (Found true) = codes "found yes"
-text_of (Found false) = codes "found no"
-text_of (Old None) = codes "old none"
-text_of (Old (Some v)) = codes "old " ++ decimal v
-text_of (Pairs l) = codes "pairs" ++ flat_map pair_text l.items
+text_of (Pair o) = codes "pair " ++ option_map_or (λ p. decimal p.0 ++ 32 ∷ decimal p.1) o (codes "none")
+text_of (Found b) = codes "found " ++ (if b then codes "yes" else codes "no")
+text_of (Old o) = codes "old " ++ option_map_or decimal o (codes "none")
+text_of (Pairs l) = codes "pairs" ++ flat_map (λ p. 32 ∷ decimal p.0 ++ 58 ∷ decimal p.1) l.items
 text_of (Number n) = codes "number " ++ decimal n
 text_of Done = codes "done"
 
@@ -88,9 +75,9 @@ IsInOrder reply told = told ≡ reply
 -- The steps were taken, each with what is told for a reply to it, its pairs in order: their lines come first in the input, which has this left, and the output
 -- grew by the lines of what is told.
 pub record Took (input left old new : Option (List ℕ)) (done : List (ScriptStep × Reply ℕ ℕ)) : Type 0 where
-  pub read : IfSome input (λ bytes. IsSomeAnd left (StartsWithLines bytes (flat_map (λ d. line_of d.0 ++ 10 ∷ []) done)))
+  pub read : IfSome input (λ bytes. IsSomeAnd left (StartsWithLines bytes (flat_map (λ d. (written d.0).text ++ 10 ∷ []) done)))
   pub printed : Appends old new (flat_map (λ d. text_of d.1 ++ 10 ∷ []) done)
-  pub replies : All (λ d. HasWords d.0 × ((reply : Reply ℕ ℕ) × IsReplyTo d.0 reply × IsInOrder reply d.1)) done
+  pub replies : All (λ d. (written d.0).fits × ((reply : Reply ℕ ℕ) × IsReplyTo d.0 reply × IsInOrder reply d.1)) done
 
 -- the whole input was taken
 abbrev pub TakesAll : Option (List ℕ) → Option (List ℕ) → Option (List ℕ) → Type 0
@@ -98,7 +85,7 @@ TakesAll input old new = (done : List (ScriptStep × Reply ℕ ℕ)) × Took inp
 
 -- the line of the step is next in the input
 abbrev pub IsNext : List ℕ → ScriptStep → Type 0
-IsNext input step = HasWords step × (rest : List ℕ) × StartsWithLines input (line_of step ++ 10 ∷ []) rest
+IsNext input step = (written step).fits × (rest : List ℕ) × StartsWithLines input ((written step).text ++ 10 ∷ []) rest
 
 -- A fault of the step on a map of four shards: that its shard is missing, exactly where it names one that isn't there. A step on a key names
 -- none.
@@ -126,11 +113,9 @@ StopsFor stops.Memory n left = n ≡ 0
 StopsFor stops.Read n left = ⊤
 
 -- the steps up to the stop were taken
-pub record StopsAt (stop : Stop) (input old new : Option (List ℕ)) : Type 0 where
-  pub done : List (ScriptStep × Reply ℕ ℕ)
-  pub left : Option (List ℕ)
-  pub took : Took input left old new done
-  pub why : StopsFor stop (length done) left
+abbrev pub StopsAt : Stop → Option (List ℕ) → Option (List ℕ) → Option (List ℕ) → Type 0
+StopsAt stop input old new =
+    (done : List (ScriptStep × Reply ℕ ℕ)) × (left : Option (List ℕ)) × Took input left old new done × StopsFor stop (length done) left
 
 -- the steps up to a stop were taken, and the stop was printed as one line on the errors
 abbrev pub Refuses : Option (List ℕ) → Option (List ℕ) → Option (List ℕ) → Option (List ℕ) → Option (List ℕ) → Type 0

@@ -3,8 +3,8 @@ ghost use Rattle.std.specs.Prelude.{◌≡◌, ◌↔◌, ℕ, ◌<◌, ◌^◌,
 ghost use Rattle.std.specs.Fmt.{decimal};
 ghost use Rattle.std.specs.Str.{IsAscii};
 ghost use Rattle.dashcheck.specs.declared.change.Change.{Change};
-ghost use Rattle.dashcheck.specs.Script.{ScriptStep, HasChange, HasWords, IsInOrder, change_text, line_of};
-ghost use Rattle.dashcheck.specs.inner.Words.{IsPlain, IsFirst};
+ghost use Rattle.dashcheck.specs.Script.{ScriptStep, IsInOrder, written};
+ghost use Rattle.dashcheck.specs.inner.Words.{HasChange, change_text, IsPlain, IsFirst};
 
 use crate::change::Change;
 use dash_history::step::{Reply, ShardStep};
@@ -15,9 +15,9 @@ pub type Step = ShardStep<u64, u64, Change>;
 
 /// The step that a line says, or `None` for a bad one.
 pub fn parse(line: &[u8]) -> Option<Step>
-    ensures some { IfSome result (λ step. line.now ≡ line_of step) }
-    ensures words { IfSome result (λ step. HasWords step) }
-    ensures none { IfNone result ((step : ScriptStep) → HasWords step → line.now ≡ line_of step → ⊥) }
+    ensures some { IfSome result (λ step. line.now ≡ (written step).text) }
+    ensures words { IfSome result (λ step. (written step).fits) }
+    ensures none { IfNone result ((step : ScriptStep) → (written step).fits → line.now ≡ (written step).text → ⊥) }
 {
     let (kind, rest) = first_word(text(line)?)?;
     match kind {
@@ -165,7 +165,7 @@ struct Listed<'a>(&'a [(u64, u64)]);
 
 impl fmt::Display for Listed<'_> {
     ghost use Rattle.std.specs.Prelude.{Some, flat_map};
-    ghost use Rattle.dashcheck.specs.Script.{pair_text};
+    ghost use Rattle.dashcheck.specs.inner.Words.{pair_text};
 
     ghost output = { λ listed. Some (flat_map pair_text listed.0.now) };
 

@@ -1,14 +1,14 @@
 //! A recorded shard that is held for writing, changed in place behind its lock.
-ghost use Rattle.std.specs.Prelude.{◌≡◌, ◌-◌, ◌<◌, ◌^◌, ◌↔◌, IfErr, IsTrue};
+ghost use Rattle.std.specs.Prelude.{◌≡◌, ◌-◌, ◌<◌, ◌^◌, ◌↔◌, ◌⊎◌, IfErr, IsTrue};
 ghost use Rattle.dash_shard.specs.Hashing.{by};
 ghost use Rattle.dash_shard.specs.Shard.{Routes};
 ghost use Rattle.dash_history.specs.History.{IsRecorded, GoesTo, Records};
 ghost use Rattle.dash_history.specs.inner.Hashed.{HasHash};
-ghost use Rattle.dash_history.specs.Held.{FitsTag, Promises};
-ghost use Rattle.dash_history.specs.inner.Grows.{Grows};
-ghost use Rattle.dash_history.specs.Refused.{Refuses, HandsBack, NoStamp, IsShardFault};
+ghost use Rattle.dash_history.specs.Held.{FitsTag};
+ghost use Rattle.dash_history.specs.inner.Grows.{Promises};
+ghost use Rattle.dash_history.specs.Refused.{Refuses, HandsBack, NoStamp};
 ghost use Rattle.dash_history.specs.Takes.{known};
-ghost use Rattle.dash_history.specs.declared.record.RecordFault.TheVariants.{LastStamp};
+ghost use Rattle.dash_history.specs.declared.record.RecordFault.TheVariants.{LastStamp, Memory};
 
 use super::{CallerLog, RecShard, RecordFault};
 use crate::action::KeptAction;
@@ -148,7 +148,7 @@ impl<K: KeptKey + Drop, V: Kept + Drop, S: BuildHasher, A: KeptAction<K, V> + Dr
         ensures refused { HandsBack step self.old self.new log.old log.new result }
         ensures last_stamp { Refuses step LastStamp result ↔ NoStamp self.old.last log.old.last }
         ensures log_last { log.old.last ≡ 2 ^ 64 - 1 → Refuses step LastStamp result }
-        ensures faults { IfErr result (λ e. IsShardFault e.1) }
+        ensures faults { IfErr result (λ e. (e.1 ≡ LastStamp) ⊎ (e.1 ≡ Memory)) }
     {
         let hash = self.guard.hash_of(&step);
         self.record_hashed(log, hash, step)

@@ -5,7 +5,25 @@ use Rattle.dash_history.specs.declared.step.Reply.{Reply}
 use Rattle.dash_history.specs.declared.step.ShardStep.TheVariants.{Get, Contains, Insert, Remove, RemoveIf, RemoveIfMut, Alter, Read, Count, AlterAll, Retain}
 use Rattle.dashcheck.specs.declared.change.Change.{Change}
 use Rattle.dashcheck.specs.declared.change.Change.TheVariants.{Add, Below, AddBelow}
-use Rattle.dashcheck.specs.Script.{ScriptStep, change_text, line_of, text_of, IsReplyTo, IsInOrder}
+use Rattle.dashcheck.specs.Script.{ScriptStep, written_change, written, text_of, IsReplyTo, IsInOrder}
+
+-- the text of a change, and that its numbers have 64 bits
+abbrev pub change_text : Change → List ℕ
+change_text f = (written_change f).text
+
+abbrev pub HasChange : Change → Type 0
+HasChange f = (written_change f).fits
+
+-- the line of a step, and that its numbers have 64 bits
+abbrev pub line_of : ScriptStep → List ℕ
+line_of step = (written step).text
+
+abbrev pub HasWords : ScriptStep → Type 0
+HasWords step = (written step).fits
+
+-- ` K:V`
+abbrev pub pair_text : ℕ × ℕ → List ℕ
+pair_text p = 32 ∷ decimal p.0 ++ 58 ∷ decimal p.1
 
 -- a digit first, and no zero in front of other digits
 pub record IsPlain (word : List ℕ) : Type 0 where

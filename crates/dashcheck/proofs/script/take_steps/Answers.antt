@@ -3,13 +3,13 @@ use Rattle.dashcheck.proofs.Taking.{took-none, going-none, going-more, stops-bad
 use Rattle.dashcheck.proofs.script.take_steps.Goals as goal
 
 pub returns-in_default-clause-part : goal.returns-in_default-clause-part
-returns-in_default-clause-part g c = record { done = []; left = _; took = took-none _ _; why = refl }
+returns-in_default-clause-part g c = ([], _, took-none _ _, refl)
 
 pub returns-in_default-new-clause-part : goal.returns-in_default-new-clause-part
-returns-in_default-new-clause-part g c = record { done = []; left = _; took = took-none _ _; why = refl }
+returns-in_default-new-clause-part g c = ([], _, took-none _ _, refl)
 
 pub returns-in_default-new-2-clause-part : goal.returns-in_default-new-2-clause-part
-returns-in_default-new-2-clause-part g c = record { done = []; left = _; took = took-none _ _; why = tt }
+returns-in_default-new-2-clause-part g c = ([], _, took-none _ _, tt)
 
 pub loop-line-init : goal.loop-line-init
 loop-line-init g c = going-none _ _ _ c.in-Ok-new-2.ensures

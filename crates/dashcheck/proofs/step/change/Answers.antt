@@ -3,7 +3,7 @@ use Rattle.std.specs.Prelude.{codes}
 use Rattle.std.specs.Fmt.{decimal}
 use Rattle.dashcheck.specs.declared.change.Change.{Change}
 use Rattle.dashcheck.specs.declared.change.Change.TheVariants.{Add, Below, AddBelow}
-use Rattle.dashcheck.specs.Script.{HasChange, change_text}
+use Rattle.dashcheck.specs.inner.Words.{HasChange, change_text}
 use Rattle.dashcheck.specs.inner.Words.{change_word, change_rest, IsFirst}
 use Rattle.dashcheck.proofs.Texts.{alone, first-change, words-change}
 use Rattle.dashcheck.proofs.step.change.Goals as goal

@@ -1,6 +1,6 @@
 use Rattle.std.proofs.Common.{sym, subst}
 use Rattle.std.specs.Fmt.{decimal}
-use Rattle.dashcheck.specs.Script.{change_text}
+use Rattle.dashcheck.specs.inner.Words.{change_text}
 use Rattle.dashcheck.specs.inner.Words.{IsFirst}
 use Rattle.dashcheck.proofs.Texts.{alone, first-changed}
 use Rattle.dashcheck.proofs.step.changed.Goals as goal

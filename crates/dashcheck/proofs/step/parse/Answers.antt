@@ -1,6 +1,6 @@
 use Rattle.std.proofs.Common.{sym, subst, ◌∙◌, inl, inr}
 use Rattle.std.specs.Str.{IsAscii}
-use Rattle.dashcheck.specs.Script.{line_of}
+use Rattle.dashcheck.specs.inner.Words.{line_of}
 use Rattle.dashcheck.specs.inner.Words.{step_word, step_rest, IsFirst}
 use Rattle.dashcheck.proofs.Texts.{alone, first-kind, words-step, IsAscii-line}
 use Rattle.dashcheck.proofs.step.parse.Goals as goal

@@ -1,5 +1,6 @@
-use Rattle.std.proofs.Common.{◌≡◌, ◌<◌, ◌++◌, ◌∷◌, [], ap, subst, sym, ◌∙◌, refl}
+use Rattle.std.proofs.Common.{List, ◌≡◌, ◌<◌, ◌++◌, ◌∷◌, [], ap, subst, sym, ◌∙◌, refl}
 use Rattle.dash_history.specs.History.{RecState, Tells, shard_of}
+use Rattle.dash_history.specs.declared.step.Record.{Record}
 use Rattle.dash_history.specs.inner.Kinds.{kinds_of}
 use Rattle.dash_history.proofs.Recording.{taken, recorded}
 use Rattle.dash_history.proofs.record.RecShard.grow.Goals as goal
@@ -67,14 +68,13 @@ returns-in-Ok-carry_out-clause-ok g c =
     let here = subst P (sym c.self.view_is) c.requires.goes in
     let old = c.self.invariant in
     let tells = subst (λ n. Tells g.K.Kept.alike g.V.Kept.alike g.A.Kept.alike c.args.stamp c.args.caller n c.args.step c.in-Ok.reply c.in-Ok-copies.first) c.number-number.ensures.number c.in-Ok-copies.ensures.first in
+    let with_history : List (Record g.row.K.Denot g.row.V.Denot g.row.A.Denot) → At = λ h. record { shard = c.carry_out.new.shard; callers = c.self.inside.callers; last = c.args.stamp; history = h } in
     rw (← c.self.view_is) (record {
       takes = taken _ (lawful-of g.S.BuildHasher g.S.Hasher.Hasher g.met.K.Eq.laws g.met.K.Hash.respects_eq) _ _ g.met.K.Kept.alike_laws g.met.V.Kept.alike_laws g.met.K.KeptKey.alike_equal _ _ g.met.A.KeptAction.alike_acts
           c.self.inside.shard c.carry_out.new.shard c.args.step c.in-Ok.reply old.shard here c.in-Ok.ensures.answers c.in-Ok-carry_out.ensures.ok c.in-Ok-carry_out.ensures.stays (c.in-Ok-carry_out.ensures.lawful old.shard);
       kept = c.in-Ok-copies.first;
       tells = tells;
       same = c.in-Ok-copies.ensures.second;
-      history = c.push_reserved.ensures.items ∙ ap (λ h. h ++ c.in-Ok-copies.first ∷ []) c.make_room.ensures.items;
-      last = refl;
+      grown = ap with_history (c.push_reserved.ensures.items ∙ ap (λ h. h ++ c.in-Ok-copies.first ∷ []) c.make_room.ensures.items);
       stays = c.in-Ok-carry_out.ensures.stays;
-      callers = refl;
     })

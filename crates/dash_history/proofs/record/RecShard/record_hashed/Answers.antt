@@ -1,5 +1,6 @@
-use Rattle.std.proofs.Common.{ℕ, ◌≡◌, ◌+◌, ◌++◌, ◌∷◌, [], ap, subst, sym, ◌∙◌, arith, max}
+use Rattle.std.proofs.Common.{ℕ, List, ◌≡◌, ◌+◌, ◌++◌, ◌∷◌, [], ap, subst, sym, ◌∙◌, arith, max}
 use Rattle.dash_history.specs.History.{LogState, RecState, Grown, stamp_of}
+use Rattle.dash_history.specs.declared.step.Record.{Record}
 use Rattle.dash_history.specs.inner.Kinds.{kinds_of}
 use Rattle.dash_history.proofs.Growing.{log-more}
 use Rattle.dash_history.proofs.Recording.{same-stamp, same-caller}
@@ -22,10 +23,12 @@ returns-in-Ok-clause-ok g c =
     let here : c.max-last.result + 1 ≡ max c.args.self.now.last c.log.inside.last + 1 = subst (λ (x : At). c.max-last.result + 1 ≡ max x.last c.log.inside.last + 1) c.self.view_is (ap (λ n. n + 1) c.max-last.ensures) in
     let stamp : c.max-last.result + 1 ≡ stamp_of c.args.self.now c.args.log.now = subst (λ (l : Log). c.max-last.result + 1 ≡ max c.args.self.now.last l.last + 1) c.log.view_is here in
     let caller : c.log.inside.caller ≡ c.args.log.now.caller = ap (λ (l : Log). l.caller) c.log.view_is in
+    let entries : c.push_reserved.new.self.items ≡ c.args.log.now.entries ++ c.in-Ok.record ∷ [] =
+    c.push_reserved.ensures.items ∙ ap (λ h. h ++ c.in-Ok.record ∷ []) c.make_room.ensures.items ∙ ap (λ (l : Log). l.entries ++ c.in-Ok.record ∷ []) c.log.view_is in
+    let of : ℕ → ℕ → List (Record g.row.K.Denot g.row.V.Denot g.row.A.Denot) → Log = λ k n es. record { caller = k; last = n; entries = es } in
     record {
       logged = c.in-Ok.record;
       grown = subst (λ n. P n c.args.log.now.caller) stamp (subst (λ k. P (c.max-last.result + 1) k) caller c.in-Ok.ensures.ok);
-      entries = c.push_reserved.ensures.items ∙ ap (λ h. h ++ c.in-Ok.record ∷ []) c.make_room.ensures.items ∙ ap (λ (l : Log). l.entries ++ c.in-Ok.record ∷ []) c.log.view_is;
-      log_last = stamp;
-      caller = caller;
+      log = ap (λ k. of k (c.max-last.result + 1) c.push_reserved.new.self.items) caller ∙ ap (λ n. of c.args.log.now.caller n c.push_reserved.new.self.items) stamp
+          ∙ ap (of c.args.log.now.caller (stamp_of c.args.self.now c.args.log.now)) entries;
     }

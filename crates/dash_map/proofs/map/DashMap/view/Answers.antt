@@ -20,7 +20,7 @@ returns-in_err-key g c =
     let within : i < length row = omega (arith, c.route_of-hash.ensures.below, ap (λ m. m.amount) c.self.view_is) in (
       c.deref-2.result.now,
       seen (key_hash g.K.PartialEq.eq g.K.Hash.hash_input g.S.BuildHasher g.S.Hasher.Hasher) _ _ c.self.view_is row c.self.invariant i within c.index.result.now c.index.ensures _ c.deref.ensures c.read-guard.result.value c.read-guard.ensures.fits c.args.key.now c.route_of-hash.ensures.route c.deref-2.result.now c.deref-2.ensures.0,
-      rw c.from_residual.ensures (subst (λ (o : Option (g.row.K.Denot × g.row.V.Denot)). Viewed g.F.FnOnce c.args.f o None) c.in_err-key.ensures.pair tt),
+      rw c.from_residual.ensures (subst (λ (o : Option (g.row.K.Denot × g.row.V.Denot)). Viewed g.F.FnOnce c.args.f o None) c.in_err-key.ensures.pair refl),
     )
 
 pub returns : goal.returns

@@ -1,6 +1,6 @@
 use Rattle.std.proofs.Common.{flat_map, take}
 use Rattle.std.specs.Fmt.{HasWritten, IsPlainFormatter}
-use Rattle.dashcheck.specs.Script.{pair_text}
+use Rattle.dashcheck.specs.inner.Words.{pair_text}
 use Rattle.dashcheck.proofs.step.ListedDisplay.fmt.Given as goal
 
 abbrev pub invariant-loop-key : goal.invariant-loop-key

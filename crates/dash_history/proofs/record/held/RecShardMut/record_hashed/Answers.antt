@@ -1,5 +1,5 @@
 use Rattle.std.proofs.Common.{subst, sym, ◌∙◌}
-use Rattle.dash_history.specs.Held.{Promises}
+use Rattle.dash_history.specs.inner.Grows.{Promises}
 use Rattle.dash_history.specs.History.{LogState, RecState}
 use Rattle.dash_history.specs.Takes.{known_by}
 use Rattle.dash_history.proofs.record.held.RecShardMut.record_hashed.Goals as goal
