@@ -16,8 +16,9 @@ use Rattle.dash_history.specs.declared.step.ShardStep.{ShardStep}
 use Rattle.dash_history.specs.declared.step.ShardStep.TheVariants.{Get, Contains, Insert, Remove, RemoveIf, RemoveIfMut, Alter, Read, Count, AlterAll, Retain}
 use Rattle.dash_history.specs.declared.step.Reply.{Reply}
 use Rattle.dashcheck.specs.declared.threads.Worker.{Worker}
+use Rattle.dashcheck.specs.Replay.{IsThreadStep}
 use Rattle.dashcheck.specs.Threads.{IsSize}
-use Rattle.dashcheck.specs.inner.Threads.{LogsStep, HasDone, IsIdle, Works, AllDone, idle, steps_in, IsThreadStep, thread_step, thread_steps}
+use Rattle.dashcheck.specs.inner.Threads.{LogsStep, HasDone, IsIdle, Works, AllDone, idle, steps_in, thread_step, thread_steps}
 
 -- steps of threads: they carry no action
 abbrev idle_acts : Unit {0} → ℕ → ℕ → ℕ × Bool

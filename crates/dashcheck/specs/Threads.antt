@@ -3,7 +3,7 @@ use Rattle.std.specs.Prelude.{◌≡◌, ℕ, ◌<◌, ◌≤◌, ◌++◌, List
 use Rattle.std.specs.Fmt.{decimal}
 use Rattle.std.specs.Io.KnownBytes.{Appends}
 use Rattle.dashcheck.specs.declared.threads.Refusal.{Refusal}
-use Rattle.dashcheck.specs.declared.threads.Refusal.TheVariants.{Map, LastStamp, Memory}
+use Rattle.dashcheck.specs.declared.threads.Refusal.TheVariants.{Map, LastStamp, Memory, Mismatch, Gather}
 
 -- a number of threads, and of the steps of each
 pub record IsSize (callers steps : ℕ) : Type 0 where
@@ -19,11 +19,20 @@ IsThreads words c n = (words ≡ codes "threads" ∷ decimal c ∷ decimal n ∷
 abbrev pub entries_line : ℕ → List ℕ
 entries_line n = codes "entries " ++ decimal n ++ 10 ∷ []
 
+-- what is printed where the history of so many entries is legal, and where it isn't
+abbrev pub legal_lines : ℕ → List ℕ
+legal_lines n = entries_line n ++ codes "legal" ++ 10 ∷ []
+
+abbrev pub illegal_lines : ℕ → List ℕ
+illegal_lines n = entries_line n ++ codes "not legal" ++ 10 ∷ []
+
 -- what is said of a refusal
 abbrev pub refusal_text : Refusal → List ℕ
 refusal_text Map = codes "refused: no memory (8)"
 refusal_text LastStamp = codes "refused: last stamp (18)"
 refusal_text Memory = codes "refused: no memory (19)"
+refusal_text Mismatch = codes "refused: mismatch (22)"
+refusal_text Gather = codes "refused: no memory (23)"
 
 -- a refusal was printed as one line
 abbrev pub SaysRefusal : Option (List ℕ) → Option (List ℕ) → Type 0

@@ -1,20 +1,19 @@
 -- The steps of a thread, and what it has done.
-use Rattle.std.specs.Prelude.{◌≡◌, ℕ, zero, suc, ◌+◌, ◌*◌, ◌%◌, ◌<◌, ◌++◌, ◌==◌, List, [], ◌∷◌, None, IfNone, length, map, slice_index_or, ⊤, if◌then◌else◌}
+use Rattle.std.specs.Prelude.{◌≡◌, ◌↔◌, IsTrue, Bool, ℕ, zero, suc, ◌+◌, ◌*◌, ◌%◌, ◌<◌, ◌++◌, ◌==◌, List, [], ◌∷◌, None, IfNone, length, map, slice_index_or, if◌then◌else◌}
+use Rattle.dash_shard.specs.declared.hash.PlaceState.{PlaceState}
+use Rattle.dash_history.specs.Alone.{AloneState}
 use Rattle.dash_history.specs.History.{LogState}
+use Rattle.dash_history.specs.OneHistory.{IsGathered, along, histories, contents}
+use Rattle.dash_history.specs.Takes.{Known}
+use Rattle.dash_history.specs.declared.gather.At.{At}
 use Rattle.dash_history.specs.declared.step.ShardStep.{ShardStep}
 use Rattle.dash_history.specs.declared.step.ShardStep.TheVariants.{Get, Insert, Remove}
+use Rattle.dashcheck.specs.Replay.{IsReplay}
 use Rattle.dashcheck.specs.declared.threads.Worker.{Worker}
 
 -- the step m of thread j
 abbrev pub thread_step : ℕ → ℕ → ShardStep ℕ ℕ (Unit {0})
 thread_step j m = if m % 3 == 0 then Insert ((j + m) % 16) (j * 1000000 + m) else if m % 3 == 1 then Get ((j + m) % 16) else Remove ((j + m) % 16)
-
--- a thread looks up, puts and takes out, and nothing else
-abbrev pub IsThreadStep : ShardStep ℕ ℕ (Unit {0}) → Type 0
-IsThreadStep (Get k) = ⊤
-IsThreadStep (Insert k v) = ⊤
-IsThreadStep (Remove k) = ⊤
-IsThreadStep _ = ⊥
 
 -- the steps 0 to n - 1 of thread j
 abbrev pub thread_steps : ℕ → ℕ → List (ShardStep ℕ ℕ (Unit {0}))
@@ -51,3 +50,10 @@ pub record Works (n : ℕ) (old new : Worker) : Type 0 where
 -- the worker at each place i is the thread i, and has done its first n steps
 abbrev pub AllDone : ℕ → List Worker → Type 0
 AllDone n workers = (i : ℕ) (d : Worker) → i < length workers → ((slice_index_or workers i d).log.caller ≡ i) × HasDone n (slice_index_or workers i d).log
+
+-- a history was gathered of a map with these logs, and it is said to be legal exactly where it is a replay that leaves the map's pairs
+pub record IsJudged (w : Known ℕ ℕ (Unit {0}) PlaceState) (logs : List (LogState ℕ ℕ (Unit {0}))) (legal : Bool) : Type 0 where
+  pub state : AloneState ℕ ℕ (Unit {0}) PlaceState
+  pub ats : List At
+  pub gathered : IsGathered w state logs ats
+  pub exact : IsTrue legal ↔ IsReplay [] (along (histories state) ats) (contents state)
