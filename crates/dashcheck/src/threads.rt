@@ -4,8 +4,8 @@ ghost use Rattle.std.specs.Prelude.{◌≡◌, ◌≢◌, ℕ, ◌+◌, ◌*◌,
 ghost use Rattle.std.specs.Io.KnownBytes.{Appends};
 ghost use Rattle.dash_history.specs.Alone.{fresh_logs};
 ghost use Rattle.dashcheck.specs.Replay.{IsThreadStep};
-ghost use Rattle.dashcheck.specs.Threads.{IsSize, refusal_text, SaysRefusal, legal_lines, illegal_lines};
-ghost use Rattle.dashcheck.specs.inner.Threads.{LogsStep, HasDone, IsIdle, Works, AllDone, idle, thread_step, IsJudged};
+ghost use Rattle.dashcheck.specs.Threads.{IsSize, IsLegal, IsIllegal, HasDone, thread_step, refusal_text, SaysRefusal, legal_lines, illegal_lines};
+ghost use Rattle.dashcheck.specs.inner.Threads.{LogsStep, IsIdle, Works, AllDone, idle, IsJudged};
 
 mod replay;
 
@@ -27,6 +27,8 @@ use std::thread::{self, Threads};
 const SHARDS: usize = 4;
 
 type Map = RecordedMap<u64, u64, PlaceState>;
+
+type Alone = RecAlone<u64, u64, PlaceState>;
 
 type Log = CallerLog<u64, u64>;
 
@@ -93,9 +95,11 @@ pub fn run<T: Threads + Wait + Clock + Sync, O: Write, E: Write>(
     ensures status { IfOk result (λ status. status ≢ Status.BadCommandLine) }
     ensures good { result ≡ Ok Status.Good
         → Appends (O.contents output.old) (O.contents output.new) (legal_lines (callers * steps)) × (errors.new ≡ errors.old) }
+    ensures legal { result ≡ Ok Status.Good → IsLegal ⟦<Alone as Recorded>⟧.known callers steps }
     ensures refused { result ≡ Ok Status.Refused
         → (SaysRefusal (E.contents errors.old) (E.contents errors.new) × (output.new ≡ output.old))
-        ⊎ (Appends (O.contents output.old) (O.contents output.new) (illegal_lines (callers * steps)) × (errors.new ≡ errors.old)) }
+        ⊎ (Appends (O.contents output.old) (O.contents output.new) (illegal_lines (callers * steps)) × (errors.new ≡ errors.old)
+        × IsIllegal ⟦<Alone as Recorded>⟧.known callers steps) }
 {
     match outcome_of(rt, alloc, callers, steps) {
         Ok(outcome) => tell(outcome, output),
@@ -111,7 +115,9 @@ fn outcome_of<T: Threads + Wait + Clock + Sync>(
     steps: u64,
 ) -> Result<Outcome, Refusal>
     requires { IsSize callers steps }
-    ensures entries { IfOk result (λ outcome. outcome.entries ≡ callers * steps) }
+    ensures entries { IfOk result (λ o. o.entries ≡ callers * steps) }
+    ensures legal { IfOk result (λ o. IsTrue o.legal → IsLegal ⟦<Alone as Recorded>⟧.known callers steps) }
+    ensures illegal { IfOk result (λ o. (IsTrue o.legal → ⊥) → IsIllegal ⟦<Alone as Recorded>⟧.known callers steps) }
 {
     let (map, workers) = work(rt, alloc, callers, steps)?;
     let entries = entries(workers.as_slice());
@@ -155,6 +161,7 @@ fn work<T: Threads + Wait + Clock + Sync>(
     steps: u64,
 ) -> Result<(Map, Vec<Worker>), Refusal>
     requires { IsSize callers steps }
+    ensures amount { IfOk result (λ done. done.0.amount ≡ 4) }
     ensures len { IfOk result (λ done. vec_len done.1 ≡ callers) }
     ensures done { IfOk result (λ done. AllDone steps done.1.items) }
 {
@@ -174,7 +181,7 @@ fn work<T: Threads + Wait + Clock + Sync>(
 // Whether the history that is gathered of the map with the workers' logs is legal: a replay of its steps on a plain map gets their
 // replies, and leaves the map's pairs.
 fn judge(alloc: Global, shared: Map, workers: Vec<Worker>) -> Result<bool, Refusal>
-    ensures { IfOk result (IsJudged ⟦<RecAlone<u64, u64, PlaceState> as Recorded>⟧.known (map (λ w. w.log) workers.items)) }
+    ensures { IfOk result (IsJudged ⟦<Alone as Recorded>⟧.known shared.amount (map (λ w. w.log) workers.items)) }
 {
     let Ok(logs) = logs_of(alloc, workers) else {
         return Err(Refusal::Map);

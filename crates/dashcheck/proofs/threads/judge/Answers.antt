@@ -25,6 +25,7 @@ returns c =
     record {
       state = map;
       ats = ats;
+      amount = c.alone-alone.ensures.amount;
       gathered = with-logs map ats (c.as_slice.ensures.value ∙ c.in-Ok.ensures) c.in-Ok-gather.ensures.gathered;
       exact = subst (λ ps. IsTrue c.in-Ok-agrees.legal ↔ IsReplay [] (along (histories map) ats) ps) pairs
           (subst (λ xs. IsTrue c.in-Ok-agrees.legal ↔ IsReplay [] (along (histories map) xs) c.as_slice-3.result.now) c.as_slice-2.ensures.value c.in-Ok-agrees.ensures);

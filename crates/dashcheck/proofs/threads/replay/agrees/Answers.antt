@@ -9,7 +9,7 @@ never h = cc
 
 pub returns-then-not-branch : goal.returns-then-not-branch
 returns-then-not-branch c =
-    let not : c.in_ok-takes.field-0 ≡ true → ⊥ = λ yes. never (sym c.if-not-branch.true ∙ yes) in (
+    let not : c.in_ok-takes.field-0 ≡ true → ⊥ = λ said. never (sym c.if-not-branch.true ∙ said) in (
       λ y. absurd (never y),
       λ h. absurd (left-no (histories c.args.map.now) c.args.ats.now c.args.pairs.now c.loop-at.at-index nowhere c.entry.result.now c.loop-at-test.true c.entry.ensures c.loop-at.plain.entries c.loop-at.invariant (λ fits. not (c.in_ok-takes.ensures.fits.1 fits)) h),
     )
