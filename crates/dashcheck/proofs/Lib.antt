@@ -1,6 +1,8 @@
 mod Numbers
 mod OneWord
+mod PlainMaps
 mod Reading
+mod Replaying
 mod Replies
 mod Taking
 mod Texts

@@ -5,19 +5,22 @@ use Rattle.std.proofs.lemmas.Bool.{eqb-true, and_parts, cases_lt}
 use Rattle.std.proofs.lemmas.List.{map-append, get_or_append_left, get_or_push, length_push, length-map, get_or-map, drop_all, take_all, append-nil}
 use Rattle.std.proofs.lemmas.List.Sums.{sum_by-cons}
 use Rattle.std.proofs.lemmas.Nat.{mul-le}
+use Rattle.std.proofs.lemmas.Option.{same_Some, slice_get_within, slice_get-get_or}
+use Rattle.dash_shard.specs.declared.hash.PlaceState.{PlaceState}
 use Rattle.dash_shard.specs.Contents.{Keys, keys}
 use Rattle.dash_history.specs.Alone.{fresh_logs}
 use Rattle.dash_history.specs.History.{LogState, shard_of}
 use Rattle.dash_history.specs.Map.{Logged}
 use Rattle.dash_history.specs.Steps.{alike_step}
-use Rattle.dash_history.specs.Takes.{rules}
+use Rattle.dash_history.specs.Takes.{Known, rules}
 use Rattle.dash_history.specs.inner.Kinds.{kinds}
 use Rattle.dash_history.specs.declared.step.ShardStep.{ShardStep}
 use Rattle.dash_history.specs.declared.step.ShardStep.TheVariants.{Get, Contains, Insert, Remove, RemoveIf, RemoveIfMut, Alter, Read, Count, AlterAll, Retain}
 use Rattle.dash_history.specs.declared.step.Reply.{Reply}
 use Rattle.dashcheck.specs.declared.threads.Worker.{Worker}
-use Rattle.dashcheck.specs.Threads.{IsSize}
-use Rattle.dashcheck.specs.inner.Threads.{LogsStep, HasDone, IsIdle, Works, AllDone, idle, steps_in, IsThreadStep, thread_step, thread_steps}
+use Rattle.dashcheck.specs.Replay.{IsThreadStep}
+use Rattle.dashcheck.specs.Threads.{IsSize, HasDone, AreDone, Gathered, IsLegal, IsIllegal, steps_in, thread_step, thread_steps}
+use Rattle.dashcheck.specs.inner.Threads.{LogsStep, IsIdle, Works, AllDone, IsJudged, idle}
 
 -- steps of threads: they carry no action
 abbrev idle_acts : Unit {0} → ℕ → ℕ → ℕ × Bool
@@ -129,6 +132,36 @@ all-done c n ws vs is long works none i d inside =
       did.caller ∙ ap (λ l. l.caller) (idle-at c i d ws is within),
       subst (λ r. IfNone r (HasDone n (get_or vs i d).log)) (none i d inside) did.done,
     )
+
+pub logs-done : (c n : ℕ) (ws : List Worker) → length ws ≡ c → AllDone n ws → AreDone c n (map (λ w. w.log) ws)
+logs-done c n ws long done = record {
+  many = length-map ws (λ w. w.log) ∙ long;
+  each = λ i l e.
+      let within : i < length ws = omega (arith, slice_get_within (map (λ w. w.log) ws) i l e, length-map ws (λ w. w.log)) in
+      let same : (get_or ws i (idle l)).log ≡ l =
+      sym (get_or-map (λ w. w.log) ws i (idle l) l within) ∙ same_Some _ l (sym (slice_get-get_or (map (λ w. w.log) ws) i l (slice_get_within (map (λ w. w.log) ws) i l e)) ∙ e) in
+      subst (λ x. (x.caller ≡ i) × HasDone n x) same (done i (idle l) within);
+}
+
+-- what was said of the history
+module _ {w : Known ℕ ℕ (Unit {0}) PlaceState} (c n amount : ℕ) (ws : List Worker) (legal : Bool) (long : length ws ≡ c) (done : AllDone n ws) (four : amount ≡ 4) (judged : IsJudged w amount (map (λ w. w.log) ws) legal) where
+  gathered : Gathered w c n
+  gathered = record {
+    logs = map (λ w. w.log) ws;
+    state = judged.state;
+    ats = judged.ats;
+    done = logs-done c n ws long done;
+    amount = judged.amount ∙ four;
+    gathered = judged.gathered;
+  }
+
+  pub judged-legal : IsTrue legal → IsLegal w c n
+  unfolding gathered
+  judged-legal said = (gathered, judged.exact.0 said)
+
+  pub judged-illegal : (IsTrue legal → ⊥) → IsIllegal w c n
+  unfolding gathered
+  judged-illegal unsaid = (gathered, λ replays. unsaid (judged.exact.1 replays))
 
 -- how many entries they logged
 pub total : (c n : ℕ) (ws : List Worker) → length ws ≡ c → AllDone n ws → sum_by (λ w. length w.log.entries) ws ≡ c * n

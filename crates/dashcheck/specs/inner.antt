@@ -3,5 +3,6 @@ pub mod AlikeChange
 pub mod Changes
 pub mod Command
 pub mod Lines
+pub mod Replay
 pub mod Threads
 pub mod Words

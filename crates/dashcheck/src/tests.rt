@@ -402,12 +402,14 @@ fn fails_where_the_errors_cannot_be_written(rt: HostRuntime) -> Result<(), Fail>
 }
 
 #[test]
-fn threads_print_how_many_entries_they_logged(rt: HostRuntime) -> Result<(), Fail> {
+fn threads_print_how_many_entries_they_logged_and_that_they_are_legal(
+    rt: HostRuntime,
+) -> Result<(), Fail> {
     for (line, output) in [
-        ("threads 4 100", "entries 400\n"),
-        ("threads 1 0", "entries 0\n"),
-        ("threads 1 7", "entries 7\n"),
-        ("threads 64 1", "entries 64\n"),
+        ("threads 4 100", "entries 400\nlegal\n"),
+        ("threads 1 0", "entries 0\nlegal\n"),
+        ("threads 1 7", "entries 7\nlegal\n"),
+        ("threads 64 1", "entries 64\nlegal\n"),
     ] {
         let mut input = Failing { bytes: b"get 1\n" };
         let ran = run(&rt, rt.alloc(), line, &mut input)?;

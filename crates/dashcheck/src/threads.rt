@@ -1,11 +1,18 @@
-//! `dashcheck threads`: threads that take steps on one recorded map, and the count of what they logged.
-ghost use Rattle.std.specs.Prelude.{◌≡◌, ◌≢◌, ℕ, ◌+◌, ◌*◌, ◌%◌, ◌^◌, ◌<◌, ◌≤◌, ◌∷◌, ◌++◌, [], All, Some, IsSomeAnd, IfOk, IfErr, IfSome, IfNone, OnOk, OnErr, length, map, sum_by, slice_get, slice_index_or, vec_len};
+//! `dashcheck threads`: threads that take steps on one recorded map, the count of what they logged, and whether the history that is
+//! gathered of it is legal.
+ghost use Rattle.std.specs.Prelude.{◌≡◌, ◌≢◌, ℕ, ◌+◌, ◌*◌, ◌%◌, ◌^◌, ◌<◌, ◌≤◌, ◌⊎◌, ◌↔◌, ◌∷◌, ◌++◌, [], All, Some, IsSomeAnd, IfOk, IfErr, IfSome, IfNone, OnOk, OnErr, IsTrue, length, map, sum_by, slice_get, slice_index_or, vec_len, if◌then◌else◌};
 ghost use Rattle.std.specs.Io.KnownBytes.{Appends};
 ghost use Rattle.dash_history.specs.Alone.{fresh_logs};
-ghost use Rattle.dashcheck.specs.Threads.{IsSize, refusal_text, SaysRefusal, entries_line};
-ghost use Rattle.dashcheck.specs.inner.Threads.{LogsStep, HasDone, IsIdle, Works, AllDone, idle, IsThreadStep, thread_step};
+ghost use Rattle.dashcheck.specs.Replay.{IsThreadStep};
+ghost use Rattle.dashcheck.specs.Threads.{IsSize, IsLegal, IsIllegal, HasDone, thread_step, refusal_text, SaysRefusal, legal_lines, illegal_lines};
+ghost use Rattle.dashcheck.specs.inner.Threads.{LogsStep, IsIdle, Works, AllDone, idle, IsJudged};
+
+mod replay;
 
 use crate::command::Status;
+use dash_history::alone::RecAlone;
+use dash_history::gather::GatherError;
+use dash_history::known::Recorded;
 use dash_history::record::map::RecordedMap;
 use dash_history::record::{CallerLog, RecordFault};
 use dash_history::step::ShardStep;
@@ -21,17 +28,23 @@ const SHARDS: usize = 4;
 
 type Map = RecordedMap<u64, u64, PlaceState>;
 
+type Alone = RecAlone<u64, u64, PlaceState>;
+
 type Log = CallerLog<u64, u64>;
 
-/// Why not all steps of the threads are taken.
+/// Why not all steps of the threads are taken, gathered and replayed.
 #[derive(Clone, Copy, Debug, PartialEq, Eq)]
 pub enum Refusal {
-    /// There is no memory for the map, or for its workers.
+    /// There is no memory for the map, for its workers, or for the replay.
     Map,
     /// No stamp is left for a step.
     LastStamp,
     /// There is no memory for a step.
     Memory,
+    /// The logs don't match the histories of the map.
+    Mismatch,
+    /// There is no memory to gather the history.
+    Gather,
 }
 
 impl fmt::Display for Refusal {
@@ -45,6 +58,8 @@ impl fmt::Display for Refusal {
             Refusal::Map => write!(f, "refused: no memory (8)"),
             Refusal::LastStamp => write!(f, "refused: last stamp (18)"),
             Refusal::Memory => write!(f, "refused: no memory (19)"),
+            Refusal::Mismatch => write!(f, "refused: mismatch (22)"),
+            Refusal::Gather => write!(f, "refused: no memory (23)"),
         }
     }
 }
@@ -56,8 +71,18 @@ struct Worker {
     refused: Option<Refusal>,
 }
 
-/// Takes the steps of `callers` threads, `steps` of each, on one map, and prints how many entries their logs have. The first
-/// refusal, in the order of the threads, is printed on `errors` instead. It fails where a write does.
+// What became of the threads' steps: how many entries their logs have, and whether the history that was gathered is legal.
+#[derive(Clone, Copy)]
+struct Outcome {
+    entries: usize,
+    legal: bool,
+}
+
+/// Takes the steps of `callers` threads, `steps` of each, on one map. Then it gathers the history of the map with their logs, and replays
+/// it on a plain map. It prints how many entries the logs have, and whether each reply and the pairs at the end are those of the replay:
+/// where they aren't, it ends as refused.
+///
+/// The first refusal, in the order of the threads, is printed on `errors` instead. It fails where a write does.
 pub fn run<T: Threads + Wait + Clock + Sync, O: Write, E: Write>(
     rt: &T,
     alloc: Global,
@@ -69,20 +94,57 @@ pub fn run<T: Threads + Wait + Clock + Sync, O: Write, E: Write>(
     requires { IsSize callers steps }
     ensures status { IfOk result (λ status. status ≢ Status.BadCommandLine) }
     ensures good { result ≡ Ok Status.Good
-        → Appends (O.contents output.old) (O.contents output.new) (entries_line (callers * steps)) × (errors.new ≡ errors.old) }
-    ensures refused { result ≡ Ok Status.Refused → SaysRefusal (E.contents errors.old) (E.contents errors.new) × (output.new ≡ output.old) }
+        → Appends (O.contents output.old) (O.contents output.new) (legal_lines (callers * steps)) × (errors.new ≡ errors.old) }
+    ensures legal { result ≡ Ok Status.Good → IsLegal ⟦<Alone as Recorded>⟧.known callers steps }
+    ensures refused { result ≡ Ok Status.Refused
+        → (SaysRefusal (E.contents errors.old) (E.contents errors.new) × (output.new ≡ output.old))
+        ⊎ (Appends (O.contents output.old) (O.contents output.new) (illegal_lines (callers * steps)) × (errors.new ≡ errors.old)
+        × IsIllegal ⟦<Alone as Recorded>⟧.known callers steps) }
 {
-    match work(rt, alloc, callers, steps) {
-        Ok(workers) => {
-            writeln!(output, "entries {}", entries(workers.as_slice()))?;
-            output.flush()?;
-            Ok(Status::Good)
-        }
+    match outcome_of(rt, alloc, callers, steps) {
+        Ok(outcome) => tell(outcome, output),
         Err(refusal) => refuse(refusal, errors),
     }
 }
 
-// Says why a step of the threads was refused.
+// Takes the steps of the threads, and judges them.
+fn outcome_of<T: Threads + Wait + Clock + Sync>(
+    rt: &T,
+    alloc: Global,
+    callers: u32,
+    steps: u64,
+) -> Result<Outcome, Refusal>
+    requires { IsSize callers steps }
+    ensures entries { IfOk result (λ o. o.entries ≡ callers * steps) }
+    ensures legal { IfOk result (λ o. IsTrue o.legal → IsLegal ⟦<Alone as Recorded>⟧.known callers steps) }
+    ensures illegal { IfOk result (λ o. (IsTrue o.legal → ⊥) → IsIllegal ⟦<Alone as Recorded>⟧.known callers steps) }
+{
+    let (map, workers) = work(rt, alloc, callers, steps)?;
+    let entries = entries(workers.as_slice());
+    let legal = judge(alloc, map, workers)?;
+    Ok(Outcome { entries, legal })
+}
+
+// Prints what became of the steps.
+fn tell<O: Write>(outcome: Outcome, output: &mut O) -> io::Result<Status>
+    ensures status { IfOk result (λ status. status ≡ (if outcome.legal then Status.Good else Status.Refused)) }
+    ensures legal { OnOk result (IsTrue outcome.legal
+        → Appends (O.contents output.old) (O.contents output.new) (legal_lines outcome.entries)) }
+    ensures illegal { OnOk result ((IsTrue outcome.legal → ⊥)
+        → Appends (O.contents output.old) (O.contents output.new) (illegal_lines outcome.entries)) }
+{
+    writeln!(output, "entries {}", outcome.entries)?;
+    if !outcome.legal {
+        writeln!(output, "not legal")?;
+        output.flush()?;
+        return Ok(Status::Refused);
+    }
+    writeln!(output, "legal")?;
+    output.flush()?;
+    Ok(Status::Good)
+}
+
+// Says why the threads were refused.
 fn refuse<E: Write>(refusal: Refusal, errors: &mut E) -> io::Result<Status>
     ensures status { IfOk result (λ status. status ≡ Status.Refused) }
     ensures said { OnOk result (Appends (E.contents errors.old) (E.contents errors.new) (refusal_text refusal ++ 10 ∷ [])) }
@@ -97,10 +159,11 @@ fn work<T: Threads + Wait + Clock + Sync>(
     alloc: Global,
     callers: u32,
     steps: u64,
-) -> Result<Vec<Worker>, Refusal>
+) -> Result<(Map, Vec<Worker>), Refusal>
     requires { IsSize callers steps }
-    ensures len { IfOk result (λ workers. vec_len workers ≡ callers) }
-    ensures done { IfOk result (λ workers. AllDone steps workers.items) }
+    ensures amount { IfOk result (λ done. done.0.amount ≡ 4) }
+    ensures len { IfOk result (λ done. vec_len done.1 ≡ callers) }
+    ensures done { IfOk result (λ done. AllDone steps done.1.items) }
 {
     let Ok((map, logs)) = Map::new(alloc, PlaceState, SHARDS, callers) else {
         return Err(Refusal::Map);
@@ -111,8 +174,38 @@ fn work<T: Threads + Wait + Clock + Sync>(
     take_all(rt, &map, workers.as_mut_slice(), steps);
     match first_refusal(workers.as_slice()) {
         Some(refusal) => Err(refusal),
-        None => Ok(workers),
+        None => Ok((map, workers)),
     }
+}
+
+// Whether the history that is gathered of the map with the workers' logs is legal: a replay of its steps on a plain map gets their
+// replies, and leaves the map's pairs.
+fn judge(alloc: Global, shared: Map, workers: Vec<Worker>) -> Result<bool, Refusal>
+    ensures { IfOk result (IsJudged ⟦<Alone as Recorded>⟧.known shared.amount (map (λ w. w.log) workers.items)) }
+{
+    let Ok(logs) = logs_of(alloc, workers) else {
+        return Err(Refusal::Map);
+    };
+    let alone = shared.alone();
+    let ats = match alone.gather(logs.as_slice()) {
+        Ok(ats) => ats,
+        Err(GatherError::Mismatch) => return Err(Refusal::Mismatch),
+        Err(GatherError::Memory) => return Err(Refusal::Gather),
+    };
+    let Ok(pairs) = alone.pairs() else {
+        return Err(Refusal::Map);
+    };
+    let Ok(legal) = replay::agrees(alloc, &alone, ats.as_slice(), pairs.as_slice()) else {
+        return Err(Refusal::Map);
+    };
+    Ok(legal)
+}
+
+// The logs of the workers.
+fn logs_of(alloc: Global, workers: Vec<Worker>) -> Result<Vec<Log>, AllocError>
+    ensures { IfOk result (λ logs. logs.items ≡ map (λ w. w.log) workers.items) }
+{
+    workers.into_iter().map(|worker| worker.log).collect(alloc)
 }
 
 // Takes the steps of each worker, in a thread of its own where one can be started.
@@ -256,12 +349,31 @@ mod tests {
     }
 
     #[test]
+    fn a_history_that_is_not_legal_is_told(rt: HostRuntime) -> Result<(), Fail> {
+        let mut output = Vec::new(rt.alloc());
+        let outcome = Outcome {
+            entries: 3,
+            legal: false,
+        };
+        assert_eq!(rt; tell(outcome, &mut output)?, Status::Refused);
+        assert_eq!(rt; output.as_slice(), b"entries 3\nnot legal\n".as_slice());
+        Ok(())
+    }
+
+    #[test]
     fn texts_are_those_of_the_map(rt: HostRuntime) -> Result<(), Fail> {
         for (refusal, fault) in [
             (Refusal::LastStamp, RecordFault::LastStamp),
             (Refusal::Memory, RecordFault::Memory),
         ] {
             let text = format!(in rt.alloc(); "refused: {fault}")?;
+            assert_eq!(rt; format!(in rt.alloc(); "{refusal}")?, text);
+        }
+        for (refusal, error) in [
+            (Refusal::Mismatch, GatherError::Mismatch),
+            (Refusal::Gather, GatherError::Memory),
+        ] {
+            let text = format!(in rt.alloc(); "refused: {error}")?;
             assert_eq!(rt; format!(in rt.alloc(); "{refusal}")?, text);
         }
         let text = format!(in rt.alloc(); "refused: {}", ConstructError::Memory)?;

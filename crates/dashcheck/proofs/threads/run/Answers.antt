@@ -1,14 +1,12 @@
-use Rattle.std.proofs.Common.{◌≡◌, ◌*◌, length, refl, ap, ◌∙◌, arith, rules}
-use Rattle.std.specs.Prelude.{sum_by}
-use Rattle.dashcheck.proofs.Working.{total, few-entries}
+use Rattle.std.proofs.Common.{◌≡◌, Bool, true, false, Ok, refl, subst}
+use Rattle.std.specs.Prelude.{IsTrue, IfOk, Result, if◌then◌else◌}
+use Rattle.dashcheck.specs.declared.command.Status.{Status}
+use Rattle.dashcheck.specs.declared.command.Status.TheVariants.{Good, Refused}
 use Rattle.dashcheck.proofs.threads.run.Goals as goal
 
-pub entries-requires : goal.entries-requires
-entries-requires g c =
-    rw c.as_slice.ensures.value (rw (total c.args.callers c.args.steps c.in-Ok.workers.items (omega (arith, c.in-Ok.workers.ok, c.in-Ok.ensures.len)) c.in-Ok.ensures.done) (few-entries c.args.callers c.args.steps c.requires))
+good-legal : {E : Type 0} (legal : Bool) (r : Result Status E) → r ≡ Ok Good → IfOk r (λ s. s ≡ (if legal then Good else Refused)) → IsTrue legal
+good-legal true r good says = refl
+good-legal false r good says = let other : Good ≡ Refused = subst (λ q. IfOk q (λ s. s ≡ Refused)) good says in cc
 
-pub returns-in_ok-flush-in-Ok-clause-good : goal.returns-in_ok-flush-in-Ok-clause-good
-returns-in_ok-flush-in-Ok-clause-good g c good =
-    let count : c.entries.result ≡ c.args.callers * c.args.steps =
-    c.entries.ensures ∙ ap (sum_by (λ w. length w.log.entries)) c.as_slice.ensures.value ∙ total c.args.callers c.args.steps c.in-Ok.workers.items (omega (arith, c.in-Ok.workers.ok, c.in-Ok.ensures.len)) c.in-Ok.ensures.done in
-    (rw (← count) (search rules), refl)
+pub returns-in-Ok-clause-legal : goal.returns-in-Ok-clause-legal
+returns-in-Ok-clause-legal g c good = c.in-Ok.ensures.legal (good-legal c.in-Ok.outcome.legal c.tell.result good c.tell.ensures.status)

@@ -7,11 +7,11 @@ pub take_all-requires-clause-idle : goal.take_all-requires-clause-idle
 take_all-requires-clause-idle g c κs within =
     rw c.as_mut_slice.ensures.value (rw (ap (λ m. m.callers) c.in-Ok.ensures.made) (all-idle _ _ (logs-idle _ _ c.in-Ok-idle_workers.ensures ∙ c.in-Ok.ensures.logs)))
 
-pub returns-clause-len : goal.returns-clause-len
-returns-clause-len g c = omega (arith, c.in-Ok-idle_workers.workers.ok, many c.args.callers c.in-Ok-idle_workers.workers.items (logs-idle _ _ c.in-Ok-idle_workers.ensures ∙ c.in-Ok.ensures.logs))
+pub returns-in-None-clause-len : goal.returns-in-None-clause-len
+returns-in-None-clause-len g c = omega (arith, c.in-Ok-idle_workers.workers.ok, many c.args.callers c.in-Ok-idle_workers.workers.items (logs-idle _ _ c.in-Ok-idle_workers.ensures ∙ c.in-Ok.ensures.logs))
 
-pub returns-clause-done : goal.returns-clause-done
-returns-clause-done g c =
+pub returns-in-None-clause-done : goal.returns-in-None-clause-done
+returns-in-None-clause-done g c =
     let items = c.in-Ok-idle_workers.workers.items in
     let vs = c.take_all.new.workers in
     let long : length vs ≡ length items = c.take_all.ensures.len ∙ ap length c.as_mut_slice.ensures.value in
