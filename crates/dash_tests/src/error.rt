@@ -1,5 +1,6 @@
 //! The texts of all refusals.
 use crate::places::is;
+use dash_history::gather::GatherError;
 use dash_history::record::RecordFault;
 use dash_map::run::Fault;
 use dash_shard::error::{ConstructError, TryReserveError};
@@ -43,6 +44,12 @@ fn texts(rt: HostRuntime) -> Result<(), Fail> {
         (RecordFault::Locked, "locked (21)"),
     ] {
         assert_text(&rt, rt.alloc(), &fault, text)?;
+    }
+    for (error, text) in [
+        (GatherError::Mismatch, "mismatch (22)"),
+        (GatherError::Memory, "no memory (23)"),
+    ] {
+        assert_text(&rt, rt.alloc(), &error, text)?;
     }
     Ok(())
 }

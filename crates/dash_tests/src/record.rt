@@ -1,4 +1,5 @@
 //! Recorded maps, shared and alone.
 mod alone;
+mod gather;
 mod held;
 mod map;

@@ -62,9 +62,9 @@ fn six_steps_of_one_owner(rt: HostRuntime) -> Result<(), Fail> {
     Ok(())
 }
 
-// A value whose copies find no memory.
+/// A value whose copies find no memory.
 #[derive(Debug, Drop)]
-struct Uncopied(u64);
+pub(crate) struct Uncopied(pub(crate) u64);
 
 impl Kept for Uncopied {
     ghost use Rattle.std.specs.Prelude.{true, refl};

@@ -14,14 +14,17 @@ use std::sync::Wait;
 use std::test::Fail;
 use std::{mem, thread};
 
-type Map = RecordedMap<u64, u64, PlaceState>;
+/// A recorded map of numbers, where of four shards the key k goes to shard k modulo 4.
+pub(crate) type Map = RecordedMap<u64, u64, PlaceState>;
 
-type Alone = RecAlone<u64, u64, PlaceState>;
+/// The same of one owner.
+pub(crate) type Alone = RecAlone<u64, u64, PlaceState>;
 
-type Log = CallerLog<u64, u64>;
+/// The log of one of its callers.
+pub(crate) type Log = CallerLog<u64, u64>;
 
-// Takes a step, by the caller of this log.
-fn apply<R: Abort + Wait + Clock>(
+/// Takes a step, by the caller of this log.
+pub(crate) fn apply<R: Abort + Wait + Clock>(
     rt: &R,
     map: &Map,
     log: &mut Log,
@@ -42,8 +45,8 @@ fn apply_alone(
     Ok(alone.apply(log, step)?)
 }
 
-// The stamp of the last step of a shard.
-fn last_of(rt: &impl Abort, alone: &Alone, shard: usize) -> u64 {
+/// The stamp of the last step of a shard.
+pub(crate) fn last_of(rt: &impl Abort, alone: &Alone, shard: usize) -> u64 {
     assert!(rt; shard < alone.shard_count());
     alone.last_of(shard)
 }
@@ -76,10 +79,10 @@ fn a_held_shard_leaves_the_others_free(rt: HostRuntime) -> Result<(), Fail> {
     Ok(())
 }
 
-// Ten thousand steps of one caller over sixteen keys, or as many as it could take.
-fn record_steps<R: Wait + Clock>(rt: &R, map: &Map, log: &mut Log) {
+/// So many steps of one caller over sixteen keys, or as many as it could take.
+pub(crate) fn record_steps<R: Wait + Clock>(rt: &R, map: &Map, log: &mut Log, count: u32) {
     let caller = u64::from(log.caller());
-    for i in 0..10_000u64 {
+    for i in 0..u64::from(count) {
         let key = (caller + i) % 16;
         let step = if i % 2 == 0 {
             ShardStep::Insert(key, i)
@@ -113,7 +116,7 @@ fn four_threads_record_on_one_map(rt: HostRuntime) -> Result<(), Fail> {
         &rt,
         logs.as_mut_slice(),
         4,
-        &|_, log: &mut Log| { record_steps(&rt, &map, log) },
+        &|_, log: &mut Log| { record_steps(&rt, &map, log, 10_000) },
     );
     for log in &logs {
         is_at(&rt, log.entries().len(), 10_000, log.caller());
