@@ -3,3 +3,4 @@ mod alone;
 mod gather;
 mod held;
 mod map;
+mod try_apply;
