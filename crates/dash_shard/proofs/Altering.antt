@@ -183,8 +183,8 @@ module _ {K V S : Type 0} (h : KeyHash K S) where
     replaces q equal r old there same =
         let of : List (Option (K × V)) → ℕ → ShardState K V S = λ ps n. record { slots = ps; number = number; amount = amount; hasher = s; capacity = n } in
         subst (λ x. Replaces h.eq x now i q.0 q.1 old) view (record {
-      answers = there;
-      here = ap (λ ps. of ps (length new.nodes.items)) r.pairs ∙ ap (of (slice_set (pairs_of t.nodes.items) i (Some q))) r.slots;
-      contents = λ j. rewritten-at h law s number amount t new inside k i found q equal r j ∙ ap (λ x. cond (h.eq x j) (Some q) (at h.eq (pairs (state h law s number amount t)) j)) same;
-      len = rewritten-len h law s number amount t new inside k i found q equal r;
-    })
+          answers = there;
+          here = ap (λ ps. of ps (length new.nodes.items)) r.pairs ∙ ap (of (slice_set (pairs_of t.nodes.items) i (Some q))) r.slots;
+          contents = λ j. rewritten-at h law s number amount t new inside k i found q equal r j ∙ ap (λ x. cond (h.eq x j) (Some q) (at h.eq (pairs (state h law s number amount t)) j)) same;
+          len = rewritten-len h law s number amount t new inside k i found q equal r;
+        })
