@@ -21,7 +21,8 @@ pub(crate) fn index_of<K, V, A>(
     callers: usize,
     logs: &[CallerLog<K, V, A>],
 ) -> Result<Option<Vec<usize>>, AllocError>
-    ensures { IfOk result (λ o. MatchOption o (AreCallers callers logs.now → ⊥) (λ index. AreCallers callers logs.now × Finds callers logs.now index.items × EachLog logs.now)) }
+    ensures { IfOk result (λ o. MatchOption o (AreCallers callers logs.now → ⊥)
+        (λ index. AreCallers callers logs.now × Finds callers logs.now index.items × EachLog logs.now)) }
 {
     let none = logs.len();
     let mut index = vec![in alloc; none; callers]?;
