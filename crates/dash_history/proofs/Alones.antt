@@ -11,14 +11,15 @@ use Rattle.dash_shard.proofs.Rows.{slice_get-set_same, slice_get-set_other}
 use Rattle.dash_shard.specs.Contents.{keys}
 use Rattle.dash_shard.specs.Hashing.{KeyHash, IsAmount, HashAlike, route_by, route_of_hash}
 use Rattle.dash_shard.specs.Shard.{SameShard}
-use Rattle.dash_shard.specs.Steps.{Line, at_key, on_shard, line, step_shard}
+use Rattle.dash_shard.specs.Steps.{Line, at_key, on_shard, line}
+use Rattle.dash_shard.specs.inner.Steps.{step_shard}
 use Rattle.dash_history.specs.declared.step.ShardStep.{ShardStep}
 use Rattle.dash_history.specs.declared.step.Reply as program
 use Rattle.dash_history.specs.Steps.{step_of}
 use Rattle.dash_history.specs.inner.Hashed.{OfKey, IsHashBy, HasHash}
 use Rattle.dash_history.specs.Takes.{Kinds, Known, kinds_at, rules}
 use Rattle.dash_history.specs.inner.Kinds.{kinds, kinds_of}
-use Rattle.dash_history.specs.History.{RecState, LogState, Recorded, shard_of}
+use Rattle.dash_history.specs.History.{RecState, LogState, Recorded, last_or, shard_of}
 use Rattle.dash_history.specs.Alone.{AloneState, IsTagged, IsAlone, Applied, last_at, kinds_in}
 
 module _ {K V A S : Type 0} (h : KeyHash K S) where
@@ -104,8 +105,8 @@ module _ {K V A S : Type 0} (w : Known K V A S)
   pub there : slice_get z.row (shard_of (kinds_in w z) step) ≡ Some s
   there = subst (λ x. slice_get x.row (shard_of (kinds_in w z) step) ≡ Some s) view (subst (λ i. slice_get row i ≡ Some s) shard_is here)
 
-  pub last_is : last_at z (shard_of (kinds_in w z) step) ≡ s.last
-  last_is = ap (λ o. option_map_or (λ x. x.last) o 0) there
+  pub last_is : s.last ≡ last_or 0 s.history → last_at z (shard_of (kinds_in w z) step) ≡ s.last
+  last_is last = ap (λ o. option_map_or (λ x. last_or 0 x.history) o 0) there ∙ sym last
 
   pub applied : (t : RecState K V A S) (l l' : LogState K V A) (reply : program.Reply K V) → Recorded (kinds_of w s.shard) s t l l' step reply
       → Applied (kinds_in w z) z (record { hasher = base; callers = c; row = slice_set row p t }) l l' step reply

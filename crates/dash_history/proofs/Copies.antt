@@ -4,8 +4,8 @@ use Rattle.std.specs.Option.{option_and_then, option_map, option_eq}
 use Rattle.std.specs.Cmp.{IsEquivalence}
 use Rattle.std.proofs.lemmas.Bool.{and_parts, and_from}
 use Rattle.dash_shard.specs.Contents.{at, on, Distinct, EachOnce}
-use Rattle.dash_shard.specs.Steps.{Line, at_key, on_shard, Step, Reply, Act, line, line_shard, line_after, LineReplies, step_shard, after, Pair, Found, Old, Pairs, Number, changed, if_yes, if_no}
-use Rattle.dash_shard.specs.inner.Steps.{Becomes, key_or, value}
+use Rattle.dash_shard.specs.Steps.{Line, at_key, on_shard, Step, Reply, Act, line, line_shard, line_after, LineReplies, Pair, Found, Old, Pairs, Number, changed, if_yes, if_no}
+use Rattle.dash_shard.specs.inner.Steps.{Becomes, key_or, value, after, step_shard}
 use Rattle.dash_history.specs.declared.step.ShardStep.{ShardStep}
 use Rattle.dash_history.specs.declared.step.ShardStep.TheVariants.{Get, Contains, Insert, Remove, RemoveIf, RemoveIfMut, Alter, Read, Count, AlterAll, Retain}
 use Rattle.dash_history.specs.Alike.{alike_pair, alike_reply}

@@ -7,7 +7,8 @@ use Rattle.std.proofs.lemmas.Option.{slice_get-get_or, slice_get_within, same_So
 use Rattle.dash_shard.proofs.Rows.{slice_get-set_same, slice_get-set_other}
 use Rattle.dash_shard.proofs.Unions.{OnShards, at-union, distinct-union, each-same}
 use Rattle.dash_shard.specs.Contents.{at, IsOnShard}
-use Rattle.dash_shard.specs.Steps.{Line, at_key, on_shard, line, line_shard, line_after, LineReplies, Step, Reply, step_shard, after}
+use Rattle.dash_shard.specs.Steps.{Line, at_key, on_shard, line, line_shard, line_after, LineReplies, Step, Reply}
+use Rattle.dash_shard.specs.inner.Steps.{after, step_shard}
 use Rattle.dash_history.specs.Takes.{Rules, Takes, Runs}
 use Rattle.dash_history.specs.inner.Copied.{AlikeAt}
 use Rattle.dash_history.proofs.Copies.{Lawful, at_laws}

@@ -6,6 +6,7 @@ mod Finding
 pub mod Growing
 mod Items
 mod Logging
+pub mod Telling
 mod Maps
 pub mod Plains
 pub mod Recording

@@ -8,9 +8,11 @@ use Rattle.dash_history.specs.declared.step.Reply as program
 use Rattle.dash_history.specs.declared.step.Record.{Record}
 use Rattle.dash_history.specs.Steps.{reply_of, alike_step, alike_record}
 use Rattle.dash_history.specs.Takes.{Kinds}
-use Rattle.dash_history.specs.History.{RecState, LogState, Tells, Recorded, shard_of, stamp_of}
+use Rattle.dash_history.specs.History.{RecState, LogState, Recorded, shard_of, stamp_of}
+use Rattle.dash_history.specs.inner.Tells.{Tells}
 use Rattle.dash_history.specs.Map.{Logged}
 use Rattle.dash_history.proofs.AlikeLaws.{chained, reply_equiv}
+use Rattle.dash_history.proofs.Telling.{told, tells-of}
 
 module _ {K V A : Type 0} {k : K → K → Bool} {v : V → V → Bool} {f : A → A → Bool} (lk : IsEquivalence k) (lv : IsEquivalence v) (lf : IsEquivalence f) where
   both_at : (i j l : ℕ) (a b c : A) → ((i == j) && f a b) ≡ true → ((j == l) && f b c) ≡ true → ((i == l) && f a c) ≡ true
@@ -65,7 +67,8 @@ module _ {K V A S : Type 0} (m : Kinds K V A) (lk : IsEquivalence m.rules.alike_
       let last : l'.last ≡ stamp_of s l = ap (λ x. x.last) r.log in
       record {
         entry = r.logged;
-        tells = rw (here, last) (tells-same lk lv lf (stamp_of s l) l.caller s.shard.number step reply r.grown.kept r.logged r.grown.tells r.grown.same);
+        tells = rw (here, last) (told (stamp_of s l) l.caller s.shard.number step reply r.logged
+            (tells-same lk lv lf (stamp_of s l) l.caller s.shard.number step reply r.grown.kept r.logged (tells-of _ _ _ _ _ _ r.grown.tells) r.grown.same));
         above = omega (arith, last);
         entries = ap (λ x. x.entries) r.log;
         caller = ap (λ x. x.caller) r.log;

@@ -6,8 +6,9 @@ use Rattle.std.specs.Option.{option_and_then}
 use Rattle.std.proofs.lemmas.Option.{none-some, same_Some}
 use Rattle.std.proofs.lemmas.Bool.{cases_Bool, and_parts}
 use Rattle.dash_shard.specs.Contents.{at, Distinct}
-use Rattle.dash_shard.specs.Steps.{Act, Retain, after, changed, if_yes}
+use Rattle.dash_shard.specs.Steps.{Act, Retain, changed, if_yes}
 use Rattle.dash_shard.proofs.Equals.{at-equal}
+use Rattle.dash_shard.specs.inner.Steps.{after}
 use Rattle.dash_history.specs.Takes.{Rules}
 use Rattle.dash_history.specs.inner.Copied.{AlikeAt}
 use Rattle.dash_history.proofs.Copies.{Lawful}

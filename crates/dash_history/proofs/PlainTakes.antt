@@ -7,8 +7,8 @@ use Rattle.dash_shard.specs.Hashing.{KeyHash}
 use Rattle.dash_shard.specs.inner.Keys.{IsLawful}
 use Rattle.dash_shard.specs.Contents.{at, Distinct, EachOnce}
 use Rattle.dash_shard.specs.Steps as table
-use Rattle.dash_shard.specs.Steps.{Act, at_key, line, Reply, Pair, Found, Old, Pairs, Number, Done, Replies, after}
-use Rattle.dash_shard.specs.inner.Steps.{Becomes}
+use Rattle.dash_shard.specs.Steps.{Act, at_key, line, Reply, Pair, Found, Old, Pairs, Number, Done}
+use Rattle.dash_shard.specs.inner.Steps.{Becomes, Replies, after}
 use Rattle.dash_shard.proofs.Routing.{route_below}
 use Rattle.dash_history.specs.declared.step.Reply as program
 use Rattle.dash_history.specs.declared.step.Reply.TheVariants as variant

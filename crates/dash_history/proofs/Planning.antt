@@ -5,8 +5,8 @@ use Rattle.std.proofs.lemmas.Bool.{cases_Bool}
 use Rattle.std.proofs.lemmas.List.Elements.{filter-append}
 use Rattle.std.proofs.lemmas.Option.{none-some}
 use Rattle.dash_shard.specs.Contents.{Keys, at, on, Distinct}
-use Rattle.dash_shard.specs.Steps.{Step, Reply, Pair, LineReplies, at_key, line, line_shard, line_after, after, Line, on_shard}
-use Rattle.dash_shard.specs.inner.Steps.{Becomes, key_or}
+use Rattle.dash_shard.specs.Steps.{Step, Reply, Pair, LineReplies, at_key, line, line_shard, line_after, Line, on_shard}
+use Rattle.dash_shard.specs.inner.Steps.{Becomes, key_or, after}
 use Rattle.dash_shard.proofs.Equals.{at-equal}
 use Rattle.dash_history.specs.declared.step.Reply as program
 use Rattle.dash_history.specs.Steps.{reply_of}

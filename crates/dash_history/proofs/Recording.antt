@@ -12,7 +12,8 @@ use Rattle.dash_history.specs.declared.step.Reply as program
 use Rattle.dash_history.specs.declared.step.Record.{Record}
 use Rattle.dash_history.specs.Steps.{step_of, reply_of, alike_record}
 use Rattle.dash_history.specs.Takes.{Known, rules, Answers, Takes}
-use Rattle.dash_history.specs.History.{RecState, IsRecorded, Tells, last_or, shard_of}
+use Rattle.dash_history.specs.History.{RecState, IsRecorded, last_or, shard_of}
+use Rattle.dash_history.specs.inner.Tells.{Tells}
 use Rattle.dash_history.specs.inner.Kinds.{kinds_of}
 use Rattle.dash_history.specs.inner.Plan.{Leaves}
 use Rattle.dash_history.proofs.Copies.{Lawful, ActAlike, takes-alike, line-alike, shard-alike}

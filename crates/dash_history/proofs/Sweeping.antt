@@ -3,9 +3,10 @@ use Rattle.std.proofs.Common.{◌≡◌, ◌≢◌, ℕ, Bool, true, false, cond
 use Rattle.std.specs.Option.{option_and_then}
 use Rattle.std.proofs.lemmas.Bool.{cases_Bool, cases_eq, ne_eqb, and_from}
 use Rattle.dash_shard.specs.Contents.{at}
-use Rattle.dash_shard.specs.Steps.{Act, Retain, after, changed, if_yes}
+use Rattle.dash_shard.specs.Steps.{Act, Retain, changed, if_yes}
 use Rattle.dash_shard.specs.Shard.{ShardState, pairs}
 use Rattle.dash_shard.specs.Each.{CalledAlong, SweepsBy}
+use Rattle.dash_shard.specs.inner.Steps.{after}
 use Rattle.dash_history.specs.inner.Sweep.{GivesEach, SweptTo, PutsNext}
 use Rattle.dash_history.specs.Takes.{Rules}
 use Rattle.dash_history.specs.inner.Copied.{AlikeAt}

@@ -5,7 +5,7 @@ use Rattle.std.proofs.lemmas.List.Elements.{All-nil, All-cons}
 use Rattle.std.proofs.lemmas.Option.{slice_get-get_or, slice_get_within, slice_get-map, same_Some, get_or_from_slice_get}
 use Rattle.dash_shard.proofs.Routing.{route_below}
 use Rattle.dash_shard.specs.Contents.{IsOnShard}
-use Rattle.dash_shard.specs.Steps.{step_shard}
+use Rattle.dash_shard.specs.inner.Steps.{step_shard}
 use Rattle.dash_shard.specs.Shard.{pairs}
 use Rattle.dash_history.specs.Alone.{AloneState, IsAlone, kinds_in}
 use Rattle.dash_history.specs.inner.Gathering.{EachRecorded}

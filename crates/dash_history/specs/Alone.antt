@@ -1,5 +1,5 @@
 -- A recorded map of one owner: a row of recorded shards.
-use Rattle.std.specs.Prelude.{ℕ, zero, suc, ◌≡◌, ◌<◌, ◌≤◌, List, [], ◌∷◌, ◌++◌, ◌⊎◌, length, Some, IsSomeAnd, slice_get, slice_set}
+use Rattle.std.specs.Prelude.{ℕ, zero, suc, ◌≡◌, ◌<◌, ◌≤◌, List, [], ◌∷◌, ◌++◌, length, Some, slice_get, slice_set}
 use Rattle.std.specs.Option.{option_map_or}
 use Rattle.dash_shard.specs.Hashing.{KeyHash, IsAmount, HashAlike}
 use Rattle.dash_shard.specs.Shard.{pairs}
@@ -8,21 +8,11 @@ use Rattle.dash_history.specs.History.{LogState, RecState, Recorded, last_or, sh
 use Rattle.dash_history.specs.Refused.{NoStamp}
 use Rattle.dash_history.specs.declared.step.ShardStep.{ShardStep}
 use Rattle.dash_history.specs.declared.step.Reply.{Reply}
-use Rattle.dash_shard.specs.declared.error.ConstructError.{ConstructError}
-use Rattle.dash_shard.specs.declared.error.ConstructError.TheVariants as error
 
 -- a lawful number of callers
 pub record IsCallers (c : ℕ) : Type 0 where
   pub some : 0 < c
   pub few : c ≤ 65536
-
--- the amount is lawful, and the number of callers isn't
-abbrev pub BadCallers : ℕ → ℕ → Type 0
-BadCallers n c = IsAmount n × (IsCallers c → ⊥)
-
--- a recorded map isn't made for these alone
-abbrev pub IsMapError : ConstructError → Type 0
-IsMapError e = (e ≡ error.ShardAmount) ⊎ (e ≡ error.Callers) ⊎ (e ≡ error.Memory)
 
 -- the logs of the callers 0 to c - 1, with no entries
 abbrev pub fresh_logs : {K V A : Type 0} → ℕ → List (LogState K V A)
@@ -42,13 +32,9 @@ module _ {K V A S : Type 0} where
     pub history : s.history ≡ []
     pub last : s.last ≡ 0
 
-  -- the last stamp of shard i, 0 where there is none
+  -- the last stamp of the history of shard i, 0 where there is none
   abbrev pub last_at : AloneState K V A S → ℕ → ℕ
-  last_at a i = option_map_or (λ s. s.last) (slice_get a.row i) 0
-
-  -- the last stamp of the history of shard i, 0 where it has none
-  abbrev pub IsLastOf : AloneState K V A S → ℕ → ℕ → Type 0
-  IsLastOf a i last = IsSomeAnd (slice_get a.row i) (λ s. last ≡ last_or 0 s.history)
+  last_at a i = option_map_or (λ s. last_or 0 s.history) (slice_get a.row i) 0
 
   -- the shard i of n, of a map with c callers and a hasher of this meaning
   pub record IsTagged (h : KeyHash K S) (meaning : S) (n c i : ℕ) (s : RecState K V A S) : Type 0 where

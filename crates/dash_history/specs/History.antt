@@ -1,9 +1,8 @@
 -- The history of a shard and the log of a caller, and how both grow.
-use Rattle.std.specs.Prelude.{ℕ, ◌≡◌, ◌+◌, ◌<◌, ◌≤◌, max, Bool, List, [], ◌∷◌, ◌++◌, map, All, ⊤, IsTrue, Result, IfOk}
-use Rattle.dash_shard.specs.Steps.{step_shard}
+use Rattle.std.specs.Prelude.{ℕ, ◌≡◌, ◌+◌, ◌<◌, ◌≤◌, max, List, [], ◌∷◌, ◌++◌, map, All, ⊤, IsTrue, Result, IfOk}
+use Rattle.dash_shard.specs.Steps.{line, line_shard}
 use Rattle.dash_shard.specs.Shard.{ShardState, IsShard, SameShard, pairs}
-use Rattle.dash_history.specs.Alike.{alike_reply}
-use Rattle.dash_history.specs.Steps.{step_of, reply_of, alike_step, alike_record}
+use Rattle.dash_history.specs.Steps.{step_of, reply_of, alike_record}
 use Rattle.dash_history.specs.Takes.{Known, kinds_at, Kinds, Takes, Runs}
 use Rattle.dash_history.specs.declared.step.ShardStep.{ShardStep}
 use Rattle.dash_history.specs.declared.step.Reply.{Reply}
@@ -21,9 +20,13 @@ Rises low [] = ⊤
 Rises low (r ∷ rs) = (low < r.stamp) × Rises r.stamp rs
 
 module _ {K V A : Type 0} (m : Kinds K V A) where
+  -- the one record is a copy of the other: they are alike in stamp, caller, shard, step and reply
+  abbrev pub IsCopy : Record K V A → Record K V A → Type 0
+  IsCopy r q = IsTrue (alike_record m.rules.alike_key m.rules.alike_value m.alike_action r q)
+
   -- the number of a step's shard
   abbrev pub shard_of : ShardStep K V A → ℕ
-  shard_of step = step_shard m.rules.keys (step_of m.acts step)
+  shard_of step = line_shard m.rules.keys (line (step_of m.acts step))
 
   -- the map has no such shard
   abbrev pub NoShard : ShardStep K V A → Type 0
@@ -58,20 +61,12 @@ pub record RecState (K V A S : Type 0) : Type 0 where
 abbrev pub stamp_of : {K V A S : Type 0} → RecState K V A S → LogState K V A → ℕ
 stamp_of s l = max s.last l.last + 1
 
--- the record says this
-pub record Tells {K V A : Type 0} (k : K → K → Bool) (v : V → V → Bool) (f : A → A → Bool) (stamp caller shard : ℕ) (step : ShardStep K V A) (reply : Reply K V) (r : Record K V A) : Type 0 where
-  pub stamped : r.stamp ≡ stamp
-  pub by : r.caller ≡ caller
-  pub of : r.shard ≡ shard
-  pub stepped : IsTrue (alike_step k v f step r.step)
-  pub replied : IsTrue (alike_reply k v (reply_of reply) (reply_of r.reply))
-
 -- The step was taken on the shard, and a record of it was added at the end of the history. The other record is the same.
 pub record Grown {K V A S : Type 0} (m : Kinds K V A) (s s' : RecState K V A S) (stamp caller : ℕ) (step : ShardStep K V A) (reply : Reply K V) (logged : Record K V A) : Type 0 where
   pub takes : Takes m.rules (pairs s.shard) (step_of m.acts step) (reply_of reply) (pairs s'.shard)
   pub kept : Record K V A
-  pub tells : Tells m.rules.alike_key m.rules.alike_value m.alike_action stamp caller s.shard.number step reply kept
-  pub same : IsTrue (alike_record m.rules.alike_key m.rules.alike_value m.alike_action kept logged)
+  pub tells : IsCopy m (record { stamp = stamp; caller = caller; shard = s.shard.number; step = step; reply = reply }) kept
+  pub same : IsCopy m kept logged
   pub grown : s' ≡ record s { shard = s'.shard; last = stamp; history = s.history ++ kept ∷ [] }
   pub stays : SameShard s.shard s'.shard
 

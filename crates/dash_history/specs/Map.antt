@@ -3,7 +3,7 @@ use Rattle.std.specs.Prelude.{ℕ, ◌≡◌, ◌<◌, List, [], ◌∷◌, ◌+
 use Rattle.dash_shard.specs.Hashing.{KeyHash}
 use Rattle.dash_history.specs.Steps.{step_of, reply_of}
 use Rattle.dash_history.specs.Takes.{Known, kinds_at, Kinds, Answers}
-use Rattle.dash_history.specs.History.{RecState, LogState, Tells, shard_of}
+use Rattle.dash_history.specs.History.{RecState, LogState, IsCopy, shard_of}
 use Rattle.dash_history.specs.Alone.{AloneState, IsTagged, IsAlone}
 use Rattle.dash_history.specs.declared.step.ShardStep.{ShardStep}
 use Rattle.dash_history.specs.declared.step.Reply.{Reply}
@@ -14,10 +14,6 @@ pub record MapState (S : Type 0) : Type 0 where
   pub hasher : S
   pub callers : ℕ
   pub amount : ℕ
-
--- the map with this hasher, so many callers and so many shards
-abbrev pub map_of : {S : Type 0} → S → ℕ → ℕ → MapState S
-map_of hasher callers amount = record { hasher = hasher; callers = callers; amount = amount }
 
 -- what the map knows of its keys, values and actions
 abbrev pub kinds_on : {K V A S : Type 0} → Known K V A S → MapState S → Kinds K V A
@@ -43,7 +39,7 @@ module _ {K V A S : Type 0} (w : Known K V A S) where
 -- that the step gets from some contents of its shard.
 pub record Logged {K V A : Type 0} (m : Kinds K V A) (l l' : LogState K V A) (step : ShardStep K V A) (reply : Reply K V) : Type 0 where
   pub entry : Record K V A
-  pub tells : Tells m.rules.alike_key m.rules.alike_value m.alike_action l'.last l.caller (shard_of m step) step reply entry
+  pub tells : IsCopy m (record { stamp = l'.last; caller = l.caller; shard = shard_of m step; step = step; reply = reply }) entry
   pub above : l.last < l'.last
   pub entries : l'.entries ≡ l.entries ++ entry ∷ []
   pub caller : l'.caller ≡ l.caller

@@ -1,5 +1,5 @@
 -- Why a step is refused, and what is left then.
-use Rattle.std.specs.Prelude.{ℕ, ◌≡◌, ◌-◌, ◌^◌, max, Result, Err, IfErr}
+use Rattle.std.specs.Prelude.{ℕ, ◌≡◌, ◌-◌, ◌^◌, max, Result, IfErr}
 use Rattle.dash_history.specs.History.{LogState}
 use Rattle.dash_history.specs.declared.step.ShardStep.{ShardStep}
 use Rattle.dash_history.specs.declared.step.Reply.{Reply}
@@ -8,10 +8,6 @@ use Rattle.dash_history.specs.declared.record.RecordFault.{RecordFault}
 -- no stamp is above both
 abbrev pub NoStamp : ℕ → ℕ → Type 0
 NoStamp last other = max last other ≡ 2 ^ 64 - 1
-
--- the step is refused for this fault, and handed back
-abbrev pub Refuses : {K V A : Type 0} → ShardStep K V A → RecordFault → Result (Reply K V) (ShardStep K V A × RecordFault) → Type 0
-Refuses step fault result = result ≡ Err (step, fault)
 
 -- where it is refused, the step is handed back, and the state and the log are as they were
 abbrev pub HandsBack : {K V A X : Type 0} → ShardStep K V A → X → X → LogState K V A → LogState K V A → Result (Reply K V) (ShardStep K V A × RecordFault) → Type 0

@@ -5,7 +5,7 @@ use Rattle.std.specs.declared.hash.Hasher as hasher
 use Rattle.std.specs.declared.hash.BuildHasher as builder
 use Rattle.dash_shard.specs.Hashing.{KeyHash, key_hash, route_by}
 use Rattle.dash_shard.specs.Contents.{Keys, keys, at, Distinct}
-use Rattle.dash_shard.specs.Steps.{Step, Reply, Act, step_shard, after, Replies}
+use Rattle.dash_shard.specs.Steps.{Step, Reply, Act, line, line_shard, line_after, LineReplies}
 use Rattle.std.specs.Option.{option_eq}
 use Rattle.dash_history.specs.Alike.{alike_pair, alike_reply}
 
@@ -29,14 +29,14 @@ module _ {K V : Type 0} (m : Rules K V) where
   -- a step at the contents P may get this reply, up to alike
   pub record Answers (P : List (K × V)) (step : Step K V) (reply : Reply K V) : Type 0 where
     pub told : Reply K V
-    pub replies : Replies m.keys step P told
+    pub replies : LineReplies m.keys (line step) P told
     pub alike : IsTrue (alike_reply m.alike_key m.alike_value told reply)
 
   -- takes: at the contents P the step may get this reply and leave Q
   pub record Takes (P : List (K × V)) (step : Step K V) (reply : Reply K V) (Q : List (K × V)) : Type 0 where
-    pub in_range : step_shard m.keys step < m.keys.shards
+    pub in_range : line_shard m.keys (line step) < m.keys.shards
     pub answers : Answers P step reply
-    pub each_key : (j : K) → IsTrue (option_eq (alike_pair m.alike_key m.alike_value) (after m.keys step j (at m.keys.eq P j)) (at m.keys.eq Q j))
+    pub each_key : (j : K) → IsTrue (option_eq (alike_pair m.alike_key m.alike_value) (line_after m.keys (line step) j (at m.keys.eq P j)) (at m.keys.eq Q j))
     pub distinct : Distinct m.keys.eq Q
 
   -- runs: the steps, taken one after the other from P on, may get these replies, and leave Q

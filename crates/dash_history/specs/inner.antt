@@ -11,3 +11,4 @@ pub mod Locks
 pub mod Plain
 pub mod Plan
 pub mod Sweep
+pub mod Tells

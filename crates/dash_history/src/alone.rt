@@ -1,13 +1,14 @@
 //! A recorded map of one owner, without locks.
-ghost use Rattle.std.specs.Prelude.{◌≡◌, ℕ, ◌<◌, ◌↔◌, Some, IsErrOf, IfOk, IfErr, length, slice_get, Err, IsTrue, flat_map, option_map};
+ghost use Rattle.std.specs.Prelude.{◌∷◌, [], ◌≡◌, ℕ, ◌<◌, ◌↔◌, Some, IsErrOf, IfOk, IfErr, length, slice_get, Err, IsTrue, flat_map, option_map};
+ghost use Rattle.dash_shard.specs.Errors.{IsOneOf};
 ghost use Rattle.dash_shard.specs.Hashing.{IsAmount, HashAlike};
 ghost use Rattle.dash_history.specs.History.{NoShard};
-ghost use Rattle.dash_history.specs.Alone.{BadCallers, IsMapError, IsFresh, IsAlone, Applied, NoStampIn, IsLastOf, fresh_logs, kinds_in, last_at};
+ghost use Rattle.dash_history.specs.Alone.{IsCallers, IsFresh, IsAlone, Applied, NoStampIn, fresh_logs, kinds_in, last_at};
 ghost use Rattle.dash_history.specs.inner.Fresh.{FreshRow};
 ghost use Rattle.dash_shard.specs.Shard.{pairs};
 ghost use Rattle.dash_history.specs.inner.Copied.{alike_pairs};
 ghost use Rattle.dash_history.specs.OneHistory.{IsOneHistory, Gathers, CopiesEntry, CopiesPairs, histories, record_at};
-ghost use Rattle.dash_history.specs.Refused.{Refuses, HandsBack};
+ghost use Rattle.dash_history.specs.Refused.{HandsBack};
 ghost use Rattle.dash_history.specs.declared.record.RecordFault.TheVariants.{LastStamp, NoSuchShard, Locked};
 ghost use Rattle.dash_history.specs.Takes.{known};
 
@@ -140,8 +141,8 @@ impl<K: KeptKey + Drop, V: Kept + Drop, S: BuildHasher, A: KeptAction<K, V> + Dr
 
         // In the order of the refusals' numbers.
         ensures bad_amount { IsErrOf result ConstructError.ShardAmount ↔ (IsAmount amount → ⊥) }
-        ensures bad_callers { IsErrOf result ConstructError.Callers ↔ BadCallers amount callers }
-        ensures kinds { IfErr result IsMapError }
+        ensures bad_callers { IsErrOf result ConstructError.Callers ↔ IsAmount amount × (IsCallers callers → ⊥) }
+        ensures kinds { IfErr result (IsOneOf (ConstructError.ShardAmount ∷ ConstructError.Callers ∷ ConstructError.Memory ∷ [])) }
     {
         if !is_shard_amount(amount) {
             return Err(ConstructError::ShardAmount);
@@ -198,9 +199,9 @@ impl<K: KeptKey + Drop, V: Kept + Drop, S: BuildHasher, A: KeptAction<K, V> + Dr
         ensures refused { HandsBack step self.old self.new log.old log.new result }
 
         // In this order; else there was no memory.
-        ensures no_such_shard { Refuses step NoSuchShard result ↔ NoShard (kinds_in ⟦<Self as Recorded>⟧.known self.old) step }
-        ensures last_stamp { Refuses step LastStamp result ↔ NoStampIn ⟦<Self as Recorded>⟧.known self.old log.old step }
-        ensures locked { Refuses step Locked result → ⊥ }
+        ensures no_such_shard { (result ≡ Err (step, NoSuchShard)) ↔ NoShard (kinds_in ⟦<Self as Recorded>⟧.known self.old) step }
+        ensures last_stamp { (result ≡ Err (step, LastStamp)) ↔ NoStampIn ⟦<Self as Recorded>⟧.known self.old log.old step }
+        ensures locked { result ≡ Err (step, Locked) → ⊥ }
     {
         let (hash, idx) = step.route(&self.hasher, self.row.len());
         if idx >= self.row.len() {
@@ -274,8 +275,7 @@ impl<K: KeptKey + Drop, V: Kept + Drop, S: BuildHasher, A: KeptAction<K, V> + Dr
     /// The stamp of the last step of a shard, 0 for none.
     pub fn last_of(&self, shard: usize) -> u64
         requires { shard < length self.now.row }
-        ensures last { IsLastOf self.now shard result }
-        ensures same { result ≡ last_at self.now shard }
+        ensures last { result ≡ last_at self.now shard }
     {
         self.row[shard].last_stamp()
     }

@@ -2,7 +2,6 @@
 ghost use Rattle.std.specs.Prelude.{◌≡◌, ◌-◌, ◌^◌, ◌<◌, ◌↔◌, ◌⊎◌, IfOk, IfErr};
 ghost use Rattle.dash_history.specs.History.{NoShard, shard_of};
 ghost use Rattle.dash_history.specs.Map.{Logged, kinds_on};
-ghost use Rattle.dash_history.specs.Refused.{Refuses};
 ghost use Rattle.dash_history.specs.declared.record.RecordFault.TheVariants.{LastStamp, NoSuchShard, Locked};
 
 use crate::action::KeptAction;
@@ -34,12 +33,12 @@ impl<K: KeptKey + Drop, V: Kept + Drop, S: BuildHasher, A: KeptAction<K, V> + Dr
         requires { log.old.caller < self.now.callers }
         ensures ok { IfOk result (λ reply. Logged (kinds_on ⟦<Self as Recorded>⟧.known self.now) log.old log.new step reply) }
         ensures refused { IfErr result (λ e. (e.0 ≡ step) × (log.new ≡ log.old)) }
-        ensures no_such_shard { Refuses step NoSuchShard result ↔ NoShard (kinds_on ⟦<Self as Recorded>⟧.known self.now) step }
+        ensures no_such_shard { (result ≡ Err (step, NoSuchShard)) ↔ NoShard (kinds_on ⟦<Self as Recorded>⟧.known self.now) step }
 
         // The shard's last stamp is not known here, the log's is.
         ensures last_stamp { shard_of (kinds_on ⟦<Self as Recorded>⟧.known self.now) step < self.now.amount
-            → log.old.last ≡ 2 ^ 64 - 1 → Refuses step LastStamp result }
-        ensures locked { Refuses step Locked result → ⊥ }
+            → log.old.last ≡ 2 ^ 64 - 1 → result ≡ Err (step, LastStamp) }
+        ensures locked { result ≡ Err (step, Locked) → ⊥ }
     {
         let (hash, idx) = self.route(&step);
         if idx >= self.shard_count() {
@@ -59,11 +58,11 @@ impl<K: KeptKey + Drop, V: Kept + Drop, S: BuildHasher, A: KeptAction<K, V> + Dr
         requires { log.old.caller < self.now.callers }
         ensures ok { IfOk result (λ reply. Logged (kinds_on ⟦<Self as Recorded>⟧.known self.now) log.old log.new step reply) }
         ensures refused { IfErr result (λ e. (e.0 ≡ step) × (log.new ≡ log.old)) }
-        ensures no_such_shard { Refuses step NoSuchShard result ↔ NoShard (kinds_on ⟦<Self as Recorded>⟧.known self.now) step }
+        ensures no_such_shard { (result ≡ Err (step, NoSuchShard)) ↔ NoShard (kinds_on ⟦<Self as Recorded>⟧.known self.now) step }
 
         // Whether the shard is free is not known here; where it is, the log's last stamp is looked at.
         ensures last_stamp { shard_of (kinds_on ⟦<Self as Recorded>⟧.known self.now) step < self.now.amount
-            → log.old.last ≡ 2 ^ 64 - 1 → Refuses step Locked result ⊎ Refuses step LastStamp result }
+            → log.old.last ≡ 2 ^ 64 - 1 → (result ≡ Err (step, Locked)) ⊎ (result ≡ Err (step, LastStamp)) }
     {
         let (hash, idx) = self.route(&step);
         if self.shard_count() <= idx {

@@ -4,10 +4,11 @@ ghost use Rattle.dash_shard.specs.Hashing.{IsAmount};
 ghost use Rattle.dash_shard.specs.Shard.{SameShard, pairs, shard_len};
 ghost use Rattle.dash_history.specs.Steps.{alike_record};
 ghost use Rattle.dash_history.specs.Takes.{known};
-ghost use Rattle.dash_history.specs.History.{IsLog, IsRecorded, Tells, GoesTo, Records};
+ghost use Rattle.dash_history.specs.History.{IsLog, IsRecorded, GoesTo, Records, last_or};
+ghost use Rattle.dash_history.specs.inner.Tells.{Tells};
 ghost use Rattle.dash_history.specs.inner.Grows.{Adds};
 ghost use Rattle.dash_history.specs.inner.Hashed.{HasHash};
-ghost use Rattle.dash_history.specs.Refused.{Refuses, HandsBack, NoStamp};
+ghost use Rattle.dash_history.specs.Refused.{HandsBack, NoStamp};
 ghost use Rattle.dash_history.specs.declared.record.RecordFault.TheVariants.{LastStamp, Memory};
 ghost use Rattle.dash_history.specs.Alone.{IsFresh};
 
@@ -318,11 +319,12 @@ impl<K: KeptKey + Drop, V: Kept + Drop, S: BuildHasher, A: KeptAction<K, V> + Dr
         requires caller { log.old.caller < self.old.callers }
         ensures ok { Records ⟦<Self as Recorded>⟧.known self.old self.new log.old log.new step result }
         ensures refused { HandsBack step self.old self.new log.old log.new result }
-        ensures last_stamp { Refuses step LastStamp result ↔ NoStamp self.old.last log.old.last }
-        ensures log_last { log.old.last ≡ 2 ^ 64 - 1 → Refuses step LastStamp result }
+        ensures last_stamp { (result ≡ Err (step, LastStamp)) ↔ NoStamp self.old.last log.old.last }
+        ensures log_last { log.old.last ≡ 2 ^ 64 - 1 → result ≡ Err (step, LastStamp) }
         ensures faults { IfErr result (λ e. (e.1 ≡ LastStamp) ⊎ (e.1 ≡ Memory)) }
         ensures stays { SameShard self.old.shard self.new.shard }
         ensures callers { self.new.callers ≡ self.old.callers }
+        ensures last { self.old.last ≡ last_or 0 self.old.history }
     {
         let last = self.last.max(log.last);
         if last == u64::MAX {

@@ -65,7 +65,7 @@ pub struct Record<K, V, A = ()> {
 impl<K, V: Kept, A> ShardStep<K, V, A> {
     ghost use Rattle.dash_shard.specs.Contents.{keys};
     ghost use Rattle.dash_shard.specs.Hashing.{IsAmount, route_by};
-    ghost use Rattle.dash_shard.specs.Steps.{step_shard, line};
+    ghost use Rattle.dash_shard.specs.Steps.{line, line_shard};
     ghost use Rattle.dash_history.specs.Steps.{alike_step, step_of};
     ghost use Rattle.dash_history.specs.inner.Hashed.{shard_by, IsHashBy, Asks, OfKey};
 
@@ -76,8 +76,8 @@ impl<K, V: Kept, A> ShardStep<K, V, A> {
         K: Kept + Eq + Hash,
         A: Action<K, V>,
         requires { IsAmount amount }
-        ensures { result ≡ step_shard
-            (keys K.eq (route_by (by K.Hash S.BuildHasher S.Hasher.Hasher) hasher.now amount) amount) (step_of A.acts self.now) }
+        ensures { result ≡ line_shard
+            (keys K.eq (route_by (by K.Hash S.BuildHasher S.Hasher.Hasher) hasher.now amount) amount) (line (step_of A.acts self.now)) }
     {
         self.route(hasher, amount).1
     }

@@ -16,6 +16,7 @@ use Rattle.dash_shard.specs.Contents.{Keys, keys, at, on, Distinct, EachOnce, Is
 use Rattle.dash_shard.specs.Steps as table
 use Rattle.dash_shard.specs.inner.Steps as parts
 use Rattle.dash_shard.specs.Shard.{ShardState, IsShard, pairs}
+use Rattle.dash_shard.specs.inner.Steps.{after, step_shard}
 use Rattle.dash_history.specs.Steps.{step_of, reply_of}
 use Rattle.dash_history.specs.Takes.{Rules, Answers, Takes, Runs}
 use Rattle.dash_history.specs.inner.Copied.{AlikeAt}
@@ -27,7 +28,8 @@ use Rattle.dash_history.proofs.Recording.{lawful-by}
 use Rattle.dash_map.specs.Alone.{AloneState, IsAlone, TakesAlone, contents, keys_in}
 use Rattle.dash_map.specs.declared.run.Fault.{Fault}
 use Rattle.dash_map.specs.declared.run.Fault.TheVariants.{NoSuchShard, Memory}
-use Rattle.dash_map.specs.Run.{rules_in, IsRefused}
+use Rattle.dash_map.specs.Run.{IsRefused}
+use Rattle.dash_map.specs.inner.Run.{rules_in}
 use Rattle.dash_map.specs.inner.Run.{answered}
 use Rattle.dash_map.proofs.Distincts.{distinct-contents}
 use Rattle.dash_map.proofs.Lifting.{on-shards, alone-set}
@@ -62,7 +64,7 @@ module _ {K V A : Type 0} (m : Rules K V) (acts : A → table.Act K V) where
       }
 
   -- the step that is put back is the first of the rest
-  pub refused-first : (left rest : List (ShardStep K V A)) (step : ShardStep K V A) (fault : Fault) → rest ≡ reverse (left ++ step ∷ []) → (fault ≡ NoSuchShard) ↔ (m.keys.shards ≤ table.step_shard m.keys (step_of acts step))
+  pub refused-first : (left rest : List (ShardStep K V A)) (step : ShardStep K V A) (fault : Fault) → rest ≡ reverse (left ++ step ∷ []) → (fault ≡ NoSuchShard) ↔ (m.keys.shards ≤ step_shard m.keys (step_of acts step))
       → IsRefused m acts rest fault
   refused-first left rest step fault e why = subst (λ l. IsRefused m acts l fault) (sym (e ∙ turned left step)) why
 
@@ -140,13 +142,13 @@ module _ {K V S : Type 0} (h : KeyHash K S) (k : K → K → Bool) (v : V → V 
     distinct-same old new base amount lawful = distinct-contents h law.laws new lawful
 
     -- a look whose answer is up to alike
-    pub takes-look : (a : AloneState K V S) (step : table.Step K V) (reply : table.Reply K V) → table.step_shard (keys_in h a) step < length a.row → IsAlone h a → Answers (rules_in h k v a) (contents a) step reply
+    pub takes-look : (a : AloneState K V S) (step : table.Step K V) (reply : table.Reply K V) → step_shard (keys_in h a) step < length a.row → IsAlone h a → Answers (rules_in h k v a) (contents a) step reply
         → parts.Becomes (keys_in h a) step (contents a) (contents a) → Takes (rules_in h k v a) (contents a) step reply (contents a)
     takes-look a step reply below lawful answers stays =
         takes-exactly (rules_in h k v a) (laws-in a) (contents a) (contents a) step reply below answers stays (distinct-contents h law.laws a lawful)
 
     -- what was taken to the letter was taken
-    pub takes-alone : (old new : AloneState K V S) (step : table.Step K V) (reply : table.Reply K V) → table.step_shard (keys_in h old) step < length old.row → TakesAlone h old new step reply
+    pub takes-alone : (old new : AloneState K V S) (step : table.Step K V) (reply : table.Reply K V) → step_shard (keys_in h old) step < length old.row → TakesAlone h old new step reply
         → Takes (rules_in h k v old) (contents old) step reply (contents new)
     takes-alone old new step reply below x =
         takes-exactly (rules_in h k v old) (laws-in old) (contents old) (contents new) step reply below
@@ -192,8 +194,8 @@ module _ {K V S : Type 0} (h : KeyHash K S) (k : K → K → Bool) (v : V → V 
       became j = r.does.taken.table.becomes j ∙ rw (eq-eqb s.number s.number refl) refl
 
       module _ (f : table.Act K V) (did : (j : K) (u : V) (yes : Bool) (new : V) (y : F) → T x j u yes new y → IsTrue (v (f j u).0 new) × (yes ≡ (f j u).1) × (y ≡ x)) where
-        each-key : (j : K) → AlikeAt (rules_in h k v a) (table.after w (table.Retain i f) j (at w.eq (contents a) j)) (at w.eq (flat_map pairs row') j)
-        each-key j = elim (cases_eq (w.route j) i) as (λ _. AlikeAt (rules_in h k v a) (table.after w (table.Retain i f) j (at w.eq (contents a) j)) (at w.eq (flat_map pairs row') j)) [
+        each-key : (j : K) → AlikeAt (rules_in h k v a) (after w (table.Retain i f) j (at w.eq (contents a) j)) (at w.eq (flat_map pairs row') j)
+        each-key j = elim (cases_eq (w.route j) i) as (λ _. AlikeAt (rules_in h k v a) (after w (table.Retain i f) j (at w.eq (contents a) j)) (at w.eq (flat_map pairs row') j)) [
           | inl same ↦ rw (eq-eqb (w.route j) i same, stood j same, stands j same ∙ became j) (called-alike (rules_in h k v a) (laws-in a) T f r.act x did (pairs s) r.last r.called j)
           | inr other ↦ rw (ne_eqb (w.route j) i other, stays j other) ((at_laws (rules_in h k v a) (laws-in a)).refl (at w.eq (contents a) j))
         ]

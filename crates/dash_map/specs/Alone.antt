@@ -2,7 +2,7 @@
 use Rattle.std.specs.Prelude.{ℕ, ◌≡◌, ◌+◌, ◌≤◌, Bool, List, length, flat_map, Some, Result, OnOk, slice_get}
 use Rattle.dash_shard.specs.Hashing.{KeyHash, IsAmount, route_by}
 use Rattle.dash_shard.specs.Contents.{Keys, keys, at}
-use Rattle.dash_shard.specs.Steps.{Act, Step, Reply, Replies, IsTaken, BySome}
+use Rattle.dash_shard.specs.Steps.{Act, Step, Reply, line, LineReplies, IsTaken, BySome}
 use Rattle.dash_shard.specs.Shard.{ShardState, IsTagged, pairs, shard_len}
 
 -- what contracts see of the map
@@ -38,7 +38,7 @@ module _ {K V S : Type 0} where
 
     -- the step may get this reply on the map
     abbrev pub RepliesAlone : AloneState K V S → Step K V → Reply K V → Type 0
-    RepliesAlone a step reply = Replies (keys_in a) step (contents a) reply
+    RepliesAlone a step reply = LineReplies (keys_in a) (line step) (contents a) reply
 
     -- the step is taken on the map, which stays lawful
     pub record TakesAlone (old new : AloneState K V S) (step : Step K V) (reply : Reply K V) : Type 0 where

@@ -1,5 +1,5 @@
 -- How many shards a map has, and how many pairs each shard has room for.
-use Rattle.std.specs.Prelude.{ℕ, ◌≡◌, ◌⊎◌, ◌+◌, ◌-◌, ◌*◌, ◌^◌, ◌<◌, ◌≤◌, List, [], ◌∷◌}
+use Rattle.std.specs.Prelude.{ℕ, ◌+◌, ◌-◌, ◌*◌, ◌^◌, ◌<◌, ◌≤◌}
 use Rattle.std.specs.Int.{IsPowerOfTwo}
 
 -- what a caller may hand in as the number of its processors
@@ -20,9 +20,3 @@ Overflows c n = 2 ^ 64 ≤ c + (n - 1)
 -- nor to one of the default amount for p processors
 abbrev pub OverflowsDefault : ℕ → ℕ → Type 0
 OverflowsDefault p c = IsParallelism p × (n : ℕ) × IsDefault p n × Overflows c n
-
--- it is one of these
-abbrev pub IsOneOf : {A : Type 0} → List A → A → Type 0
-IsOneOf [] a = ⊥
-IsOneOf (x ∷ []) a = a ≡ x
-IsOneOf (x ∷ y ∷ xs) a = (a ≡ x) ⊎ IsOneOf (y ∷ xs) a

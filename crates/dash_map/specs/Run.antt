@@ -6,7 +6,7 @@ use Rattle.dash_history.specs.Steps.{step_of, reply_of}
 use Rattle.dash_history.specs.Takes.{Rules, rules, Runs}
 use Rattle.dash_history.specs.declared.step.ShardStep.{ShardStep}
 use Rattle.dash_history.specs.declared.step.Reply.{Reply}
-use Rattle.dash_map.specs.Alone.{AloneState, contents, keys_in}
+use Rattle.dash_map.specs.Alone.{contents, keys_in}
 use Rattle.dash_map.specs.Behind.{LeavesShards}
 use Rattle.dash_map.specs.Map.{MapState}
 use Rattle.dash_map.specs.declared.run.Fault.{Fault}
@@ -17,7 +17,7 @@ use Rattle.dash_shard.specs.Hashing.{KeyHash}
 -- the first of these steps is refused: because the map has no such shard, or else for want of memory
 abbrev pub IsRefused : {K V A : Type 0} → Rules K V → (A → table.Act K V) → List (ShardStep K V A) → Fault → Type 0
 IsRefused m acts [] fault = ⊥
-IsRefused m acts (step ∷ _) fault = (fault ≡ NoSuchShard) ↔ (m.keys.shards ≤ table.step_shard m.keys (step_of acts step))
+IsRefused m acts (step ∷ _) fault = (fault ≡ NoSuchShard) ↔ (m.keys.shards ≤ table.line_shard m.keys (table.line (step_of acts step)))
 
 -- The run took a front of the steps, from the contents P to the contents Q, and leaves the others, from a refused one on, or none.
 pub record Ran {K V A : Type 0} (m : Rules K V) (acts : A → table.Act K V) (P Q : List (K × V)) (steps : List (ShardStep K V A)) (outcome : RunOutcome K V A) : Type 0 where
@@ -27,10 +27,6 @@ pub record Ran {K V A : Type 0} (m : Rules K V) (acts : A → table.Act K V) (P 
   pub taken : Runs m P (map (λ d. (step_of acts d.0, reply_of d.1)) front) Q
   pub stops : IfSome outcome.stopped (λ stop. IsRefused m acts stop.0.items stop.1)
 
--- what the map knows of its keys and values
-abbrev pub rules_in : {K V S : Type 0} → KeyHash K S → (K → K → Bool) → (V → V → Bool) → AloneState K V S → Rules K V
-rules_in h k v a = rules k v (keys_in h a)
-
 -- the run was one on shards that stood behind the locks of this map, and what it left stands there
 abbrev pub RanBehind : {K V A S : Type 0} → KeyHash K S → (K → K → Bool) → (V → V → Bool) → (A → table.Act K V) → MapState S → List (ShardStep K V A) → RunOutcome K V A → Type 0
-RanBehind h k v acts m steps outcome = LeavesShards h m (λ a b. Ran (rules_in h k v a) acts (contents a) (contents b) steps outcome)
+RanBehind h k v acts m steps outcome = LeavesShards h m (λ a b. Ran (rules k v (keys_in h a)) acts (contents a) (contents b) steps outcome)

@@ -2,7 +2,8 @@
 ghost use Rattle.std.specs.Prelude.{◌≡◌, ◌<◌, ◌↔◌, ◌∷◌, [], IsErrOf, IfOk, IfErr, OnOk};
 ghost use Rattle.dash_shard.specs.Hashing.{by, IsAmount, HashAlike, hash_of, route_of_hash, route_by};
 ghost use Rattle.dash_shard.specs.declared.error.ConstructError.TheVariants.{CapacityOverflow, Memory, Parallelism, ShardAmount};
-ghost use Rattle.dash_map.specs.Amounts.{IsParallelism, IsDefault, Overflows, OverflowsDefault, IsOneOf};
+ghost use Rattle.dash_map.specs.Amounts.{IsParallelism, IsDefault, Overflows, OverflowsDefault};
+ghost use Rattle.dash_shard.specs.Errors.{IsOneOf};
 
 use crate::alone::Alone;
 use crossbeam_utils::CachePadded;

@@ -4,6 +4,7 @@ ghost use Rattle.dash_shard.specs.Contents.{at};
 ghost use Rattle.dash_shard.specs.Steps as table;
 ghost use Rattle.dash_shard.specs.inner.Steps.{Becomes};
 ghost use Rattle.dash_history.specs.Steps.{step_of};
+ghost use Rattle.dash_history.specs.Takes.{rules};
 ghost use Rattle.dash_history.specs.inner.Hashed.{Asks};
 ghost use Rattle.dash_history.specs.inner.Plan.{change_step, HasPair};
 ghost use Rattle.dash_history.specs.inner.Sweep.{keeping};
@@ -42,8 +43,7 @@ pub struct RunOutcome<K, V, A = ()> {
 }
 
 impl<K: KeptKey + Drop, V: Kept + Drop, S: BuildHasher> Alone<K, V, S> {
-    ghost use Rattle.dash_map.specs.Run.{Ran, IsRefused, rules_in};
-    ghost use Rattle.dash_map.specs.inner.Run.{NamesShard};
+    ghost use Rattle.dash_map.specs.Run.{Ran, IsRefused};
     ghost use Rattle.dash_map.specs.inner.Run.{IsBare, NamesShard};
 
     // Makes of the pair at a key what was decided.
@@ -64,7 +64,7 @@ impl<K: KeptKey + Drop, V: Kept + Drop, S: BuildHasher> Alone<K, V, S> {
     // Why the first of these steps is refused where there is no memory.
     fn first_fault<A: Action<K, V>>(&self, steps: &[ShardStep<K, V, A>]) -> Fault
         requires { 0 < length steps.now }
-        ensures { IsRefused (rules_in ⟦<Self as Keyed>⟧.by K.alike V.alike self.now) A.acts steps.now result }
+        ensures { IsRefused (rules K.alike V.alike (keys_in ⟦<Self as Keyed>⟧.by self.now)) A.acts steps.now result }
     {
         let amount = self.row.len();
         if steps[0].shard(&self.hasher, amount) < amount {
@@ -213,7 +213,7 @@ impl<K: KeptKey + Drop, V: Kept + Drop, S: BuildHasher> Alone<K, V, S> {
         &mut self,
         mut steps: Vec<ShardStep<K, V, A>>,
     ) -> RunOutcome<K, V, A>
-        ensures ran { Ran (rules_in ⟦<Self as Keyed>⟧.by K.alike V.alike self.old) A.acts (contents self.old) (contents self.new) steps.items result }
+        ensures ran { Ran (rules K.alike V.alike (keys_in ⟦<Self as Keyed>⟧.by self.old)) A.acts (contents self.old) (contents self.new) steps.items result }
         ensures stays { SameMap self.old self.new }
         ensures lawful { IsAlone ⟦<Self as Keyed>⟧.by self.new }
     {

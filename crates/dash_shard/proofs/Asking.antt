@@ -3,8 +3,8 @@ use Rattle.std.proofs.Common.{◌≡◌, Bool, true, false, cond, List, Option, 
 use Rattle.std.specs.Prelude.{option_and_then}
 use Rattle.std.proofs.lemmas.Bool.{cases_Bool}
 use Rattle.dash_shard.specs.Contents.{Keys, at}
-use Rattle.dash_shard.specs.Steps.{Remove, RemoveIf, Pair, Replies, after}
-use Rattle.dash_shard.specs.inner.Steps.{Becomes}
+use Rattle.dash_shard.specs.Steps.{Remove, RemoveIf, Pair}
+use Rattle.dash_shard.specs.inner.Steps.{Becomes, Replies, after}
 use Rattle.dash_shard.specs.Shard.{ShardState, pairs, own_keys, TakesInPlace}
 
 -- what stands there, and nothing

@@ -7,13 +7,14 @@ use Rattle.dash_shard.specs.declared.shard.table.Table.{Table}
 use Rattle.dash_shard.specs.inner.Keys.{IsLawful, keys_of}
 use Rattle.dash_shard.specs.Hashing.{KeyHash}
 use Rattle.dash_shard.specs.Contents.{at}
-use Rattle.dash_shard.specs.Steps.{Insert, Remove, Old, Pair, after}
+use Rattle.dash_shard.specs.Steps.{Insert, Remove, Old, Pair}
 use Rattle.dash_shard.specs.Shard.{ShardState, slot, pairs, own_keys, HasKey, Routes, SameShard, TakesInPlace, TakesAt}
 use Rattle.dash_shard.specs.inner.Table.{Holds, IsTable, pairs_of, hashes_of}
 use Rattle.dash_shard.proofs.Equals.{at-equal}
 use Rattle.dash_shard.proofs.Rewriting.{spot-within}
 use Rattle.dash_shard.proofs.Shards.{state, Inside, Inserted, Removed, holds-key, at-found, replaced, removed, removes}
 use Rattle.dash_shard.proofs.Slots.{absent-at}
+use Rattle.dash_shard.specs.inner.Steps.{after}
 
 module _ {K V S : Type 0} (h : KeyHash K S) (law : IsLawful h) where
   -- nothing goes where no key is equal

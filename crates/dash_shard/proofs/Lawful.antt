@@ -4,7 +4,8 @@ use Rattle.std.specs.Cmp.{IsEquivalence}
 use Rattle.std.specs.Hash.{HashWrites}
 use Rattle.std.specs.declared.hash.Hasher as hasher
 use Rattle.std.specs.declared.hash.BuildHasher as builder
-use Rattle.dash_shard.specs.Hashing.{hash_of, key_hash}
+use Rattle.dash_shard.specs.Hashing.{hash_of}
+use Rattle.dash_shard.specs.Hashing.{key_hash}
 use Rattle.dash_shard.specs.inner.Keys.{IsLawful}
 
 pub lawful-of : {K S H : Type 0} {eq : K → K → Bool} {input : K → HashWrites} (b : builder.Ghosts S H) (h : hasher.Ghosts H)

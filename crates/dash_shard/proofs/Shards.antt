@@ -9,8 +9,8 @@ use Rattle.std.proofs.Math.ListN.{replicate, length-set}
 use Rattle.dash_shard.specs.Hashing.{KeyHash, IsAmount, route_of_hash}
 use Rattle.dash_shard.specs.inner.Keys.{IsLawful, keys_of}
 use Rattle.dash_shard.specs.Contents.{Keys, at, IsOnShard}
-use Rattle.dash_shard.specs.Steps.{Insert, Remove, Old, Pair, after}
-use Rattle.dash_shard.specs.inner.Steps.{key_or}
+use Rattle.dash_shard.specs.Steps.{Insert, Remove, Old, Pair}
+use Rattle.dash_shard.specs.inner.Steps.{key_or, after}
 use Rattle.dash_shard.specs.Shard.{ShardState, slot, taken, pairs, shard_len, own_keys, Routes, IsShard, TakesStep, TakesInPlace, StaysPut}
 use Rattle.dash_shard.specs.Held.{Inserts, Loses, Reserves}
 use Rattle.dash_shard.specs.declared.shard.table.Node.{Node}

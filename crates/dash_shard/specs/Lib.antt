@@ -5,5 +5,6 @@ pub mod Shard
 pub mod Held
 pub mod Guarded
 pub mod Closures
+pub mod Errors
 pub mod Each
 pub mod inner

@@ -4,7 +4,7 @@ use Rattle.std.specs.List.{filter_map}
 use Rattle.std.specs.Option.{option_map}
 use Rattle.dash_shard.specs.Hashing.{KeyHash, IsAmount, HashAlike, route_by}
 use Rattle.dash_shard.specs.Contents.{Keys, keys, at, IsOnShard}
-use Rattle.dash_shard.specs.Steps.{Act, Step, Reply, Replies, IsTaken, BySome, after}
+use Rattle.dash_shard.specs.Steps.{Act, Step, Reply, line, line_after, LineReplies, IsTaken, BySome}
 
 pub record ShardState (K V S : Type 0) : Type 0 where
   pub slots : List (Option (K × V))
@@ -78,7 +78,7 @@ module _ {K V S : Type 0} where
 
     -- the step may get this reply on the shard
     abbrev pub RepliesOn : ShardState K V S → Step K V → Reply K V → Type 0
-    RepliesOn s step reply = Replies (own_keys s) step (pairs s) reply
+    RepliesOn s step reply = LineReplies (own_keys s) (line step) (pairs s) reply
 
     -- the step is taken on the shard, which stays the one that it is
     pub record TakesStep (old new : ShardState K V S) (step : Step K V) (reply : Reply K V) : Type 0 where
@@ -87,7 +87,7 @@ module _ {K V S : Type 0} where
 
     -- each pair stays in its slot, which has afterwards what the table makes of the pair
     abbrev pub StaysPut : ShardState K V S → ShardState K V S → Step K V → Type 0
-    StaysPut old new step = (i : ℕ) (p : K × V) → slot old.slots i ≡ Some p → slot new.slots i ≡ after (own_keys old) step p.0 (Some p)
+    StaysPut old new step = (i : ℕ) (p : K × V) → slot old.slots i ≡ Some p → slot new.slots i ≡ line_after (own_keys old) (line step) p.0 (Some p)
 
     -- the same in place: the pairs keep their slots, and the room stays
     pub record TakesInPlace (old new : ShardState K V S) (step : Step K V) (reply : Reply K V) : Type 0 where

@@ -56,34 +56,25 @@ module _ {K V : Type 0} where
 
 -- How a line is read, on the contents of a map.
 module _ {K V : Type 0} (w : Keys K) where
+  -- the shard that it is about: the route of its key, or the number that it names
   abbrev pub line_shard : Line K V → ℕ
   line_shard (at_key k _ _) = w.route k
   line_shard (on_shard i _ _) = i
 
+  -- what stands at the key j afterwards, from what stood there
   abbrev pub line_after : Line K V → K → Option (K × V) → Option (K × V)
   line_after (at_key k becomes _) j o = if w.eq k j then becomes o else o
   line_after (on_shard i becomes _) j o = if w.route j == i then option_and_then becomes o else o
 
+  -- at the contents ps it may get this reply
   abbrev pub LineReplies : Line K V → List (K × V) → Reply K V → Type 0
   LineReplies (at_key k _ replies) ps r = r ≡ replies (at w.eq ps k)
   LineReplies (on_shard i _ replies) ps r = (l : List (K × V)) × EachOnce w.eq (on w i ps) l × (r ≡ replies l)
 
-  -- the shard of a step: the route of its key, or the number that it names
-  abbrev pub step_shard : Step K V → ℕ
-  step_shard step = line_shard (line step)
-
-  -- what stands at the key j after a step, from what stood there
-  abbrev pub after : Step K V → K → Option (K × V) → Option (K × V)
-  after step j o = line_after (line step) j o
-
-  -- a step at the contents ps may get this reply
-  abbrev pub Replies : Step K V → List (K × V) → Reply K V → Type 0
-  Replies step ps r = LineReplies (line step) ps r
-
   -- A STEP IS TAKEN: from the contents ps it gets this reply, and makes the contents qs
   pub record IsTaken (step : Step K V) (reply : Reply K V) (ps qs : List (K × V)) : Type 0 where
-    pub replies : Replies step ps reply
-    pub becomes : (j : K) → at w.eq qs j ≡ after step j (at w.eq ps j)
+    pub replies : LineReplies (line step) ps reply
+    pub becomes : (j : K) → at w.eq qs j ≡ line_after (line step) j (at w.eq ps j)
 
 -- by some action, which may do on the pair that stands there what it does
 abbrev pub BySome : {K V : Type 0} → (K × V → V × Bool → Type 0) → Option (K × V) → (Act K V → Type 0) → Type 0

@@ -11,7 +11,7 @@ use Rattle.std.proofs.lemmas.Cmp.{nat_eq_equiv}
 use Rattle.std.proofs.lemmas.List.{drop_all}
 use Rattle.dash_shard.specs.Contents.{at, Distinct, EachOnce}
 use Rattle.dash_shard.specs.Steps as table
-use Rattle.dash_shard.specs.Steps.{after, Replies}
+use Rattle.dash_shard.specs.inner.Steps.{Replies, after, step_shard}
 use Rattle.dash_history.specs.Alike.{alike_pair, alike_reply}
 use Rattle.dash_history.specs.inner.AlikeLaws.{pair_equiv}
 use Rattle.dash_history.specs.Steps.{reply_of}
@@ -143,7 +143,7 @@ answers-fit (Remove k) kind P ρ a = same-paired (at nat_eq P k) ρ (subst (λ q
 answers-fit (Insert k v) kind P ρ a = same-old (option_map (λ p. p.1) (at nat_eq P k)) ρ (subst (λ q. IsTrue (alike_reply nat_eq nat_eq q ρ)) a.replies a.alike)
 answers-fit s kind P ρ a = absurd kind
 
-in-range : (s : ShardStep ℕ ℕ (Unit {0})) → IsThreadStep s → table.step_shard plain.keys (bare s) < 1
+in-range : (s : ShardStep ℕ ℕ (Unit {0})) → IsThreadStep s → step_shard plain.keys (bare s) < 1
 in-range (Get k) kind = omega arith
 in-range (Remove k) kind = omega arith
 in-range (Insert k v) kind = omega arith

@@ -6,7 +6,7 @@ use Rattle.dash_shard.specs.Hashing.{IsAmount}
 use Rattle.dash_shard.specs.declared.error.ConstructError.{ConstructError}
 use Rattle.dash_shard.specs.declared.error.ConstructError.TheVariants.{ShardAmount, Memory, Callers}
 use Rattle.dash_history.specs.Alone.{IsCallers}
-use Rattle.dash_shard.specs.Steps.{step_shard}
+use Rattle.dash_shard.specs.inner.Steps.{step_shard}
 use Rattle.dash_history.specs.Steps.{step_of}
 use Rattle.dash_history.specs.History.{shard_of}
 use Rattle.dash_history.specs.Takes.{rules}

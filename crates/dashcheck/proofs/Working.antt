@@ -1,6 +1,6 @@
 -- What threads do on their map.
 use Rattle.std.proofs.Common.{◌≡◌, true, Bool, ℕ, zero, suc, ◌+◌, ◌*◌, ◌^◌, ◌<◌, ◌≤◌, List, [], ◌∷◌, ◌++◌, length, map, take, drop, get_or, None, refl, sym, ap, subst, ◌∙◌, inl, inr, arith, add-one}
-use Rattle.std.specs.Prelude.{nat_eq, IsTrue, IfNone, All, sum_by}
+use Rattle.std.specs.Prelude.{nat_eq, IsTrue, IfNone, IfOk, Result, Ok, Err, All, sum_by}
 use Rattle.std.proofs.lemmas.Bool.{eqb-true, and_parts, cases_lt}
 use Rattle.std.proofs.lemmas.List.{map-append, get_or_append_left, get_or_push, length_push, length-map, get_or-map, drop_all, take_all, append-nil}
 use Rattle.std.proofs.lemmas.List.Sums.{sum_by-cons}
@@ -14,13 +14,14 @@ use Rattle.dash_history.specs.Map.{Logged}
 use Rattle.dash_history.specs.Steps.{alike_step}
 use Rattle.dash_history.specs.Takes.{Known, rules}
 use Rattle.dash_history.specs.inner.Kinds.{kinds}
+use Rattle.dash_history.proofs.Telling.{tells-of}
 use Rattle.dash_history.specs.declared.step.ShardStep.{ShardStep}
 use Rattle.dash_history.specs.declared.step.ShardStep.TheVariants.{Get, Contains, Insert, Remove, RemoveIf, RemoveIfMut, Alter, Read, Count, AlterAll, Retain}
 use Rattle.dash_history.specs.declared.step.Reply.{Reply}
 use Rattle.dashcheck.specs.declared.threads.Worker.{Worker}
 use Rattle.dashcheck.specs.Replay.{IsThreadStep}
-use Rattle.dashcheck.specs.Threads.{IsSize, HasDone, AreDone, Gathered, IsLegal, IsIllegal, steps_in, thread_step, thread_steps}
-use Rattle.dashcheck.specs.inner.Threads.{LogsStep, IsIdle, Works, AllDone, IsJudged, idle}
+use Rattle.dashcheck.specs.Threads.{IsSize, HasDone, AreDone, IsJudged, thread_step}
+use Rattle.dashcheck.specs.inner.Threads.{LogsStep, IsIdle, Works, AllDone, HasTaken, IsJudgedBy, idle, steps_in, thread_steps}
 
 -- steps of threads: they carry no action
 abbrev idle_acts : Unit {0} → ℕ → ℕ → ℕ × Bool
@@ -52,14 +53,20 @@ not-outside route n step known below outside = absurd known
 pub logged : (w : Keys ℕ) (l l' : LogState ℕ ℕ (Unit {0})) (step : ShardStep ℕ ℕ (Unit {0})) (reply : Reply ℕ ℕ) → IsThreadStep step → Logged (kinds (λ _ _. true) idle_acts (rules nat_eq nat_eq w)) l l' step reply → LogsStep l l' step
 logged w l l' step reply known h = record {
   caller = h.caller;
-  steps = ap (map (λ r. r.step)) h.entries ∙ map-append (λ r. r.step) l.entries (h.entry ∷ []) ∙ ap (λ s. map (λ r. r.step) l.entries ++ s ∷ []) (same-step step h.entry.step known h.tells.stepped);
+  steps = ap (map (λ r. r.step)) h.entries ∙ map-append (λ r. r.step) l.entries (h.entry ∷ []) ∙ ap (λ s. map (λ r. r.step) l.entries ++ s ∷ []) (same-step step h.entry.step known (tells-of {K = ℕ} {V = ℕ} {A = Unit {0}} {k = nat_eq} {v = nat_eq} {f = λ _ _. true} l'.last l.caller (shard_of (kinds (λ _ _. true) idle_acts (rules nat_eq nat_eq w)) step) step reply h.entry h.tells).stepped);
 }
+
+-- the same, of a call's answer
+pub logged-ok : {E : Type 0} (w : Keys ℕ) (l l' : LogState ℕ ℕ (Unit {0})) (step : ShardStep ℕ ℕ (Unit {0})) (result : Result (Reply ℕ ℕ) E) (reply : Reply ℕ ℕ) → IsThreadStep step
+    → result ≡ Ok reply → IfOk result (λ r. Logged (kinds (λ _ _. true) idle_acts (rules nat_eq nat_eq w)) l l' step r) → LogsStep l l' step
+logged-ok w l l' step (Ok r) reply known is h = logged w l l' step r known h
+logged-ok w l l' step (Err e) reply known is h = cc
 
 -- thread j took its steps below m since the log was old
 pub record Going (old now : LogState ℕ ℕ (Unit {0})) (j m : ℕ) : Type 0 where
   pub caller : now.caller ≡ old.caller
   pub thread : j ≡ old.caller
-  pub done : HasDone m now
+  pub done : HasTaken m now
 
 pub going-none : (l : LogState ℕ ℕ (Unit {0})) (j : ℕ) → l.entries ≡ [] → j ≡ l.caller → Going l l j 0
 going-none l j none same = record { caller = refl; thread = same; done = ap (map (λ r. r.step)) none }
@@ -78,8 +85,23 @@ length-steps : (j n : ℕ) → length (thread_steps j n) ≡ n
 length-steps j zero = refl
 length-steps j (suc n) = length_push (thread_steps j n) (thread_step j n) ∙ rw (length-steps j n) (add-one n)
 
-pub length-done : (n : ℕ) (l : LogState ℕ ℕ (Unit {0})) → HasDone n l → length l.entries ≡ n
+pub length-done : (n : ℕ) (l : LogState ℕ ℕ (Unit {0})) → HasTaken n l → length l.entries ≡ n
 length-done n l done = sym (length-map l.entries (λ r. r.step)) ∙ ap length done ∙ length-steps l.caller n
+
+-- and the step m is the one at the index m
+step-at : (j n m : ℕ) (d : ShardStep ℕ ℕ (Unit {0})) → m < n → get_or (thread_steps j n) m d ≡ thread_step j m
+step-at j zero m d inside = absurd (omega (arith, inside))
+step-at j (suc n) m d inside = elim (cases_lt m n) [
+  | inl lower ↦ get_or_append_left (thread_steps j n) _ d m (omega (arith, lower, length-steps j n)) ∙ step-at j n m d lower
+  | inr last ↦ let same : m ≡ n = omega (arith, inside, last) in get_or_push (thread_steps j n) _ d m (length-steps j n ∙ sym same) ∙ ap (thread_step j) (sym same)
+]
+
+has-done : (n : ℕ) (l : LogState ℕ ℕ (Unit {0})) → HasTaken n l → HasDone n l
+has-done n l taken = (length-done n l taken, λ m r e.
+    let within : m < length l.entries = slice_get_within l.entries m r e in
+    let here : get_or l.entries m r ≡ r = same_Some _ r (sym (slice_get-get_or l.entries m r within) ∙ e) in
+    ap (λ q. q.step) (sym here) ∙ sym (get_or-map (λ q. q.step) l.entries m r r.step within) ∙ ap (λ steps. get_or steps m r.step) taken
+        ∙ step-at l.caller n m r.step (omega (arith, within, length-done n l taken)))
 
 -- the log of caller i
 length-fresh : (c : ℕ) → length (fresh_logs {K = ℕ} {V = ℕ} {A = Unit {0}} c) ≡ c
@@ -130,7 +152,7 @@ all-done c n ws vs is long works none i d inside =
     let within : i < length ws = omega (arith, inside, long) in
     let did = works i d within in (
       did.caller ∙ ap (λ l. l.caller) (idle-at c i d ws is within),
-      subst (λ r. IfNone r (HasDone n (get_or vs i d).log)) (none i d inside) did.done,
+      subst (λ r. IfNone r (HasTaken n (get_or vs i d).log)) (none i d inside) did.done,
     )
 
 pub logs-done : (c n : ℕ) (ws : List Worker) → length ws ≡ c → AllDone n ws → AreDone c n (map (λ w. w.log) ws)
@@ -140,28 +162,21 @@ logs-done c n ws long done = record {
       let within : i < length ws = omega (arith, slice_get_within (map (λ w. w.log) ws) i l e, length-map ws (λ w. w.log)) in
       let same : (get_or ws i (idle l)).log ≡ l =
       sym (get_or-map (λ w. w.log) ws i (idle l) l within) ∙ same_Some _ l (sym (slice_get-get_or (map (λ w. w.log) ws) i l (slice_get_within (map (λ w. w.log) ws) i l e)) ∙ e) in
-      subst (λ x. (x.caller ≡ i) × HasDone n x) same (done i (idle l) within);
+      let did = subst (λ x. (x.caller ≡ i) × HasTaken n x) same (done i (idle l) within) in
+      (did.0, has-done n l did.1);
 }
 
 -- what was said of the history
-module _ {w : Known ℕ ℕ (Unit {0}) PlaceState} (c n amount : ℕ) (ws : List Worker) (legal : Bool) (long : length ws ≡ c) (done : AllDone n ws) (four : amount ≡ 4) (judged : IsJudged w amount (map (λ w. w.log) ws) legal) where
-  gathered : Gathered w c n
-  gathered = record {
-    logs = map (λ w. w.log) ws;
-    state = judged.state;
-    ats = judged.ats;
-    done = logs-done c n ws long done;
-    amount = judged.amount ∙ four;
-    gathered = judged.gathered;
-  }
-
-  pub judged-legal : IsTrue legal → IsLegal w c n
-  unfolding gathered
-  judged-legal said = (gathered, judged.exact.0 said)
-
-  pub judged-illegal : (IsTrue legal → ⊥) → IsIllegal w c n
-  unfolding gathered
-  judged-illegal unsaid = (gathered, λ replays. unsaid (judged.exact.1 replays))
+pub judged : {w : Known ℕ ℕ (Unit {0}) PlaceState} (c n amount : ℕ) (ws : List Worker) (legal : Bool) → length ws ≡ c → AllDone n ws → amount ≡ 4 → IsJudgedBy w amount (map (λ w. w.log) ws) legal → IsJudged w c n legal
+judged c n amount ws legal long done four by = record {
+  logs = map (λ w. w.log) ws;
+  state = by.state;
+  ats = by.ats;
+  done = logs-done c n ws long done;
+  amount = by.amount ∙ four;
+  gathered = by.gathered;
+  exact = by.exact;
+}
 
 -- how many entries they logged
 pub total : (c n : ℕ) (ws : List Worker) → length ws ≡ c → AllDone n ws → sum_by (λ w. length w.log.entries) ws ≡ c * n

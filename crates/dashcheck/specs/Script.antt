@@ -5,7 +5,7 @@ use Rattle.std.specs.Fmt.{decimal}
 use Rattle.std.specs.List.Sorted.{IsPermutation, IsNonDecreasingBy}
 use Rattle.std.specs.Io.KnownBytes.{Appends}
 use Rattle.dash_shard.specs.Contents.{keys}
-use Rattle.dash_shard.specs.Steps.{step_shard}
+use Rattle.dash_shard.specs.Steps.{line, line_shard}
 use Rattle.dash_history.specs.Steps.{step_of, reply_of}
 use Rattle.dash_history.specs.Takes.{Answers, rules}
 use Rattle.dash_history.specs.declared.step.ShardStep.{ShardStep}
@@ -90,7 +90,7 @@ IsNext input step = (written step).fits × (rest : List ℕ) × StartsWithLines 
 -- A fault of the step on a map of four shards: that its shard is missing, exactly where it names one that isn't there. A step on a key names
 -- none.
 abbrev pub IsFaultOf : ScriptStep → RecordFault → Type 0
-IsFaultOf step why = (why ≡ fault.NoSuchShard) ↔ (4 ≤ step_shard (keys nat_eq (λ _. 0) 4) (step_of acts step))
+IsFaultOf step why = (why ≡ fault.NoSuchShard) ↔ (4 ≤ line_shard (keys nat_eq (λ _. 0) 4) (line (step_of acts step)))
 
 -- what is said of a refused step, and of a stop
 abbrev pub fault_text : RecordFault → List ℕ

@@ -1,5 +1,5 @@
 -- `dashcheck threads`: its words, the steps of its threads, and what it prints.
-use Rattle.std.specs.Prelude.{◌≡◌, ℕ, zero, suc, ◌+◌, ◌*◌, ◌%◌, ◌<◌, ◌≤◌, ◌==◌, ◌++◌, List, [], ◌∷◌, Option, Some, codes, length, map, slice_get, if◌then◌else◌}
+use Rattle.std.specs.Prelude.{◌≡◌, ◌↔◌, ℕ, Bool, IsTrue, ◌+◌, ◌*◌, ◌%◌, ◌<◌, ◌≤◌, ◌==◌, ◌++◌, List, [], ◌∷◌, Option, Some, codes, length, slice_get, if◌then◌else◌}
 use Rattle.std.specs.Fmt.{decimal}
 use Rattle.std.specs.Io.KnownBytes.{Appends}
 use Rattle.dash_shard.specs.declared.hash.PlaceState.{PlaceState}
@@ -8,6 +8,7 @@ use Rattle.dash_history.specs.History.{LogState}
 use Rattle.dash_history.specs.OneHistory.{IsGathered, along, histories, contents}
 use Rattle.dash_history.specs.Takes.{Known}
 use Rattle.dash_history.specs.declared.gather.At.{At}
+use Rattle.dash_history.specs.declared.step.Record.{Record}
 use Rattle.dash_history.specs.declared.step.ShardStep.{ShardStep}
 use Rattle.dash_history.specs.declared.step.ShardStep.TheVariants.{Get, Insert, Remove}
 use Rattle.dashcheck.specs.Replay.{IsReplay}
@@ -28,54 +29,29 @@ IsThreads words c n = (words ≡ codes "threads" ∷ decimal c ∷ decimal n ∷
 abbrev pub thread_step : ℕ → ℕ → ShardStep ℕ ℕ (Unit {0})
 thread_step j m = if m % 3 == 0 then Insert ((j + m) % 16) (j * 1000000 + m) else if m % 3 == 1 then Get ((j + m) % 16) else Remove ((j + m) % 16)
 
--- the steps 0 to n - 1 of thread j
-abbrev pub thread_steps : ℕ → ℕ → List (ShardStep ℕ ℕ (Unit {0}))
-thread_steps j zero = []
-thread_steps j (suc n) = thread_steps j n ++ thread_step j n ∷ []
-
--- the steps of a log
-abbrev pub steps_in : LogState ℕ ℕ (Unit {0}) → List (ShardStep ℕ ℕ (Unit {0}))
-steps_in log = map (λ r. r.step) log.entries
-
 -- the thread that the log is of has done its first n steps, and nothing else
 abbrev pub HasDone : ℕ → LogState ℕ ℕ (Unit {0}) → Type 0
-HasDone n log = steps_in log ≡ thread_steps log.caller n
+HasDone n log = (length log.entries ≡ n) × ((m : ℕ) (r : Record ℕ ℕ (Unit {0})) → slice_get log.entries m ≡ Some r → r.step ≡ thread_step log.caller m)
 
 -- the logs of c threads in their order, each of which has done its first n steps, and nothing else
 pub record AreDone (c n : ℕ) (logs : List (LogState ℕ ℕ (Unit {0}))) : Type 0 where
   pub many : length logs ≡ c
   pub each : (i : ℕ) (l : LogState ℕ ℕ (Unit {0})) → slice_get logs i ≡ Some l → (l.caller ≡ i) × HasDone n l
 
--- a history was gathered of a map of four shards, on which c threads took n steps each
-pub record Gathered (w : Known ℕ ℕ (Unit {0}) PlaceState) (c n : ℕ) : Type 0 where
+-- LEGAL OR NOT: a history was gathered of a map of four shards, on which c threads took n steps each; and it is said to be legal exactly
+-- where along it each reply is that of a plain map, which then has just the pairs of the map
+pub record IsJudged (w : Known ℕ ℕ (Unit {0}) PlaceState) (c n : ℕ) (legal : Bool) : Type 0 where
   pub logs : List (LogState ℕ ℕ (Unit {0}))
   pub state : AloneState ℕ ℕ (Unit {0}) PlaceState
   pub ats : List At
   pub done : AreDone c n logs
   pub amount : length state.row ≡ 4
   pub gathered : IsGathered w state logs ats
+  pub exact : IsTrue legal ↔ IsReplay [] (along (histories state) ats) (contents state)
 
--- along these places each reply is that of a plain map, which then has just the pairs of the map
-abbrev pub Replays : AloneState ℕ ℕ (Unit {0}) PlaceState → List At → Type 0
-Replays state ats = IsReplay [] (along (histories state) ats) (contents state)
-
--- LEGAL: a history was gathered that a replay on a plain map gives; and the other case
-abbrev pub IsLegal : Known ℕ ℕ (Unit {0}) PlaceState → ℕ → ℕ → Type 0
-IsLegal w c n = (g : Gathered w c n) × Replays g.state g.ats
-
-abbrev pub IsIllegal : Known ℕ ℕ (Unit {0}) PlaceState → ℕ → ℕ → Type 0
-IsIllegal w c n = (g : Gathered w c n) × (Replays g.state g.ats → ⊥)
-
--- what is printed of so many entries
-abbrev pub entries_line : ℕ → List ℕ
-entries_line n = codes "entries " ++ decimal n ++ 10 ∷ []
-
--- what is printed where the history of so many entries is legal, and where it isn't
-abbrev pub legal_lines : ℕ → List ℕ
-legal_lines n = entries_line n ++ codes "legal" ++ 10 ∷ []
-
-abbrev pub illegal_lines : ℕ → List ℕ
-illegal_lines n = entries_line n ++ codes "not legal" ++ 10 ∷ []
+-- what is printed of so many entries, and of a history that is legal or isn't
+abbrev pub verdict_lines : ℕ → Bool → List ℕ
+verdict_lines n legal = codes "entries " ++ decimal n ++ 10 ∷ (if legal then codes "legal" else codes "not legal") ++ 10 ∷ []
 
 -- what is said of a refusal
 abbrev pub refusal_text : Refusal → List ℕ

@@ -1,10 +1,10 @@
 //! The command line.
-ghost use Rattle.std.specs.Prelude.{◌≡◌, ◌↔◌, ℕ, ◌*◌, ◌++◌, ◌∷◌, [], ◌⊎◌, IsTrue, IfSome, IfNone, IfOk, OnOk, OnErr, map, string_bytes};
+ghost use Rattle.std.specs.Prelude.{◌≡◌, ◌↔◌, ℕ, ◌*◌, ◌++◌, ◌∷◌, [], ◌⊎◌, IsTrue, IfSome, IfNone, IfOk, OnOk, OnErr, map, string_bytes, true, false};
 ghost use Rattle.std.specs.Io.KnownBytes.{Appends};
 ghost use Rattle.dashcheck.specs.Command.{IsScript, IsCommand, code_of, usage};
 ghost use Rattle.dashcheck.specs.inner.Command.{Asks};
 ghost use Rattle.dashcheck.specs.Script.{TakesAll, Refuses, stop_text};
-ghost use Rattle.dashcheck.specs.Threads.{IsThreads, IsLegal, IsIllegal, SaysRefusal, legal_lines, illegal_lines};
+ghost use Rattle.dashcheck.specs.Threads.{IsThreads, IsJudged, SaysRefusal, verdict_lines};
 
 use crate::script::{self, Stop};
 use crate::step::number;
@@ -61,13 +61,13 @@ pub fn run_words<T: Threads + Wait + Clock + Sync, R: Read, O: Write, E: Write>(
 
     // How threads end.
     ensures threads_good { (c n : ℕ) → IsThreads (map string_bytes words.now) c n → result ≡ Ok Status.Good
-        → Appends (O.contents output.old) (O.contents output.new) (legal_lines (c * n)) × (errors.new ≡ errors.old) }
+        → Appends (O.contents output.old) (O.contents output.new) (verdict_lines (c * n) true) × (errors.new ≡ errors.old) }
     ensures threads_legal { (c n : ℕ) → IsThreads (map string_bytes words.now) c n → result ≡ Ok Status.Good
-        → IsLegal ⟦<RecAlone<u64, u64, PlaceState> as Recorded>⟧.known c n }
+        → IsJudged ⟦<RecAlone<u64, u64, PlaceState> as Recorded>⟧.known c n true }
     ensures threads_refused { (c n : ℕ) → IsThreads (map string_bytes words.now) c n → result ≡ Ok Status.Refused
         → (SaysRefusal (E.contents errors.old) (E.contents errors.new) × (output.new ≡ output.old))
-        ⊎ (Appends (O.contents output.old) (O.contents output.new) (illegal_lines (c * n)) × (errors.new ≡ errors.old)
-        × IsIllegal ⟦<RecAlone<u64, u64, PlaceState> as Recorded>⟧.known c n) }
+        ⊎ (Appends (O.contents output.old) (O.contents output.new) (verdict_lines (c * n) false) × (errors.new ≡ errors.old)
+        × IsJudged ⟦<RecAlone<u64, u64, PlaceState> as Recorded>⟧.known c n false) }
     ensures threads_input { (c n : ℕ) → IsThreads (map string_bytes words.now) c n → input.new ≡ input.old }
 {
     match asked(words) {

@@ -1,11 +1,11 @@
 //! `dashcheck threads`: threads that take steps on one recorded map, the count of what they logged, and whether the history that is
 //! gathered of it is legal.
-ghost use Rattle.std.specs.Prelude.{◌≡◌, ◌≢◌, ℕ, ◌+◌, ◌*◌, ◌%◌, ◌^◌, ◌<◌, ◌≤◌, ◌⊎◌, ◌↔◌, ◌∷◌, ◌++◌, [], All, Some, IsSomeAnd, IfOk, IfErr, IfSome, IfNone, OnOk, OnErr, IsTrue, length, map, sum_by, slice_get, slice_index_or, vec_len, if◌then◌else◌};
+ghost use Rattle.std.specs.Prelude.{◌≡◌, ◌≢◌, ℕ, ◌+◌, ◌*◌, ◌%◌, ◌^◌, ◌<◌, ◌≤◌, ◌⊎◌, ◌↔◌, ◌∷◌, ◌++◌, [], All, Some, IsSomeAnd, IfOk, IfErr, IfSome, IfNone, OnOk, OnErr, IsTrue, length, map, sum_by, slice_get, slice_index_or, vec_len, if◌then◌else◌, true, false};
 ghost use Rattle.std.specs.Io.KnownBytes.{Appends};
 ghost use Rattle.dash_history.specs.Alone.{fresh_logs};
 ghost use Rattle.dashcheck.specs.Replay.{IsThreadStep};
-ghost use Rattle.dashcheck.specs.Threads.{IsSize, IsLegal, IsIllegal, HasDone, thread_step, refusal_text, SaysRefusal, legal_lines, illegal_lines};
-ghost use Rattle.dashcheck.specs.inner.Threads.{LogsStep, IsIdle, Works, AllDone, idle, IsJudged};
+ghost use Rattle.dashcheck.specs.Threads.{IsSize, IsJudged, thread_step, refusal_text, SaysRefusal, verdict_lines};
+ghost use Rattle.dashcheck.specs.inner.Threads.{LogsStep, IsIdle, Works, AllDone, HasTaken, idle, IsJudgedBy};
 
 mod replay;
 
@@ -94,12 +94,12 @@ pub fn run<T: Threads + Wait + Clock + Sync, O: Write, E: Write>(
     requires { IsSize callers steps }
     ensures status { IfOk result (λ status. status ≢ Status.BadCommandLine) }
     ensures good { result ≡ Ok Status.Good
-        → Appends (O.contents output.old) (O.contents output.new) (legal_lines (callers * steps)) × (errors.new ≡ errors.old) }
-    ensures legal { result ≡ Ok Status.Good → IsLegal ⟦<Alone as Recorded>⟧.known callers steps }
+        → Appends (O.contents output.old) (O.contents output.new) (verdict_lines (callers * steps) true) × (errors.new ≡ errors.old) }
+    ensures legal { result ≡ Ok Status.Good → IsJudged ⟦<Alone as Recorded>⟧.known callers steps true }
     ensures refused { result ≡ Ok Status.Refused
         → (SaysRefusal (E.contents errors.old) (E.contents errors.new) × (output.new ≡ output.old))
-        ⊎ (Appends (O.contents output.old) (O.contents output.new) (illegal_lines (callers * steps)) × (errors.new ≡ errors.old)
-        × IsIllegal ⟦<Alone as Recorded>⟧.known callers steps) }
+        ⊎ (Appends (O.contents output.old) (O.contents output.new) (verdict_lines (callers * steps) false) × (errors.new ≡ errors.old)
+        × IsJudged ⟦<Alone as Recorded>⟧.known callers steps false) }
 {
     match outcome_of(rt, alloc, callers, steps) {
         Ok(outcome) => tell(outcome, output),
@@ -116,8 +116,7 @@ fn outcome_of<T: Threads + Wait + Clock + Sync>(
 ) -> Result<Outcome, Refusal>
     requires { IsSize callers steps }
     ensures entries { IfOk result (λ o. o.entries ≡ callers * steps) }
-    ensures legal { IfOk result (λ o. IsTrue o.legal → IsLegal ⟦<Alone as Recorded>⟧.known callers steps) }
-    ensures illegal { IfOk result (λ o. (IsTrue o.legal → ⊥) → IsIllegal ⟦<Alone as Recorded>⟧.known callers steps) }
+    ensures judged { IfOk result (λ o. IsJudged ⟦<Alone as Recorded>⟧.known callers steps o.legal) }
 {
     let (map, workers) = work(rt, alloc, callers, steps)?;
     let entries = entries(workers.as_slice());
@@ -128,10 +127,8 @@ fn outcome_of<T: Threads + Wait + Clock + Sync>(
 // Prints what became of the steps.
 fn tell<O: Write>(outcome: Outcome, output: &mut O) -> io::Result<Status>
     ensures status { IfOk result (λ status. status ≡ (if outcome.legal then Status.Good else Status.Refused)) }
-    ensures legal { OnOk result (IsTrue outcome.legal
-        → Appends (O.contents output.old) (O.contents output.new) (legal_lines outcome.entries)) }
-    ensures illegal { OnOk result ((IsTrue outcome.legal → ⊥)
-        → Appends (O.contents output.old) (O.contents output.new) (illegal_lines outcome.entries)) }
+    ensures said { OnOk result
+        (Appends (O.contents output.old) (O.contents output.new) (verdict_lines outcome.entries outcome.legal)) }
 {
     writeln!(output, "entries {}", outcome.entries)?;
     if !outcome.legal {
@@ -181,7 +178,7 @@ fn work<T: Threads + Wait + Clock + Sync>(
 // Whether the history that is gathered of the map with the workers' logs is legal: a replay of its steps on a plain map gets their
 // replies, and leaves the map's pairs.
 fn judge(alloc: Global, shared: Map, workers: Vec<Worker>) -> Result<bool, Refusal>
-    ensures { IfOk result (IsJudged ⟦<Alone as Recorded>⟧.known shared.amount (map (λ w. w.log) workers.items)) }
+    ensures { IfOk result (IsJudgedBy ⟦<Alone as Recorded>⟧.known shared.amount (map (λ w. w.log) workers.items)) }
 {
     let Ok(logs) = logs_of(alloc, workers) else {
         return Err(Refusal::Map);
@@ -272,7 +269,7 @@ fn take_steps<T: Wait + Clock>(rt: &T, map: &Map, log: &mut Log, steps: u64) -> 
     requires caller { log.old.caller < map.now.callers }
     requires idle { log.old.entries ≡ [] }
     ensures caller { log.new.caller ≡ log.old.caller }
-    ensures done { OnOk result (HasDone steps log.new) }
+    ensures done { OnOk result (HasTaken steps log.new) }
     ensures kinds { IfErr result (λ refusal. refusal ≢ Refusal.Map) }
 {
     let thread = u64::from(log.caller());

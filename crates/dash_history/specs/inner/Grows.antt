@@ -1,5 +1,5 @@
 -- What a step at a stamp promises of its shard, and what one through a hold promises of the log too.
-use Rattle.std.specs.Prelude.{ℕ, Result, IfOk, ◌≡◌, ◌⊎◌, ◌-◌, ◌^◌, ◌↔◌, IfErr}
+use Rattle.std.specs.Prelude.{ℕ, Result, Err, IfOk, ◌≡◌, ◌⊎◌, ◌-◌, ◌^◌, ◌↔◌, IfErr}
 use Rattle.dash_history.specs.Takes.{Known}
 use Rattle.dash_history.specs.declared.step.ShardStep.{ShardStep}
 use Rattle.dash_history.specs.declared.step.Reply.{Reply}
@@ -7,7 +7,7 @@ use Rattle.dash_history.specs.declared.step.Record.{Record}
 use Rattle.dash_history.specs.declared.record.RecordFault.{RecordFault}
 use Rattle.dash_history.specs.declared.record.RecordFault.TheVariants.{LastStamp, Memory}
 use Rattle.dash_history.specs.History.{RecState, LogState, Grown, Records}
-use Rattle.dash_history.specs.Refused.{Refuses, HandsBack, NoStamp}
+use Rattle.dash_history.specs.Refused.{HandsBack, NoStamp}
 use Rattle.dash_history.specs.inner.Kinds.{kinds_of}
 use Rattle.dash_shard.specs.Shard.{SameShard}
 
@@ -20,8 +20,8 @@ module _ {K V A S : Type 0} (w : Known K V A S) where
 pub record Promises {K V A S : Type 0} (w : Known K V A S) (s s' : RecState K V A S) (l l' : LogState K V A) (step : ShardStep K V A) (result : Result (Reply K V) (ShardStep K V A × RecordFault)) : Type 0 where
   pub ok : Records w s s' l l' step result
   pub refused : HandsBack step s s' l l' result
-  pub last_stamp : Refuses step LastStamp result ↔ NoStamp s.last l.last
-  pub log_last : l.last ≡ 2 ^ 64 - 1 → Refuses step LastStamp result
+  pub last_stamp : (result ≡ Err (step, LastStamp)) ↔ NoStamp s.last l.last
+  pub log_last : l.last ≡ 2 ^ 64 - 1 → result ≡ Err (step, LastStamp)
   pub faults : IfErr result (λ e. (e.1 ≡ LastStamp) ⊎ (e.1 ≡ Memory))
   pub stays : SameShard s.shard s'.shard
   pub callers : s'.callers ≡ s.callers

@@ -4,6 +4,7 @@ use Rattle.dash_shard.specs.Contents.{keys}
 use Rattle.dash_shard.specs.Hashing.{KeyHash, route_by}
 use Rattle.dash_shard.specs.Shard.{ShardState}
 use Rattle.dash_shard.specs.Steps as table
+use Rattle.dash_shard.specs.inner.Steps.{step_shard}
 use Rattle.dash_history.specs.Steps.{step_of}
 use Rattle.dash_history.specs.Takes.{Known}
 use Rattle.dash_history.specs.declared.step.ShardStep.{ShardStep}
@@ -24,7 +25,7 @@ Asks _ = ⊥
 module _ {K V A S : Type 0} (acts : A → table.Act K V) (h : KeyHash K S) (hasher : S) where
   -- the number of the step's shard among n, by a hasher
   abbrev pub shard_by : ℕ → ShardStep K V A → ℕ
-  shard_by n step = table.step_shard (keys h.eq (route_by h hasher n) n) (step_of acts step)
+  shard_by n step = step_shard (keys h.eq (route_by h hasher n) n) (step_of acts step)
 
   -- the number is the hash of the step's key by a hasher, if it has a key
   abbrev pub IsHashBy : ShardStep K V A → ℕ → Type 0

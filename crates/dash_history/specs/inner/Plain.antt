@@ -3,8 +3,8 @@ use Rattle.std.specs.Prelude.{◌≡◌, ◌<◌, ◌≤◌, ◌⊎◌, ◌-◌,
 use Rattle.dash_shard.specs.Contents.{Keys, keys, at, on, Distinct}
 use Rattle.dash_shard.specs.Hashing.{KeyHash, IsAmount, route_by}
 use Rattle.dash_shard.specs.Steps as table
-use Rattle.dash_shard.specs.Steps.{Act, Replies, after}
-use Rattle.dash_shard.specs.inner.Steps.{Becomes}
+use Rattle.dash_shard.specs.Steps.{Act}
+use Rattle.dash_shard.specs.inner.Steps.{Becomes, Replies, after}
 use Rattle.dash_history.specs.Alike.{alike_reply}
 use Rattle.dash_history.specs.Steps.{reply_of}
 use Rattle.dash_history.specs.inner.Sweep.{keeping}

@@ -6,8 +6,8 @@ use denote.Ref.{Bor}
 use Rattle.dash_shard.specs.Contents.{at}
 use Rattle.dash_shard.specs.Steps as table
 use Rattle.dash_shard.specs.inner.Steps as parts
-use Rattle.dash_shard.specs.Steps.{Line, at_key, on_shard, line, after}
-use Rattle.dash_shard.specs.inner.Steps.{key_or}
+use Rattle.dash_shard.specs.Steps.{Line, at_key, on_shard, line}
+use Rattle.dash_shard.specs.inner.Steps.{key_or, after}
 use Rattle.dash_shard.specs.Hashing.{KeyHash}
 use Rattle.dash_shard.specs.Shard.{ShardState, pairs, IsShard, slot}
 use Rattle.dash_shard.specs.inner.Keys.{keys_of}

@@ -6,7 +6,7 @@ ghost use Rattle.dash_history.specs.History.{IsRecorded, GoesTo, Records};
 ghost use Rattle.dash_history.specs.inner.Hashed.{HasHash};
 ghost use Rattle.dash_history.specs.Held.{FitsTag};
 ghost use Rattle.dash_history.specs.inner.Grows.{Promises};
-ghost use Rattle.dash_history.specs.Refused.{Refuses, HandsBack, NoStamp};
+ghost use Rattle.dash_history.specs.Refused.{HandsBack, NoStamp};
 ghost use Rattle.dash_history.specs.Takes.{known};
 ghost use Rattle.dash_history.specs.declared.record.RecordFault.TheVariants.{LastStamp, Memory};
 
@@ -146,8 +146,8 @@ impl<K: KeptKey + Drop, V: Kept + Drop, S: BuildHasher, A: KeptAction<K, V> + Dr
         requires caller { log.old.caller < self.old.callers }
         ensures ok { Records ⟦<Self as Recorded>⟧.known self.old self.new log.old log.new step result }
         ensures refused { HandsBack step self.old self.new log.old log.new result }
-        ensures last_stamp { Refuses step LastStamp result ↔ NoStamp self.old.last log.old.last }
-        ensures log_last { log.old.last ≡ 2 ^ 64 - 1 → Refuses step LastStamp result }
+        ensures last_stamp { (result ≡ Err (step, LastStamp)) ↔ NoStamp self.old.last log.old.last }
+        ensures log_last { log.old.last ≡ 2 ^ 64 - 1 → result ≡ Err (step, LastStamp) }
         ensures faults { IfErr result (λ e. (e.1 ≡ LastStamp) ⊎ (e.1 ≡ Memory)) }
     {
         let hash = self.guard.hash_of(&step);

@@ -1,11 +1,12 @@
 //! A recorded map that threads share, and its two moves: shards out of their locks, and behind them again.
-ghost use Rattle.std.specs.Prelude.{◌≡◌, ◌<◌, ◌↔◌, IsErrOf, IfOk, IfErr, IfSome, IsSomeAnd, length, slice_get};
+ghost use Rattle.std.specs.Prelude.{◌∷◌, [], ◌≡◌, ◌<◌, ◌↔◌, IsErrOf, IfOk, IfErr, IfSome, IsSomeAnd, length, slice_get};
 ghost use Rattle.crossbeam_utils.specs.Padded.{padded_value};
+ghost use Rattle.dash_shard.specs.Errors.{IsOneOf};
 ghost use Rattle.dash_shard.specs.Hashing.{by, IsAmount, HashAlike};
-ghost use Rattle.dash_history.specs.Alone.{BadCallers, IsMapError, IsCallers, IsLastOf, IsTagged, fresh_logs};
+ghost use Rattle.dash_history.specs.Alone.{IsCallers, IsTagged, fresh_logs, last_at};
 ghost use Rattle.dash_history.specs.Held.{FitsTag};
 ghost use Rattle.dash_history.specs.History.{IsRecorded, last_or, shard_of};
-ghost use Rattle.dash_history.specs.Map.{map_of, IsBehind, IsShardOf, SawShards, kinds_on};
+ghost use Rattle.dash_history.specs.Map.{IsBehind, IsShardOf, SawShards, kinds_on};
 ghost use Rattle.dash_history.specs.OneHistory.{CopiesEntry, CopiesPairs};
 ghost use Rattle.dash_history.specs.inner.Locks.{IsAt};
 ghost use Rattle.dash_history.specs.inner.Hashed.{IsHashBy};
@@ -87,13 +88,13 @@ impl<K: KeptKey + Drop, V: Kept + Drop, S: BuildHasher, A: KeptAction<K, V> + Dr
     where
         S: Clone,
         requires { (s t : S) → S.is_clone s t → HashAlike ⟦<Self as Recorded>⟧.known.keys s t }
-        ensures made { IfOk result (λ m. m.0 ≡ map_of hasher callers amount) }
+        ensures made { IfOk result (λ m. m.0 ≡ record { hasher = hasher; callers = callers; amount = amount }) }
         ensures logs { IfOk result (λ m. m.1.items ≡ fresh_logs callers) }
 
         // In the order of the refusals' numbers.
         ensures bad_amount { IsErrOf result ConstructError.ShardAmount ↔ (IsAmount amount → ⊥) }
-        ensures bad_callers { IsErrOf result ConstructError.Callers ↔ BadCallers amount callers }
-        ensures kinds { IfErr result IsMapError }
+        ensures bad_callers { IsErrOf result ConstructError.Callers ↔ IsAmount amount × (IsCallers callers → ⊥) }
+        ensures kinds { IfErr result (IsOneOf (ConstructError.ShardAmount ∷ ConstructError.Callers ∷ ConstructError.Memory ∷ [])) }
     {
         let (alone, logs) = RecAlone::new(alloc, hasher, amount, callers)?;
         Ok((alone.end(), logs))
@@ -188,7 +189,7 @@ impl<K: KeptKey + Drop, V: Kept + Drop, S: BuildHasher, A: KeptAction<K, V> + Dr
     /// The stamp of the last step of a shard, 0 for none. It waits as `entry_at` does.
     pub fn last_of(&mut self, shard: usize) -> u64
         requires { shard < self.old.amount }
-        ensures last { SawShards ⟦<Self as Recorded>⟧.known self.old (λ a. IsLastOf a shard result) }
+        ensures last { SawShards ⟦<Self as Recorded>⟧.known self.old (λ a. result ≡ last_at a shard) }
         ensures same { self.new ≡ self.old }
     {
         replace_with(self, shard, Self::last_alone)
@@ -218,7 +219,7 @@ impl<K: KeptKey + Drop, V: Kept + Drop, S: BuildHasher, A: KeptAction<K, V> + Dr
     // The stamp, and the map after it.
     fn last_alone(self, shard: usize) -> (Self, u64)
         requires { shard < self.amount }
-        ensures last { SawShards ⟦<Self as Recorded>⟧.known self (λ a. IsLastOf a shard result.1) }
+        ensures last { SawShards ⟦<Self as Recorded>⟧.known self (λ a. result.1 ≡ last_at a shard) }
         ensures same { result.0 ≡ self }
     {
         let alone = self.alone();
@@ -246,7 +247,7 @@ impl<K: KeptKey + Drop, V: Kept + Drop, S: BuildHasher, A: KeptAction<K, V> + Dr
 > {
     /// The map behind its locks again. It takes no memory.
     pub fn end(self) -> RecordedMap<K, V, S, A>
-        ensures { result ≡ map_of self.hasher self.callers (length self.row) }
+        ensures { result ≡ record { hasher = self.hasher; callers = self.callers; amount = length self.row } }
     {
         let RecAlone {
             hasher,
@@ -257,7 +258,7 @@ impl<K: KeptKey + Drop, V: Kept + Drop, S: BuildHasher, A: KeptAction<K, V> + Dr
         let row = row.turn(
             |number: usize, shard: RecShard<K, V, S, A>| -> Locked<K, V, S, A>
                 requires { IsTagged (by K.Hash S.BuildHasher S.Hasher.Hasher) hasher amount callers number shard }
-                ensures { IsAt (map_of hasher callers amount) number result }
+                ensures { IsAt (record { hasher = hasher; callers = callers; amount = amount }) number result }
             {
                 let tag = RecTag {
                     number,

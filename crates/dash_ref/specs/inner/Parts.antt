@@ -3,10 +3,17 @@ use Rattle.std.specs.Prelude.{◌≡◌, Option, Some, None, IsSome, option_and_
 use Rattle.std.specs.Option.{option_map_or}
 use Rattle.std.proofs.Common.{ap, ◌∙◌, subst, sym}
 use Rattle.std.proofs.lemmas.Bool.{false≢true}
-use Rattle.dash_ref.specs.Part.{IsPart, inner_part, inner_with}
+use Rattle.dash_ref.specs.Part.{IsPart}
 
 module _ {V M T : Type 0} (p : V → Option M) (w : V → M → V) (q : M → Option T) (x : M → T → M) where
-  pub inner_is_part : IsPart p w → IsPart q x → IsPart (inner_part p w q x) (inner_with p w q x)
+  -- the part q of a part p, and the value with a new one
+  abbrev pub inner_part : V → Option T
+  inner_part v = option_and_then q (p v)
+
+  abbrev pub inner_with : V → T → V
+  inner_with v t = option_map_or (λ m. w v (x m t)) (p v) v
+
+  pub inner_is_part : IsPart p w → IsPart q x → IsPart inner_part inner_with
   inner_is_part a b = record { put = λ v t s. put v t (p v) refl s; own = λ v t s. own v t (p v) refl s; last = λ v t u s. last v t u (p v) refl s }
     where
       there : (v : V) (m : M) (t : T) → p v ≡ Some m → p (w v (x m t)) ≡ Some (x m t)
@@ -20,7 +27,7 @@ module _ {V M T : Type 0} (p : V → Option M) (w : V → M → V) (q : M → Op
       own v t None e s = refl
       own v t (Some m) e s = ap (w v) (b.own m t s) ∙ a.own v m e
 
-      last : (v : V) (t u : T) (o : Option M) → p v ≡ o → IsSome (option_and_then q o) → inner_with p w q x (option_map_or (λ m. w v (x m t)) o v) u ≡ option_map_or (λ m. w v (x m u)) o v
+      last : (v : V) (t u : T) (o : Option M) → p v ≡ o → IsSome (option_and_then q o) → inner_with (option_map_or (λ m. w v (x m t)) o v) u ≡ option_map_or (λ m. w v (x m u)) o v
       last v t u None e s = absurd (false≢true s)
       last v t u (Some m) e s =
           ap (λ o. option_map_or (λ n. w (w v (x m t)) (x n u)) o (w v (x m t))) (there v m t e) ∙ (a.last v (x m t) (x (x m t) u) (subst IsSome (sym e) refl) ∙ ap (w v) (b.last m t u s))

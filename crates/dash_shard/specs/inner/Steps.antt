@@ -1,8 +1,21 @@
 -- Parts of what a step does and replies.
-use Rattle.std.specs.Prelude.{◌≡◌, List, Option, option_map}
+use Rattle.std.specs.Prelude.{ℕ, ◌≡◌, List, Option, option_map}
 use Rattle.std.specs.Option.{option_map_or}
 use Rattle.dash_shard.specs.Contents.{Keys, at}
-use Rattle.dash_shard.specs.Steps.{Step, after}
+use Rattle.dash_shard.specs.Steps.{Step, Reply, line, line_shard, line_after, LineReplies}
+
+module _ {K V : Type 0} (w : Keys K) where
+  -- the shard of a step
+  abbrev pub step_shard : Step K V → ℕ
+  step_shard step = line_shard w (line step)
+
+  -- what stands at the key j after a step, from what stood there
+  abbrev pub after : Step K V → K → Option (K × V) → Option (K × V)
+  after step j o = line_after w (line step) j o
+
+  -- a step at the contents ps may get this reply
+  abbrev pub Replies : Step K V → List (K × V) → Reply K V → Type 0
+  Replies step ps r = LineReplies w (line step) ps r
 
 -- the value of a pair, if there is one
 abbrev pub value : {K V : Type 0} → Option (K × V) → Option V

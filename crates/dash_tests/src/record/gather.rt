@@ -3,7 +3,7 @@ use super::map::{Alone, Log, Map, apply, last_of, record_steps};
 use crate::places::{is, is_at};
 use crate::run::Uncopied;
 use dash_history::alone::RecAlone;
-use dash_history::gather::{At, GatherError};
+use dash_history::gather::{At, GatherError, gather};
 use dash_history::record::RecordFault;
 use dash_history::step::ShardStep;
 use dash_shard::hash::PlaceState;
@@ -91,6 +91,26 @@ fn records_stand_at_their_places(rt: HostRuntime) -> Result<(), Fail> {
     is(&rt, alone.last_of(0), 2);
     is(&rt, alone.last_of(1), 1);
     is(&rt, alone.last_of(3), 0);
+    Ok(())
+}
+
+#[test]
+fn a_map_behind_locks_is_one_history(rt: HostRuntime) -> Result<(), Fail> {
+    let (alone, first, second) = three_stamps(&rt, rt.alloc())?;
+    let mut map = alone.end();
+    let gathered = gather(&mut map, &[first, second])?;
+    is(&rt, gathered.as_slice(), &three_places());
+    assert!(rt; 3 < map.shard_count());
+    let record = map.entry_at(0, 1)?.ok_or("no record")?;
+    is(&rt, record.stamp, 2);
+    is(&rt, record.caller, 0);
+    assert!(rt; matches!(record.step, ShardStep::Insert(0, 20)));
+    assert!(rt; map.entry_at(0, 2)?.is_none());
+    is(&rt, map.last_of(0), 2);
+    is(&rt, map.last_of(3), 0);
+    let mut pairs = map.pairs()?;
+    pairs.sort_unstable();
+    is(&rt, pairs.as_slice(), &[(0, 20), (1, 10), (4, 30)]);
     Ok(())
 }
 

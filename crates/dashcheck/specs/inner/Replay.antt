@@ -1,7 +1,7 @@
 -- One step of a replay.
 use Rattle.std.specs.Prelude.{ℕ, ◌≡◌, List, nat_eq}
 use Rattle.dash_shard.specs.Contents.{at}
-use Rattle.dash_shard.specs.Steps.{after, Replies}
+use Rattle.dash_shard.specs.inner.Steps.{Replies, after}
 use Rattle.dash_history.specs.Steps.{reply_of}
 use Rattle.dash_history.specs.declared.step.Record.{Record}
 use Rattle.dashcheck.specs.Replay.{IsThreadStep, plain, bare}

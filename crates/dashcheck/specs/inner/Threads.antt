@@ -1,14 +1,28 @@
 -- The steps of a thread, and what it has done.
-use Rattle.std.specs.Prelude.{◌≡◌, ◌↔◌, IsTrue, Bool, ℕ, ◌<◌, ◌++◌, List, [], ◌∷◌, None, IfNone, length, slice_index_or}
+use Rattle.std.specs.Prelude.{◌≡◌, ◌↔◌, IsTrue, Bool, ℕ, zero, suc, ◌<◌, ◌++◌, List, [], ◌∷◌, None, IfNone, length, map, slice_index_or}
 use Rattle.dash_shard.specs.declared.hash.PlaceState.{PlaceState}
 use Rattle.dash_history.specs.Alone.{AloneState}
 use Rattle.dash_history.specs.History.{LogState}
-use Rattle.dash_history.specs.OneHistory.{IsGathered}
+use Rattle.dash_history.specs.OneHistory.{IsGathered, along, histories, contents}
 use Rattle.dash_history.specs.Takes.{Known}
 use Rattle.dash_history.specs.declared.gather.At.{At}
 use Rattle.dash_history.specs.declared.step.ShardStep.{ShardStep}
-use Rattle.dashcheck.specs.Threads.{HasDone, Replays, steps_in}
+use Rattle.dashcheck.specs.Replay.{IsReplay}
+use Rattle.dashcheck.specs.Threads.{thread_step}
 use Rattle.dashcheck.specs.declared.threads.Worker.{Worker}
+
+-- the steps 0 to n - 1 of thread j
+abbrev pub thread_steps : ℕ → ℕ → List (ShardStep ℕ ℕ (Unit {0}))
+thread_steps j zero = []
+thread_steps j (suc n) = thread_steps j n ++ thread_step j n ∷ []
+
+-- the steps of a log
+abbrev pub steps_in : LogState ℕ ℕ (Unit {0}) → List (ShardStep ℕ ℕ (Unit {0}))
+steps_in log = map (λ r. r.step) log.entries
+
+-- the steps of the log are its thread's first n steps
+abbrev pub HasTaken : ℕ → LogState ℕ ℕ (Unit {0}) → Type 0
+HasTaken n log = steps_in log ≡ thread_steps log.caller n
 
 -- the log of the same caller is longer by the step
 pub record LogsStep (old new : LogState ℕ ℕ (Unit {0})) (step : ShardStep ℕ ℕ (Unit {0})) : Type 0 where
@@ -27,16 +41,16 @@ pub record IsIdle (c : ℕ) (worker : Worker) : Type 0 where
 -- the worker took the first n steps of its thread, or was refused one
 pub record Works (n : ℕ) (old new : Worker) : Type 0 where
   pub caller : new.log.caller ≡ old.log.caller
-  pub done : IfNone new.refused (HasDone n new.log)
+  pub done : IfNone new.refused (HasTaken n new.log)
 
 -- the worker at each place i is the thread i, and has done its first n steps
 abbrev pub AllDone : ℕ → List Worker → Type 0
-AllDone n workers = (i : ℕ) (d : Worker) → i < length workers → ((slice_index_or workers i d).log.caller ≡ i) × HasDone n (slice_index_or workers i d).log
+AllDone n workers = (i : ℕ) (d : Worker) → i < length workers → ((slice_index_or workers i d).log.caller ≡ i) × HasTaken n (slice_index_or workers i d).log
 
 -- a history was gathered of a map of so many shards with these logs, and it is said to be legal exactly where it is
-pub record IsJudged (w : Known ℕ ℕ (Unit {0}) PlaceState) (shards : ℕ) (logs : List (LogState ℕ ℕ (Unit {0}))) (legal : Bool) : Type 0 where
+pub record IsJudgedBy (w : Known ℕ ℕ (Unit {0}) PlaceState) (shards : ℕ) (logs : List (LogState ℕ ℕ (Unit {0}))) (legal : Bool) : Type 0 where
   pub state : AloneState ℕ ℕ (Unit {0}) PlaceState
   pub ats : List At
   pub amount : length state.row ≡ shards
   pub gathered : IsGathered w state logs ats
-  pub exact : IsTrue legal ↔ Replays state ats
+  pub exact : IsTrue legal ↔ IsReplay [] (along (histories state) ats) (contents state)

@@ -1,5 +1,6 @@
 use Rattle.std.proofs.Common.{◌≡◌, ◌∙◌, sym, subst, arith, Some, slice_get, List, ℕ, length}
-use Rattle.dash_shard.specs.Hashing.{HashAlike, key_hash}
+use Rattle.dash_shard.specs.Hashing.{HashAlike}
+use Rattle.dash_shard.specs.Hashing.{key_hash}
 use Rattle.dash_history.specs.History.{RecState}
 use Rattle.dash_history.specs.Alone.{IsTagged, IsFresh}
 use Rattle.dash_shard.proofs.Rows.{each-more}

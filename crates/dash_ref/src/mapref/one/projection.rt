@@ -1,7 +1,8 @@
 //! A part of a value, which a reference can be mapped to.
-ghost use Rattle.std.specs.Prelude.{◌≡◌, ◌↔◌, IsTrue, IsSome, Option, Some};
+ghost use Rattle.std.specs.Prelude.{◌≡◌, ◌↔◌, IsTrue, IsSome, Option, Some, option_and_then};
+ghost use Rattle.std.specs.Option.{option_map_or};
 ghost use Rattle.std.specs.Borrow.{Lends, sem};
-ghost use Rattle.dash_ref.specs.Part.{IsPart, inner_part, inner_with};
+ghost use Rattle.dash_ref.specs.Part.{IsPart};
 ghost use Rattle.dash_ref.specs.inner.Parts.{inner_is_part};
 
 /// A part of a value of `V`, where the original's `map` takes a closure: a mapped reference keeps it, and applies it at each access.
@@ -46,9 +47,9 @@ pub struct Compose<P, Q> {
 impl<V, P: Projection<V>, Q: Projection<P::Target>> Projection<V> for Compose<P, Q> {
     type Target = Q::Target;
 
-    ghost part = { λ c. inner_part (P.part c.outer) (P.with c.outer) (Q.part c.inner) (Q.with c.inner) };
+    ghost part = { λ c v. option_and_then (Q.part c.inner) (P.part c.outer v) };
 
-    ghost with = { λ c. inner_with (P.part c.outer) (P.with c.outer) (Q.part c.inner) (Q.with c.inner) };
+    ghost with = { λ c v t. option_map_or (λ m. P.with c.outer v (Q.with c.inner m t)) (P.part c.outer v) v };
 
     ghost lawful = { λ c. inner_is_part (P.part c.outer) (P.with c.outer) (Q.part c.inner) (Q.with c.inner) (P.lawful c.outer) (Q.lawful c.inner) };
 

@@ -1,5 +1,6 @@
 use Rattle.std.proofs.Common.{◌≡◌, Bool, true, false, Ok, refl, subst}
 use Rattle.std.specs.Prelude.{IsTrue, IfOk, Result, if◌then◌else◌}
+use Rattle.dashcheck.specs.Threads.{IsJudged}
 use Rattle.dashcheck.specs.declared.command.Status.{Status}
 use Rattle.dashcheck.specs.declared.command.Status.TheVariants.{Good, Refused}
 use Rattle.dashcheck.proofs.threads.run.Goals as goal
@@ -9,4 +10,4 @@ good-legal true r good says = refl
 good-legal false r good says = let other : Good ≡ Refused = subst (λ q. IfOk q (λ s. s ≡ Refused)) good says in cc
 
 pub returns-in-Ok-clause-legal : goal.returns-in-Ok-clause-legal
-returns-in-Ok-clause-legal g c good = c.in-Ok.ensures.legal (good-legal c.in-Ok.outcome.legal c.tell.result good c.tell.ensures.status)
+returns-in-Ok-clause-legal g c good = subst (IsJudged _ _ _) (good-legal c.in-Ok.outcome.legal c.tell.result good c.tell.ensures.status) c.in-Ok.ensures.judged

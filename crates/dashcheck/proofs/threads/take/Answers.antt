@@ -1,6 +1,7 @@
 use Rattle.std.proofs.Common.{Err, ap, ◌∙◌, arith}
 use Rattle.dash_shard.proofs.Routing.{route_below}
-use Rattle.dashcheck.proofs.Working.{not-outside}
+use Rattle.dashcheck.proofs.Working.{logged-ok, not-outside}
+use Rattle.dashcheck.proofs.threads.take.Goals.{in-Ok, in-Err-default-LastStamp, in-Err-default-Memory}
 use Rattle.dashcheck.proofs.threads.take.Goals as goal
 
 pub unreachable-requires : goal.unreachable-requires
@@ -8,3 +9,10 @@ unreachable-requires g c =
     let e = c.in-Err-default-NoSuchShard in
     not-outside _ _ c.args.step c.requires.kind (λ k. route_below _ c.args.map.now.amount (omega (arith, c.requires.shards)))
     (c.apply.ensures.no_such_shard.0 (e.is ∙ ap (λ s. Err (s, e.field-0-1)) e.ensures.refused.0 ∙ ap (λ f. Err (c.args.step, f)) e.field-0-1-is))
+
+pub returns-clause-taken : goal.returns-clause-taken
+returns-clause-taken g c = elim c.match-apply.branch [
+  | in-Ok w ↦ rw w.result-is (logged-ok _ _ _ c.args.step c.apply.result _ c.requires.kind w.in-Ok.is c.apply.ensures.ok)
+  | in-Err-default-LastStamp w ↦ rw w.result-is tt
+  | in-Err-default-Memory w ↦ rw w.result-is tt
+]

@@ -69,7 +69,7 @@ pub returns-clause-last_stamp : goal.returns-clause-last_stamp
 returns-clause-last_stamp g c =
     let within : c.route-hash.result.1 < length c.self.inside.row = omega (arith, c.if-idx-len.false, c.len-2.ensures) in
     let idx = shard_is (known_by g.K.PartialEq.eq g.K.Hash.hash_input g.K.Kept.alike g.V.Kept.alike g.A.Kept.alike g.A.Action.acts g.S.BuildHasher g.S.Hasher.Hasher) _ _ _ _ c.self.view_is c.self.invariant c.args.step c.route-hash.result.1 c.len.result c.index_mut.result.now c.len.ensures c.route-hash.ensures.shard within c.index_mut.ensures.value in
-    let last = last_is (known_by g.K.PartialEq.eq g.K.Hash.hash_input g.K.Kept.alike g.V.Kept.alike g.A.Kept.alike g.A.Action.acts g.S.BuildHasher g.S.Hasher.Hasher) _ _ _ _ c.self.view_is c.self.invariant c.args.step c.route-hash.result.1 c.len.result c.index_mut.result.now c.len.ensures c.route-hash.ensures.shard within c.index_mut.ensures.value in
+    let last = last_is (known_by g.K.PartialEq.eq g.K.Hash.hash_input g.K.Kept.alike g.V.Kept.alike g.A.Kept.alike g.A.Action.acts g.S.BuildHasher g.S.Hasher.Hasher) _ _ _ _ c.self.view_is c.self.invariant c.args.step c.route-hash.result.1 c.len.result c.index_mut.result.now c.len.ensures c.route-hash.ensures.shard within c.index_mut.ensures.value c.record_hashed.ensures.last in
     let count = count_is (known_by g.K.PartialEq.eq g.K.Hash.hash_input g.K.Kept.alike g.V.Kept.alike g.A.Kept.alike g.A.Action.acts g.S.BuildHasher g.S.Hasher.Hasher) _ _ _ _ c.self.view_is c.self.invariant c.args.step c.route-hash.result.1 c.len.result c.index_mut.result.now c.len.ensures c.route-hash.ensures.shard within c.index_mut.ensures.value in (
       λ e. (omega (arith, idx, within, count), ap (λ n. max n c.args.log.now.last) last ∙ c.record_hashed.ensures.last_stamp.0 e),
       λ m. c.record_hashed.ensures.last_stamp.1 (ap (λ n. max n c.args.log.now.last) (sym last) ∙ m.1),

@@ -1,5 +1,6 @@
 use Rattle.std.proofs.Common.{ℕ, ◌≡◌, List, Some, slice_get, arith, subst, sym}
-use Rattle.dash_shard.specs.Hashing.{IsAmount, key_hash}
+use Rattle.dash_shard.specs.Hashing.{IsAmount}
+use Rattle.dash_shard.specs.Hashing.{key_hash}
 use Rattle.dash_history.specs.Alone.{IsFresh, IsCallers, IsTagged, IsAlone}
 use Rattle.dash_history.specs.History.{RecState}
 use Rattle.dash_history.proofs.Refusals.{made-refused, callers-amount, memory-amount, memory-callers}

@@ -1,5 +1,6 @@
 use Rattle.std.proofs.Common.{◌==◌, ◌∙◌, ap}
-use Rattle.dash_shard.specs.Hashing.{hash_of, route_of_hash, key_hash}
+use Rattle.dash_shard.specs.Hashing.{hash_of, route_of_hash}
+use Rattle.dash_shard.specs.Hashing.{key_hash}
 use Rattle.dash_history.specs.Plain.{PlainState}
 use Rattle.dash_history.proofs.plain.Plain.goes_to.Goals as goal
 

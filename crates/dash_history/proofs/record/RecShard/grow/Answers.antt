@@ -1,8 +1,10 @@
 use Rattle.std.proofs.Common.{List, ◌≡◌, ◌<◌, ◌++◌, ◌∷◌, [], ap, subst, sym, ◌∙◌, refl}
-use Rattle.dash_history.specs.History.{RecState, Tells, shard_of}
+use Rattle.dash_history.specs.History.{RecState, shard_of}
+use Rattle.dash_history.specs.inner.Tells.{Tells}
 use Rattle.dash_history.specs.declared.step.Record.{Record}
 use Rattle.dash_history.specs.inner.Kinds.{kinds_of}
 use Rattle.dash_history.proofs.Recording.{taken, recorded}
+use Rattle.dash_history.proofs.Telling.{told}
 use Rattle.dash_history.proofs.record.RecShard.grow.Goals as goal
 use Rattle.dash_shard.proofs.Lawful.{lawful-of}
 use Rattle.dash_history.specs.Takes.{known_by}
@@ -73,7 +75,7 @@ returns-in-Ok-carry_out-clause-ok g c =
       takes = taken _ (lawful-of g.S.BuildHasher g.S.Hasher.Hasher g.met.K.Eq.laws g.met.K.Hash.respects_eq) _ _ g.met.K.Kept.alike_laws g.met.V.Kept.alike_laws g.met.K.KeptKey.alike_equal _ _ g.met.A.KeptAction.alike_acts
           c.self.inside.shard c.carry_out.new.shard c.args.step c.in-Ok.reply old.shard here c.in-Ok.ensures.answers c.in-Ok-carry_out.ensures.ok c.in-Ok-carry_out.ensures.stays (c.in-Ok-carry_out.ensures.lawful old.shard);
       kept = c.in-Ok-copies.first;
-      tells = tells;
+      tells = told _ _ _ _ _ _ tells;
       same = c.in-Ok-copies.ensures.second;
       grown = ap with_history (c.push_reserved.ensures.items ∙ ap (λ h. h ++ c.in-Ok-copies.first ∷ []) c.make_room.ensures.items);
       stays = c.in-Ok-carry_out.ensures.stays;

@@ -1,6 +1,6 @@
 use Rattle.std.proofs.Common.{⊎_elim, true, false, sym, subst}
 use Rattle.dash_shard.specs.Contents.{at}
-use Rattle.dash_shard.specs.Steps.{Act, Step, AlterAll, Retain, after}
+use Rattle.dash_shard.specs.Steps.{Act, Step, AlterAll, Retain}
 use Rattle.dash_shard.specs.Shard.{pairs}
 use Rattle.dash_history.specs.inner.Sweep.{keeping}
 use Rattle.dash_history.specs.Takes.{known_by}
@@ -12,6 +12,7 @@ use Rattle.dash_history.proofs.Finding.{found-taken, decided-at}
 use Rattle.dash_history.proofs.Sweeping.{leaves}
 use Rattle.dash_history.proofs.record.plan.carry_out.Goals as goal
 use Rattle.dash_shard.proofs.Lawful.{lawful-of}
+use Rattle.dash_shard.specs.inner.Steps.{after}
 
 pub make_change-requires : goal.make_change-requires
 make_change-requires g c = found-taken (key_hash g.K.PartialEq.eq g.K.Hash.hash_input g.S.BuildHasher g.S.Hasher.Hasher) c.args.shard.now _ c.args.found c.requires.found

@@ -5,7 +5,7 @@ use Rattle.dash_shard.specs.Shard.{pairs}
 use Rattle.dash_shard.specs.Steps.{Count, Number}
 use Rattle.dash_history.proofs.Copies.{reply_laws}
 use Rattle.dash_map.specs.Alone.{AloneState, IsAlone, contents, keys_in}
-use Rattle.dash_map.specs.Run.{rules_in}
+use Rattle.dash_map.specs.inner.Run.{rules_in}
 use Rattle.dash_map.proofs.Running.{shown, laws-in, takes-look, each-there}
 use Rattle.dash_map.proofs.alone.Alone.count.Goals as goal
 use Rattle.dash_shard.proofs.Lawful.{lawful-of}

@@ -1,6 +1,7 @@
 use Rattle.dash_shard.specs.Shard.{IsTagged, ShardState}
 use Rattle.std.proofs.Common.{rules, ◌≤◌, ◌/◌, subst, sym, List, Some, slice_get, ◌≡◌}
-use Rattle.dash_shard.specs.Hashing.{IsAmount, key_hash}
+use Rattle.dash_shard.specs.Hashing.{IsAmount}
+use Rattle.dash_shard.specs.Hashing.{key_hash}
 use Rattle.dash_map.specs.Alone.{IsAlone}
 use Rattle.dash_map.proofs.alone.Alone.new.Goals as goal
 

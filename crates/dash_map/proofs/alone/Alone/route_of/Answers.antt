@@ -1,5 +1,6 @@
 use Rattle.std.proofs.Common.{◌∙◌, ap, length}
-use Rattle.dash_shard.specs.Hashing.{hash_of, route_of_hash, route_by, key_hash}
+use Rattle.dash_shard.specs.Hashing.{hash_of, route_of_hash, route_by}
+use Rattle.dash_shard.specs.Hashing.{key_hash}
 use Rattle.dash_map.proofs.alone.Alone.route_of.Goals as goal
 
 pub returns-clause-idx : goal.returns-clause-idx

@@ -5,10 +5,11 @@ use Rattle.dash_history.specs.declared.step.ShardStep.{ShardStep}
 use Rattle.dash_history.specs.Steps.{step_of, reply_of}
 use Rattle.dash_history.specs.Takes.{Rules, Takes, Runs}
 use Rattle.dash_map.specs.Alone.{AloneState, IsAlone, contents}
-use Rattle.dash_map.specs.Run.{rules_in, IsRefused}
+use Rattle.dash_map.specs.Run.{IsRefused}
+use Rattle.dash_map.specs.inner.Run.{rules_in}
 use Rattle.dash_map.specs.inner.Run.{answered}
 use Rattle.dash_map.specs.declared.run.Fault.TheVariants.{NoSuchShard}
-use Rattle.dash_shard.specs.Steps.{step_shard}
+use Rattle.dash_shard.specs.inner.Steps.{step_shard}
 use Rattle.dash_map.proofs.Running.{running-none, running-more, refused-first, rules-same}
 use Rattle.dash_map.proofs.alone.Alone.run.Goals as goal
 use Rattle.dash_shard.specs.Hashing.{key_hash}

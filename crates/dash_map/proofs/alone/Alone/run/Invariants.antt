@@ -1,6 +1,6 @@
 use Rattle.std.proofs.Common.{◌≡◌, ◌+◌, ◌≤◌, length, vec_len, vec_capacity}
 use Rattle.dash_map.specs.Alone.{IsAlone, contents}
-use Rattle.dash_map.specs.Run.{rules_in}
+use Rattle.dash_map.specs.inner.Run.{rules_in}
 use Rattle.dash_map.proofs.Running.{Running}
 use Rattle.dash_map.proofs.alone.Alone.run.Given as goal
 use Rattle.dash_shard.specs.Hashing.{key_hash}

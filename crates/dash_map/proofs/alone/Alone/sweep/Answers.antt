@@ -5,7 +5,7 @@ use Rattle.dash_shard.specs.Steps.{Retain, Done}
 use Rattle.dash_history.specs.inner.Sweep.{keeping}
 use Rattle.dash_history.specs.Takes.{Takes}
 use Rattle.dash_map.specs.Alone.{AloneState, contents}
-use Rattle.dash_map.specs.Run.{rules_in}
+use Rattle.dash_map.specs.inner.Run.{rules_in}
 use Rattle.dash_map.proofs.Lifting.{alone-set}
 use Rattle.dash_map.proofs.Running.{takes-sweep}
 use Rattle.dash_map.proofs.alone.Alone.sweep.Goals as goal

@@ -5,7 +5,7 @@ use Rattle.dash_history.proofs.Copies.{reply_laws}
 use Rattle.dash_history.proofs.Plains.{looked}
 use Rattle.dash_history.proofs.Planning.{answers-found}
 use Rattle.dash_map.specs.Alone.{contents, keys_in}
-use Rattle.dash_map.specs.Run.{rules_in}
+use Rattle.dash_map.specs.inner.Run.{rules_in}
 use Rattle.dash_map.proofs.Running.{not-missing, laws-in, takes-look, takes-alone}
 use Rattle.dash_map.proofs.alone.Alone.take.Goals as goal
 use Rattle.dash_shard.proofs.Lawful.{lawful-of}

@@ -4,7 +4,7 @@ use Rattle.dash_shard.specs.Steps.{Act, Reply, Retain, AlterAll}
 use Rattle.dash_history.specs.Steps.{reply_of}
 use Rattle.dash_history.specs.inner.Sweep.{keeping}
 use Rattle.dash_history.specs.Takes.{Rules, Takes}
-use Rattle.dash_map.specs.Run.{rules_in}
+use Rattle.dash_map.specs.inner.Run.{rules_in}
 use Rattle.dash_map.specs.Alone.{contents}
 use Rattle.dash_shard.specs.Hashing.{key_hash}
 use Rattle.dash_map.proofs.alone.Alone.take_on_shard.Goals as goal

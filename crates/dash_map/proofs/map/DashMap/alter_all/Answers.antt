@@ -1,7 +1,8 @@
 use Rattle.std.proofs.Common.{◌≡◌, ap, subst, arith}
 use Rattle.dash_shard.specs.Each.{CalledOnPair, TakesOnPair}
 use Rattle.dash_shard.specs.inner.Walks.{altered}
-use Rattle.dash_shard.specs.Hashing.{IsAmount, key_hash}
+use Rattle.dash_shard.specs.Hashing.{IsAmount}
+use Rattle.dash_shard.specs.Hashing.{key_hash}
 use Rattle.dash_shard.specs.Shard.{pairs}
 use Rattle.dash_map.proofs.Leaving.{going-first, going-next, all-altered}
 use Rattle.dash_map.proofs.map.DashMap.alter_all.Goals as goal

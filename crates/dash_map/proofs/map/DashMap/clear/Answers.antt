@@ -1,6 +1,7 @@
 use Rattle.std.proofs.Common.{◌≡◌, ap, subst, arith}
 use Rattle.dash_shard.specs.Each.{Clears}
-use Rattle.dash_shard.specs.Hashing.{IsAmount, key_hash}
+use Rattle.dash_shard.specs.Hashing.{IsAmount}
+use Rattle.dash_shard.specs.Hashing.{key_hash}
 use Rattle.dash_map.proofs.Leaving.{one-left, all-cleared, none-left}
 use Rattle.dash_map.proofs.map.DashMap.clear.Goals as goal
 

@@ -1,5 +1,6 @@
 use Rattle.std.proofs.Common.{◌≡◌, ◌∷◌, ◌++◌, [], ◌∙◌, length, ap, subst, arith, refl}
-use Rattle.dash_shard.specs.Hashing.{IsAmount, key_hash}
+use Rattle.dash_shard.specs.Hashing.{IsAmount}
+use Rattle.dash_shard.specs.Hashing.{key_hash}
 use Rattle.dash_map.proofs.Seeing.{read-at, one-more, all-seen, longer, none-yet}
 use Rattle.dash_map.proofs.map.DashMap.len.Goals as goal
 

@@ -1,7 +1,8 @@
 use Rattle.std.proofs.Common.{◌≡◌, ap, subst, arith}
 use Rattle.std.specs.Map.Calls.{CalledAtPair, TakesPair}
 use Rattle.dash_shard.specs.inner.Walks.{if_kept}
-use Rattle.dash_shard.specs.Hashing.{IsAmount, key_hash}
+use Rattle.dash_shard.specs.Hashing.{IsAmount}
+use Rattle.dash_shard.specs.Hashing.{key_hash}
 use Rattle.dash_shard.specs.Shard.{pairs}
 use Rattle.dash_map.proofs.Leaving.{going-first, going-next, all-retained}
 use Rattle.dash_map.proofs.map.DashMap.retain.Goals as goal

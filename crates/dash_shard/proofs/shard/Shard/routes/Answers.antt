@@ -1,6 +1,7 @@
 use Rattle.std.proofs.Common.{subst, sym, ap, ◌∙◌, eq-eqb, eqb-true, IsTrue, eqb, ◌↔◌}
 use Rattle.dash_shard.specs.Shard.{ShardState, Routes}
-use Rattle.dash_shard.specs.Hashing.{hash_of, route_of_hash, key_hash}
+use Rattle.dash_shard.specs.Hashing.{hash_of, route_of_hash}
+use Rattle.dash_shard.specs.Hashing.{key_hash}
 use Rattle.dash_shard.proofs.shard.Shard.routes.Goals as goal
 
 pub returns : goal.returns
