@@ -2,3 +2,4 @@ pub mod Part
 pub mod Ref
 pub mod Try
 pub mod inner
+pub mod RefMut

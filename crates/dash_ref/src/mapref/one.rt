@@ -13,6 +13,7 @@ use dash_shard::lock::RwLockReadGuard;
 use dash_shard::shard::Shard;
 pub use mapped::MappedRef;
 pub use projection::{Compose, Projection};
+pub use write::RefMut;
 use std::fmt;
 use std::hash::{BuildHasher, Hash};
 use std::marker::Model;
@@ -21,6 +22,7 @@ use std::snapshot::Snapshot;
 
 mod mapped;
 mod projection;
+mod write;
 
 /// A pair of a map, and a hold of its shard's lock for reading, as the original's `Ref`: the hold ends when this is dropped, and till
 /// then the pair stays as it is.
