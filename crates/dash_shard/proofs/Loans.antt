@@ -1,5 +1,5 @@
 -- A held shard in two parts, once a value of it was lent.
-use Rattle.std.proofs.Common.{◌≡◌, ℕ, Bool, true, false, Option, Some, IsSome, refl, sym, ap, subst, ◌∙◌}
+use Rattle.std.proofs.Common.{◌≡◌, ℕ, Bool, true, false, Some, refl}
 use Rattle.std.proofs.lemmas.Bool.{false≢true}
 use Rattle.dash_shard.specs.declared.shard.table.Table.{Table}
 use Rattle.dash_shard.specs.declared.shard.held.parts.Loan.{Loan}
