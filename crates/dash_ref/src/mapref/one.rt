@@ -13,12 +13,12 @@ use dash_shard::lock::RwLockReadGuard;
 use dash_shard::shard::Shard;
 pub use mapped::MappedRef;
 pub use projection::{Compose, Projection};
-pub use write::RefMut;
 use std::fmt;
 use std::hash::{BuildHasher, Hash};
 use std::marker::Model;
 use std::ops::Deref;
 use std::snapshot::Snapshot;
+pub use write::RefMut;
 
 mod mapped;
 mod projection;

@@ -93,11 +93,7 @@ impl<'a, K: Eq + Hash, V, S: BuildHasher> RefMut<'a, K, V, S> {
 
     /// The pair whose key equals `key`, in the held shard, for a caller who has the key's hash. Where there is no such pair, the hold ends.
     #[inline]
-    pub fn find(
-        shard: ShardMut<'a, K, V, S>,
-        hash: u64,
-        key: &K,
-    ) -> Option<RefMut<'a, K, V, S>>
+    pub fn find(shard: ShardMut<'a, K, V, S>, hash: u64, key: &K) -> Option<RefMut<'a, K, V, S>>
         requires { hash ≡ ⟦<Self as Keyed>⟧.by.hash shard.hasher key.now }
         ensures pair { RepliesOn K.eq shard.entry (Get key.now) (Pair (option_and_then stored result)) }
         ensures absent { IsNone result ↔ (at K.eq (pairs shard.entry) key.now ≡ None) }
