@@ -14,10 +14,13 @@ use dash_shard::lock::RwLockWriteGuard;
 use dash_shard::shard::Shard;
 use dash_shard::shard::held::ShardMut;
 use dash_shard::shard::held::parts::Loan;
+pub use mapped::MappedRefMut;
 use std::fmt;
 use std::hash::{BuildHasher, Hash};
 use std::marker::{Model, PhantomData};
 use std::ops::{Deref, DerefMut};
+
+mod mapped;
 
 /// A pair of a map, and a hold of its shard's lock for writing, as the original's `RefMut`: the hold ends when this is dropped, and till
 /// then the pair changes by this reference's own calls alone.
