@@ -1,11 +1,13 @@
 -- A reference that writes, once its value was lent.
 use Rattle.std.proofs.Common.{◌≡◌, ℕ, zero, suc, List, [], ◌∷◌, Option, Some, None, IsSome, refl, sym, ap, subst, ◌∙◌}
-use Rattle.std.specs.Prelude.{slice_set, option_and_then}
+use Rattle.std.specs.Prelude.{slice_set, option_and_then, IsTrue, IsSomeAnd}
+use Rattle.dash_ref.specs.Entry.{OccupiedState, revalued}
+use Rattle.dash_ref.specs.inner.Entries.{IsOccupied}
 use Rattle.std.specs.Option.{option_map, option_map_or}
 use Rattle.std.proofs.lemmas.Option.{none-some, same_Some}
 use Rattle.std.proofs.lemmas.Bool.{false≢true}
 use Rattle.dash_shard.specs.Hashing.{KeyHash}
-use Rattle.dash_shard.specs.Shard.{ShardState, slot}
+use Rattle.dash_shard.specs.Shard.{ShardState, slot, HasKey}
 use Rattle.dash_shard.specs.inner.Keys.{IsLawful}
 use Rattle.dash_shard.specs.inner.Loans.{joined, AreParts, MayLend, lent_slot, with_lent}
 use Rattle.dash_shard.specs.declared.shard.held.parts.Loan.{Loan}
@@ -80,3 +82,31 @@ module _ {K V S : Type 0} (h : KeyHash K S) (law : IsLawful h) (s : ShardState K
   pub part-stored : {P T : Type 0} (part : P → V → Option T) (b : P) (m : MappedRefMutState K V S P) → record { guard = spot s i l; by = b } ≡ m → (t : T) → Some t ≡ part b p.1 → part_in (part m.by) m.guard ≡ Some t
   part-stored {P} part b m shows t is =
       ap (λ (n : MappedRefMutState K V S P). part_in (part n.by) n.guard) (sym shows) ∙ (ap (option_and_then (λ (q : K × V). part b q.1)) is-stored ∙ sym is)
+
+-- an occupied entry whose value was lent
+module _ {K V S : Type 0} (h : KeyHash K S) (law : IsLawful h) (s : ShardState K V S) (l : Loan K V) (parts : AreParts h s l) (ready : MayLend l) (i : ℕ)
+    (p : K × V) (there : lent_slot l i ≡ Some p) where
+  was-stored : slot (joined s l).slots i ≡ Some p
+  was-stored = slot-lent h law s l parts ready i ∙ there
+
+  pub still-occupied : (key : K) → HasKey h.eq (joined s l) key i → (v : V) → IsOccupied h s (with_lent l i v) i key
+  still-occupied key has v =
+      let Q : K × V → Type 0 = λ q. IsTrue (h.eq q.0 key) in
+      let now : slot (joined s (with_lent l i v)).slots i ≡ Some (p.0, v) = ap (λ (u : ShardState K V S). slot u.slots i) (joined-lent h law s l parts ready i v) ∙ slot-valued (joined s l).slots i v p was-stored in
+      record {
+        parts = parts-lent h law s l parts ready i p there v;
+        equal = subst (λ o. IsSomeAnd o Q) (sym now) (subst (λ o. IsSomeAnd o Q) was-stored has);
+      }
+
+  module _ (key : K) (o : OccupiedState K V S) (shows : record { pair = spot s i l; key = key } ≡ o) where
+    pub occupied-revalued : (v : V) → record { pair = spot s i (with_lent l i v); key = key } ≡ revalued o v
+    occupied-revalued v =
+        ap (λ (r : RefMutState K V S). record { pair = r; key = key }) (lent-rewritten h law s l parts ready i p there (spot s i l) refl v) ∙ ap (λ (q : OccupiedState K V S). revalued q v) shows
+
+    pub occupied-stored : option_map (λ q. q.1) (stored o.pair) ≡ Some p.1
+    occupied-stored = ap (λ (q : OccupiedState K V S). option_map (λ x. x.1) (stored q.pair)) (sym shows) ∙ ap (option_map (λ x. x.1)) was-stored
+
+-- a change of the stored value, whatever pair is stored
+pub modified : {K V : Type 0} (P : V → V → Type 0) (Q : V → Type 0) (o : Option (K × V)) (v w : V) → option_map (λ p. p.1) o ≡ Some v → P v w → Q w → IsSomeAnd o (λ p. (x : V) × P p.1 x × Q x)
+modified P Q None v w e p q = absurd (none-some v e)
+modified P Q (Some r) v w e p q = (w, subst (λ x. P x w) (sym (same_Some r.1 v e)) p, q)

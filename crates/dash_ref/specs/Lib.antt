@@ -3,3 +3,5 @@ pub mod Ref
 pub mod Try
 pub mod inner
 pub mod RefMut
+pub mod Entry
+pub mod EntryCases

@@ -2,3 +2,4 @@
 pub mod Codes
 pub mod Parts
 pub mod RefMut
+pub mod Entries

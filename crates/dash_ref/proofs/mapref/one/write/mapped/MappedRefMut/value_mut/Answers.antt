@@ -1,7 +1,7 @@
 use Rattle.std.proofs.Common.{IsSome, refl, sym, ap, subst, ◌∙◌}
 use Rattle.dash_shard.proofs.Lawful.{lawful-of}
 use Rattle.dash_shard.specs.Shard.{ShardState}
-use Rattle.dash_ref.specs.RefMut.{MappedRefMutState, part_in}
+use Rattle.dash_ref.specs.RefMut.{part_in}
 use Rattle.dash_ref.proofs.Writing.{lent-part, still-mappable, part-rewritten, part-stored}
 use Rattle.dash_ref.proofs.mapref.one.write.mapped.MappedRefMut.value_mut.Goals as goal
 
