@@ -25,6 +25,7 @@ use std::rt::Clock;
 use std::sync::Wait;
 
 mod all_pairs;
+mod entries;
 mod tries;
 
 // The pair of a held shard whose key equals `key`, by the key's hash.
