@@ -110,11 +110,7 @@ pub trait Map<K: Eq + Hash, V, S: BuildHasher> {
         ensures tagged { IfSome (found result) (λ r. StandsAt (by K.Hash S.BuildHasher S.Hasher.Hasher) (state self.now) key.now r.shard) };
 
     /// As `DashMap::entry`.
-    fn _entry<R: Wait + Clock>(
-        &self,
-        rt: &R,
-        key: K,
-    ) -> Result<Entry<'_, K, V, S>, EntryRefused<K>>
+    fn _entry<R: Wait + Clock>(&self, rt: &R, key: K) -> Result<Entry<'_, K, V, S>, EntryRefused<K>>
     where
         K: Drop,
         V: Drop,
@@ -260,11 +256,7 @@ impl<K: Eq + Hash, V, S: BuildHasher> Map<K, V, S> for DashMap<K, V, S> {
     }
 
     #[inline]
-    fn _entry<R: Wait + Clock>(
-        &self,
-        rt: &R,
-        key: K,
-    ) -> Result<Entry<'_, K, V, S>, EntryRefused<K>>
+    fn _entry<R: Wait + Clock>(&self, rt: &R, key: K) -> Result<Entry<'_, K, V, S>, EntryRefused<K>>
     where
         K: Drop,
         V: Drop,
