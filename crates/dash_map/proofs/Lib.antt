@@ -12,3 +12,4 @@ mod Spots
 mod Sweeping
 mod Turning
 mod Union
+mod Trying

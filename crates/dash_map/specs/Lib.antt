@@ -5,4 +5,5 @@ pub mod Run
 pub mod Behind
 pub mod AllPairs
 pub mod Lends
+pub mod Tries
 pub mod inner

@@ -1,20 +1,21 @@
 //! Calls of threads on a map that they share. Each takes one lock.
-ghost use Rattle.std.specs.Prelude.{◌≡◌, ◌<◌, ◌==◌, ◌-◌, ◌^◌, min, length, sum_by, Option, IsTrue, IfSome, IfErr, is_some};
+ghost use Rattle.std.specs.Prelude.{◌≡◌, ◌<◌, ◌==◌, ◌-◌, ◌^◌, min, length, sum_by, Option, IsTrue, IfSome, IfErr, is_some, option_and_then};
 ghost use Rattle.std.specs.Option.{option_map};
 ghost use Rattle.std.specs.Map.Iter.{deref_pair};
 ghost use Rattle.dash_shard.specs.Closures.{MayAsk, Viewed, MayChange, ChangesOn, MayGive, Answered, Given};
 ghost use Rattle.dash_shard.specs.Contents.{at};
-ghost use Rattle.dash_shard.specs.Shard.{shard_len, pairs, IsShard, RepliesOn, TakesInPlace, IsTagged, ShardState};
+ghost use Rattle.dash_shard.specs.Shard.{shard_len, pairs, HasKey, IsShard, RepliesOn, TakesInPlace, IsTagged, ShardState};
 ghost use Rattle.dash_map.specs.Behind.{SawShards, LeavesShard, SawShard, LeavesShards, StandsAt, LeavesBy};
 ghost use Rattle.dash_shard.specs.Hashing.{route_by};
 ghost use Rattle.dash_map.specs.Alone.{AloneState, contents, ReservesAlone};
 ghost use Rattle.dash_ref.specs.Ref.{Stands, pair_of};
+ghost use Rattle.dash_ref.specs.RefMut.{stored};
 ghost use Rattle.dash_shard.specs.Held.{Inserts, Loses};
 ghost use Rattle.dash_shard.specs.Steps.{Remove, RemoveIf, RemoveIfMut, Alter, Done, Pair, Found, Get, Contains};
 
 use crate::map::DashMap;
 use core::mem::replace_with;
-use dash_ref::mapref::one::Ref;
+use dash_ref::mapref::one::{Ref, RefMut};
 use dash_shard::error::TryReserveError;
 use dash_shard::keyed::Keyed;
 use dash_shard::shard::held::ShardMut;
@@ -24,6 +25,8 @@ use std::rt::Clock;
 use std::sync::Wait;
 
 mod all_pairs;
+mod entries;
+mod tries;
 
 // The pair of a held shard whose key equals `key`, by the key's hash.
 #[inline]
@@ -103,6 +106,19 @@ impl<K: Eq + Hash, V, S: BuildHasher> DashMap<K, V, S> {
     {
         let (hash, idx) = self.route_of(key);
         Ref::find(self.row[idx].read(rt), hash, key)
+    }
+
+    /// The pair whose key equals `key`, with a hold of its shard for writing. Waits until nobody has the shard.
+    ///
+    /// Till the reference is dropped, whoever wants the shard waits, this thread too. It takes no memory.
+    #[inline]
+    pub fn get_mut<R: Wait + Clock>(&self, rt: &R, key: &K) -> Option<RefMut<'_, K, V, S>>
+        ensures saw { SawShard ⟦<Self as Keyed>⟧.by self.now key.now (λ s. RepliesOn K.eq s (Get key.now) (Pair (option_and_then stored result))) }
+        ensures equal { IfSome result (λ found. HasKey K.eq found.shard key.now found.position) }
+        ensures tagged { IfSome result (λ found. StandsAt ⟦<Self as Keyed>⟧.by self.now key.now found.shard) }
+    {
+        let (hash, idx) = self.route_of(key);
+        RefMut::find(self.shards_mut(rt, idx), hash, key)
     }
 
     /// Takes the pair whose key equals `key` out if `f` answers yes on it, and answers it. Waits for the key's shard. It takes no memory.

@@ -1,5 +1,5 @@
 //! The calls of a map that threads share, as a trait: code may be written for any such map.
-ghost use Rattle.std.specs.Prelude.{◌≡◌, ◌<◌, ◌==◌, ◌-◌, ◌^◌, min, length, sum_by, Option, IsTrue, IfOk, IfSome, IfErr, is_some, option_map};
+ghost use Rattle.std.specs.Prelude.{◌≡◌, ◌<◌, ◌==◌, ◌-◌, ◌^◌, min, length, sum_by, Option, IsTrue, IfOk, IfSome, IfErr, is_some, option_map, option_and_then};
 ghost use Rattle.std.specs.Map.Calls.{CalledAtPair, TakesPair};
 ghost use Rattle.dash_shard.specs.Closures.{MayAsk, Viewed, MayChange, ChangesOn, MayGive, Answered, Given};
 ghost use Rattle.dash_shard.specs.Each.{CalledOnPair, TakesOnPair};
@@ -7,15 +7,21 @@ ghost use Rattle.dash_shard.specs.Hashing.{by};
 ghost use Rattle.dash_map.specs.Alone.{AloneState, contents};
 ghost use Rattle.dash_map.specs.Behind.{SawShards, LeavesShard, LeavesShards, CallableOnPairs, SawShard, StandsAt, LeavesBy};
 ghost use Rattle.dash_map.specs.Map.{MapState};
+ghost use Rattle.dash_map.specs.Tries.{UnlessLocked, UnlessLockedOut};
 ghost use Rattle.dash_map.specs.AllPairs.{ClearsAlone, ShrinksAlone, RetainsAlone, AltersAllAlone};
+ghost use Rattle.dash_ref.specs.EntryCases.{IsEntryOf};
 ghost use Rattle.dash_ref.specs.Ref.{Stands, pair_of};
+ghost use Rattle.dash_ref.specs.RefMut.{stored};
+ghost use Rattle.dash_ref.specs.Try.{found};
 ghost use Rattle.dash_shard.specs.Contents.{at};
-ghost use Rattle.dash_shard.specs.Shard.{shard_len, RepliesOn, TakesInPlace, IsTagged, ShardState, pairs};
+ghost use Rattle.dash_shard.specs.Shard.{shard_len, HasKey, RepliesOn, TakesInPlace, IsTagged, ShardState, pairs};
 ghost use Rattle.dash_shard.specs.Held.{Inserts, Loses};
 ghost use Rattle.dash_shard.specs.Steps.{Remove, RemoveIf, RemoveIfMut, Alter, Done, Pair, Found, Get, Contains};
 
 use crate::map::DashMap;
-use dash_ref::mapref::one::Ref;
+use dash_ref::mapref::entry::{Entry, EntryRefused, TryEntryRefused};
+use dash_ref::mapref::one::{Ref, RefMut};
+use dash_ref::try_result::TryResult;
 use dash_shard::shard::InsertRefused;
 use dash_shard::shard::held::ShardMut;
 use std::alloc::AllocError;
@@ -83,6 +89,41 @@ pub trait Map<K: Eq + Hash, V, S: BuildHasher> {
         ensures equal { IfSome result (λ found. IsTrue (K.eq found.key key.now)) }
         ensures stands { IfSome result Stands }
         ensures tagged { IfSome result (λ found. StandsAt (by K.Hash S.BuildHasher S.Hasher.Hasher) (state self.now) key.now found.shard) };
+
+    /// As `DashMap::get_mut`.
+    fn _get_mut<R: Wait + Clock>(&self, rt: &R, key: &K) -> Option<RefMut<'_, K, V, S>>
+        ensures saw { SawShard (by K.Hash S.BuildHasher S.Hasher.Hasher) (state self.now) key.now (λ s. RepliesOn K.eq s (Get key.now) (Pair (option_and_then stored result))) }
+        ensures equal { IfSome result (λ found. HasKey K.eq found.shard key.now found.position) }
+        ensures tagged { IfSome result (λ found. StandsAt (by K.Hash S.BuildHasher S.Hasher.Hasher) (state self.now) key.now found.shard) };
+
+    /// As `DashMap::try_get`.
+    fn _try_get(&self, key: &K) -> TryResult<Ref<'_, K, V, S>>
+        ensures saw { UnlessLocked result (λ r.
+            SawShard (by K.Hash S.BuildHasher S.Hasher.Hasher) (state self.now) key.now (λ s. RepliesOn K.eq s (Get key.now) (Pair (option_map pair_of r)))) }
+        ensures equal { IfSome (found result) (λ r. IsTrue (K.eq r.key key.now)) }
+        ensures stands { IfSome (found result) Stands }
+        ensures tagged { IfSome (found result) (λ r. StandsAt (by K.Hash S.BuildHasher S.Hasher.Hasher) (state self.now) key.now r.shard) };
+
+    /// As `DashMap::try_get_mut`.
+    fn _try_get_mut(&self, key: &K) -> TryResult<RefMut<'_, K, V, S>>
+        ensures saw { UnlessLocked result (λ r.
+            SawShard (by K.Hash S.BuildHasher S.Hasher.Hasher) (state self.now) key.now (λ s. RepliesOn K.eq s (Get key.now) (Pair (option_and_then stored r)))) }
+        ensures equal { IfSome (found result) (λ r. HasKey K.eq r.shard key.now r.position) }
+        ensures tagged { IfSome (found result) (λ r. StandsAt (by K.Hash S.BuildHasher S.Hasher.Hasher) (state self.now) key.now r.shard) };
+
+    /// As `DashMap::entry`.
+    fn _entry<R: Wait + Clock>(&self, rt: &R, key: K) -> Result<Entry<'_, K, V, S>, EntryRefused<K>>
+    where
+        K: Drop,
+        V: Drop,
+        ensures { SawShard (by K.Hash S.BuildHasher S.Hasher.Hasher) (state self.now) key (λ s. IsEntryOf K.eq s key result) };
+
+    /// As `DashMap::try_entry`.
+    fn _try_entry(&self, key: K) -> Result<Entry<'_, K, V, S>, TryEntryRefused<K>>
+    where
+        K: Drop,
+        V: Drop,
+        ensures { UnlessLockedOut key result (λ r. SawShard (by K.Hash S.BuildHasher S.Hasher.Hasher) (state self.now) key (λ s. IsEntryOf K.eq s key r)) };
 
     /// As `DashMap::shrink_to_fit`.
     fn _shrink_to_fit<R: Wait + Clock>(&self, rt: &R)
@@ -199,6 +240,39 @@ impl<K: Eq + Hash, V, S: BuildHasher> Map<K, V, S> for DashMap<K, V, S> {
     #[inline]
     fn _get<R: Wait + Clock>(&self, rt: &R, key: &K) -> Option<Ref<'_, K, V, S>> {
         self.get(rt, key)
+    }
+
+    #[inline]
+    fn _get_mut<R: Wait + Clock>(&self, rt: &R, key: &K) -> Option<RefMut<'_, K, V, S>> {
+        self.get_mut(rt, key)
+    }
+
+    #[inline]
+    fn _try_get(&self, key: &K) -> TryResult<Ref<'_, K, V, S>> {
+        self.try_get(key)
+    }
+
+    #[inline]
+    fn _try_get_mut(&self, key: &K) -> TryResult<RefMut<'_, K, V, S>> {
+        self.try_get_mut(key)
+    }
+
+    #[inline]
+    fn _entry<R: Wait + Clock>(&self, rt: &R, key: K) -> Result<Entry<'_, K, V, S>, EntryRefused<K>>
+    where
+        K: Drop,
+        V: Drop,
+    {
+        self.entry(rt, key)
+    }
+
+    #[inline]
+    fn _try_entry(&self, key: K) -> Result<Entry<'_, K, V, S>, TryEntryRefused<K>>
+    where
+        K: Drop,
+        V: Drop,
+    {
+        self.try_entry(key)
     }
 
     #[inline]

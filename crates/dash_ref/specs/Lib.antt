@@ -2,3 +2,6 @@ pub mod Part
 pub mod Ref
 pub mod Try
 pub mod inner
+pub mod RefMut
+pub mod Entry
+pub mod EntryCases

@@ -1,2 +1,3 @@
 //! References to the pairs of a map.
+pub mod entry;
 pub mod one;

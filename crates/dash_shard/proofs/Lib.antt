@@ -11,6 +11,7 @@ mod Exchanging
 mod HoldFields
 pub mod Lawful
 pub mod Lending
+pub mod Loans
 mod LockBorrows
 mod LockShown
 pub mod Moving

@@ -18,9 +18,11 @@ use std::hash::{BuildHasher, Hash};
 use std::marker::Model;
 use std::ops::Deref;
 use std::snapshot::Snapshot;
+pub use write::{MappedRefMut, RefMut};
 
 mod mapped;
 mod projection;
+mod write;
 
 /// A pair of a map, and a hold of its shard's lock for reading, as the original's `Ref`: the hold ends when this is dropped, and till
 /// then the pair stays as it is.

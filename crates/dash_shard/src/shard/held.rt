@@ -22,6 +22,7 @@ use std::snapshot::Snapshot;
 
 mod all_pairs;
 mod lent;
+pub mod parts;
 mod positions;
 
 /// What a shard's lock is made for: the shard's number, how many there are, and what its hasher means. The snapshot has no bytes.

@@ -11,6 +11,7 @@ use std::ops::Deref;
 /// A part of the value of a pair, and a hold of the pair's shard for reading, as the original's `MappedRef`.
 ///
 /// It is the reference that was mapped, which ends with it, and the projection, which takes the place of the original's type of the part.
+#[derive(Drop)]
 pub struct MappedRef<'a, K: Eq + Hash, V, S: BuildHasher, P: Projection<V>> {
     pub guard: Ref<'a, K, V, S>,
     pub by: P,

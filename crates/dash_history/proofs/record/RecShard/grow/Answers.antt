@@ -53,14 +53,13 @@ invariant_of-self-in-Ok-carry_out g c =
     let here = subst P (sym c.self.view_is) c.requires.goes in
     let below = subst (λ (x : At). c.args.caller < x.callers) (sym c.self.view_is) c.requires.caller in
     let above = subst (λ (x : At). x.last < c.args.stamp) (sym c.self.view_is) c.requires.above in
-    let old = c.self.invariant in
-    let new = c.in-Ok-carry_out.ensures.lawful old.shard in
+    let new = c.in-Ok-carry_out.ensures.lawful c.self.invariant.shard in
     let tells = subst (λ n. Tells g.K.Kept.alike g.V.Kept.alike g.A.Kept.alike c.args.stamp c.args.caller n c.args.step c.in-Ok.reply c.in-Ok-copies.first) c.number-number.ensures.number c.in-Ok-copies.ensures.first in
     let takes = taken _ (lawful-of g.S.BuildHasher g.S.Hasher.Hasher g.met.K.Eq.laws g.met.K.Hash.respects_eq) _ _ g.met.K.Kept.alike_laws g.met.V.Kept.alike_laws g.met.K.KeptKey.alike_equal _ _ g.met.A.KeptAction.alike_acts
-    c.self.inside.shard c.carry_out.new.shard c.args.step c.in-Ok.reply old.shard here c.in-Ok.ensures.answers c.in-Ok-carry_out.ensures.ok c.in-Ok-carry_out.ensures.stays new in
+    c.self.inside.shard c.carry_out.new.shard c.args.step c.in-Ok.reply c.self.invariant.shard here c.in-Ok.ensures.answers c.in-Ok-carry_out.ensures.ok c.in-Ok-carry_out.ensures.stays new in
     recorded _ (lawful-of g.S.BuildHasher g.S.Hasher.Hasher g.met.K.Eq.laws g.met.K.Hash.respects_eq) _ _ g.met.K.Kept.alike_laws g.met.V.Kept.alike_laws g.met.K.KeptKey.alike_equal _ _ g.met.A.KeptAction.alike_acts
     s c.carry_out.new.shard c.args.step c.in-Ok.reply c.args.stamp c.args.caller c.in-Ok-copies.first c.push_reserved.new.self.items
-    old c.in-Ok-carry_out.ensures.stays new takes here below above tells
+    c.self.invariant c.in-Ok-carry_out.ensures.stays new takes here below above tells
     (c.push_reserved.ensures.items ∙ ap (λ h. h ++ c.in-Ok-copies.first ∷ []) c.make_room.ensures.items)
 
 pub returns-in-Ok-carry_out-clause-ok : goal.returns-in-Ok-carry_out-clause-ok
@@ -68,12 +67,11 @@ returns-in-Ok-carry_out-clause-ok g c =
     let At : Type 0 = RecState g.row.K.Denot g.row.V.Denot g.row.A.Denot g.row.S.Denot in
     let P = λ (x : At). shard_of (kinds_of (known_by g.K.PartialEq.eq g.K.Hash.hash_input g.K.Kept.alike g.V.Kept.alike g.A.Kept.alike g.A.Action.acts g.S.BuildHasher g.S.Hasher.Hasher) x.shard) c.args.step ≡ x.shard.number in
     let here = subst P (sym c.self.view_is) c.requires.goes in
-    let old = c.self.invariant in
     let tells = subst (λ n. Tells g.K.Kept.alike g.V.Kept.alike g.A.Kept.alike c.args.stamp c.args.caller n c.args.step c.in-Ok.reply c.in-Ok-copies.first) c.number-number.ensures.number c.in-Ok-copies.ensures.first in
     let with_history : List (Record g.row.K.Denot g.row.V.Denot g.row.A.Denot) → At = λ h. record { shard = c.carry_out.new.shard; callers = c.self.inside.callers; last = c.args.stamp; history = h } in
     rw (← c.self.view_is) (record {
       takes = taken _ (lawful-of g.S.BuildHasher g.S.Hasher.Hasher g.met.K.Eq.laws g.met.K.Hash.respects_eq) _ _ g.met.K.Kept.alike_laws g.met.V.Kept.alike_laws g.met.K.KeptKey.alike_equal _ _ g.met.A.KeptAction.alike_acts
-          c.self.inside.shard c.carry_out.new.shard c.args.step c.in-Ok.reply old.shard here c.in-Ok.ensures.answers c.in-Ok-carry_out.ensures.ok c.in-Ok-carry_out.ensures.stays (c.in-Ok-carry_out.ensures.lawful old.shard);
+          c.self.inside.shard c.carry_out.new.shard c.args.step c.in-Ok.reply c.self.invariant.shard here c.in-Ok.ensures.answers c.in-Ok-carry_out.ensures.ok c.in-Ok-carry_out.ensures.stays (c.in-Ok-carry_out.ensures.lawful old.shard);
       kept = c.in-Ok-copies.first;
       tells = told _ _ _ _ _ _ tells;
       same = c.in-Ok-copies.ensures.second;

@@ -1,0 +1,20 @@
+use Rattle.std.proofs.Common.{◌∙◌, sym, subst}
+use Rattle.dash_shard.specs.Hashing.{key_hash}
+use Rattle.dash_shard.specs.Shard.{IsTagged}
+use Rattle.dash_map.proofs.Seeing.{routes}
+use Rattle.dash_map.proofs.map.DashMap.entry.Goals as goal
+
+pub find-requires-clause-hash : goal.find-requires-clause-hash
+find-requires-clause-hash g c = c.route_of-hash.ensures.hash ∙ sym (c.shards_mut.ensures.tagged.hashes c.args.key)
+
+pub find-requires-clause-route : goal.find-requires-clause-route
+find-requires-clause-route g c =
+    let h = key_hash g.K.PartialEq.eq g.K.Hash.hash_input g.S.BuildHasher g.S.Hasher.Hasher in
+    let m = c.args.self.now in
+    routes h m.hasher m.amount c.args.key c.shards_mut.result (subst (λ n. IsTagged h m.hasher m.amount n c.shards_mut.result) c.route_of-hash.ensures.route c.shards_mut.ensures.tagged)
+
+pub returns : goal.returns
+returns g c =
+    let h = key_hash g.K.PartialEq.eq g.K.Hash.hash_input g.S.BuildHasher g.S.Hasher.Hasher in
+    let m = c.args.self.now in
+    (c.shards_mut.result, subst (λ n. IsTagged h m.hasher m.amount n c.shards_mut.result) c.route_of-hash.ensures.route c.shards_mut.ensures.tagged, c.find.ensures)

@@ -1,0 +1,79 @@
+//! Calls of threads on a map that they share, for those who wait for nobody.
+ghost use Rattle.std.specs.Prelude.{◌<◌, IsTrue, IfSome, option_and_then};
+ghost use Rattle.std.specs.Option.{option_map};
+ghost use Rattle.dash_shard.specs.Shard.{HasKey, RepliesOn, IsTagged};
+ghost use Rattle.dash_shard.specs.Steps.{Get, Pair};
+ghost use Rattle.dash_ref.specs.Ref.{Stands, pair_of};
+ghost use Rattle.dash_ref.specs.RefMut.{stored};
+ghost use Rattle.dash_ref.specs.Try.{found};
+ghost use Rattle.dash_map.specs.Behind.{SawShard, StandsAt};
+ghost use Rattle.dash_map.specs.Tries.{UnlessLocked};
+
+use crate::map::DashMap;
+use dash_ref::mapref::one::{Ref, RefMut};
+use dash_ref::try_result::TryResult;
+use dash_shard::keyed::Keyed;
+use dash_shard::lock::RwLockReadGuard;
+use dash_shard::shard::Shard;
+use dash_shard::shard::held::ShardMut;
+use std::hash::{BuildHasher, Hash};
+
+impl<K: Eq + Hash, V, S: BuildHasher> DashMap<K, V, S> {
+    // A hold of the shard for reading, where `RwLock::try_read` gets it.
+    #[inline]
+    pub(crate) fn try_shard(&self, shard: usize) -> Option<RwLockReadGuard<'_, Shard<K, V, S>>>
+        requires { shard < self.now.amount }
+        ensures tagged { IfSome result (λ r. IsTagged ⟦<Self as Keyed>⟧.by self.now.hasher self.now.amount shard r.value) }
+    {
+        self.row[shard].try_read()
+    }
+
+    /// As `get`, for a caller who waits for nobody: the answer is `Locked` where `RwLock::try_read` doesn't get the key's shard, which says
+    /// nothing of who has it. It takes no memory.
+    #[inline]
+    pub fn try_get(&self, key: &K) -> TryResult<Ref<'_, K, V, S>>
+        ensures saw { UnlessLocked result (λ r. SawShard ⟦<Self as Keyed>⟧.by self.now key.now (λ s. RepliesOn K.eq s (Get key.now) (Pair (option_map pair_of r)))) }
+        ensures equal { IfSome (found result) (λ r. IsTrue (K.eq r.key key.now)) }
+        ensures stands { IfSome (found result) Stands }
+        ensures tagged { IfSome (found result) (λ r. StandsAt ⟦<Self as Keyed>⟧.by self.now key.now r.shard) }
+    {
+        let (hash, idx) = self.route_of(key);
+        let Some(guard) = self.try_shard(idx) else {
+            return TryResult::Locked;
+        };
+        match Ref::find(guard, hash, key) {
+            Some(found) => TryResult::Present(found),
+            None => TryResult::Absent,
+        }
+    }
+
+    // A hold of the shard for writing, where `RwLock::try_write` gets it.
+    #[inline]
+    pub(crate) fn try_shards_mut(&self, shard: usize) -> Option<ShardMut<'_, K, V, S>>
+        requires { shard < self.now.amount }
+        ensures tagged { IfSome result (IsTagged ⟦<Self as Keyed>⟧.by self.now.hasher self.now.amount shard) }
+    {
+        match self.row[shard].try_write() {
+            Some(guard) => Some(guard.shard()),
+            None => None,
+        }
+    }
+
+    /// As `get_mut`, for a caller who waits for nobody: the answer is `Locked` where `RwLock::try_write` doesn't get the key's shard, which
+    /// says nothing of who has it. It takes no memory.
+    #[inline]
+    pub fn try_get_mut(&self, key: &K) -> TryResult<RefMut<'_, K, V, S>>
+        ensures saw { UnlessLocked result (λ r. SawShard ⟦<Self as Keyed>⟧.by self.now key.now (λ s. RepliesOn K.eq s (Get key.now) (Pair (option_and_then stored r)))) }
+        ensures equal { IfSome (found result) (λ r. HasKey K.eq r.shard key.now r.position) }
+        ensures tagged { IfSome (found result) (λ r. StandsAt ⟦<Self as Keyed>⟧.by self.now key.now r.shard) }
+    {
+        let (hash, idx) = self.route_of(key);
+        let Some(shard) = self.try_shards_mut(idx) else {
+            return TryResult::Locked;
+        };
+        match RefMut::find(shard, hash, key) {
+            Some(found) => TryResult::Present(found),
+            None => TryResult::Absent,
+        }
+    }
+}

@@ -1,0 +1,24 @@
+-- What is known of an entry, by its case.
+use Rattle.std.specs.Prelude.{◌≡◌, Bool, None, Result, Ok, Err}
+use Rattle.dash_shard.specs.Contents.{at}
+use Rattle.dash_shard.specs.Shard.{ShardState, pairs}
+use Rattle.dash_ref.specs.Entry.{OccupiedState, VacantState, OccupiedOf, VacantOf}
+use Rattle.dash_ref.specs.declared.mapref.entry.EntryRefused.{EntryRefused}
+use Rattle.dash_ref.specs.declared.mapref.entry.Entry.{Entry}
+use Rattle.dash_ref.specs.declared.mapref.entry.Entry.TheVariants.{Occupied, Vacant}
+
+module _ {K V S H : Type 0} where
+  -- P of an occupied entry, Q of a vacant one
+  abbrev pub MatchEntry : Entry K V S H → (OccupiedState K V S → Type 0) → (VacantState K V S → Type 0) → Type 0
+  MatchEntry (Occupied o) P Q = P o
+  MatchEntry (Vacant v) P Q = Q v
+
+  -- the key that was handed in
+  abbrev pub entry_key : Entry K V S H → K
+  entry_key (Occupied o) = o.key
+  entry_key (Vacant v) = v.key
+
+  -- the entry of a key in a shard: occupied exactly where a pair with an equal one is there; a refusal hands the key of a vacant one back
+  abbrev pub IsEntryOf : (K → K → Bool) → ShardState K V S → K → Result (Entry K V S H) (EntryRefused K) → Type 0
+  IsEntryOf eq s key (Ok e) = MatchEntry e (OccupiedOf eq s key) (VacantOf eq s key)
+  IsEntryOf eq s key (Err r) = (r.key ≡ key) × (at eq (pairs s) key ≡ None)

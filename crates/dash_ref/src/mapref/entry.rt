@@ -1,0 +1,183 @@
+//! A key of a map, with what stands there.
+ghost use Rattle.std.specs.Prelude.{◌≡◌, IsOk, IfOk, IfErr, OnErr, MatchResult, Some, ⊤};
+ghost use Rattle.std.specs.Option.{option_map};
+ghost use Rattle.std.specs.Fn.{FnOnceReturnsAtMut};
+ghost use Rattle.dash_ref.specs.RefMut.{rewritten, stored};
+ghost use Rattle.dash_ref.specs.Entry.{Modified, Puts};
+ghost use Rattle.dash_ref.specs.EntryCases.{MatchEntry, entry_key, IsEntryOf};
+ghost use Rattle.dash_shard.specs.Hashing.{by};
+ghost use Rattle.dash_shard.specs.Shard.{Routes};
+
+use crate::mapref::one::RefMut;
+use dash_shard::keyed::Keyed;
+use dash_shard::shard::held::ShardMut;
+pub use occupied::OccupiedEntry;
+use std::hash::{BuildHasher, Hash};
+pub use vacant::VacantEntry;
+
+mod occupied;
+mod vacant;
+
+/// A key and a hold of its shard for writing, with the pair that stands there or with room for one, as the original's `Entry`.
+///
+/// No call of it takes memory or waits, nor does the drop, which ends the hold.
+#[derive(Drop)]
+pub enum Entry<'a, K: Eq + Hash, V, S: BuildHasher> {
+    /// A pair with an equal key stands there.
+    Occupied(OccupiedEntry<'a, K, V, S>),
+    /// There is none.
+    Vacant(VacantEntry<'a, K, V, S>),
+}
+
+/// No room for the pair of a vacant key (2), which comes back. The pairs are as they were, and the hold is over.
+#[derive(Debug, Drop)]
+pub struct EntryRefused<K> {
+    pub key: K,
+}
+
+/// Why an entry wasn't had without waiting. The key comes back, and the pairs are as they were.
+#[derive(Debug, Drop)]
+pub enum TryEntryRefused<K> {
+    /// The key's shard wasn't got (9), which says nothing of who has it.
+    Locked(K),
+    /// No room for the pair of a vacant key (10).
+    Memory(K),
+}
+
+impl<K: Eq + Hash, V, S: BuildHasher> Keyed for Entry<'_, K, V, S> {
+    type Key = K;
+
+    type State = S;
+
+    ghost by = { by K.Hash S.BuildHasher S.Hasher.Hasher };
+}
+
+impl<'a, K: Eq + Hash + Drop, V: Drop, S: BuildHasher> Entry<'a, K, V, S> {
+    /// The entry of a key that goes to the held shard, for a caller who has the key's hash. It makes one look-up.
+    ///
+    /// It takes memory for a vacant key where the shard is full, and is refused (2) only for want of it.
+    #[inline]
+    pub fn find(
+        mut shard: ShardMut<'a, K, V, S>,
+        hash: u64,
+        key: K,
+    ) -> Result<Entry<'a, K, V, S>, EntryRefused<K>>
+        requires hash { hash ≡ ⟦<Self as Keyed>⟧.by.hash shard.hasher key }
+        requires route { Routes ⟦<Self as Keyed>⟧.by shard key }
+        ensures { IsEntryOf K.eq shard.entry key result }
+    {
+        if let Some(position) = shard.position_of_hashed(hash, &key) {
+            return Ok(Entry::Occupied(OccupiedEntry::new(shard, position, key)));
+        }
+        match shard.try_reserve(1) {
+            Ok(()) => Ok(Entry::Vacant(VacantEntry::new(shard, key))),
+            Err(_) => Err(EntryRefused { key }),
+        }
+    }
+
+    /// Changes the stored value by `f`, where there is one.
+    #[inline]
+    pub fn and_modify<F: FnOnce(&mut V) + Drop>(self, f: F) -> Self
+        requires { F.IsAlwaysCallable f }
+        ensures { MatchEntry self.entry
+            (λ o. MatchEntry result (Modified (λ v w. FnOnceReturnsAtMut F.FnOnce f v tt w) o) (λ _. ⊥))
+            (λ v. MatchEntry result (λ _. ⊥) (λ w. w ≡ v)) }
+    {
+        match self {
+            Entry::Occupied(mut entry) => {
+                entry.modify(f);
+                Entry::Occupied(entry)
+            }
+            Entry::Vacant(entry) => Entry::Vacant(entry),
+        }
+    }
+
+    /// The stored key, or the one that was handed in where there is no pair.
+    #[inline]
+    pub fn key(&self) -> &K
+        ensures { MatchEntry self.now (λ o. option_map (λ p. p.0) (stored o.pair) ≡ Some result.now) (λ v. result.now ≡ v.key) }
+    {
+        match self {
+            Entry::Occupied(entry) => entry.key(),
+            Entry::Vacant(entry) => entry.key(),
+        }
+    }
+
+    /// The key that was handed in.
+    #[inline]
+    pub fn into_key(self) -> K
+        ensures { result ≡ entry_key self.entry }
+    {
+        match self {
+            Entry::Occupied(entry) => entry.into_key(),
+            Entry::Vacant(entry) => entry.into_key(),
+        }
+    }
+
+    /// The stored pair, or the pair of the key and the default value, which it puts.
+    #[inline]
+    pub fn or_default(self) -> RefMut<'a, K, V, S>
+    where
+        V: Default,
+        ensures { MatchEntry self.entry (λ o. result ≡ o.pair) (λ v. (w : V) × V.is_default w × Puts K.eq v.shard v.key w result) }
+    {
+        match self {
+            Entry::Occupied(entry) => entry.into_ref(),
+            Entry::Vacant(entry) => entry.insert(V::default()),
+        }
+    }
+
+    /// The stored pair, or the pair of the key and `value`, which it puts.
+    #[inline]
+    pub fn or_insert(self, value: V) -> RefMut<'a, K, V, S>
+        ensures { MatchEntry self.entry (λ o. result ≡ o.pair) (λ v. Puts K.eq v.shard v.key value result) }
+    {
+        match self {
+            Entry::Occupied(entry) => entry.into_ref(),
+            Entry::Vacant(entry) => entry.insert(value),
+        }
+    }
+
+    /// The stored pair, or the pair of the key and what `value` answers, which it puts. `value` runs only then, while the shard is held.
+    #[inline]
+    pub fn or_insert_with<F: FnOnce() -> V + Drop>(self, value: F) -> RefMut<'a, K, V, S>
+        requires { MatchEntry self (λ _. ⊤) (λ _. F.pre value) }
+        ensures { MatchEntry self.entry (λ o. result ≡ o.pair) (λ v. (w : V) × F.post value w × Puts K.eq v.shard v.key w result) }
+    {
+        match self {
+            Entry::Occupied(entry) => entry.into_ref(),
+            Entry::Vacant(entry) => entry.insert(value()),
+        }
+    }
+
+    /// As `or_insert_with`, where `value` may refuse: its Err is handed on, the pairs stay, and the hold ends.
+    #[inline]
+    pub fn or_try_insert_with<E, F: FnOnce() -> Result<V, E> + Drop>(
+        self,
+        value: F,
+    ) -> Result<RefMut<'a, K, V, S>, E>
+        requires { MatchEntry self (λ _. ⊤) (λ _. F.pre value) }
+        ensures { MatchEntry self.entry
+            (λ o. IfOk result (λ r. r ≡ o.pair) × IsOk result)
+            (λ v. MatchResult result (λ r. (w : V) × F.post value (Ok w) × Puts K.eq v.shard v.key w r) (λ e. F.post value (Err e))) }
+    {
+        match self {
+            Entry::Occupied(entry) => Ok(entry.into_ref()),
+            Entry::Vacant(entry) => Ok(entry.insert(value()?)),
+        }
+    }
+
+    /// Puts the value, under the stored key where there is one.
+    #[inline]
+    pub fn insert(self, value: V) -> RefMut<'a, K, V, S>
+        ensures { MatchEntry self.entry (λ o. result ≡ rewritten o.pair value) (λ v. Puts K.eq v.shard v.key value result) }
+    {
+        match self {
+            Entry::Occupied(mut entry) => {
+                drop(entry.insert(value));
+                entry.into_ref()
+            }
+            Entry::Vacant(entry) => entry.insert(value),
+        }
+    }
+}

@@ -1,0 +1,207 @@
+//! A key that has a pair.
+ghost use Rattle.std.specs.Prelude.{[], ◌≡◌, Some};
+ghost use Rattle.std.specs.Option.{option_map};
+ghost use Rattle.std.specs.Borrow.{Lends, sem};
+ghost use Rattle.std.specs.Fn.{FnOnceReturnsAtMut};
+ghost use Rattle.dash_shard.specs.Held.{Replaces};
+ghost use Rattle.dash_shard.specs.Shard.{HasKey, TakesAt};
+ghost use Rattle.dash_shard.specs.Steps.{Remove, Pair};
+ghost use Rattle.dash_ref.specs.RefMut.{stored};
+ghost use Rattle.dash_ref.specs.Entry.{Modified, revalued};
+
+use crate::mapref::one::RefMut;
+use dash_shard::keyed::Lender;
+use dash_shard::lock::RwLockWriteGuard;
+use dash_shard::shard::Shard;
+use dash_shard::shard::held::ShardMut;
+use dash_shard::shard::held::parts::Loan;
+use std::hash::{BuildHasher, Hash};
+use std::marker::{Model, PhantomData};
+use std::mem;
+
+/// A key, the pair with an equal key, and a hold of its shard for writing: the original's `OccupiedEntry`.
+pub struct OccupiedEntry<'a, K: Eq + Hash, V, S: BuildHasher> {
+    guard: RwLockWriteGuard<'a, Shard<K, V, S>>,
+    loan: Loan<K, V>,
+    position: usize,
+    key: K,
+    marker: PhantomData<&'a mut V>,
+}
+
+impl<'a, K: Eq + Hash, V, S: BuildHasher> Model for OccupiedEntry<'a, K, V, S> {
+    ghost use Rattle.dash_shard.specs.Hashing.{key_hash};
+    ghost use Rattle.dash_shard.specs.inner.Loans.{joined};
+    ghost use Rattle.dash_ref.specs.Entry.{OccupiedState};
+    ghost use Rattle.dash_ref.specs.inner.Entries.{occupied_code, IsOccupied};
+
+    ghost Value = { OccupiedState K V S };
+
+    ghost coded = { occupied_code K.code V.code S.code };
+
+    ghost view = { λ e. record { pair = record { shard = joined e.guard.value e.loan; position = e.position }; key = e.key } };
+
+    ghost invariant = { λ e. IsOccupied (key_hash K.eq K.hash_input S.BuildHasher S.Hasher.Hasher) e.guard.value e.loan e.position e.key };
+}
+
+impl<K: Eq + Hash, V, S: BuildHasher> Lender for OccupiedEntry<'_, K, V, S> {
+    ghost use mir.Syntax.{named};
+    ghost use Rattle.dash_ref.specs.contracts.mapref.entry.occupied.OccupiedEntry.{the_row};
+
+    ghost row = { the_row (record { mir = named 1; lft = [] }) K.row V.row S.row S.Hasher.row (record {}) (record { eq = K.eq }) (record { hash_input = K.hash_input }) S.BuildHasher S.Hasher.Hasher };
+}
+
+impl<K: Eq + Hash + Drop, V, S: BuildHasher> Drop for OccupiedEntry<'_, K, V, S> {
+    #[inline]
+    fn drop(self) {
+        let Self {
+            guard,
+            loan,
+            position: _,
+            key: _,
+            marker: _,
+        } = self;
+        drop(ShardMut::of_parts(guard, loan));
+    }
+}
+
+impl<'a, K: Eq + Hash + Drop, V: Drop, S: BuildHasher> OccupiedEntry<'a, K, V, S> {
+    /// The entry of a key, at the slot of the pair with an equal one.
+    #[inline]
+    pub fn new(shard: ShardMut<'a, K, V, S>, position: usize, key: K) -> OccupiedEntry<'a, K, V, S>
+        requires { HasKey K.eq shard key position }
+        ensures { result ≡ record { pair = record { shard = shard.entry; position = position }; key = key } }
+    {
+        let (guard, loan) = shard.into_parts();
+        OccupiedEntry {
+            guard,
+            loan,
+            position,
+            key,
+            marker: PhantomData,
+        }
+    }
+
+    // The reference to the stored pair, and the key that was handed in.
+    #[inline]
+    fn into_parts(self) -> (RefMut<'a, K, V, S>, K)
+        ensures pair { result.0 ≡ self.entry.pair }
+        ensures key { result.1 ≡ self.entry.key }
+        ensures equal { HasKey K.eq self.entry.pair.shard self.entry.key self.entry.pair.position }
+    {
+        let Self {
+            guard,
+            loan,
+            position,
+            key,
+            marker: _,
+        } = self;
+        (RefMut::new(ShardMut::of_parts(guard, loan), position), key)
+    }
+
+    /// The stored value.
+    #[inline]
+    pub fn get(&self) -> &V
+        ensures { option_map (λ p. p.1) (stored self.now.pair) ≡ Some result.now }
+    {
+        self.loan.at(&self.guard, self.position).1
+    }
+
+    /// The stored value, to be written.
+    #[inline]
+    pub fn get_mut(&mut self) -> &mut V
+        ensures* writes_back { sem 𝓛 (Lends ⟦<Self as Lender>⟧.row V.row self.entry result (revalued self.old)) }
+        ensures value { option_map (λ p. p.1) (stored self.old.pair) ≡ Some result.now }
+    {
+        let position = self.position;
+        self.loan.take_out(&mut self.guard);
+        self.loan.pair_mut(position).1
+    }
+
+    // Changes the stored value by `f`.
+    #[inline]
+    pub(super) fn modify<F: FnOnce(&mut V)>(&mut self, f: F)
+        requires { F.IsAlwaysCallable f }
+        ensures { Modified (λ v w. FnOnceReturnsAtMut F.FnOnce f v tt w) self.old self.new }
+    {
+        f(self.get_mut());
+    }
+
+    /// Puts a value under the stored key, and answers the old one.
+    #[inline]
+    pub fn insert(&mut self, value: V) -> V
+        ensures old { option_map (λ p. p.1) (stored self.old.pair) ≡ Some result }
+        ensures new { self.new ≡ revalued self.old value }
+    {
+        mem::replace(self.get_mut(), value)
+    }
+
+    /// The stored pair, for as long as the shard is held.
+    #[inline]
+    pub fn into_ref(self) -> RefMut<'a, K, V, S>
+        ensures { result ≡ self.entry.pair }
+    {
+        self.into_parts().0
+    }
+
+    /// The key that was handed in.
+    #[inline]
+    pub fn into_key(self) -> K
+        ensures { result ≡ self.entry.key }
+    {
+        self.into_parts().1
+    }
+
+    /// The stored key, which equals the one that was handed in.
+    #[inline]
+    pub fn key(&self) -> &K
+        ensures { option_map (λ p. p.0) (stored self.now.pair) ≡ Some result.now }
+    {
+        self.loan.at(&self.guard, self.position).0
+    }
+
+    /// Takes the stored pair out, and answers its value.
+    #[inline]
+    pub fn remove(self) -> V
+        ensures { option_map (λ p. p.1) (stored self.entry.pair) ≡ Some result }
+    {
+        self.remove_entry().1
+    }
+
+    /// Takes the stored pair out, and answers it.
+    #[inline]
+    pub fn remove_entry(self) -> (K, V)
+        ensures { stored self.entry.pair ≡ Some result }
+    {
+        self.remove_held().0
+    }
+
+    /// As `remove_entry`, and answers the shard too, held on. The original has no such call.
+    #[inline]
+    pub fn remove_held(self) -> ((K, V), ShardMut<'a, K, V, S>)
+        ensures pair { stored self.entry.pair ≡ Some result.0 }
+        ensures removes { TakesAt K.eq self.entry.pair.shard result.1 self.entry.pair.position Remove (Pair (Some result.0)) }
+    {
+        let position = self.position;
+        let mut shard = self.into_ref().into_shard();
+        (shard.remove_at(position), shard)
+    }
+
+    /// Stores the key that was handed in with the value, and answers the pair that stood there.
+    #[inline]
+    pub fn replace_entry(self, value: V) -> (K, V)
+        ensures { stored self.entry.pair ≡ Some result }
+    {
+        self.replace_held(value).0
+    }
+
+    /// As `replace_entry`, and answers the shard too, held on. The original has no such call.
+    #[inline]
+    pub fn replace_held(self, value: V) -> ((K, V), ShardMut<'a, K, V, S>)
+        ensures { Replaces K.eq self.entry.pair.shard result.1 self.entry.pair.position self.entry.key value result.0 }
+    {
+        let position = self.position;
+        let (pair, key) = self.into_parts();
+        let mut shard = pair.into_shard();
+        (shard.replace_at(position, key, value), shard)
+    }
+}

@@ -1,0 +1,81 @@
+//! A key that has no pair.
+ghost use Rattle.std.specs.Prelude.{◌≡◌, ◌<◌, None};
+ghost use Rattle.dash_shard.specs.Hashing.{by};
+ghost use Rattle.dash_shard.specs.Contents.{at};
+ghost use Rattle.dash_shard.specs.Shard.{pairs, shard_len, Routes};
+ghost use Rattle.dash_ref.specs.Entry.{Puts};
+
+use crate::mapref::one::RefMut;
+use dash_shard::keyed::Keyed;
+use dash_shard::shard::held::ShardMut;
+use std::hash::{BuildHasher, Hash};
+use std::marker::Model;
+
+/// A key, and a hold of its shard for writing, which has no pair with an equal key, and room for one: the original's `VacantEntry`.
+#[derive(Drop)]
+pub struct VacantEntry<'a, K: Eq + Hash, V, S: BuildHasher> {
+    shard: ShardMut<'a, K, V, S>,
+    key: K,
+}
+
+impl<'a, K: Eq + Hash, V, S: BuildHasher> Model for VacantEntry<'a, K, V, S> {
+    ghost use Rattle.dash_shard.specs.Hashing.{key_hash};
+    ghost use Rattle.dash_ref.specs.Entry.{VacantState};
+    ghost use Rattle.dash_ref.specs.inner.Entries.{vacant_code, IsVacant};
+
+    ghost Value = { VacantState K V S };
+
+    ghost coded = { vacant_code K.code V.code S.code };
+
+    ghost view = { λ e. record { shard = e.shard; key = e.key } };
+
+    ghost invariant = { λ e. IsVacant (key_hash K.eq K.hash_input S.BuildHasher S.Hasher.Hasher) e.shard e.key };
+}
+
+impl<K: Eq + Hash, V, S: BuildHasher> Keyed for VacantEntry<'_, K, V, S> {
+    type Key = K;
+
+    type State = S;
+
+    ghost by = { by K.Hash S.BuildHasher S.Hasher.Hasher };
+}
+
+impl<'a, K: Eq + Hash + Drop, V: Drop, S: BuildHasher> VacantEntry<'a, K, V, S> {
+    /// The entry of a key that goes to the held shard, which has no equal one, and room.
+    #[inline]
+    pub fn new(shard: ShardMut<'a, K, V, S>, key: K) -> VacantEntry<'a, K, V, S>
+        requires routes { Routes ⟦<Self as Keyed>⟧.by shard key }
+        requires absent { at K.eq (pairs shard) key ≡ None }
+        requires room { shard_len shard < shard.capacity }
+        ensures { result ≡ record { shard = shard.entry; key = key } }
+    {
+        VacantEntry { shard, key }
+    }
+
+    /// Puts the pair of the key and the value. It can't be refused, since the room is there.
+    #[inline]
+    pub fn insert(self, value: V) -> RefMut<'a, K, V, S>
+        ensures { Puts K.eq self.entry.shard self.entry.key value result }
+    {
+        let Self { mut shard, key } = self;
+        let position = shard.insert_new(key, value);
+        RefMut::new(shard, position)
+    }
+
+    /// The key that was handed in.
+    #[inline]
+    pub fn into_key(self) -> K
+        ensures { result ≡ self.entry.key }
+    {
+        let Self { shard: _, key } = self;
+        key
+    }
+
+    /// The key that was handed in.
+    #[inline]
+    pub fn key(&self) -> &K
+        ensures { result.now ≡ self.now.key }
+    {
+        &self.key
+    }
+}

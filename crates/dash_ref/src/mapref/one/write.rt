@@ -1,0 +1,205 @@
+//! A reference to one pair that may be written.
+ghost use Rattle.std.specs.Prelude.{[], ◌≡◌, ◌↔◌, IsSome, IfSome, IsNone, Some, None, option_and_then};
+ghost use Rattle.std.specs.Option.{option_map};
+ghost use Rattle.std.specs.Borrow.{Lends, sem};
+ghost use Rattle.std.specs.Map.Iter.{deref_pair, deref_pair_mut};
+ghost use Rattle.dash_shard.specs.Hashing.{by};
+ghost use Rattle.dash_shard.specs.Contents.{at};
+ghost use Rattle.dash_shard.specs.Steps.{Get, Pair};
+ghost use Rattle.dash_shard.specs.Shard.{slot, pairs, HasKey, IsShard, RepliesOn};
+ghost use Rattle.dash_ref.specs.RefMut.{stored, rewritten};
+
+use dash_shard::keyed::{Keyed, Lender};
+use dash_shard::lock::RwLockWriteGuard;
+use dash_shard::shard::Shard;
+use dash_shard::shard::held::ShardMut;
+use dash_shard::shard::held::parts::Loan;
+pub use mapped::MappedRefMut;
+use std::fmt;
+use std::hash::{BuildHasher, Hash};
+use std::marker::{Model, PhantomData};
+use std::ops::{Deref, DerefMut};
+
+mod mapped;
+
+/// A pair of a map, and a hold of its shard's lock for writing, as the original's `RefMut`: the hold ends when this is dropped, and till
+/// then the pair changes by this reference's own calls alone.
+///
+/// The original points to key and value. This has the pair's position in the held shard, and reaches the pair there without a look-up.
+/// The first loan of the value moves the shard's table to this reference, and the drop moves it back: some words each. No call takes
+/// memory or waits, nor does the drop. Meanwhile whoever wants the shard waits. A contract sees it as the held shard and the position.
+pub struct RefMut<'a, K: Eq + Hash, V, S: BuildHasher> {
+    guard: RwLockWriteGuard<'a, Shard<K, V, S>>,
+    loan: Loan<K, V>,
+    position: usize,
+    marker: PhantomData<&'a mut V>,
+}
+
+impl<'a, K: Eq + Hash, V, S: BuildHasher> Model for RefMut<'a, K, V, S> {
+    ghost use Rattle.dash_shard.specs.Hashing.{key_hash};
+    ghost use Rattle.dash_shard.specs.inner.Loans.{joined};
+    ghost use Rattle.dash_ref.specs.RefMut.{RefMutState};
+    ghost use Rattle.dash_ref.specs.inner.RefMut.{ref_mut_code, IsLendable};
+
+    ghost Value = { RefMutState K V S };
+
+    ghost coded = { ref_mut_code K.code V.code S.code };
+
+    ghost view = { λ r. record { shard = joined r.guard.value r.loan; position = r.position } };
+
+    ghost invariant = { λ r. IsLendable (key_hash K.eq K.hash_input S.BuildHasher S.Hasher.Hasher) r.guard.value r.loan r.position };
+}
+
+impl<K: Eq + Hash, V, S: BuildHasher> Keyed for RefMut<'_, K, V, S> {
+    type Key = K;
+
+    type State = S;
+
+    ghost by = { by K.Hash S.BuildHasher S.Hasher.Hasher };
+}
+
+impl<K: Eq + Hash, V, S: BuildHasher> Lender for RefMut<'_, K, V, S> {
+    ghost use mir.Syntax.{named};
+    ghost use Rattle.dash_ref.specs.contracts.mapref.one.write.RefMut.{the_row};
+
+    ghost row = { the_row (record { mir = named 1; lft = [] }) K.row V.row S.row S.Hasher.row (record {}) (record { eq = K.eq }) (record { hash_input = K.hash_input }) S.BuildHasher S.Hasher.Hasher };
+}
+
+impl<K: Eq + Hash, V, S: BuildHasher> Drop for RefMut<'_, K, V, S> {
+    #[inline]
+    fn drop(self) {
+        let Self {
+            guard,
+            loan,
+            position: _,
+            marker: _,
+        } = self;
+        drop(ShardMut::of_parts(guard, loan));
+    }
+}
+
+impl<'a, K: Eq + Hash, V, S: BuildHasher> RefMut<'a, K, V, S> {
+    /// The pair at a taken slot of the held shard.
+    #[inline]
+    pub fn new(shard: ShardMut<'a, K, V, S>, position: usize) -> RefMut<'a, K, V, S>
+        requires { IsSome (slot shard.slots position) }
+        ensures { result ≡ record { shard = shard.entry; position = position } }
+    {
+        let (guard, loan) = shard.into_parts();
+        RefMut {
+            guard,
+            loan,
+            position,
+            marker: PhantomData,
+        }
+    }
+
+    /// The pair whose key equals `key`, in the held shard, for a caller who has the key's hash. Where there is no such pair, the hold ends.
+    #[inline]
+    pub fn find(shard: ShardMut<'a, K, V, S>, hash: u64, key: &K) -> Option<RefMut<'a, K, V, S>>
+        requires { hash ≡ ⟦<Self as Keyed>⟧.by.hash shard.hasher key.now }
+        ensures pair { RepliesOn K.eq shard.entry (Get key.now) (Pair (option_and_then stored result)) }
+        ensures absent { IsNone result ↔ (at K.eq (pairs shard.entry) key.now ≡ None) }
+        ensures equal { IfSome result (λ r. HasKey K.eq r.shard key.now r.position) }
+        ensures shard { IfSome result (λ r. r.shard ≡ shard.entry) }
+    {
+        let position = shard.position_of_hashed(hash, key)?;
+        Some(RefMut::new(shard, position))
+    }
+
+    /// The shard as this leaves it, held on. The original has no such call.
+    #[inline]
+    pub fn into_shard(self) -> ShardMut<'a, K, V, S>
+        ensures { result ≡ self.entry.shard }
+    {
+        let Self {
+            guard,
+            loan,
+            position: _,
+            marker: _,
+        } = self;
+        ShardMut::of_parts(guard, loan)
+    }
+
+    /// The key that is stored.
+    #[inline]
+    pub fn key(&self) -> &K
+        ensures { option_map (λ p. p.0) (stored self.now) ≡ Some result.now }
+    {
+        self.pair().0
+    }
+
+    /// The value.
+    #[inline]
+    pub fn value(&self) -> &V
+        ensures { option_map (λ p. p.1) (stored self.now) ≡ Some result.now }
+    {
+        self.pair().1
+    }
+
+    /// The value, to be written.
+    #[inline]
+    pub fn value_mut(&mut self) -> &mut V
+        ensures* writes_back { sem 𝓛 (Lends ⟦<Self as Lender>⟧.row V.row self.entry result (rewritten self.old)) }
+        ensures value { option_map (λ p. p.1) (stored self.old) ≡ Some result.now }
+    {
+        self.pair_mut().1
+    }
+
+    /// Key and value, of one read of the slot.
+    #[inline]
+    pub fn pair(&self) -> (&K, &V)
+        ensures { stored self.now ≡ Some (deref_pair result) }
+    {
+        self.loan.at(&self.guard, self.position)
+    }
+
+    /// Key and value, the value to be written.
+    #[inline]
+    pub fn pair_mut(&mut self) -> (&K, &mut V)
+        ensures* writes_back { sem 𝓛 (Lends ⟦<Self as Lender>⟧.row V.row self.entry result.1 (rewritten self.old)) }
+        ensures pair { stored self.old ≡ Some (deref_pair_mut result) }
+    {
+        let position = self.position;
+        self.loan.take_out(&mut self.guard);
+        self.loan.pair_mut(position)
+    }
+}
+
+impl<K: Eq + Hash, V, S: BuildHasher> Deref for RefMut<'_, K, V, S> {
+    type Target = V;
+
+    ghost deref_gives = { λ r value. option_map (λ p. p.1) (stored r) ≡ Some value };
+
+    #[inline]
+    fn deref(&self) -> &V {
+        self.value()
+    }
+}
+
+impl<K: Eq + Hash, V, S: BuildHasher> DerefMut for RefMut<'_, K, V, S> {
+    ghost use Rattle.std.specs.Prelude.{◌≡◌, Some};
+    ghost use Rattle.std.specs.Option.{option_map};
+    ghost use Rattle.dash_ref.specs.RefMut.{stored};
+
+    ghost deref_mut_gives = { λ r value. option_map (λ p. p.1) (stored r) ≡ Some value };
+
+    #[inline]
+    fn deref_mut(&mut self) -> &mut V
+        ensures* writes_back { sem 𝓛 (Lends ⟦<Self as Lender>⟧.row V.row self.entry result (rewritten self.old)) }
+        ensures value { option_map (λ p. p.1) (stored self.old) ≡ Some result.now }
+    {
+        self.value_mut()
+    }
+}
+
+/// `RefMut { k: 1, v: 2 }`.
+impl<K: Eq + Hash + fmt::Debug, V: fmt::Debug, S: BuildHasher> fmt::Debug for RefMut<'_, K, V, S> {
+    fn fmt<W: fmt::Write>(&self, f: &mut fmt::Formatter<W>) -> fmt::Result {
+        let (key, value) = self.pair();
+        f.debug_struct("RefMut")
+            .field("k", key)
+            .field("v", value)
+            .finish()
+    }
+}

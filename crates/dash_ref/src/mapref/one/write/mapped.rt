@@ -1,0 +1,186 @@
+//! A reference to a part of a value that may be written.
+ghost use Rattle.std.specs.Prelude.{[], ◌≡◌, ◌↔◌, IsSome, Some, IfOk, IfErr, IsOk, option_and_then};
+ghost use Rattle.std.specs.Option.{option_map};
+ghost use Rattle.std.specs.Borrow.{Lends, sem};
+ghost use Rattle.dash_ref.specs.RefMut.{stored, part_in, with_part};
+
+use super::RefMut;
+use crate::mapref::one::projection::{Compose, Projection};
+use dash_shard::keyed::Lender;
+use dash_shard::lock::RwLockWriteGuard;
+use dash_shard::shard::Shard;
+use dash_shard::shard::held::ShardMut;
+use dash_shard::shard::held::parts::Loan;
+use std::fmt;
+use std::hash::{BuildHasher, Hash};
+use std::marker::{Model, PhantomData};
+use std::ops::{Deref, DerefMut};
+
+/// A part of the value of a pair, and a hold of the pair's shard for writing, as the original's `MappedRefMut`.
+///
+/// It is the reference that was mapped, which ends with it, and the projection, which takes the place of the original's type of the part.
+pub struct MappedRefMut<'a, K: Eq + Hash, V, S: BuildHasher, P: Projection<V>> {
+    guard: RwLockWriteGuard<'a, Shard<K, V, S>>,
+    loan: Loan<K, V>,
+    position: usize,
+    by: P,
+    marker: PhantomData<&'a mut V>,
+}
+
+impl<'a, K: Eq + Hash, V, S: BuildHasher, P: Projection<V>> Model for MappedRefMut<'a, K, V, S, P> {
+    ghost use Rattle.dash_shard.specs.Hashing.{key_hash};
+    ghost use Rattle.dash_shard.specs.inner.Loans.{joined};
+    ghost use Rattle.dash_ref.specs.RefMut.{MappedRefMutState};
+    ghost use Rattle.dash_ref.specs.inner.RefMut.{mapped_mut_code, IsMappable};
+
+    ghost Value = { MappedRefMutState K V S P };
+
+    ghost coded = { mapped_mut_code K.code V.code S.code P.code };
+
+    ghost view = { λ m. record { guard = record { shard = joined m.guard.value m.loan; position = m.position }; by = m.by } };
+
+    ghost invariant = { λ m. IsMappable (key_hash K.eq K.hash_input S.BuildHasher S.Hasher.Hasher) (P.part m.by) m.guard.value m.loan m.position };
+}
+
+impl<K: Eq + Hash, V, S: BuildHasher, P: Projection<V>> Lender for MappedRefMut<'_, K, V, S, P> {
+    ghost use mir.Syntax.{named};
+    ghost use Rattle.dash_ref.specs.contracts.mapref.one.write.mapped.MappedRefMut.{the_row};
+
+    ghost row = { the_row (record { mir = named 1; lft = [] }) K.row V.row S.row P.row S.Hasher.row P.Target.row (record {}) (record { eq = K.eq }) (record { hash_input = K.hash_input }) S.BuildHasher S.Hasher.Hasher P.Projection };
+}
+
+impl<K: Eq + Hash, V, S: BuildHasher, P: Projection<V> + Drop> Drop
+    for MappedRefMut<'_, K, V, S, P> {
+    #[inline]
+    fn drop(self) {
+        let Self {
+            guard,
+            loan,
+            position: _,
+            by: _,
+            marker: _,
+        } = self;
+        drop(ShardMut::of_parts(guard, loan));
+    }
+}
+
+impl<'a, K: Eq + Hash, V, S: BuildHasher> RefMut<'a, K, V, S> {
+    /// A reference to a part that the value has.
+    #[inline]
+    pub fn map<P: Projection<V>>(self, by: P) -> MappedRefMut<'a, K, V, S, P>
+        requires { IsSome (part_in (P.part by) self) }
+        ensures { result ≡ record { guard = self.entry; by = by } }
+    {
+        let Self {
+            guard,
+            loan,
+            position,
+            marker: _,
+        } = self;
+        MappedRefMut {
+            guard,
+            loan,
+            position,
+            by,
+            marker: PhantomData,
+        }
+    }
+
+    /// A reference to a part of the value, or this one again, where the value hasn't got it.
+    #[inline]
+    pub fn try_map<P: Projection<V> + Drop>(
+        self,
+        by: P,
+    ) -> Result<MappedRefMut<'a, K, V, S, P>, Self>
+        ensures mapped { IfOk result (λ mapped. mapped ≡ record { guard = self.entry; by = by }) }
+        ensures back { IfErr result (λ guard. guard ≡ self.entry) }
+        ensures exact { IsOk result ↔ IsSome (part_in (P.part by) self.entry) }
+    {
+        if by.holds(self.pair().1) {
+            Ok(self.map(by))
+        } else {
+            Err(self)
+        }
+    }
+}
+
+impl<'a, K: Eq + Hash, V, S: BuildHasher, P: Projection<V>> MappedRefMut<'a, K, V, S, P> {
+    /// The key that is stored.
+    #[inline]
+    pub fn key(&self) -> &K
+        ensures { option_map (λ p. p.0) (stored self.now.guard) ≡ Some result.now }
+    {
+        self.loan.at(&self.guard, self.position).0
+    }
+
+    /// The part.
+    #[inline]
+    pub fn value(&self) -> &P::Target
+        ensures { part_in (P.part self.now.by) self.now.guard ≡ Some result.now }
+    {
+        self.by.get(self.loan.at(&self.guard, self.position).1)
+    }
+
+    /// The part, to be written. A write changes the value as the projection says, and no other pair.
+    #[inline]
+    pub fn value_mut(&mut self) -> &mut P::Target
+        ensures* writes_back { sem 𝓛 (Lends ⟦<Self as Lender>⟧.row P.Target.row self.entry result
+            (λ t. record self.old { guard = with_part (P.with self.old.by) self.old.guard t })) }
+        ensures value { part_in (P.part self.old.by) self.old.guard ≡ Some result.now }
+    {
+        let position = self.position;
+        self.loan.take_out(&mut self.guard);
+        let value = self.loan.pair_mut(position).1;
+        P::get_mut(value, &self.by)
+    }
+
+    /// Key and part.
+    #[inline]
+    pub fn pair(&self) -> (&K, &P::Target)
+        ensures key { option_map (λ p. p.0) (stored self.now.guard) ≡ Some result.0.now }
+        ensures value { part_in (P.part self.now.by) self.now.guard ≡ Some result.1.now }
+    {
+        (self.key(), self.value())
+    }
+}
+
+impl<K: Eq + Hash, V, S: BuildHasher, P: Projection<V>> Deref for MappedRefMut<'_, K, V, S, P> {
+    type Target = P::Target;
+
+    ghost deref_gives = { λ m part. part_in (P.part m.by) m.guard ≡ Some part };
+
+    #[inline]
+    fn deref(&self) -> &P::Target {
+        self.value()
+    }
+}
+
+impl<K: Eq + Hash, V, S: BuildHasher, P: Projection<V>> DerefMut for MappedRefMut<'_, K, V, S, P> {
+    ghost use Rattle.std.specs.Prelude.{◌≡◌, Some};
+    ghost use Rattle.dash_ref.specs.RefMut.{part_in};
+
+    ghost deref_mut_gives = { λ m part. part_in (P.part m.by) m.guard ≡ Some part };
+
+    #[inline]
+    fn deref_mut(&mut self) -> &mut P::Target
+        ensures* writes_back { sem 𝓛 (Lends ⟦<Self as Lender>⟧.row P.Target.row self.entry result
+            (λ t. record self.old { guard = with_part (P.with self.old.by) self.old.guard t })) }
+        ensures value { part_in (P.part self.old.by) self.old.guard ≡ Some result.now }
+    {
+        self.value_mut()
+    }
+}
+
+/// `MappedRefMut { k: 1, v: 2 }`.
+impl<K: Eq + Hash + fmt::Debug, V, S: BuildHasher, P: Projection<V>> fmt::Debug
+    for MappedRefMut<'_, K, V, S, P>
+where
+    P::Target: fmt::Debug,
+{
+    fn fmt<W: fmt::Write>(&self, f: &mut fmt::Formatter<W>) -> fmt::Result {
+        f.debug_struct("MappedRefMut")
+            .field("k", self.key())
+            .field("v", self.value())
+            .finish()
+    }
+}
