@@ -9,6 +9,7 @@ use Rattle.dash_shard.specs.Contents.{Keys, at, Distinct}
 use Rattle.dash_shard.proofs.Equals.{along, apart, at-equal}
 use Rattle.dash_shard.specs.Steps.{Get, Insert, Remove}
 use Rattle.dash_shard.specs.inner.Steps.{key_or, Becomes, after}
+
 module _ {K V : Type 0} (w : Keys K) (k : K) where
   -- x is the first pair with a key equal to k, and stands at i
   abbrev pub IsFirst : List (K × V) → ℕ → K × V → Type 0

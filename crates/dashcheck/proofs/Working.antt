@@ -97,11 +97,14 @@ step-at j (suc n) m d inside = elim (cases_lt m n) [
 ]
 
 has-done : (n : ℕ) (l : LogState ℕ ℕ (Unit {0})) → HasTaken n l → HasDone n l
-has-done n l taken = (length-done n l taken, λ m r e.
-    let within : m < length l.entries = slice_get_within l.entries m r e in
-    let here : get_or l.entries m r ≡ r = same_Some _ r (sym (slice_get-get_or l.entries m r within) ∙ e) in
-    ap (λ q. q.step) (sym here) ∙ sym (get_or-map (λ q. q.step) l.entries m r r.step within) ∙ ap (λ steps. get_or steps m r.step) taken
-        ∙ step-at l.caller n m r.step (omega (arith, within, length-done n l taken)))
+has-done n l taken = (
+  length-done n l taken,
+  λ m r e.
+      let within : m < length l.entries = slice_get_within l.entries m r e in
+      let here : get_or l.entries m r ≡ r = same_Some _ r (sym (slice_get-get_or l.entries m r within) ∙ e) in
+      ap (λ q. q.step) (sym here) ∙ sym (get_or-map (λ q. q.step) l.entries m r r.step within) ∙ ap (λ steps. get_or steps m r.step) taken
+      ∙ step-at l.caller n m r.step (omega (arith, within, length-done n l taken)),
+)
 
 -- the log of caller i
 length-fresh : (c : ℕ) → length (fresh_logs {K = ℕ} {V = ℕ} {A = Unit {0}} c) ≡ c

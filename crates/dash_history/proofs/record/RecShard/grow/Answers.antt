@@ -71,7 +71,7 @@ returns-in-Ok-carry_out-clause-ok g c =
     let with_history : List (Record g.row.K.Denot g.row.V.Denot g.row.A.Denot) → At = λ h. record { shard = c.carry_out.new.shard; callers = c.self.inside.callers; last = c.args.stamp; history = h } in
     rw (← c.self.view_is) (record {
       takes = taken _ (lawful-of g.S.BuildHasher g.S.Hasher.Hasher g.met.K.Eq.laws g.met.K.Hash.respects_eq) _ _ g.met.K.Kept.alike_laws g.met.V.Kept.alike_laws g.met.K.KeptKey.alike_equal _ _ g.met.A.KeptAction.alike_acts
-          c.self.inside.shard c.carry_out.new.shard c.args.step c.in-Ok.reply c.self.invariant.shard here c.in-Ok.ensures.answers c.in-Ok-carry_out.ensures.ok c.in-Ok-carry_out.ensures.stays (c.in-Ok-carry_out.ensures.lawful old.shard);
+          c.self.inside.shard c.carry_out.new.shard c.args.step c.in-Ok.reply c.self.invariant.shard here c.in-Ok.ensures.answers c.in-Ok-carry_out.ensures.ok c.in-Ok-carry_out.ensures.stays (c.in-Ok-carry_out.ensures.lawful c.self.invariant.shard);
       kept = c.in-Ok-copies.first;
       tells = told _ _ _ _ _ _ tells;
       same = c.in-Ok-copies.ensures.second;

@@ -13,7 +13,7 @@ invariant_of-log-in-Ok g c =
     let l : LogState g.row.K.Denot g.row.V.Denot g.row.A.Denot = record { caller = c.log.inside.caller; last = c.log.inside.last; entries = c.log.inside.entries.items } in
     let grown = c.in-Ok.ensures.ok in
     let tells = tells-of {K = g.row.K.Denot} {V = g.row.V.Denot} {A = g.row.A.Denot} {k = g.K.Kept.alike} {v = g.V.Kept.alike} {f = g.A.Kept.alike}
-        (c.max-last.result + 1) c.log.inside.caller _ c.args.step c.in-Ok.reply grown.kept grown.tells in
+    (c.max-last.result + 1) c.log.inside.caller _ c.args.step c.in-Ok.reply grown.kept grown.tells in
     log-more l c.in-Ok.record (c.max-last.result + 1) c.push_reserved.new.self.items c.log.invariant (omega (arith, c.max-last.ensures))
     (sym (same-stamp _ _ _ grown.kept c.in-Ok.record grown.same) ∙ tells.stamped) (sym (same-caller _ _ _ grown.kept c.in-Ok.record grown.same) ∙ tells.by)
     (c.push_reserved.ensures.items ∙ ap (λ h. h ++ c.in-Ok.record ∷ []) c.make_room.ensures.items)

@@ -22,7 +22,8 @@ returns-in-Contains-clause-answers g c =
     let there = c.look-pair.ensures ∙ found-pair (key_hash g.K.PartialEq.eq g.K.Hash.hash_input g.S.BuildHasher g.S.Hasher.Hasher) c.args.shard.now _ c.args.found (rw c.in-Contains.is at c.requires.found) in
     rw c.in-Contains.is (record {
       replies = ap Found (c.is_some.ensures ∙ mapped deref_pair c.look-pair.result ∙ ap is_some there);
-      told = Found c.is_some.result; alike = (reply_equiv g.met.K.Kept.alike_laws g.met.V.Kept.alike_laws).refl (Found c.is_some.result);
+      told = Found c.is_some.result;
+      alike = (reply_equiv g.met.K.Kept.alike_laws g.met.V.Kept.alike_laws).refl (Found c.is_some.result);
     })
 
 pub returns-in_ok-copy-in-Some-clause-answers : goal.returns-in_ok-copy-in-Some-clause-answers
@@ -39,7 +40,8 @@ pub returns-in-Count-clause-answers : goal.returns-in-Count-clause-answers
 returns-in-Count-clause-answers g c =
     rw c.in-Count.is (record {
       replies = (pairs c.args.shard.now, all-once _ g.met.K.Eq.laws c.args.shard.now c.len.ensures.lawful c.in-Count.field-0 (rw c.in-Count.is at c.requires.goes), ap Number (omega (arith, c.len.ensures.len, c.len.type_inv)));
-      told = Number c.len.result; alike = (reply_equiv g.met.K.Kept.alike_laws g.met.V.Kept.alike_laws).refl (Number c.len.result);
+      told = Number c.len.result;
+      alike = (reply_equiv g.met.K.Kept.alike_laws g.met.V.Kept.alike_laws).refl (Number c.len.result);
     })
 
 pub returns-in_ok-copy_found-in-Get-clause-answers : goal.returns-in_ok-copy_found-in-Get-clause-answers
