@@ -14,6 +14,7 @@ use Rattle.dash_history.specs.declared.step.Record.{Record}
 use Rattle.dash_history.specs.declared.gather.At.{At}
 use Rattle.dash_history.proofs.Members.{get-has, has-contains}
 use Rattle.dash_history.proofs.Merging.{from-at}
+use Rattle.dash_history.proofs.Indexing.{same-read}
 use Rattle.dash_history.proofs.Placing.{drop-next}
 
 -- the shard of a place is one of the row
@@ -128,32 +129,54 @@ module _ {K V A : Type 0} (same : Record K V A → Record K V A → Bool) where
           f.left n l e ∙ ap (λ x. pointwise same x (drop (get_or next n 0) l.entries)) (over l.caller)
           ∙ more-left l.entries (get_or next n 0) (omega (arith, f.within n l e, ne))
 
--- of a place in its turn: its record, and its caller's log
-module _ {K V A : Type 0} (hs : List (List (Record K V A))) (ats : List At) (logs : List (LogState K V A)) (index : List ℕ) (merge : IsMerge hs ats)
-    (below : (a : At) → Contains ats a → a.caller < length index) (finds : Finds (length index) logs index) (i : ℕ) (a : At) (here : slice_get ats i ≡ Some a) where
-  has : Contains ats a
-  has = has-contains ats a (get-has ats i a here)
-
-  pub turn-names : Names hs a
-  turn-names = (merge.each a).0 has
-
-  pub turn-below : a.caller < length index
-  turn-below = below a has
-
-  pub turn-log : (l : LogState K V A) × (slice_get logs (get_or index a.caller 0) ≡ Some l) × (l.caller ≡ a.caller)
-  turn-log = finds.1 a.caller turn-below
-
-  pub turn-within : get_or index a.caller 0 < length logs
-  turn-within = slice_get_within logs (get_or index a.caller 0) turn-log.0 turn-log.1
-
-  -- the log that is read there is the caller's
-  pub turn-own : (r : Record K V A) (l : LogState K V A) → record_at hs a.shard a.place ≡ Some r → slice_get logs (get_or index a.caller 0) ≡ Some l → l.caller ≡ r.caller
-  turn-own r l e g =
-      ap (λ x. x.caller) (same_Some l turn-log.0 (sym g ∙ turn-log.1)) ∙ turn-log.2 ∙ sym turn-names.3 ∙ ap (λ x. x.caller) (same_Some turn-names.0 r (sym turn-names.1 ∙ e))
-
 -- what a read past the end of the places gives
 abbrev pub none_at : At
 none_at = record { stamp = 0; shard = 0; place = 0; caller = 0 }
+
+-- what is known of a place in its turn: its record is there, and so is its caller's log
+pub record Turn {K V A : Type 0} (hs : List (List (Record K V A))) (ats : List At) (logs : List (LogState K V A)) (index : List ℕ) (i : ℕ) (a : At) : Type 0 where
+  pub here : slice_get ats i ≡ Some a
+  pub names : Names hs a
+  pub below : a.caller < length index
+  pub within : get_or index a.caller 0 < length logs
+  pub own : (r : Record K V A) (l : LogState K V A) → record_at hs a.shard a.place ≡ Some r → slice_get logs (get_or index a.caller 0) ≡ Some l → l.caller ≡ r.caller
+
+pub turn : {K V A : Type 0} (hs : List (List (Record K V A))) (ats : List At) (logs : List (LogState K V A)) (index : List ℕ) → IsMerge hs ats → ((a : At) → Contains ats a → a.caller < length index)
+    → Finds (length index) logs index → (i : ℕ) → i < length ats → Turn hs ats logs index i (get_or ats i none_at)
+turn hs ats logs index merge below finds i lt =
+    let a = get_or ats i none_at in
+    let here : slice_get ats i ≡ Some a = slice_get-get_or ats i none_at lt in
+    let has : Contains ats a = has-contains ats a (get-has ats i a here) in
+    let names : Names hs a = (merge.each a).0 has in
+    let log = finds.1 a.caller (below a has) in
+    record {
+      here = here;
+      names = names;
+      below = below a has;
+      within = slice_get_within logs (get_or index a.caller 0) log.0 log.1;
+      own = λ r l e g. ap (λ x. x.caller) (same_Some l log.0 (sym g ∙ log.1)) ∙ log.2 ∙ sym names.3 ∙ ap (λ x. x.caller) (same_Some names.0 r (sym names.1 ∙ e));
+    }
+
+-- the record of the place, against what is next in the log that is read there
+module _ {K V A : Type 0} {same : Record K V A → Record K V A → Bool} {hs : List (List (Record K V A))} {ats : List At} {logs : List (LogState K V A)} {index : List ℕ} {i : ℕ} {a : At} {next : List ℕ}
+    (t : Turn hs ats logs index i a) (f : Followed same hs ats logs i next) (r : Record K V A) (stands : record_at hs a.shard a.place ≡ Some r) (l : LogState K V A) (is : l ≡ get_or logs (get_or index a.caller 0) l)
+    (k : ℕ) (read : k ≡ get_or next (get_or index a.caller 0) k) where
+  pub turn-log : slice_get logs (get_or index a.caller 0) ≡ Some l
+  turn-log = slice_get-get_or logs (get_or index a.caller 0) l t.within ∙ ap Some (sym is)
+
+  turn-next : k ≡ get_or next (get_or index a.caller 0) 0
+  turn-next = same-read next (get_or index a.caller 0) k (omega (arith, t.within, f.long)) read
+
+  -- the log says something else, or nothing more
+  pub turn-differs : agrees same r l.entries k ≡ false → pointwise same (of_caller l.caller (along hs ats)) l.entries ≡ false
+  turn-differs not =
+      differs same hs ats logs i a r t.here stands next f (get_or index a.caller 0) l turn-log (t.own r l stands turn-log) (ap (agrees same r l.entries) (sym turn-next) ∙ not)
+
+  -- the log says the same
+  pub turn-followed : agrees same r l.entries k ≡ true → (c : ℕ) → AreCallers c logs → Followed same hs ats logs (i + 1) (slice_set next (get_or index a.caller 0) (k + 1))
+  turn-followed says c all =
+      subst (λ x. Followed same hs ats logs (i + 1) (slice_set next (get_or index a.caller 0) (x + 1))) (sym turn-next)
+      (followed-more same hs ats logs i a r t.here stands next f (get_or index a.caller 0) l turn-log (t.own r l stands turn-log) (ap (agrees same r l.entries) (sym turn-next) ∙ says) c all)
 
 -- what stands at a place of the map, whose fields are seen
 pub stored-at : {K V A S : Type 0} (base : S) (c : ℕ) (row : List (RecState K V A S)) (z : AloneState K V A S) → record { hasher = base; callers = c; row = row } ≡ z → (i p : ℕ) (s : RecState K V A S) → i < length z.row → s ≡ get_or row i s

@@ -1,8 +1,7 @@
 -- The shards of a map, in their two homes: behind locks, and in the row of one owner.
-use Rattle.std.proofs.Common.{◌≡◌, ◌<◌, ℕ, List, Some, Result, length, slice_get, slice_index_or, ap, sym, subst, ◌∙◌}
-use Rattle.std.specs.Prelude.{IfOk}
+use Rattle.std.proofs.Common.{◌≡◌, ◌<◌, ◌≤◌, ℕ, List, Some, Result, length, slice_get, slice_index_or, ap, sym, subst, ◌∙◌, arith}
 use Rattle.std.proofs.lemmas.Option.{slice_get-get_or}
-use Rattle.std.proofs.lemmas.Result.{IfOk-weaker}
+use Rattle.std.proofs.lemmas.Result.{IfOk-weaker, MatchResult-weaker}
 use Rattle.std.specs.Cmp.{IsEquivalence}
 use Rattle.crossbeam_utils.specs.declared.cache_padded.CachePadded.{CachePadded}
 use Rattle.crossbeam_utils.specs.Padded.{padded_value}
@@ -13,13 +12,15 @@ use Rattle.dash_history.specs.declared.record.held.RecTag.{RecTag}
 use Rattle.dash_history.specs.History.{RecState, LogState, Recorded, shard_of}
 use Rattle.dash_history.specs.Alone.{IsTagged, IsAlone}
 use Rattle.dash_history.specs.Held.{FitsTag}
-use Rattle.dash_history.specs.Map.{MapState, Logged, kinds_on}
+use Rattle.dash_history.specs.Map.{MapState, Logs, kinds_on}
+use Rattle.dash_history.specs.Refused.{Records}
 use Rattle.dash_history.specs.Takes.{Known}
 use Rattle.dash_history.specs.inner.Kinds.{kinds_of}
 use Rattle.dash_history.specs.declared.step.ShardStep.{ShardStep}
 use Rattle.dash_history.specs.declared.step.Reply.{Reply}
 use Rattle.dash_history.specs.declared.record.RecordFault.{RecordFault}
 use Rattle.dash_history.proofs.Alones.{kinds-same}
+use Rattle.dash_history.proofs.Faults.{never-missing}
 use Rattle.dash_history.proofs.Logging.{logged}
 use Rattle.dash_history.specs.inner.Locks.{IsAt, IsMap}
 
@@ -73,10 +74,14 @@ module _ {K V A S : Type 0} (h : KeyHash K S) where
       }
 
 module _ {K V A S : Type 0} (w : Known K V A S) (lk : IsEquivalence w.alike_key) (lv : IsEquivalence w.alike_value) (lf : IsEquivalence w.alike_action) where
-  -- what was recorded on the step's shard behind its lock is in the log
-  pub logged-behind : (m : MapState S) (i : ℕ) (s s' : RecState K V A S) (l l' : LogState K V A) (step : ShardStep K V A) (result : Result (Reply K V) (ShardStep K V A × RecordFault))
-      → IsTagged w.keys m.hasher m.amount m.callers i s → i ≡ shard_of (kinds_on w m) step → IfOk result (λ reply. Recorded (kinds_of w s.shard) s s' l l' step reply) → IfOk result (λ reply. Logged (kinds_on w m) l l' step reply)
-  logged-behind m i s s' l l' step result at goes ok =
+  -- what a step promises on its shard behind its lock, the call promises of the log
+  pub logs-behind : (m : MapState S) (i : ℕ) (s s' : RecState K V A S) (l l' : LogState K V A) (step : ShardStep K V A) (result : Result (Reply K V) (ShardStep K V A × RecordFault))
+      → IsTagged w.keys m.hasher m.amount m.callers i s → i ≡ shard_of (kinds_on w m) step → i < m.amount → Records w s s' l l' step result → Logs w m l l' step result
+  logs-behind m i s s' l l' step result at goes within r =
       let same : kinds_of w s.shard ≡ kinds_on w m = kinds-same w m.hasher m.amount m.callers i s at in
-      IfOk-weaker result (λ reply. Recorded (kinds_of w s.shard) s s' l l' step reply) _
-      (λ reply recorded. logged (kinds_on w m) lk lv lf s s' l l' step reply (sym (at.number ∙ goes)) (subst (λ x. Recorded x s s' l l' step reply) same recorded)) ok
+      record {
+        ok = IfOk-weaker result (λ reply. Recorded (kinds_of w s.shard) s s' l l' step reply) _
+            (λ reply recorded. logged (kinds_on w m) lk lv lf s s' l l' step reply (sym (at.number ∙ goes)) (subst (λ x. Recorded x s s' l l' step reply) same recorded)) r.ok;
+        refused = MatchResult-weaker result r.refused (λ x p. p) (λ e h. (h.0, h.2));
+        no_such_shard = (λ e. absurd (never-missing result step r.faults e), λ le. let past : m.amount ≤ shard_of (kinds_on w m) step = le in absurd (omega (arith, goes, within, past)));
+      }

@@ -1,5 +1,5 @@
 -- The history of a shard and the log of a caller, and how both grow.
-use Rattle.std.specs.Prelude.{ℕ, ◌≡◌, ◌+◌, ◌<◌, ◌≤◌, max, List, [], ◌∷◌, ◌++◌, map, All, ⊤, IsTrue, Result, IfOk}
+use Rattle.std.specs.Prelude.{ℕ, ◌≡◌, ◌+◌, ◌<◌, ◌≤◌, max, List, [], ◌∷◌, ◌++◌, map, All, ⊤, IsTrue}
 use Rattle.dash_shard.specs.Steps.{line, line_shard}
 use Rattle.dash_shard.specs.Shard.{ShardState, IsShard, SameShard, pairs}
 use Rattle.dash_history.specs.Steps.{step_of, reply_of, alike_record}
@@ -7,7 +7,6 @@ use Rattle.dash_history.specs.Takes.{Known, kinds_at, Kinds, Takes, Runs}
 use Rattle.dash_history.specs.declared.step.ShardStep.{ShardStep}
 use Rattle.dash_history.specs.declared.step.Reply.{Reply}
 use Rattle.dash_history.specs.declared.step.Record.{Record}
-use Rattle.dash_history.specs.declared.record.RecordFault.{RecordFault}
 
 -- the stamp of the last record, or the one given where there is none
 abbrev pub last_or : {K V A : Type 0} → ℕ → List (Record K V A) → ℕ
@@ -79,10 +78,6 @@ pub record Recorded {K V A S : Type 0} (m : Kinds K V A) (s s' : RecState K V A 
 -- the step goes to the shard
 abbrev pub GoesTo : {K V A S : Type 0} → Known K V A S → ShardState K V S → ShardStep K V A → Type 0
 GoesTo w s step = shard_of (kinds_at w s.hasher s.amount) step ≡ s.number
-
--- where it is Ok, the step was taken on the shard, and one same record of it stands at the end of the history and of the log
-abbrev pub Records : {K V A S : Type 0} → Known K V A S → RecState K V A S → RecState K V A S → LogState K V A → LogState K V A → ShardStep K V A → Result (Reply K V) (ShardStep K V A × RecordFault) → Type 0
-Records w s s' l l' step result = IfOk result (λ reply. Recorded (kinds_at w s.shard.hasher s.shard.amount) s s' l l' step reply)
 
 -- a recorded shard: its history led to its pairs
 pub record IsRecorded {K V A S : Type 0} (w : Known K V A S) (s : RecState K V A S) : Type 0 where

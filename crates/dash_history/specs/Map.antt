@@ -1,13 +1,15 @@
 -- A recorded map behind its locks, and what a step through them leaves in the caller's log.
-use Rattle.std.specs.Prelude.{ℕ, ◌≡◌, ◌<◌, List, [], ◌∷◌, ◌++◌, length}
+use Rattle.std.specs.Prelude.{ℕ, ◌≡◌, ◌<◌, ◌↔◌, List, [], ◌∷◌, ◌++◌, length, Result, Err, IfOk, IfErr}
 use Rattle.dash_shard.specs.Hashing.{KeyHash}
 use Rattle.dash_history.specs.Steps.{step_of, reply_of}
 use Rattle.dash_history.specs.Takes.{Known, kinds_at, Kinds, Answers}
-use Rattle.dash_history.specs.History.{RecState, LogState, IsCopy, shard_of}
+use Rattle.dash_history.specs.History.{RecState, LogState, IsCopy, NoShard, shard_of}
 use Rattle.dash_history.specs.Alone.{AloneState, IsTagged, IsAlone}
 use Rattle.dash_history.specs.declared.step.ShardStep.{ShardStep}
 use Rattle.dash_history.specs.declared.step.Reply.{Reply}
 use Rattle.dash_history.specs.declared.step.Record.{Record}
+use Rattle.dash_history.specs.declared.record.RecordFault.{RecordFault}
+use Rattle.dash_history.specs.declared.record.RecordFault.TheVariants.{NoSuchShard}
 
 -- what contracts see of the map: nothing of its pairs and histories
 pub record MapState (S : Type 0) : Type 0 where
@@ -45,3 +47,10 @@ pub record Logged {K V A : Type 0} (m : Kinds K V A) (l l' : LogState K V A) (st
   pub caller : l'.caller ≡ l.caller
   pub contents : List (K × V)
   pub answers : Answers m.rules contents (step_of m.acts step) (reply_of reply)
+
+-- A step through the locks is taken, and logged with its reply. Or it is handed back, and the log is as it was: for want of its shard
+-- exactly where the map has none.
+pub record Logs {K V A S : Type 0} (w : Known K V A S) (m : MapState S) (l l' : LogState K V A) (step : ShardStep K V A) (result : Result (Reply K V) (ShardStep K V A × RecordFault)) : Type 0 where
+  pub ok : IfOk result (λ reply. Logged (kinds_on w m) l l' step reply)
+  pub refused : IfErr result (λ e. (e.0 ≡ step) × (l' ≡ l))
+  pub no_such_shard : (result ≡ Err (step, NoSuchShard)) ↔ NoShard (kinds_on w m) step

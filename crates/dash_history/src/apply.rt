@@ -1,8 +1,8 @@
 //! Steps of callers on a map that threads share.
-ghost use Rattle.std.specs.Prelude.{◌≡◌, ◌-◌, ◌^◌, ◌<◌, ◌↔◌, ◌⊎◌, IfOk, IfErr};
-ghost use Rattle.dash_history.specs.History.{NoShard, shard_of};
-ghost use Rattle.dash_history.specs.Map.{Logged, kinds_on};
-ghost use Rattle.dash_history.specs.declared.record.RecordFault.TheVariants.{LastStamp, NoSuchShard, Locked};
+ghost use Rattle.std.specs.Prelude.{◌≡◌, ◌-◌, ◌^◌, ◌<◌, ◌⊎◌};
+ghost use Rattle.dash_history.specs.History.{shard_of};
+ghost use Rattle.dash_history.specs.Map.{Logs, kinds_on};
+ghost use Rattle.dash_history.specs.declared.record.RecordFault.TheVariants.{LastStamp, Locked};
 
 use crate::action::KeptAction;
 use crate::kept::{Kept, KeptKey};
@@ -31,9 +31,7 @@ impl<K: KeptKey + Drop, V: Kept + Drop, S: BuildHasher, A: KeptAction<K, V> + Dr
         step: ShardStep<K, V, A>,
     ) -> Result<Reply<K, V>, (ShardStep<K, V, A>, RecordFault)>
         requires { log.old.caller < self.now.callers }
-        ensures ok { IfOk result (λ reply. Logged (kinds_on ⟦<Self as Recorded>⟧.known self.now) log.old log.new step reply) }
-        ensures refused { IfErr result (λ e. (e.0 ≡ step) × (log.new ≡ log.old)) }
-        ensures no_such_shard { (result ≡ Err (step, NoSuchShard)) ↔ NoShard (kinds_on ⟦<Self as Recorded>⟧.known self.now) step }
+        ensures logs { Logs ⟦<Self as Recorded>⟧.known self.now log.old log.new step result }
 
         // The shard's last stamp is not known here, the log's is.
         ensures last_stamp { shard_of (kinds_on ⟦<Self as Recorded>⟧.known self.now) step < self.now.amount
@@ -56,9 +54,7 @@ impl<K: KeptKey + Drop, V: Kept + Drop, S: BuildHasher, A: KeptAction<K, V> + Dr
         step: ShardStep<K, V, A>,
     ) -> Result<Reply<K, V>, (ShardStep<K, V, A>, RecordFault)>
         requires { log.old.caller < self.now.callers }
-        ensures ok { IfOk result (λ reply. Logged (kinds_on ⟦<Self as Recorded>⟧.known self.now) log.old log.new step reply) }
-        ensures refused { IfErr result (λ e. (e.0 ≡ step) × (log.new ≡ log.old)) }
-        ensures no_such_shard { (result ≡ Err (step, NoSuchShard)) ↔ NoShard (kinds_on ⟦<Self as Recorded>⟧.known self.now) step }
+        ensures logs { Logs ⟦<Self as Recorded>⟧.known self.now log.old log.new step result }
 
         // Whether the shard is free is not known here; where it is, the log's last stamp is looked at.
         ensures last_stamp { shard_of (kinds_on ⟦<Self as Recorded>⟧.known self.now) step < self.now.amount

@@ -1,15 +1,14 @@
 //! Recorded shards and callers' logs, and the one call that lengthens both.
-ghost use Rattle.std.specs.Prelude.{◌≡◌, ◌-◌, ◌<◌, ◌^◌, ◌↔◌, ◌⊎◌, [], IsTrue, IfOk, IfErr, vec_len, vec_capacity, max};
+ghost use Rattle.std.specs.Prelude.{◌≡◌, ◌<◌, [], IsTrue, IfOk, IfErr, vec_len, vec_capacity, max};
 ghost use Rattle.dash_shard.specs.Hashing.{IsAmount};
 ghost use Rattle.dash_shard.specs.Shard.{SameShard, pairs, shard_len};
 ghost use Rattle.dash_history.specs.Steps.{alike_record};
 ghost use Rattle.dash_history.specs.Takes.{known};
-ghost use Rattle.dash_history.specs.History.{IsLog, IsRecorded, GoesTo, Records, last_or};
+ghost use Rattle.dash_history.specs.History.{IsLog, IsRecorded, GoesTo, last_or};
 ghost use Rattle.dash_history.specs.inner.Tells.{Tells};
 ghost use Rattle.dash_history.specs.inner.Grows.{Adds};
 ghost use Rattle.dash_history.specs.inner.Hashed.{HasHash};
-ghost use Rattle.dash_history.specs.Refused.{HandsBack, NoStamp};
-ghost use Rattle.dash_history.specs.declared.record.RecordFault.TheVariants.{LastStamp, Memory};
+ghost use Rattle.dash_history.specs.Refused.{Records};
 ghost use Rattle.dash_history.specs.Alone.{IsFresh};
 
 use crate::action::KeptAction;
@@ -317,13 +316,7 @@ impl<K: KeptKey + Drop, V: Kept + Drop, S: BuildHasher, A: KeptAction<K, V> + Dr
         requires goes { GoesTo ⟦<Self as Recorded>⟧.known self.old.shard step }
         requires hash { HasHash ⟦<Self as Recorded>⟧.known self.old.shard step hash }
         requires caller { log.old.caller < self.old.callers }
-        ensures ok { Records ⟦<Self as Recorded>⟧.known self.old self.new log.old log.new step result }
-        ensures refused { HandsBack step self.old self.new log.old log.new result }
-        ensures last_stamp { (result ≡ Err (step, LastStamp)) ↔ NoStamp self.old.last log.old.last }
-        ensures log_last { log.old.last ≡ 2 ^ 64 - 1 → result ≡ Err (step, LastStamp) }
-        ensures faults { IfErr result (λ e. (e.1 ≡ LastStamp) ⊎ (e.1 ≡ Memory)) }
-        ensures stays { SameShard self.old.shard self.new.shard }
-        ensures callers { self.new.callers ≡ self.old.callers }
+        ensures records { Records ⟦<Self as Recorded>⟧.known self.old self.new log.old log.new step result }
         ensures last { self.old.last ≡ last_or 0 self.old.history }
     {
         let last = self.last.max(log.last);

@@ -23,7 +23,7 @@ module _ {K V : Type 0} (w : Keys K) where
     own p ps = ap (λ b. cond b (Some p) (at w.eq ps p.0)) (laws.refl p.0)
 
     -- two such lists, where no key of the one stands in the other
-    distinct-append : (ps qs : List (K × V)) → Distinct w.eq ps → Distinct w.eq qs → ((k : K) → (at w.eq ps k ≡ None → ⊥) → at w.eq qs k ≡ None) → Distinct w.eq (ps ++ qs)
+    pub distinct-append : (ps qs : List (K × V)) → Distinct w.eq ps → Distinct w.eq qs → ((k : K) → (at w.eq ps k ≡ None → ⊥) → at w.eq qs k ≡ None) → Distinct w.eq (ps ++ qs)
     distinct-append [] qs d e apart = e
     distinct-append (p ∷ ps) qs d e apart = (
       at-append w ps qs p.0 d.0 ∙ apart p.0 (λ none. none-some p (sym none ∙ own p ps)),

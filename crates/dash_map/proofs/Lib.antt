@@ -1,4 +1,5 @@
 mod Distincts
+mod Entering
 mod Found
 mod Leaving
 mod Lending
@@ -13,3 +14,4 @@ mod Sweeping
 mod Turning
 mod Union
 mod Trying
+mod Walks

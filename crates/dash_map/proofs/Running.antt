@@ -105,7 +105,7 @@ module _ {F K V : Type 0} (m : Rules K V) (laws : Lawful m) (T : F → K → V �
 
 -- the pairs on a shard, where equal keys have one route
 module _ {K V : Type 0} (w : Keys K) (laws : IsEquivalence w.eq) (route_same : (j k : K) → w.eq j k ≡ true → w.route j ≡ w.route k) (i : ℕ) where
-  at-on : (ps : List (K × V)) (k : K) → at w.eq (on w i ps) k ≡ cond (w.route k == i) (at w.eq ps k) None
+  pub at-on : (ps : List (K × V)) (k : K) → at w.eq (on w i ps) k ≡ cond (w.route k == i) (at w.eq ps k) None
   at-on [] k = sym (same-both (w.route k == i) None)
   at-on (p ∷ ps) k = elim (cases_Bool (w.eq p.0 k)) as (λ _. at w.eq (on w i (p ∷ ps)) k ≡ cond (w.route k == i) (at w.eq (p ∷ ps) k) None) [
     | inl same ↦ elim (cases_Bool (w.route k == i)) as (λ _. at w.eq (on w i (p ∷ ps)) k ≡ cond (w.route k == i) (at w.eq (p ∷ ps) k) None) [

@@ -13,7 +13,7 @@ module _ {K V : Type 0} (w : Keys K) where
     | inr other ↦ ap (λ b. cond b (Some p) (at w.eq (ps ++ qs) k)) other ∙ at-append ps qs k (sym (ap (λ b. cond b (Some p) (at w.eq ps k)) other) ∙ none)
   ]
 
-  at-append-none : (ps qs : List (K × V)) (k : K) → at w.eq qs k ≡ None → at w.eq (ps ++ qs) k ≡ at w.eq ps k
+  pub at-append-none : (ps qs : List (K × V)) (k : K) → at w.eq qs k ≡ None → at w.eq (ps ++ qs) k ≡ at w.eq ps k
   at-append-none [] qs k none = none
   at-append-none (p ∷ ps) qs k none = ap (λ o. cond (w.eq p.0 k) (Some p) o) (at-append-none ps qs k none)
 

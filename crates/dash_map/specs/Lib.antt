@@ -6,4 +6,5 @@ pub mod Behind
 pub mod AllPairs
 pub mod Lends
 pub mod Tries
+pub mod Walks
 pub mod inner

@@ -16,9 +16,11 @@ ghost use Rattle.dash_map.specs.inner.Locks.{IsAt};
 ghost use Rattle.dash_map.specs.Behind.{IsBehind};
 
 use crate::map::{DashMap, Locked};
+use crate::read_only::ViewIter;
+use crate::shards::Shards;
 use crossbeam_utils::CachePadded;
 use dash_shard::error::{ConstructError, TryReserveError};
-use dash_shard::hash::{determine_shard, is_shard_amount};
+use dash_shard::hash::is_shard_amount;
 use dash_shard::keyed::Keyed;
 use dash_shard::lock::RwLock;
 use dash_shard::row::Row;
@@ -126,6 +128,23 @@ impl<K: Eq + Hash + Drop, V: Drop, S: BuildHasher> Alone<K, V, S> {
         self.row.len()
     }
 
+    /// The pairs, by rising shard and in each by rising slot. The original's `iter` takes a hold of shard after shard for this.
+    pub fn iter(&self) -> ViewIter<'_, K, V, S>
+        ensures pairs { result ≡ contents self.now }
+        ensures lawful { IsAlone ⟦<Self as Keyed>⟧.by self.now }
+    {
+        self.lent().iter()
+    }
+
+    // The shards, to be read.
+    #[inline]
+    fn lent(&self) -> Shards<'_, K, V, S>
+        ensures same { result ≡ self.now }
+        ensures lawful { IsAlone ⟦<Self as Keyed>⟧.by self.now }
+    {
+        Shards::new(&self.hasher, self.row.items())
+    }
+
     // The key's hash, and the number of the shard that it goes to.
     #[inline]
     fn route_of(&self, key: &K) -> (u64, usize)
@@ -133,8 +152,7 @@ impl<K: Eq + Hash + Drop, V: Drop, S: BuildHasher> Alone<K, V, S> {
         ensures idx { result.1 ≡ (keys_in ⟦<Self as Keyed>⟧.by self.now).route key.now }
         ensures below { result.1 < length self.now.row }
     {
-        let hash = self.hasher.hash_one(key);
-        (hash, determine_shard(hash, self.row.len()))
+        self.lent().route_of(key)
     }
 
     /// Puts the pair, or where an equal key is there the value under the stored key, and answers the old value.
@@ -187,22 +205,7 @@ impl<K: Eq + Hash + Drop, V: Drop, S: BuildHasher> Alone<K, V, S> {
         ensures pair { RepliesAlone ⟦<Self as Keyed>⟧.by self.now (Get key.now) (Pair (option_map deref_pair result)) }
         ensures lawful { IsAlone ⟦<Self as Keyed>⟧.by self.now }
     {
-        let (hash, idx) = self.route_of(key);
-        self.get_hashed(hash, idx, key)
-    }
-
-    // As `get`, by the key's hash and shard.
-    #[inline]
-    fn get_hashed(&self, hash: u64, idx: usize, key: &K) -> Option<(&K, &V)>
-        requires hash { hash ≡ ⟦<Self as Keyed>⟧.by.hash self.now.hasher key.now }
-        requires idx { idx ≡ (keys_in ⟦<Self as Keyed>⟧.by self.now).route key.now }
-        requires below { idx < length self.now.row }
-        ensures pair { RepliesAlone ⟦<Self as Keyed>⟧.by self.now (Get key.now) (Pair (option_map deref_pair result)) }
-        ensures lawful { IsAlone ⟦<Self as Keyed>⟧.by self.now }
-    {
-        let shard = &self.row[idx];
-        let position = shard.position_of_hashed(hash, key)?;
-        Some(shard.at(position))
+        self.lent().get(key)
     }
 
     /// Whether there is a pair whose key equals `key`.
@@ -230,11 +233,7 @@ impl<K: Eq + Hash + Drop, V: Drop, S: BuildHasher> Alone<K, V, S> {
         ensures len { result ≡ min (length (contents self.now)) (2 ^ 64 - 1) }
         ensures lawful { IsAlone ⟦<Self as Keyed>⟧.by self.now }
     {
-        let mut len: usize = 0;
-        for shard in self.row.items() {
-            len = len.saturating_add(shard.len());
-        }
-        len
+        self.lent().len()
     }
 
     /// Whether there are no pairs.
@@ -252,12 +251,7 @@ impl<K: Eq + Hash + Drop, V: Drop, S: BuildHasher> Alone<K, V, S> {
         ensures holds { min (length (contents self.now)) (2 ^ 64 - 1) ≤ result }
         ensures lawful { IsAlone ⟦<Self as Keyed>⟧.by self.now }
     {
-        let mut capacity: usize = 0;
-        for shard in self.row.items() {
-            prove!(shard.len() <= shard.capacity());
-            capacity = capacity.saturating_add(shard.capacity());
-        }
-        capacity
+        self.lent().capacity()
     }
 
     /// Makes room in each shard for so many pairs more, where there is less, and the pairs stay.

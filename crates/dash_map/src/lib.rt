@@ -4,5 +4,7 @@
 pub mod alone;
 mod calls;
 pub mod map;
+pub mod read_only;
 pub mod run;
+mod shards;
 pub mod t;

@@ -9,6 +9,7 @@ ghost use Rattle.dash_history.specs.inner.Hashed.{Asks};
 ghost use Rattle.dash_history.specs.inner.Plan.{change_step, HasPair};
 ghost use Rattle.dash_history.specs.inner.Sweep.{keeping};
 ghost use Rattle.dash_map.specs.Alone.{IsAlone, contents, keys_in, SameMap};
+ghost use Rattle.dash_map.specs.Walks.{WalksGive};
 ghost use Rattle.dash_map.specs.inner.Run.{TakesLike, IsMissing};
 
 use crate::alone::Alone;
@@ -214,6 +215,7 @@ impl<K: KeptKey + Drop, V: Kept + Drop, S: BuildHasher> Alone<K, V, S> {
         mut steps: Vec<ShardStep<K, V, A>>,
     ) -> RunOutcome<K, V, A>
         ensures ran { Ran (rules K.alike V.alike (keys_in ⟦<Self as Keyed>⟧.by self.old)) A.acts (contents self.old) (contents self.new) steps.items result }
+        ensures walks { WalksGive (rules K.alike V.alike (keys_in ⟦<Self as Keyed>⟧.by self.old)) }
         ensures stays { SameMap self.old self.new }
         ensures lawful { IsAlone ⟦<Self as Keyed>⟧.by self.new }
     {

@@ -9,7 +9,7 @@ ghost use Rattle.dash_map.specs.Behind.{SawShards, LeavesShard, LeavesShards, Ca
 ghost use Rattle.dash_map.specs.Map.{MapState};
 ghost use Rattle.dash_map.specs.Tries.{UnlessLocked, UnlessLockedOut};
 ghost use Rattle.dash_map.specs.AllPairs.{ClearsAlone, ShrinksAlone, RetainsAlone, AltersAllAlone};
-ghost use Rattle.dash_ref.specs.EntryCases.{IsEntryOf};
+ghost use Rattle.dash_ref.specs.EntryCases.{IsEntryOf, entry_shard};
 ghost use Rattle.dash_ref.specs.Ref.{Stands, pair_of};
 ghost use Rattle.dash_ref.specs.RefMut.{stored};
 ghost use Rattle.dash_ref.specs.Try.{found};
@@ -22,8 +22,9 @@ use crate::map::DashMap;
 use dash_ref::mapref::entry::{Entry, EntryRefused, TryEntryRefused};
 use dash_ref::mapref::one::{Ref, RefMut};
 use dash_ref::try_result::TryResult;
-use dash_shard::shard::InsertRefused;
+use dash_shard::lock::RwLockReadGuard;
 use dash_shard::shard::held::ShardMut;
+use dash_shard::shard::{InsertRefused, Shard};
 use std::alloc::AllocError;
 use std::hash::{BuildHasher, Hash};
 use std::rt::Clock;
@@ -40,10 +41,29 @@ pub trait Map<K: Eq + Hash, V, S: BuildHasher> {
     fn _shard_count(&self) -> usize
         ensures { result ≡ (state self.now).amount };
 
+    /// Waits until no writer has the shard, and holds it for reading.
+    fn _yield_read_shard<R: Wait + Clock>(
+        &self,
+        rt: &R,
+        shard: usize,
+    ) -> RwLockReadGuard<'_, Shard<K, V, S>>
+        requires { shard < (state self.now).amount }
+        ensures { IsTagged (by K.Hash S.BuildHasher S.Hasher.Hasher) (state self.now).hasher (state self.now).amount shard result.value };
+
     /// As `DashMap::shards_mut`.
     fn _yield_write_shard<R: Wait + Clock>(&self, rt: &R, shard: usize) -> ShardMut<'_, K, V, S>
         requires { shard < (state self.now).amount }
         ensures { IsTagged (by K.Hash S.BuildHasher S.Hasher.Hasher) (state self.now).hasher (state self.now).amount shard result };
+
+    /// As `_yield_read_shard`, for a caller who waits for nobody: none where `RwLock::try_read` doesn't get the shard.
+    fn _try_yield_read_shard(&self, shard: usize) -> Option<RwLockReadGuard<'_, Shard<K, V, S>>>
+        requires { shard < (state self.now).amount }
+        ensures { IfSome result (λ r. IsTagged (by K.Hash S.BuildHasher S.Hasher.Hasher) (state self.now).hasher (state self.now).amount shard r.value) };
+
+    /// As `_yield_write_shard`, for a caller who waits for nobody: none where `RwLock::try_write` doesn't get the shard.
+    fn _try_yield_write_shard(&self, shard: usize) -> Option<ShardMut<'_, K, V, S>>
+        requires { shard < (state self.now).amount }
+        ensures { IfSome result (IsTagged (by K.Hash S.BuildHasher S.Hasher.Hasher) (state self.now).hasher (state self.now).amount shard) };
 
     /// As `DashMap::insert`.
     fn _insert<R: Wait + Clock>(
@@ -116,14 +136,16 @@ pub trait Map<K: Eq + Hash, V, S: BuildHasher> {
     where
         K: Drop,
         V: Drop,
-        ensures { SawShard (by K.Hash S.BuildHasher S.Hasher.Hasher) (state self.now) key (λ s. IsEntryOf K.eq s key result) };
+        ensures saw { SawShard (by K.Hash S.BuildHasher S.Hasher.Hasher) (state self.now) key (λ s. IsEntryOf K.eq s key result) }
+        ensures tagged { IfOk result (λ e. StandsAt (by K.Hash S.BuildHasher S.Hasher.Hasher) (state self.now) key (entry_shard e)) };
 
     /// As `DashMap::try_entry`.
     fn _try_entry(&self, key: K) -> Result<Entry<'_, K, V, S>, TryEntryRefused<K>>
     where
         K: Drop,
         V: Drop,
-        ensures { UnlessLockedOut key result (λ r. SawShard (by K.Hash S.BuildHasher S.Hasher.Hasher) (state self.now) key (λ s. IsEntryOf K.eq s key r)) };
+        ensures saw { UnlessLockedOut key result (λ r. SawShard (by K.Hash S.BuildHasher S.Hasher.Hasher) (state self.now) key (λ s. IsEntryOf K.eq s key r)) }
+        ensures tagged { IfOk result (λ e. StandsAt (by K.Hash S.BuildHasher S.Hasher.Hasher) (state self.now) key (entry_shard e)) };
 
     /// As `DashMap::shrink_to_fit`.
     fn _shrink_to_fit<R: Wait + Clock>(&self, rt: &R)
@@ -194,8 +216,27 @@ impl<K: Eq + Hash, V, S: BuildHasher> Map<K, V, S> for DashMap<K, V, S> {
     }
 
     #[inline]
+    fn _yield_read_shard<R: Wait + Clock>(
+        &self,
+        rt: &R,
+        shard: usize,
+    ) -> RwLockReadGuard<'_, Shard<K, V, S>> {
+        self.row[shard].read(rt)
+    }
+
+    #[inline]
     fn _yield_write_shard<R: Wait + Clock>(&self, rt: &R, shard: usize) -> ShardMut<'_, K, V, S> {
         self.shards_mut(rt, shard)
+    }
+
+    #[inline]
+    fn _try_yield_read_shard(&self, shard: usize) -> Option<RwLockReadGuard<'_, Shard<K, V, S>>> {
+        self.try_shard(shard)
+    }
+
+    #[inline]
+    fn _try_yield_write_shard(&self, shard: usize) -> Option<ShardMut<'_, K, V, S>> {
+        self.try_shards_mut(shard)
     }
 
     #[inline]

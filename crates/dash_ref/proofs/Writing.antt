@@ -83,6 +83,9 @@ module _ {K V S : Type 0} (h : KeyHash K S) (law : IsLawful h) (s : ShardState K
   part-stored {P} part b m shows t is =
       ap (λ (n : MappedRefMutState K V S P). part_in (part n.by) n.guard) (sym shows) ∙ (ap (option_and_then (λ (q : K × V). part b q.1)) is-stored ∙ sym is)
 
+  pub part-key : {P : Type 0} (b : P) (m : MappedRefMutState K V S P) → record { guard = spot s i l; by = b } ≡ m → option_map (λ q. q.0) (stored m.guard) ≡ Some p.0
+  part-key {P} b m shows = ap (λ (n : MappedRefMutState K V S P). option_map (λ q. q.0) (stored n.guard)) (sym shows) ∙ ap (option_map (λ q. q.0)) is-stored
+
 -- an occupied entry whose value was lent
 module _ {K V S : Type 0} (h : KeyHash K S) (law : IsLawful h) (s : ShardState K V S) (l : Loan K V) (parts : AreParts h s l) (ready : MayLend l) (i : ℕ)
     (p : K × V) (there : lent_slot l i ≡ Some p) where

@@ -1,5 +1,5 @@
 -- What contracts see of entries of a held shard.
-use Rattle.std.specs.Prelude.{◌≡◌, ◌<◌, Bool, Some, None, IsSomeAnd}
+use Rattle.std.specs.Prelude.{◌≡◌, ◌<◌, Bool, Some, None, IsTrue, IsSomeAnd}
 use Rattle.dash_shard.specs.Contents.{at}
 use Rattle.dash_shard.specs.Steps.{Insert, Old}
 use Rattle.dash_shard.specs.Shard.{ShardState, HasKey, SameShard, TakesInPlace, pairs, shard_len}
@@ -28,6 +28,13 @@ module _ {K V S : Type 0} where
   pub record Puts (eq : K → K → Bool) (s : ShardState K V S) (key : K) (value : V) (r : RefMutState K V S) : Type 0 where
     pub inserts : TakesInPlace eq s r.shard (Insert key value) (Old None)
     pub pair : stored r ≡ Some (key, value)
+
+  -- the pair of a copy of a vacant key is new in the shard, and the entry, of the key that was handed in, has it
+  pub record PutsCopy (eq alike : K → K → Bool) (v : VacantState K V S) (value : V) (o : OccupiedState K V S) : Type 0 where
+    pub copy : K
+    pub is_copy : IsTrue (alike v.key copy)
+    pub puts : Puts eq v.shard copy value o.pair
+    pub key : o.key ≡ v.key
 
   -- the occupied entry of a key, in a shard that has a pair with an equal one
   pub record OccupiedOf (eq : K → K → Bool) (s : ShardState K V S) (k : K) (o : OccupiedState K V S) : Type 0 where

@@ -1,5 +1,5 @@
 -- The calls on a taken slot, as the step table says them.
-use Rattle.std.proofs.Common.{◌≡◌, ℕ, ◌+◌, length, set, Option, Some, None, is_some, IsSome, refl, sym, ap, subst, ◌∙◌, inl, inr}
+use Rattle.std.proofs.Common.{◌≡◌, ℕ, ◌+◌, List, length, set, Option, Some, None, is_some, IsSome, refl, sym, ap, subst, ◌∙◌, inl, inr}
 use Rattle.std.specs.Option.{option_map}
 use Rattle.std.proofs.lemmas.Bool.{true≢false, cases_Bool, cases_eq}
 use Rattle.std.proofs.lemmas.Option.{none-some}
@@ -8,7 +8,7 @@ use Rattle.dash_shard.specs.inner.Keys.{IsLawful, keys_of}
 use Rattle.dash_shard.specs.Hashing.{KeyHash}
 use Rattle.dash_shard.specs.Contents.{at}
 use Rattle.dash_shard.specs.Steps.{Insert, Remove, Old, Pair}
-use Rattle.dash_shard.specs.Shard.{ShardState, slot, pairs, own_keys, HasKey, Routes, SameShard, TakesInPlace, TakesAt}
+use Rattle.dash_shard.specs.Shard.{ShardState, slot, pairs, own_keys, HasKey, Routes, SameShard, TakesInPlace, TakesAt, with_value_in}
 use Rattle.dash_shard.specs.inner.Table.{Holds, IsTable, pairs_of, hashes_of}
 use Rattle.dash_shard.proofs.Equals.{at-equal}
 use Rattle.dash_shard.proofs.Rewriting.{spot-within}
@@ -66,6 +66,13 @@ module _ {K V S : Type 0} (h : KeyHash K S) (law : IsLawful h) where
         (hashes : hashes_of new.nodes.items ≡ hashes_of t.nodes.items) (len : new.len ≡ t.len) (table : IsTable new) where
       pub set-there : (k : K) (found : Holds h.eq t.nodes.items k i) → Inserted h law s number amount t new k v (Some found.pair.1)
       set-there k found = replaced h law s number amount t inside k z view (route k found) v new i found slots hashes len table
+
+      pub set-here : length new.nodes.items ≡ length t.nodes.items → now ≡ with_value_in z i v
+      set-here long =
+          let of : List (Option (K × V)) → ℕ → ShardState K V S = λ xs n. record { slots = xs; number = number; amount = amount; hasher = s; capacity = n } in
+          ap (λ xs. of xs (length new.nodes.items)) slots
+          ∙ ap (of (set (pairs_of t.nodes.items) i (option_map (λ p. (p.0, v)) (slot (pairs_of t.nodes.items) i)))) long
+          ∙ ap (λ x. with_value_in x i v) view
 
       pub sets : length new.nodes.items ≡ length t.nodes.items → (old : V) → Some old ≡ option_map (λ p. p.1) (slot (pairs_of t.nodes.items) i) → TakesAt h.eq z now i (λ k. Insert k v) (Old (Some old))
       sets long old was k has =

@@ -4,7 +4,7 @@ use Rattle.std.proofs.lemmas.Bool.{false≢true}
 use Rattle.dash_shard.specs.declared.shard.table.Table.{Table}
 use Rattle.dash_shard.specs.declared.shard.held.parts.Loan.{Loan}
 use Rattle.dash_shard.specs.Shard.{ShardState, slot, with_value_in}
-use Rattle.dash_shard.specs.inner.Table.{IsHeld, held_state, pairs_of, with_value_at}
+use Rattle.dash_shard.specs.inner.Table.{IsHeld, IsTable, held_state, pairs_of, with_value_at}
 use Rattle.dash_shard.specs.inner.Loans.{joined, AreParts, MayLend, lent_slot, with_lent}
 use Rattle.dash_shard.proofs.Lending.{lent-inside, lent-state}
 use Rattle.dash_shard.specs.Hashing.{KeyHash}
@@ -35,3 +35,13 @@ module _ {K V S : Type 0} (h : KeyHash K S) (law : IsLawful h) (s : ShardState K
     -- which has that value
     pub joined-lent : (v : V) → joined s (with_lent l i v) ≡ with_value_in (joined s l) i v
     joined-lent v = valued-held l.table l.is_lent ready.lent parts i v
+
+module _ {K V S : Type 0} (h : KeyHash K S) (s : ShardState K V S) where
+  lent-table : (t : Table K V) (b : Bool) → b ≡ true → IsHeld h s t b → IsTable t
+  lent-table t false e held = absurd (false≢true e)
+  lent-table t true e held = held.0.table
+
+  module _ (l : Loan K V) (parts : AreParts h s l) where
+    -- a table that was taken out may lend
+    pub may-lend : l.is_lent ≡ true → MayLend l
+    may-lend e = record { lent = e; table = lent-table l.table l.is_lent e parts }

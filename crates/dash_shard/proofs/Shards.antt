@@ -404,18 +404,23 @@ module _ {K V S : Type 0} (h : KeyHash K S)
 
     -- what making room leaves, where the state before is written z
     pub reserved : (z : ShardState K V S) → state t ≡ z → {E : Type 0} → (additional : ℕ) (r : Result (Unit {0}) E) → OnOk r (new.len + additional ≤ length new.nodes.items) → OnErr r (new.nodes.items ≡ t.nodes.items)
-        → Reserves additional z (state new) r
-    reserved z view additional r ok err = subst (λ x. Reserves additional x (state new) r) view (record {
+        → OnErr r (length t.nodes.items < t.len + additional) → Reserves additional z (state new) r
+    reserved z view additional r ok err full = subst (λ x. Reserves additional x (state new) r) view (record {
       room = on-ok r ok;
       pairs = grown-pairs;
       slots = λ i p e. ap (λ xs. slot xs i) grown.pairs ∙ slot-empties (pairs_of t.nodes.items) grown.more i ∙ e;
       stays = record { number = refl; amount = refl; hasher = refl };
       refused = on-err r err;
+      full = on-full r full;
     })
       where
         on-ok : {E : Type 0} (q : Result (Unit {0}) E) → OnOk q (new.len + additional ≤ length new.nodes.items) → OnOk q (shard_len (state new) + additional ≤ length new.nodes.items)
         on-ok (Ok x) fits = omega (arith, fits, grown-inside.counted)
         on-ok (Err e) fits = tt
+
+        on-full : {E : Type 0} (q : Result (Unit {0}) E) → OnErr q (length t.nodes.items < t.len + additional) → OnErr q (length t.nodes.items < shard_len (state t) + additional)
+        on-full (Ok x) full = tt
+        on-full (Err e) full = omega (arith, full, inside.counted)
 
         of : List (Node K V) → ShardState K V S
         of ns = record { slots = pairs_of ns; number = number; amount = amount; hasher = s; capacity = length ns }

@@ -41,6 +41,7 @@ pub record Reserves {K V S : Type 0} (additional : ℕ) (old new : ShardState K 
   pub slots : (i : ℕ) (p : K × V) → slot old.slots i ≡ Some p → slot new.slots i ≡ Some p
   pub stays : SameShard old new
   pub refused : OnErr result (new ≡ old)
+  pub full : OnErr result (old.capacity < shard_len old + additional)
 
 -- the shard is the one that its lock was made for
 abbrev pub FitsTag : {K V S : Type 0} → KeyHash K S → ShardTag S → ShardState K V S → Type 0

@@ -1,5 +1,5 @@
 //! A row of items that can turn into a row of another kind, and back, without memory.
-ghost use Rattle.std.specs.Prelude.{◌≡◌, ℕ, ◌<◌, IfOk, Some, slice_get, slice_set, slice_index_or, length};
+ghost use Rattle.std.specs.Prelude.{◌≡◌, ℕ, ◌<◌, IfOk, IfErr, Some, slice_get, slice_set, slice_index_or, length};
 ghost use Rattle.std.specs.Borrow.{Lends, sem};
 ghost use Rattle.dash_shard.specs.inner.Rows.{Moved};
 
@@ -43,6 +43,26 @@ impl<A, B> Row<A, B> {
     {
         let room = Vec::with_capacity(alloc, items.len())?;
         Ok(Row { items, room })
+    }
+
+    /// As `of`, where the items come back if there is no memory.
+    pub fn try_of(alloc: Global, items: Vec<A>) -> Result<Row<A, B>, Vec<A>>
+        ensures row { IfOk result (λ row. row ≡ items.items) }
+        ensures refused { IfErr result (λ back. back ≡ items) }
+    {
+        match Vec::with_capacity(alloc, items.len()) {
+            Ok(room) => Ok(Row { items, room }),
+            Err(_) => Err(items),
+        }
+    }
+
+    /// The items, without the room beside them.
+    pub fn into_items(self) -> Vec<A>
+        ensures { result.items ≡ self }
+    {
+        let Row { items, room } = self;
+        room.destroy_empty();
+        items
     }
 
     /// How many items there are.

@@ -18,7 +18,7 @@ use std::alloc::Global;
 use std::hash::{BuildHasher, Hash};
 use std::marker::Model;
 use table::Table;
-pub use table::walk::Iter;
+pub use table::walk::{IntoIter, Iter};
 
 mod all_pairs;
 pub mod held;

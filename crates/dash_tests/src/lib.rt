@@ -1,6 +1,7 @@
 //! The tests of the libraries below, over their public items alone.
 //!
 //! They stand in a crate of their own, so that each library is proved once, without them. Modules are named as those that they test.
+//! `words` is a caller, which the documents show, and `parts` has what the tests of mapped references map to.
 #![tactic(auto)]
 
 #[cfg(test)]
@@ -19,6 +20,7 @@ mod lock;
 mod map;
 #[cfg(test)]
 mod mapref;
+pub mod parts;
 #[cfg(test)]
 mod places;
 #[cfg(test)]
@@ -31,3 +33,6 @@ mod shard;
 mod step;
 #[cfg(test)]
 mod t;
+#[cfg(test)]
+mod view;
+pub mod words;

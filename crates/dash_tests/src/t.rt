@@ -2,6 +2,7 @@
 use crate::map::map_of_four;
 use crate::places::{is, is_at};
 use dash_map::t::Map;
+use dash_ref::mapref::entry::{Entry, TryEntryRefused};
 use dash_shard::hash::PlaceState;
 use std::hash::BuildHasher;
 use std::process::Abort;
@@ -40,6 +41,29 @@ fn calls_on_pairs<R: Abort + Wait + Clock, M: Map<u64, u64, PlaceState>>(
     Ok(())
 }
 
+// The calls for references that write, for entries, and those that wait for nobody, on a map of four shards with the pair (5, 55).
+fn calls_that_hold<R: Abort + Wait + Clock, M: Map<u64, u64, PlaceState>>(
+    rt: &R,
+    map: &M,
+) -> Result<(), Fail> {
+    let mut found = map._get_mut(rt, &5).ok_or("no pair")?;
+    *found = 56;
+    assert!(rt; map._try_get(&5).is_locked());
+    assert!(rt; map._try_get_mut(&1).is_locked());
+    assert!(rt; matches!(map._try_entry(1), Err(TryEntryRefused::Locked(1))));
+    drop(found);
+    let found = map._try_get(&5).try_unwrap().ok_or("no pair")?;
+    is(rt, found.pair(), (&5, &56));
+    drop(found);
+    let mut found = map._try_get_mut(&5).try_unwrap().ok_or("no pair")?;
+    *found = 55;
+    drop(found);
+    is(rt, *map._entry(rt, 5)?.or_insert(0), 55);
+    assert!(rt; matches!(map._try_entry(5), Ok(Entry::Occupied(_))));
+    assert!(rt; matches!(map._try_entry(1), Ok(Entry::Vacant(_))));
+    Ok(())
+}
+
 // The calls on all pairs, on a map of four shards with the pair (5, 55).
 fn calls_on_all<R: Abort + Wait + Clock, M: Map<u64, u64, PlaceState>>(
     rt: &R,
@@ -66,5 +90,6 @@ fn calls_on_all<R: Abort + Wait + Clock, M: Map<u64, u64, PlaceState>>(
 fn every_call(rt: HostRuntime) -> Result<(), Fail> {
     let map = map_of_four(rt.alloc())?;
     calls_on_pairs(&rt, &map)?;
+    calls_that_hold(&rt, &map)?;
     calls_on_all(&rt, &map)
 }

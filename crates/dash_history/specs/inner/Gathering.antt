@@ -1,5 +1,5 @@
 -- How a merge is made, and how logs are followed along it.
-use Rattle.std.specs.Prelude.{ℕ, ◌+◌, ◌≡◌, ◌<◌, Bool, false, List, [], ◌∷◌, ◌++◌, length, map, Some, slice_get, slice_index}
+use Rattle.std.specs.Prelude.{ℕ, ◌+◌, ◌≡◌, ◌≢◌, ◌<◌, Bool, false, List, [], ◌∷◌, ◌++◌, length, map, Some, slice_get, slice_index, get_or}
 use Rattle.std.specs.Option.{option_map_or}
 use Rattle.dash_history.specs.Takes.{Known}
 use Rattle.dash_history.specs.History.{LogState, RecState, IsLog, IsRecorded}
@@ -29,6 +29,13 @@ module _ {K V A : Type 0} where
   -- of each caller below c, the index of its log
   abbrev pub Finds : ℕ → List (LogState K V A) → List ℕ → Type 0
   Finds c logs index = (length index ≡ c) × ((j : ℕ) → j < c → (l : LogState K V A) × (slice_get logs (slice_index index j) ≡ Some l) × (l.caller ≡ j))
+
+  -- each log has just so many entries as are counted for it; or one has another number of them
+  abbrev pub AllEnded : List (LogState K V A) → List ℕ → Type 0
+  AllEnded logs next = (n : ℕ) (l : LogState K V A) → slice_get logs n ≡ Some l → get_or next n 0 ≡ length l.entries
+
+  abbrev pub SomeGoesOn : List (LogState K V A) → List ℕ → Type 0
+  SomeGoesOn logs next = (n : ℕ) × (l : LogState K V A) × (slice_get logs n ≡ Some l) × (get_or next n 0 ≢ length l.entries)
 
 -- the record is alike the one at the index k of the entries
 abbrev pub agrees : {K V A : Type 0} → (Record K V A → Record K V A → Bool) → Record K V A → List (Record K V A) → ℕ → Bool

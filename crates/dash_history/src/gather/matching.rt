@@ -1,8 +1,8 @@
 //! Whether the logs of callers match the histories.
-ghost use Rattle.std.specs.Prelude.{ℕ, ◌≡◌, ◌+◌, ◌^◌, ◌<◌, ◌↔◌, IfOk, IsTrue, MatchOption, Some, length, map};
+ghost use Rattle.std.specs.Prelude.{ℕ, ◌≡◌, ◌+◌, ◌^◌, ◌<◌, ◌↔◌, ◌⊎◌, IfOk, IsTrue, MatchOption, Some, length, map};
 ghost use Rattle.std.specs.List.{Contains};
 ghost use Rattle.dash_history.specs.Steps.{alike_record};
-ghost use Rattle.dash_history.specs.inner.Gathering.{agrees, EachLog, Finds, KeepsCallers};
+ghost use Rattle.dash_history.specs.inner.Gathering.{agrees, AllEnded, EachLog, Finds, KeepsCallers, SomeGoesOn};
 ghost use Rattle.dash_history.specs.OneHistory.{AreCallers, IsMerge, Names, record_at};
 ghost use Rattle.dash_history.specs.declared.gather.At.{At};
 
@@ -67,6 +67,20 @@ fn says<K: Kept + Drop, V: Kept + Drop, A: Kept>(
     }
 }
 
+// Whether `next` has the number of entries of each log.
+fn ended<K: Drop, V: Drop, A>(next: &[usize], logs: &[CallerLog<K, V, A>]) -> bool
+    requires { length next.now ≡ length logs.now }
+    ensures all { IsTrue result → AllEnded logs.now next.now }
+    ensures some { IsTrue result ⊎ SomeGoesOn logs.now next.now }
+{
+    for i in 0..logs.len() {
+        if next[i] != logs[i].entries().len() {
+            return false;
+        }
+    }
+    true
+}
+
 /// Whether the records of each caller stand along the places as in its log, and the log has no others.
 pub(crate) fn follows<
     K: KeptKey + Drop,
@@ -96,10 +110,5 @@ pub(crate) fn follows<
         }
         next[log] = k + 1;
     }
-    for i in 0..logs.len() {
-        if next[i] != logs[i].entries().len() {
-            return Ok(false);
-        }
-    }
-    Ok(true)
+    Ok(ended(&next, logs))
 }

@@ -1,14 +1,12 @@
 //! A recorded shard that is held for writing, changed in place behind its lock.
-ghost use Rattle.std.specs.Prelude.{◌≡◌, ◌-◌, ◌<◌, ◌^◌, ◌↔◌, ◌⊎◌, IfErr, IsTrue};
+ghost use Rattle.std.specs.Prelude.{◌≡◌, ◌<◌, ◌↔◌, IsTrue};
 ghost use Rattle.dash_shard.specs.Hashing.{by};
 ghost use Rattle.dash_shard.specs.Shard.{Routes};
-ghost use Rattle.dash_history.specs.History.{IsRecorded, GoesTo, Records};
+ghost use Rattle.dash_history.specs.History.{IsRecorded, GoesTo};
 ghost use Rattle.dash_history.specs.inner.Hashed.{HasHash};
 ghost use Rattle.dash_history.specs.Held.{FitsTag};
-ghost use Rattle.dash_history.specs.inner.Grows.{Promises};
-ghost use Rattle.dash_history.specs.Refused.{HandsBack, NoStamp};
+ghost use Rattle.dash_history.specs.Refused.{Records};
 ghost use Rattle.dash_history.specs.Takes.{known};
-ghost use Rattle.dash_history.specs.declared.record.RecordFault.TheVariants.{LastStamp, Memory};
 
 use super::{CallerLog, RecShard, RecordFault};
 use crate::action::KeptAction;
@@ -144,11 +142,7 @@ impl<K: KeptKey + Drop, V: Kept + Drop, S: BuildHasher, A: KeptAction<K, V> + Dr
     ) -> Result<Reply<K, V>, (ShardStep<K, V, A>, RecordFault)>
         requires goes { GoesTo ⟦<Self as Recorded>⟧.known self.old.shard step }
         requires caller { log.old.caller < self.old.callers }
-        ensures ok { Records ⟦<Self as Recorded>⟧.known self.old self.new log.old log.new step result }
-        ensures refused { HandsBack step self.old self.new log.old log.new result }
-        ensures last_stamp { (result ≡ Err (step, LastStamp)) ↔ NoStamp self.old.last log.old.last }
-        ensures log_last { log.old.last ≡ 2 ^ 64 - 1 → result ≡ Err (step, LastStamp) }
-        ensures faults { IfErr result (λ e. (e.1 ≡ LastStamp) ⊎ (e.1 ≡ Memory)) }
+        ensures { Records ⟦<Self as Recorded>⟧.known self.old self.new log.old log.new step result }
     {
         let hash = self.guard.hash_of(&step);
         self.record_hashed(log, hash, step)
@@ -164,7 +158,7 @@ impl<K: KeptKey + Drop, V: Kept + Drop, S: BuildHasher, A: KeptAction<K, V> + Dr
         requires goes { GoesTo ⟦<Self as Recorded>⟧.known self.old.shard step }
         requires hash { HasHash ⟦<Self as Recorded>⟧.known self.old.shard step hash }
         requires caller { log.old.caller < self.old.callers }
-        ensures { Promises ⟦<Self as Recorded>⟧.known self.old self.new log.old log.new step result }
+        ensures { Records ⟦<Self as Recorded>⟧.known self.old self.new log.old log.new step result }
     {
         // The closure takes the log and gives it back, and a log with no entries stands in its place meanwhile.
         let blank = CallerLog::new(*log.entries.allocator(), log.caller);
@@ -177,7 +171,7 @@ impl<K: KeptKey + Drop, V: Kept + Drop, S: BuildHasher, A: KeptAction<K, V> + Dr
                 requires goes { GoesTo (known K.KeptKey V.alike A.KeptAction S.BuildHasher S.Hasher.Hasher) shard.old.shard step }
                 requires hash { HasHash (known K.KeptKey V.alike A.KeptAction S.BuildHasher S.Hasher.Hasher) shard.old.shard step hash }
                 requires caller { mine.caller < shard.old.callers }
-                ensures { Promises (known K.KeptKey V.alike A.KeptAction S.BuildHasher S.Hasher.Hasher) shard.old shard.new mine result.0 step result.1 }
+                ensures { Records (known K.KeptKey V.alike A.KeptAction S.BuildHasher S.Hasher.Hasher) shard.old shard.new mine result.0 step result.1 }
             {
                 let mut log = mine;
                 let answer = shard.record_hashed(&mut log, hash, step);

@@ -25,8 +25,9 @@ module _ {K V S : Type 0} (h : KeyHash K S) where
     pub parts : AreParts h s l
     pub equal : HasKey h.eq (joined s l) key i
 
-  -- the key goes to the shard, which has no equal one, and has room
-  pub record IsVacant (s : ShardState K V S) (key : K) : Type 0 where
+  -- the key has this hash and goes to the shard, which has no equal one, and has room
+  pub record IsVacant (s : ShardState K V S) (key : K) (hash : ℕ) : Type 0 where
+    pub hashed : hash ≡ h.hash s.hasher key
     pub routes : Routes h s key
     pub absent : at h.eq (pairs s) key ≡ None
     pub room : shard_len s < s.capacity

@@ -3,12 +3,13 @@ ghost use Rattle.std.specs.Prelude.{◌≡◌, IsOk, IfOk, IfErr, OnErr, MatchRe
 ghost use Rattle.std.specs.Option.{option_map};
 ghost use Rattle.std.specs.Fn.{FnOnceReturnsAtMut};
 ghost use Rattle.dash_ref.specs.RefMut.{rewritten, stored};
-ghost use Rattle.dash_ref.specs.Entry.{Modified, Puts};
-ghost use Rattle.dash_ref.specs.EntryCases.{MatchEntry, entry_key, IsEntryOf};
+ghost use Rattle.dash_ref.specs.Entry.{Modified, Puts, PutsCopy, revalued};
+ghost use Rattle.dash_ref.specs.EntryCases.{MatchEntry, entry_key, entry_shard, IsEntryOf};
 ghost use Rattle.dash_shard.specs.Hashing.{by};
-ghost use Rattle.dash_shard.specs.Shard.{Routes};
+ghost use Rattle.dash_shard.specs.Shard.{Routes, IsShard};
 
 use crate::mapref::one::RefMut;
+use dash_history::kept::KeptKey;
 use dash_shard::keyed::Keyed;
 use dash_shard::shard::held::ShardMut;
 pub use occupied::OccupiedEntry;
@@ -33,6 +34,13 @@ pub enum Entry<'a, K: Eq + Hash, V, S: BuildHasher> {
 #[derive(Debug, Drop)]
 pub struct EntryRefused<K> {
     pub key: K,
+}
+
+/// No memory for the copy of a vacant key (3). The pairs are as they were, and the entry goes on.
+#[derive(Drop)]
+pub struct InsertEntryRefused<'a, K: Eq + Hash, V, S: BuildHasher> {
+    pub entry: VacantEntry<'a, K, V, S>,
+    pub value: V,
 }
 
 /// Why an entry wasn't had without waiting. The key comes back, and the pairs are as they were.
@@ -64,13 +72,15 @@ impl<'a, K: Eq + Hash + Drop, V: Drop, S: BuildHasher> Entry<'a, K, V, S> {
     ) -> Result<Entry<'a, K, V, S>, EntryRefused<K>>
         requires hash { hash ≡ ⟦<Self as Keyed>⟧.by.hash shard.hasher key }
         requires route { Routes ⟦<Self as Keyed>⟧.by shard key }
-        ensures { IsEntryOf K.eq shard.entry key result }
+        ensures case { IsEntryOf K.eq shard.entry key result }
+        ensures routes { IfOk result (λ e. Routes ⟦<Self as Keyed>⟧.by (entry_shard e) key) }
+        ensures lawful { IfOk result (λ e. IsShard ⟦<Self as Keyed>⟧.by (entry_shard e)) }
     {
         if let Some(position) = shard.position_of_hashed(hash, &key) {
             return Ok(Entry::Occupied(OccupiedEntry::new(shard, position, key)));
         }
         match shard.try_reserve(1) {
-            Ok(()) => Ok(Entry::Vacant(VacantEntry::new(shard, key))),
+            Ok(()) => Ok(Entry::Vacant(VacantEntry::new(shard, hash, key))),
             Err(_) => Err(EntryRefused { key }),
         }
     }
@@ -133,8 +143,8 @@ impl<'a, K: Eq + Hash + Drop, V: Drop, S: BuildHasher> Entry<'a, K, V, S> {
         ensures { MatchEntry self.entry (λ o. result ≡ o.pair) (λ v. Puts K.eq v.shard v.key value result) }
     {
         match self {
-            Entry::Occupied(entry) => entry.into_ref(),
-            Entry::Vacant(entry) => entry.insert(value),
+            Entry::Occupied(occupied) => occupied.into_ref(),
+            Entry::Vacant(vacant) => vacant.insert(value),
         }
     }
 
@@ -178,6 +188,29 @@ impl<'a, K: Eq + Hash + Drop, V: Drop, S: BuildHasher> Entry<'a, K, V, S> {
                 entry.into_ref()
             }
             Entry::Vacant(entry) => entry.insert(value),
+        }
+    }
+
+    /// Puts the value, under the stored key or under a copy of the one that was handed in, and answers the pair's entry.
+    ///
+    /// It takes memory for the copy of a vacant key alone, before anything changes, and is refused (3) only for want of it.
+    #[inline]
+    pub fn insert_entry(
+        self,
+        value: V,
+    ) -> Result<OccupiedEntry<'a, K, V, S>, InsertEntryRefused<'a, K, V, S>>
+    where
+        K: KeptKey,
+        ensures { MatchEntry self.entry
+            (λ o. IfOk result (λ r. r ≡ revalued o value) × IsOk result)
+            (λ v. MatchResult result (PutsCopy K.eq K.alike v value) (λ r. (r.entry ≡ v) × (r.value ≡ value))) }
+    {
+        match self {
+            Entry::Occupied(mut entry) => {
+                entry.insert(value);
+                Ok(entry)
+            }
+            Entry::Vacant(entry) => entry.insert_entry(value),
         }
     }
 }

@@ -7,7 +7,7 @@ ghost use Rattle.dash_shard.specs.inner.Walks.{if_kept, altered, SweepsShard};
 ghost use Rattle.dash_shard.specs.Steps.{Retain, AlterAll};
 
 use super::Shard;
-use super::table::walk::Iter;
+use super::table::walk::{IntoIter, Iter};
 use crate::keyed::Keyed;
 use std::hash::{BuildHasher, Hash};
 
@@ -93,5 +93,16 @@ impl<K: Eq + Hash, V, S: BuildHasher> Shard<K, V, S> {
         ensures lawful { IsShard ⟦<Self as Keyed>⟧.by self.now }
     {
         self.table.iter()
+    }
+
+    /// The pairs, moved out in rising order of slots. The shard's hasher is dropped.
+    #[inline]
+    pub fn into_iter(self) -> IntoIter<K, V>
+    where
+        S: Drop,
+        ensures pairs { result ≡ pairs self }
+    {
+        let Shard { table, .. } = self;
+        table.into_iter()
     }
 }

@@ -94,6 +94,7 @@ impl<K: Eq + Hash, V, S: BuildHasher> Shard<K, V, S> {
     pub fn set_at(&mut self, position: usize, value: V) -> V
         requires { IsSome (slot self.old.slots position) }
         ensures sets { TakesAt K.eq self.old self.new position (λ key. Insert key value) (Old (Some result)) }
+        ensures here { self.new ≡ with_value_in self.old position value }
         ensures value { option_map (λ p. p.1) (slot self.old.slots position) ≡ Some result }
         ensures stays { SameShard self.old self.new }
         ensures len { shard_len self.new ≡ shard_len self.old }

@@ -260,6 +260,7 @@ impl<K, V> Table<K, V> {
         ensures ok { OnOk result (self.new.len + additional ≤ length self.new.nodes.items) }
         ensures grown { IsGrown self.old.nodes.items self.new.nodes.items }
         ensures err { OnErr result (self.new.nodes.items ≡ self.old.nodes.items) }
+        ensures full { OnErr result (length self.old.nodes.items < self.old.len + additional) }
         ensures len { self.new.len ≡ self.old.len }
         ensures table { IsTable self.new }
     {

@@ -17,7 +17,6 @@ use dash_shard::shard::held::ShardMut;
 use dash_shard::shard::held::parts::Loan;
 use std::hash::{BuildHasher, Hash};
 use std::marker::{Model, PhantomData};
-use std::mem;
 
 /// A key, the pair with an equal key, and a hold of its shard for writing: the original's `OccupiedEntry`.
 pub struct OccupiedEntry<'a, K: Eq + Hash, V, S: BuildHasher> {
@@ -132,7 +131,8 @@ impl<'a, K: Eq + Hash + Drop, V: Drop, S: BuildHasher> OccupiedEntry<'a, K, V, S
         ensures old { option_map (λ p. p.1) (stored self.old.pair) ≡ Some result }
         ensures new { self.new ≡ revalued self.old value }
     {
-        mem::replace(self.get_mut(), value)
+        let position = self.position;
+        self.loan.set_at(&mut self.guard, position, value)
     }
 
     /// The stored pair, for as long as the shard is held.

@@ -1,11 +1,13 @@
 //! A key that has no pair.
-ghost use Rattle.std.specs.Prelude.{◌≡◌, ◌<◌, None};
+ghost use Rattle.std.specs.Prelude.{◌≡◌, ◌<◌, None, IfOk, IfErr};
 ghost use Rattle.dash_shard.specs.Hashing.{by};
 ghost use Rattle.dash_shard.specs.Contents.{at};
 ghost use Rattle.dash_shard.specs.Shard.{pairs, shard_len, Routes};
-ghost use Rattle.dash_ref.specs.Entry.{Puts};
+ghost use Rattle.dash_ref.specs.Entry.{Puts, PutsCopy};
 
+use super::{InsertEntryRefused, OccupiedEntry};
 use crate::mapref::one::RefMut;
+use dash_history::kept::KeptKey;
 use dash_shard::keyed::Keyed;
 use dash_shard::shard::held::ShardMut;
 use std::hash::{BuildHasher, Hash};
@@ -16,6 +18,8 @@ use std::marker::Model;
 pub struct VacantEntry<'a, K: Eq + Hash, V, S: BuildHasher> {
     shard: ShardMut<'a, K, V, S>,
     key: K,
+    // That of the key.
+    hash: u64,
 }
 
 impl<'a, K: Eq + Hash, V, S: BuildHasher> Model for VacantEntry<'a, K, V, S> {
@@ -29,7 +33,7 @@ impl<'a, K: Eq + Hash, V, S: BuildHasher> Model for VacantEntry<'a, K, V, S> {
 
     ghost view = { λ e. record { shard = e.shard; key = e.key } };
 
-    ghost invariant = { λ e. IsVacant (key_hash K.eq K.hash_input S.BuildHasher S.Hasher.Hasher) e.shard e.key };
+    ghost invariant = { λ e. IsVacant (key_hash K.eq K.hash_input S.BuildHasher S.Hasher.Hasher) e.shard e.key e.hash };
 }
 
 impl<K: Eq + Hash, V, S: BuildHasher> Keyed for VacantEntry<'_, K, V, S> {
@@ -41,15 +45,16 @@ impl<K: Eq + Hash, V, S: BuildHasher> Keyed for VacantEntry<'_, K, V, S> {
 }
 
 impl<'a, K: Eq + Hash + Drop, V: Drop, S: BuildHasher> VacantEntry<'a, K, V, S> {
-    /// The entry of a key that goes to the held shard, which has no equal one, and room.
+    /// The entry of a key that goes to the held shard, which has no equal one, and room, for a caller who has the key's hash.
     #[inline]
-    pub fn new(shard: ShardMut<'a, K, V, S>, key: K) -> VacantEntry<'a, K, V, S>
+    pub fn new(shard: ShardMut<'a, K, V, S>, hash: u64, key: K) -> VacantEntry<'a, K, V, S>
+        requires hash { hash ≡ ⟦<Self as Keyed>⟧.by.hash shard.hasher key }
         requires routes { Routes ⟦<Self as Keyed>⟧.by shard key }
         requires absent { at K.eq (pairs shard) key ≡ None }
         requires room { shard_len shard < shard.capacity }
         ensures { result ≡ record { shard = shard.entry; key = key } }
     {
-        VacantEntry { shard, key }
+        VacantEntry { shard, key, hash }
     }
 
     /// Puts the pair of the key and the value. It can't be refused, since the room is there.
@@ -57,9 +62,38 @@ impl<'a, K: Eq + Hash + Drop, V: Drop, S: BuildHasher> VacantEntry<'a, K, V, S> 
     pub fn insert(self, value: V) -> RefMut<'a, K, V, S>
         ensures { Puts K.eq self.entry.shard self.entry.key value result }
     {
-        let Self { mut shard, key } = self;
-        let position = shard.insert_new(key, value);
+        let Self {
+            mut shard,
+            key,
+            hash,
+        } = self;
+        let position = shard.insert_new_hashed(hash, key, value);
         RefMut::new(shard, position)
+    }
+
+    /// Puts the pair of a copy of the key and the value, and answers its entry, which keeps the key that was handed in.
+    ///
+    /// It takes memory for the copy alone, before anything changes, and is refused (3) only for want of it.
+    #[inline]
+    pub fn insert_entry(
+        self,
+        value: V,
+    ) -> Result<OccupiedEntry<'a, K, V, S>, InsertEntryRefused<'a, K, V, S>>
+    where
+        K: KeptKey,
+        ensures puts { IfOk result (PutsCopy K.eq K.alike self.entry value) }
+        ensures refused { IfErr result (λ r. (r.entry ≡ self.entry) × (r.value ≡ value)) }
+    {
+        let Ok(copy) = self.key.copy() else {
+            return Err(InsertEntryRefused { entry: self, value });
+        };
+        let Self {
+            mut shard,
+            key,
+            hash,
+        } = self;
+        let position = shard.insert_new_hashed(hash, copy, value);
+        Ok(OccupiedEntry::new(shard, position, key))
     }
 
     /// The key that was handed in.
@@ -67,7 +101,11 @@ impl<'a, K: Eq + Hash + Drop, V: Drop, S: BuildHasher> VacantEntry<'a, K, V, S> 
     pub fn into_key(self) -> K
         ensures { result ≡ self.entry.key }
     {
-        let Self { shard: _, key } = self;
+        let Self {
+            shard: _,
+            key,
+            hash: _,
+        } = self;
         key
     }
 

@@ -1,8 +1,10 @@
 //! A held shard in two parts, for references that lend a value of it: the guard of its lock, and what was taken out from behind it.
 ghost use Rattle.std.specs.Prelude.{◌≡◌, IsSome, IsTrue, Some};
 ghost use Rattle.std.specs.Borrow.{Lends, sem};
+ghost use Rattle.std.specs.Option.{option_map};
 ghost use Rattle.std.specs.Map.Iter.{deref_pair, deref_pair_mut};
-ghost use Rattle.dash_shard.specs.Shard.{slot};
+ghost use Rattle.dash_shard.specs.Hashing.{by};
+ghost use Rattle.dash_shard.specs.Shard.{slot, with_value_in, SameShard, IsShard};
 ghost use Rattle.dash_shard.specs.inner.Loans.{joined, AreParts, MayLend, lent_slot, with_lent};
 
 use super::ShardMut;
@@ -13,6 +15,7 @@ use crate::shard::Shard;
 use crate::shard::table::Table;
 use std::hash::{BuildHasher, Hash};
 use std::marker::PhantomData;
+use std::mem;
 
 /// What a hold took out from behind its lock, to lend from: the shard's table, or nothing yet. It takes no memory.
 ///
@@ -89,6 +92,36 @@ impl<K: Eq + Hash, V> Loan<K, V> {
     {
         move_table(guard, &mut self.table, self.is_lent, true);
         self.is_lent = true;
+    }
+
+    /// Puts a value in the pair of a taken slot of the held shard, and answers the old one. The table stays where it is.
+    #[inline]
+    pub fn set_at<S: BuildHasher>(
+        &mut self,
+        guard: &mut RwLockWriteGuard<'_, Shard<K, V, S>>,
+        position: usize,
+        value: V,
+    ) -> V
+    where
+        V: Drop,
+        requires parts { AreParts ⟦<Shard<K, V, S> as Keyed>⟧.by guard.old.value self.old }
+        requires taken { IsSome (slot (joined guard.old.value self.old).slots position) }
+        ensures parts { AreParts ⟦<Shard<K, V, S> as Keyed>⟧.by guard.new.value self.new }
+        ensures here { joined guard.new.value self.new ≡ with_value_in (joined guard.old.value self.old) position value }
+        ensures value { option_map (λ p. p.1) (slot (joined guard.old.value self.old).slots position) ≡ Some result }
+    {
+        if self.is_lent {
+            return mem::replace(self.table.pair_mut(position).1, value);
+        }
+        guard.change(
+            |shard: &mut Shard<K, V, S>| -> V
+                requires { IsSome (slot shard.old.slots position) }
+                ensures here { shard.new ≡ with_value_in shard.old position value }
+                ensures value { option_map (λ p. p.1) (slot shard.old.slots position) ≡ Some result }
+                ensures stays { SameShard shard.old shard.new }
+                ensures lawful { IsShard (by K.Hash S.BuildHasher S.Hasher.Hasher) shard.new }
+            { shard.set_at(position, value) },
+        )
     }
 
     /// The pair of a taken slot of a table that was taken out, its value to be written.

@@ -57,10 +57,30 @@ impl<K: Eq + Hash, V, S: BuildHasher> ShardMut<'_, K, V, S> {
         ensures len { shard_len self.new ≡ shard_len self.old + 1 }
         ensures lawful { IsShard ⟦<Self as Keyed>⟧.by self.new }
     {
+        let hash = self.guard.hash_one(&key);
+        self.insert_new_hashed(hash, key, value)
+    }
+
+    /// As `insert_new`, for a caller who has the key's hash.
+    #[inline]
+    pub fn insert_new_hashed(&mut self, hash: u64, key: K, value: V) -> usize
+    where
+        K: Drop,
+        V: Drop,
+        requires hash { hash ≡ ⟦<Self as Keyed>⟧.by.hash self.old.hasher key }
+        requires route { Routes ⟦<Self as Keyed>⟧.by self.old key }
+        requires absent { at K.eq (pairs self.old) key ≡ None }
+        requires room { shard_len self.old < self.old.capacity }
+        ensures inserts { TakesInPlace K.eq self.old self.new (Insert key value) (Old None) }
+        ensures slot { slot self.new.slots result ≡ Some (key, value) }
+        ensures len { shard_len self.new ≡ shard_len self.old + 1 }
+        ensures lawful { IsShard ⟦<Self as Keyed>⟧.by self.new }
+    {
         move_table(&mut self.guard, &mut self.table, self.is_lent, false);
         self.is_lent = false;
         self.guard.change(
             |shard: &mut Shard<K, V, S>| -> usize
+                requires hash { hash ≡ (by K.Hash S.BuildHasher S.Hasher.Hasher).hash shard.old.hasher key }
                 requires route { Routes (by K.Hash S.BuildHasher S.Hasher.Hasher) shard.old key }
                 requires absent { at K.eq (pairs shard.old) key ≡ None }
                 requires room { shard_len shard.old < shard.old.capacity }
@@ -68,7 +88,7 @@ impl<K: Eq + Hash, V, S: BuildHasher> ShardMut<'_, K, V, S> {
                 ensures slot { slot shard.new.slots result ≡ Some (key, value) }
                 ensures len { shard_len shard.new ≡ shard_len shard.old + 1 }
                 ensures lawful { IsShard (by K.Hash S.BuildHasher S.Hasher.Hasher) shard.new }
-            { shard.insert_new(key, value) },
+            { shard.insert_new_hashed(hash, key, value) },
         )
     }
 

@@ -42,7 +42,7 @@ invariant_of-self g c =
     let within : c.route-hash.result.1 < length c.self.inside.row = omega (arith, c.if-idx-len.false, c.len-2.ensures) in
     alone-set (key_hash g.K.PartialEq.eq g.K.Hash.hash_input g.S.BuildHasher g.S.Hasher.Hasher) _ _ c.route-hash.result.1 c.self.inside.row c.index_mut.result.now c.record_hashed.new.self c.self.invariant
     (here (known_by g.K.PartialEq.eq g.K.Hash.hash_input g.K.Kept.alike g.V.Kept.alike g.A.Kept.alike g.A.Action.acts g.S.BuildHasher g.S.Hasher.Hasher) _ _ _ _ c.self.view_is c.self.invariant c.args.step c.route-hash.result.1 c.len.result c.index_mut.result.now c.len.ensures c.route-hash.ensures.shard within c.index_mut.ensures.value)
-    c.record_hashed.ensures.stays c.record_hashed.ensures.callers
+    c.record_hashed.ensures.records.stays c.record_hashed.ensures.records.callers
 
 pub returns-clause-ok : goal.returns-clause-ok
 returns-clause-ok g c =
@@ -50,12 +50,12 @@ returns-clause-ok g c =
     IfOk-weaker c.record_hashed.result
     (λ reply. Recorded (kinds_of (known_by g.K.PartialEq.eq g.K.Hash.hash_input g.K.Kept.alike g.V.Kept.alike g.A.Kept.alike g.A.Action.acts g.S.BuildHasher g.S.Hasher.Hasher) c.index_mut.result.now.shard) c.index_mut.result.now c.record_hashed.new.self c.args.log.now c.record_hashed.new.log c.args.step reply) _
     (λ reply recorded. applied (known_by g.K.PartialEq.eq g.K.Hash.hash_input g.K.Kept.alike g.V.Kept.alike g.A.Kept.alike g.A.Action.acts g.S.BuildHasher g.S.Hasher.Hasher) _ _ _ _ c.self.view_is c.self.invariant c.args.step c.route-hash.result.1 c.len.result c.index_mut.result.now c.len.ensures c.route-hash.ensures.shard within c.index_mut.ensures.value c.record_hashed.new.self c.args.log.now c.record_hashed.new.log reply recorded)
-    c.record_hashed.ensures.ok
+    c.record_hashed.ensures.records.ok
 
 pub returns-clause-refused : goal.returns-clause-refused
 returns-clause-refused g c =
     let within : c.route-hash.result.1 < length c.self.inside.row = omega (arith, c.if-idx-len.false, c.len-2.ensures) in
-    MatchResult-weaker c.record_hashed.result c.record_hashed.ensures.refused (λ x p. p)
+    MatchResult-weaker c.record_hashed.result c.record_hashed.ensures.records.refused (λ x p. p)
     (λ e h. (h.0, unchanged (known_by g.K.PartialEq.eq g.K.Hash.hash_input g.K.Kept.alike g.V.Kept.alike g.A.Kept.alike g.A.Action.acts g.S.BuildHasher g.S.Hasher.Hasher) _ _ _ _ c.self.view_is c.self.invariant c.args.step c.route-hash.result.1 c.len.result c.index_mut.result.now c.len.ensures c.route-hash.ensures.shard within c.index_mut.ensures.value c.record_hashed.new.self h.1, h.2))
 
 pub returns-clause-no_such_shard : goal.returns-clause-no_such_shard
@@ -63,7 +63,7 @@ returns-clause-no_such_shard g c =
     let within : c.route-hash.result.1 < length c.self.inside.row = omega (arith, c.if-idx-len.false, c.len-2.ensures) in
     let idx = shard_is (known_by g.K.PartialEq.eq g.K.Hash.hash_input g.K.Kept.alike g.V.Kept.alike g.A.Kept.alike g.A.Action.acts g.S.BuildHasher g.S.Hasher.Hasher) _ _ _ _ c.self.view_is c.self.invariant c.args.step c.route-hash.result.1 c.len.result c.index_mut.result.now c.len.ensures c.route-hash.ensures.shard within c.index_mut.ensures.value in
     let count = count_is (known_by g.K.PartialEq.eq g.K.Hash.hash_input g.K.Kept.alike g.V.Kept.alike g.A.Kept.alike g.A.Action.acts g.S.BuildHasher g.S.Hasher.Hasher) _ _ _ _ c.self.view_is c.self.invariant c.args.step c.route-hash.result.1 c.len.result c.index_mut.result.now c.len.ensures c.route-hash.ensures.shard within c.index_mut.ensures.value in
-    (λ e. absurd (never-missing c.record_hashed.result c.args.step c.record_hashed.ensures.faults e), λ le. absurd (omega (arith, idx, within, count, le)))
+    (λ e. absurd (never-missing c.record_hashed.result c.args.step c.record_hashed.ensures.records.faults e), λ le. absurd (omega (arith, idx, within, count, le)))
 
 pub returns-clause-last_stamp : goal.returns-clause-last_stamp
 returns-clause-last_stamp g c =
@@ -71,6 +71,6 @@ returns-clause-last_stamp g c =
     let idx = shard_is (known_by g.K.PartialEq.eq g.K.Hash.hash_input g.K.Kept.alike g.V.Kept.alike g.A.Kept.alike g.A.Action.acts g.S.BuildHasher g.S.Hasher.Hasher) _ _ _ _ c.self.view_is c.self.invariant c.args.step c.route-hash.result.1 c.len.result c.index_mut.result.now c.len.ensures c.route-hash.ensures.shard within c.index_mut.ensures.value in
     let last = last_is (known_by g.K.PartialEq.eq g.K.Hash.hash_input g.K.Kept.alike g.V.Kept.alike g.A.Kept.alike g.A.Action.acts g.S.BuildHasher g.S.Hasher.Hasher) _ _ _ _ c.self.view_is c.self.invariant c.args.step c.route-hash.result.1 c.len.result c.index_mut.result.now c.len.ensures c.route-hash.ensures.shard within c.index_mut.ensures.value c.record_hashed.ensures.last in
     let count = count_is (known_by g.K.PartialEq.eq g.K.Hash.hash_input g.K.Kept.alike g.V.Kept.alike g.A.Kept.alike g.A.Action.acts g.S.BuildHasher g.S.Hasher.Hasher) _ _ _ _ c.self.view_is c.self.invariant c.args.step c.route-hash.result.1 c.len.result c.index_mut.result.now c.len.ensures c.route-hash.ensures.shard within c.index_mut.ensures.value in (
-      λ e. (omega (arith, idx, within, count), ap (λ n. max n c.args.log.now.last) last ∙ c.record_hashed.ensures.last_stamp.0 e),
-      λ m. c.record_hashed.ensures.last_stamp.1 (ap (λ n. max n c.args.log.now.last) (sym last) ∙ m.1),
+      λ e. (omega (arith, idx, within, count), ap (λ n. max n c.args.log.now.last) last ∙ c.record_hashed.ensures.records.last_stamp.0 e),
+      λ m. c.record_hashed.ensures.records.last_stamp.1 (ap (λ n. max n c.args.log.now.last) (sym last) ∙ m.1),
     )

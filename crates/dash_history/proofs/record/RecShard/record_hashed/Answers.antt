@@ -4,6 +4,7 @@ use Rattle.dash_history.specs.declared.step.Record.{Record}
 use Rattle.dash_history.specs.inner.Kinds.{kinds_of}
 use Rattle.dash_history.proofs.Growing.{log-more}
 use Rattle.dash_history.proofs.Recording.{same-stamp, same-caller}
+use Rattle.dash_history.proofs.Refusals.{made-refused}
 use Rattle.dash_history.proofs.Telling.{tells-of}
 use Rattle.dash_history.proofs.record.RecShard.record_hashed.Goals as goal
 use Rattle.dash_history.specs.Takes.{known_by}
@@ -18,8 +19,8 @@ invariant_of-log-in-Ok g c =
     (sym (same-stamp _ _ _ grown.kept c.in-Ok.record grown.same) ∙ tells.stamped) (sym (same-caller _ _ _ grown.kept c.in-Ok.record grown.same) ∙ tells.by)
     (c.push_reserved.ensures.items ∙ ap (λ h. h ++ c.in-Ok.record ∷ []) c.make_room.ensures.items)
 
-pub returns-in-Ok-clause-ok : goal.returns-in-Ok-clause-ok
-returns-in-Ok-clause-ok g c =
+pub returns-in-Ok-clause-records : goal.returns-in-Ok-clause-records
+returns-in-Ok-clause-records g c =
     let Log : Type 0 = LogState g.row.K.Denot g.row.V.Denot g.row.A.Denot in
     let At : Type 0 = RecState g.row.K.Denot g.row.V.Denot g.row.A.Denot g.row.S.Denot in
     let P = λ (n k : ℕ). Grown (kinds_of (known_by g.K.PartialEq.eq g.K.Hash.hash_input g.K.Kept.alike g.V.Kept.alike g.A.Kept.alike g.A.Action.acts g.S.BuildHasher g.S.Hasher.Hasher) c.args.self.now.shard) c.args.self.now c.grow.new.self n k c.args.step c.in-Ok.reply c.in-Ok.record in
@@ -30,8 +31,16 @@ returns-in-Ok-clause-ok g c =
     c.push_reserved.ensures.items ∙ ap (λ h. h ++ c.in-Ok.record ∷ []) c.make_room.ensures.items ∙ ap (λ (l : Log). l.entries ++ c.in-Ok.record ∷ []) c.log.view_is in
     let of : ℕ → ℕ → List (Record g.row.K.Denot g.row.V.Denot g.row.A.Denot) → Log = λ k n es. record { caller = k; last = n; entries = es } in
     record {
-      logged = c.in-Ok.record;
-      grown = subst (λ n. P n c.args.log.now.caller) stamp (subst (λ k. P (c.max-last.result + 1) k) caller c.in-Ok.ensures.ok);
-      log = ap (λ k. of k (c.max-last.result + 1) c.push_reserved.new.self.items) caller ∙ ap (λ n. of c.args.log.now.caller n c.push_reserved.new.self.items) stamp
-          ∙ ap (of c.args.log.now.caller (stamp_of c.args.self.now c.args.log.now)) entries;
+      ok = record {
+        logged = c.in-Ok.record;
+        grown = subst (λ n. P n c.args.log.now.caller) stamp (subst (λ k. P (c.max-last.result + 1) k) caller c.in-Ok.ensures.ok);
+        log = ap (λ k. of k (c.max-last.result + 1) c.push_reserved.new.self.items) caller ∙ ap (λ n. of c.args.log.now.caller n c.push_reserved.new.self.items) stamp
+            ∙ ap (of c.args.log.now.caller (stamp_of c.args.self.now c.args.log.now)) entries;
+      };
+      refused = tt;
+      last_stamp = (λ e. absurd (made-refused _ _ e), λ m. absurd (omega (arith, c.if-last.false, stamp, m)));
+      log_last = λ m. absurd (omega (arith, c.if-last.false, c.max-last.ensures, stamp, m, c.self.ranges, c.log.ranges));
+      faults = tt;
+      stays = c.grow.ensures.stays;
+      callers = c.grow.ensures.callers;
     }

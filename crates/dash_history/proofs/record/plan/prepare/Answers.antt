@@ -11,7 +11,7 @@ use Rattle.dash_history.specs.Steps.{step_of}
 use Rattle.dash_history.proofs.AlikeLaws.{reply_equiv}
 use Rattle.dash_history.proofs.Finding.{found-pair, found-taken, planned-answers, planned-fits}
 use Rattle.dash_history.proofs.PlainTakes.{mapped}
-use Rattle.dash_history.proofs.Preparing.{all-once}
+use Rattle.dash_history.proofs.Preparing.{answers-all}
 use Rattle.dash_history.proofs.record.plan.prepare.Goals as goal
 
 pub look-pair-requires : goal.look-pair-requires
@@ -38,11 +38,8 @@ returns-in-None-clause-answers g c =
 
 pub returns-in-Count-clause-answers : goal.returns-in-Count-clause-answers
 returns-in-Count-clause-answers g c =
-    rw c.in-Count.is (record {
-      replies = (pairs c.args.shard.now, all-once _ g.met.K.Eq.laws c.args.shard.now c.len.ensures.lawful c.in-Count.field-0 (rw c.in-Count.is at c.requires.goes), ap Number (omega (arith, c.len.ensures.len, c.len.type_inv)));
-      told = Number c.len.result;
-      alike = (reply_equiv g.met.K.Kept.alike_laws g.met.V.Kept.alike_laws).refl (Number c.len.result);
-    })
+    rw c.in-Count.is (answers-all _ _ _ g.met.K.Eq.laws c.args.shard.now c.len.ensures.lawful _ _ _ _ refl (rw c.in-Count.is at c.requires.goes) (Number c.len.result) _ (ap Number (omega (arith, c.len.ensures.len, c.len.type_inv)))
+    ((reply_equiv g.met.K.Kept.alike_laws g.met.V.Kept.alike_laws).refl (Number c.len.result)))
 
 pub returns-in_ok-copy_found-in-Get-clause-answers : goal.returns-in_ok-copy_found-in-Get-clause-answers
 returns-in_ok-copy_found-in-Get-clause-answers g c =
@@ -67,16 +64,13 @@ returns-in-RemoveIf-clause-decides g c =
 pub returns-in_ok-copy_pairs-in-Read-clause-answers : goal.returns-in_ok-copy_pairs-in-Read-clause-answers
 returns-in_ok-copy_pairs-in-Read-clause-answers g c =
     let copies = c.in_ok-copy_pairs-in-Read.field-0.items in
-    rw c.in-Read.is (record {
-      told = Pairs (pairs c.args.shard.now);
-      replies = (pairs c.args.shard.now, all-once _ g.met.K.Eq.laws c.args.shard.now c.iter.ensures.lawful c.in-Read.field-0 (rw c.in-Read.is at c.requires.goes), refl);
-      alike = subst (λ l. IsTrue (pointwise (alike_pair g.K.Kept.alike g.V.Kept.alike) l copies)) c.iter.ensures.pairs c.in_ok-copy_pairs-in-Read.ensures;
-    })
+    rw c.in-Read.is (answers-all _ _ _ g.met.K.Eq.laws c.args.shard.now c.iter.ensures.lawful _ _ _ _ refl (rw c.in-Read.is at c.requires.goes) (Pairs (pairs c.args.shard.now)) _ refl
+    (subst (λ l. IsTrue (pointwise (alike_pair g.K.Kept.alike g.V.Kept.alike) l copies)) c.iter.ensures.pairs c.in_ok-copy_pairs-in-Read.ensures))
 
 pub returns-in_ok-made-in-AlterAll-clause-answers : goal.returns-in_ok-made-in-AlterAll-clause-answers
 returns-in_ok-made-in-AlterAll-clause-answers g c =
-    rw c.in-AlterAll.is (record { told = Done; replies = (pairs c.args.shard.now, all-once _ g.met.K.Eq.laws c.args.shard.now c.iter-in-AlterAll.ensures.lawful c.in-AlterAll.field-0 (rw c.in-AlterAll.is at c.requires.goes), refl); alike = refl })
+    rw c.in-AlterAll.is (answers-all _ _ _ g.met.K.Eq.laws c.args.shard.now c.iter-in-AlterAll.ensures.lawful _ _ _ _ refl (rw c.in-AlterAll.is at c.requires.goes) Done _ refl refl)
 
 pub returns-in_ok-made-in-Retain-clause-answers : goal.returns-in_ok-made-in-Retain-clause-answers
 returns-in_ok-made-in-Retain-clause-answers g c =
-    rw c.in-Retain.is (record { told = Done; replies = (pairs c.args.shard.now, all-once _ g.met.K.Eq.laws c.args.shard.now c.iter-in-Retain.ensures.lawful c.in-Retain.field-0 (rw c.in-Retain.is at c.requires.goes), refl); alike = refl })
+    rw c.in-Retain.is (answers-all _ _ _ g.met.K.Eq.laws c.args.shard.now c.iter-in-Retain.ensures.lawful _ _ _ _ refl (rw c.in-Retain.is at c.requires.goes) Done _ refl refl)

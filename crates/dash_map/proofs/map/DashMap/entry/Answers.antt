@@ -1,6 +1,7 @@
 use Rattle.std.proofs.Common.{◌∙◌, sym, subst}
 use Rattle.dash_shard.specs.Hashing.{key_hash}
 use Rattle.dash_shard.specs.Shard.{IsTagged}
+use Rattle.dash_map.proofs.Entering.{entered}
 use Rattle.dash_map.proofs.Seeing.{routes}
 use Rattle.dash_map.proofs.map.DashMap.entry.Goals as goal
 
@@ -17,4 +18,8 @@ pub returns : goal.returns
 returns g c =
     let h = key_hash g.K.PartialEq.eq g.K.Hash.hash_input g.S.BuildHasher g.S.Hasher.Hasher in
     let m = c.args.self.now in
-    (c.shards_mut.result, subst (λ n. IsTagged h m.hasher m.amount n c.shards_mut.result) c.route_of-hash.ensures.route c.shards_mut.ensures.tagged, c.find.ensures)
+    let here = subst (λ n. IsTagged h m.hasher m.amount n c.shards_mut.result) c.route_of-hash.ensures.route c.shards_mut.ensures.tagged in
+    record {
+      saw = (c.shards_mut.result, here, c.find.ensures.case);
+      tagged = entered h m c.args.key c.shards_mut.result here c.find.result c.find.ensures.case c.find.ensures.lawful;
+    }

@@ -1,6 +1,7 @@
-use Rattle.std.proofs.Common.{◌∙◌, sym, subst}
+use Rattle.std.proofs.Common.{◌∙◌, Ok, sym, subst}
 use Rattle.dash_shard.specs.Hashing.{key_hash}
 use Rattle.dash_shard.specs.Shard.{IsTagged}
+use Rattle.dash_map.proofs.Entering.{entered}
 use Rattle.dash_map.proofs.Seeing.{routes}
 use Rattle.dash_map.proofs.map.DashMap.try_entry.Goals as goal
 
@@ -17,10 +18,14 @@ pub returns-in-Ok : goal.returns-in-Ok
 returns-in-Ok g c =
     let h = key_hash g.K.PartialEq.eq g.K.Hash.hash_input g.S.BuildHasher g.S.Hasher.Hasher in
     let m = c.args.self.now in
-    (c.in-Some.shard, subst (λ n. IsTagged h m.hasher m.amount n c.in-Some.shard) c.route_of-hash.ensures.route c.in-Some.ensures.tagged, c.in-Ok.ensures)
+    let here = subst (λ n. IsTagged h m.hasher m.amount n c.in-Some.shard) c.route_of-hash.ensures.route c.in-Some.ensures.tagged in
+    record {
+      saw = (c.in-Some.shard, here, c.in-Ok.ensures.case);
+      tagged = entered h m c.args.key c.in-Some.shard here (Ok c.in-Ok.entry) c.in-Ok.ensures.case c.in-Ok.ensures.lawful;
+    }
 
-pub returns-in-Err : goal.returns-in-Err
-returns-in-Err g c =
+pub returns-in-Err-clause-saw : goal.returns-in-Err-clause-saw
+returns-in-Err-clause-saw g c =
     let h = key_hash g.K.PartialEq.eq g.K.Hash.hash_input g.S.BuildHasher g.S.Hasher.Hasher in
     let m = c.args.self.now in
-    (c.in-Some.shard, subst (λ n. IsTagged h m.hasher m.amount n c.in-Some.shard) c.route_of-hash.ensures.route c.in-Some.ensures.tagged, c.in-Err.ensures)
+    (c.in-Some.shard, subst (λ n. IsTagged h m.hasher m.amount n c.in-Some.shard) c.route_of-hash.ensures.route c.in-Some.ensures.tagged, c.in-Err.ensures.case)

@@ -105,6 +105,23 @@ impl<'a, K: Eq + Hash, V, S: BuildHasher> RefMut<'a, K, V, S> {
 }
 
 impl<'a, K: Eq + Hash, V, S: BuildHasher, P: Projection<V>> MappedRefMut<'a, K, V, S, P> {
+    /// The shard as this leaves it, held on. The original has no such call.
+    #[inline]
+    pub fn into_shard(self) -> ShardMut<'a, K, V, S>
+    where
+        P: Drop,
+        ensures { result ≡ self.entry.guard.shard }
+    {
+        let Self {
+            guard,
+            loan,
+            position: _,
+            by: _,
+            marker: _,
+        } = self;
+        ShardMut::of_parts(guard, loan)
+    }
+
     /// The key that is stored.
     #[inline]
     pub fn key(&self) -> &K
@@ -128,10 +145,7 @@ impl<'a, K: Eq + Hash, V, S: BuildHasher, P: Projection<V>> MappedRefMut<'a, K, 
             (λ t. record self.old { guard = with_part (P.with self.old.by) self.old.guard t })) }
         ensures value { part_in (P.part self.old.by) self.old.guard ≡ Some result.now }
     {
-        let position = self.position;
-        self.loan.take_out(&mut self.guard);
-        let value = self.loan.pair_mut(position).1;
-        P::get_mut(value, &self.by)
+        self.pair_mut().1
     }
 
     /// Key and part.
@@ -141,6 +155,59 @@ impl<'a, K: Eq + Hash, V, S: BuildHasher, P: Projection<V>> MappedRefMut<'a, K, 
         ensures value { part_in (P.part self.now.by) self.now.guard ≡ Some result.1.now }
     {
         (self.key(), self.value())
+    }
+
+    /// Key and part, the part to be written as by `value_mut`.
+    #[inline]
+    pub fn pair_mut(&mut self) -> (&K, &mut P::Target)
+        ensures* writes_back { sem 𝓛 (Lends ⟦<Self as Lender>⟧.row P.Target.row self.entry result.1
+            (λ t. record self.old { guard = with_part (P.with self.old.by) self.old.guard t })) }
+        ensures key { option_map (λ p. p.0) (stored self.old.guard) ≡ Some result.0.now }
+        ensures value { part_in (P.part self.old.by) self.old.guard ≡ Some result.1.now }
+    {
+        let position = self.position;
+        self.loan.take_out(&mut self.guard);
+        let (key, value) = self.loan.pair_mut(position);
+        (key, P::get_mut(value, &self.by))
+    }
+
+    /// A reference to a part that the part has.
+    #[inline]
+    pub fn map<Q: Projection<P::Target>>(self, by: Q) -> MappedRefMut<'a, K, V, S, Compose<P, Q>>
+        requires { IsSome (option_and_then (Q.part by) (part_in (P.part self.by) self.guard)) }
+        ensures { result ≡ record { guard = self.entry.guard; by = record { outer = self.entry.by; inner = by } } }
+    {
+        let Self {
+            guard,
+            loan,
+            position,
+            by: outer,
+            marker: _,
+        } = self;
+        MappedRefMut {
+            guard,
+            loan,
+            position,
+            by: Compose { outer, inner: by },
+            marker: PhantomData,
+        }
+    }
+
+    /// A reference to a part of the part, or this one again, where the part hasn't got it.
+    #[inline]
+    pub fn try_map<Q: Projection<P::Target> + Drop>(
+        self,
+        by: Q,
+    ) -> Result<MappedRefMut<'a, K, V, S, Compose<P, Q>>, Self>
+        ensures mapped { IfOk result (λ mapped. mapped ≡ record { guard = self.entry.guard; by = record { outer = self.entry.by; inner = by } }) }
+        ensures back { IfErr result (λ mapped. mapped ≡ self.entry) }
+        ensures exact { IsOk result ↔ IsSome (option_and_then (Q.part by) (part_in (P.part self.entry.by) self.entry.guard)) }
+    {
+        if by.holds(self.value()) {
+            Ok(self.map(by))
+        } else {
+            Err(self)
+        }
     }
 }
 

@@ -14,8 +14,8 @@ returns g c =
     let m = c.reserve.ensures in
     record {
       reserves = elim c.match-reserve.branch [
-        | in-Ok w ↦ rw w.result-is (reserved _ (lawful-of g.S.BuildHasher g.S.Hasher.Hasher g.met.K.Eq.laws g.met.K.Hash.respects_eq) _ _ _ c.self.inside.table c.reserve.new.self c.self.invariant m.grown m.len m.table _ c.self.view_is c.args.additional (Ok _) w.in-Ok.ensures.ok tt)
-        | in-Err w ↦ rw w.result-is (reserved _ (lawful-of g.S.BuildHasher g.S.Hasher.Hasher g.met.K.Eq.laws g.met.K.Hash.respects_eq) _ _ _ c.self.inside.table c.reserve.new.self c.self.invariant m.grown m.len m.table _ c.self.view_is c.args.additional (Err _) tt w.in-Err.ensures.err)
+        | in-Ok w ↦ rw w.result-is (reserved _ (lawful-of g.S.BuildHasher g.S.Hasher.Hasher g.met.K.Eq.laws g.met.K.Hash.respects_eq) _ _ _ c.self.inside.table c.reserve.new.self c.self.invariant m.grown m.len m.table _ c.self.view_is c.args.additional (Ok _) w.in-Ok.ensures.ok tt tt)
+        | in-Err w ↦ rw w.result-is (reserved _ (lawful-of g.S.BuildHasher g.S.Hasher.Hasher g.met.K.Eq.laws g.met.K.Hash.respects_eq) _ _ _ c.self.inside.table c.reserve.new.self c.self.invariant m.grown m.len m.table _ c.self.view_is c.args.additional (Err _) tt w.in-Err.ensures.err w.in-Err.ensures.full)
       ];
       lawful = (grown-inside _ (lawful-of g.S.BuildHasher g.S.Hasher.Hasher g.met.K.Eq.laws g.met.K.Hash.respects_eq) _ _ _ c.self.inside.table c.reserve.new.self c.self.invariant m.grown m.len m.table).shard;
     }

@@ -1,0 +1,182 @@
+//! A view of a map that nobody writes any more.
+ghost use Rattle.std.specs.Prelude.{◌≡◌, ◌≤◌, ◌-◌, ◌^◌, ◌==◌, IfOk, IfErr, min, length, map, sum_by};
+ghost use Rattle.std.specs.Option.{option_map};
+ghost use Rattle.std.specs.Map.Iter.{deref_pair};
+ghost use Rattle.dash_shard.specs.Hashing.{by};
+ghost use Rattle.dash_shard.specs.Contents.{at};
+ghost use Rattle.dash_shard.specs.Steps.{Get, Contains, Found, Pair};
+ghost use Rattle.dash_map.specs.Alone.{IsAlone, RepliesAlone, contents};
+ghost use Rattle.dash_map.specs.Behind.{IsBehind};
+
+use crate::alone::Alone;
+use crate::map::DashMap;
+use crate::shards::Shards;
+use dash_shard::keyed::Keyed;
+use dash_shard::row::Row;
+use dash_shard::shard::Shard;
+pub use iter::{Keys, Values, ViewIter};
+use std::alloc::Global;
+use std::hash::{BuildHasher, Hash};
+use std::marker::Model;
+
+mod iter;
+
+/// The pairs of a map, to be read alone: the original's `ReadOnlyView`. Its calls take no lock, wait for nobody and take no memory.
+///
+/// A contract sees its hasher and the row of its shards, as of a map of one owner.
+#[derive(Drop)]
+pub struct ReadOnlyView<K: Eq + Hash, V, S: BuildHasher> {
+    hasher: S,
+    shards: Vec<Shard<K, V, S>>,
+}
+
+impl<K: Eq + Hash, V, S: BuildHasher> Model for ReadOnlyView<K, V, S> {
+    ghost use Rattle.dash_map.specs.Alone.{AloneState, IsAlone};
+    ghost use Rattle.dash_shard.specs.Hashing.{key_hash};
+
+    ghost Value = { AloneState K V S };
+
+    ghost view = { λ a. record { hasher = a.hasher; row = a.shards.items } };
+
+    ghost invariant = { λ a. IsAlone (key_hash K.eq K.hash_input S.BuildHasher S.Hasher.Hasher) (record { hasher = a.hasher; row = a.shards.items }) };
+}
+
+impl<K: Eq + Hash, V, S: BuildHasher> Keyed for ReadOnlyView<K, V, S> {
+    type Key = K;
+
+    type State = S;
+
+    ghost by = { by K.Hash S.BuildHasher S.Hasher.Hasher };
+}
+
+/// No memory for a view's row of locks (15). The view comes back whole.
+#[derive(Drop)]
+pub struct ViewRefused<K: Eq + Hash, V, S: BuildHasher> {
+    pub owner: ReadOnlyView<K, V, S>,
+}
+
+impl<K: Eq + Hash, V, S: BuildHasher> ReadOnlyView<K, V, S> {
+    // The shards, to be read.
+    #[inline]
+    fn lent(&self) -> Shards<'_, K, V, S>
+        ensures same { result ≡ self.now }
+        ensures lawful { IsAlone ⟦<Self as Keyed>⟧.by self.now }
+    {
+        Shards::new(&self.hasher, &self.shards)
+    }
+
+    /// How many pairs there are, held at 2^64 - 1. It asks each shard once.
+    pub fn len(&self) -> usize
+        ensures len { result ≡ min (length (contents self.now)) (2 ^ 64 - 1) }
+        ensures lawful { IsAlone ⟦<Self as Keyed>⟧.by self.now }
+    {
+        self.lent().len()
+    }
+
+    /// Whether there are no pairs.
+    pub fn is_empty(&self) -> bool
+        ensures empty { result ≡ (length (contents self.now) == 0) }
+        ensures lawful { IsAlone ⟦<Self as Keyed>⟧.by self.now }
+    {
+        self.len() == 0
+    }
+
+    /// How many pairs the shards have room for, held at 2^64 - 1. It asks each shard once.
+    pub fn capacity(&self) -> usize
+        ensures capacity { result ≡ min (sum_by (λ s. s.capacity) self.now.row) (2 ^ 64 - 1) }
+        ensures holds { min (length (contents self.now)) (2 ^ 64 - 1) ≤ result }
+        ensures lawful { IsAlone ⟦<Self as Keyed>⟧.by self.now }
+    {
+        self.lent().capacity()
+    }
+
+    /// Whether there is a pair whose key equals `key`.
+    #[inline]
+    pub fn contains_key(&self, key: &K) -> bool
+        ensures found { RepliesAlone ⟦<Self as Keyed>⟧.by self.now (Contains key.now) (Found result) }
+        ensures lawful { IsAlone ⟦<Self as Keyed>⟧.by self.now }
+    {
+        self.get_key_value(key).is_some()
+    }
+
+    /// The value of the pair whose key equals `key`.
+    #[inline]
+    pub fn get(&self, key: &K) -> Option<&V>
+        ensures value { option_map (λ v. v.now) result ≡ option_map (λ p. p.1) (at K.eq (contents self.now) key.now) }
+        ensures lawful { IsAlone ⟦<Self as Keyed>⟧.by self.now }
+    {
+        let (_, value) = self.get_key_value(key)?;
+        Some(value)
+    }
+
+    /// The pair whose key equals `key`.
+    #[inline]
+    pub fn get_key_value(&self, key: &K) -> Option<(&K, &V)>
+        ensures pair { RepliesAlone ⟦<Self as Keyed>⟧.by self.now (Get key.now) (Pair (option_map deref_pair result)) }
+        ensures lawful { IsAlone ⟦<Self as Keyed>⟧.by self.now }
+    {
+        self.lent().get(key)
+    }
+
+    /// The pairs, by rising shard and in each by rising slot.
+    pub fn iter(&self) -> ViewIter<'_, K, V, S>
+        ensures pairs { result ≡ contents self.now }
+        ensures lawful { IsAlone ⟦<Self as Keyed>⟧.by self.now }
+    {
+        self.lent().iter()
+    }
+
+    /// The keys, in the order of `iter`.
+    pub fn keys(&self) -> Keys<'_, K, V, S>
+        ensures keys { result ≡ map (λ p. p.0) (contents self.now) }
+        ensures lawful { IsAlone ⟦<Self as Keyed>⟧.by self.now }
+    {
+        Keys::new(self.iter())
+    }
+
+    /// The values, in the order of `iter`.
+    pub fn values(&self) -> Values<'_, K, V, S>
+        ensures values { result ≡ map (λ p. p.1) (contents self.now) }
+        ensures lawful { IsAlone ⟦<Self as Keyed>⟧.by self.now }
+    {
+        Values::new(self.iter())
+    }
+
+    /// The shards, which have no locks.
+    pub fn shards(&self) -> &[Shard<K, V, S>]
+        ensures shards { result.now ≡ self.now.row }
+        ensures lawful { IsAlone ⟦<Self as Keyed>⟧.by self.now }
+    {
+        &self.shards
+    }
+
+    /// The map behind locks again. It asks for the memory of the row of locks, and is refused (15) only for want of it.
+    pub fn into_inner(self, alloc: Global) -> Result<DashMap<K, V, S>, ViewRefused<K, V, S>>
+    where
+        K: Drop,
+        V: Drop,
+        ensures map { IfOk result (λ m. m ≡ record { hasher = self.hasher; amount = length self.row }) }
+        ensures refused { IfErr result (λ e. e.owner ≡ self) }
+    {
+        let ReadOnlyView { hasher, shards } = self;
+        match Row::try_of(alloc, shards) {
+            Ok(row) => Ok(Alone { hasher, row }.end()),
+            Err(shards) => Err(ViewRefused {
+                owner: ReadOnlyView { hasher, shards },
+            }),
+        }
+    }
+}
+
+impl<K: Eq + Hash, V, S: BuildHasher> DashMap<K, V, S> {
+    /// The map as a view without locks. It takes no memory, and waits for nobody. The memory of the row of locks is given back.
+    pub fn into_read_only(self) -> ReadOnlyView<K, V, S>
+        ensures { IsBehind ⟦<Self as Keyed>⟧.by self result }
+    {
+        let Alone { hasher, row } = self.alone();
+        ReadOnlyView {
+            hasher,
+            shards: row.into_items(),
+        }
+    }
+}

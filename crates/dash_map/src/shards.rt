@@ -1,0 +1,116 @@
+//! The shards of a map without locks, lent to be read.
+ghost use Rattle.std.specs.Prelude.{◌≡◌, ◌<◌, ◌≤◌, ◌-◌, ◌^◌, min, length, sum_by};
+ghost use Rattle.std.specs.Option.{option_map};
+ghost use Rattle.std.specs.Map.Iter.{deref_pair};
+ghost use Rattle.dash_shard.specs.Hashing.{by};
+ghost use Rattle.dash_shard.specs.Steps.{Get, Pair};
+ghost use Rattle.dash_map.specs.Alone.{IsAlone, RepliesAlone, contents, keys_in};
+
+use crate::read_only::ViewIter;
+use dash_shard::hash::determine_shard;
+use dash_shard::keyed::Keyed;
+use dash_shard::shard::Shard;
+use std::hash::{BuildHasher, Hash};
+use std::marker::Model;
+
+// What a map of one owner and a view of a map have, lent.
+#[derive(Drop)]
+pub(crate) struct Shards<'a, K: Eq + Hash, V, S: BuildHasher> {
+    hasher: &'a S,
+    shards: &'a [Shard<K, V, S>],
+}
+
+impl<'a, K: Eq + Hash, V, S: BuildHasher> Model for Shards<'a, K, V, S> {
+    ghost use Rattle.dash_map.specs.Alone.{AloneState, IsAlone};
+    ghost use Rattle.dash_shard.specs.Hashing.{key_hash};
+
+    ghost Value = { AloneState K V S };
+
+    ghost view = { λ a. record { hasher = a.hasher.now; row = a.shards.now } };
+
+    ghost invariant = { λ a. IsAlone (key_hash K.eq K.hash_input S.BuildHasher S.Hasher.Hasher) (record { hasher = a.hasher.now; row = a.shards.now }) };
+}
+
+impl<K: Eq + Hash, V, S: BuildHasher> Keyed for Shards<'_, K, V, S> {
+    type Key = K;
+
+    type State = S;
+
+    ghost by = { by K.Hash S.BuildHasher S.Hasher.Hasher };
+}
+
+impl<'a, K: Eq + Hash, V, S: BuildHasher> Shards<'a, K, V, S> {
+    #[inline]
+    pub(crate) fn new(hasher: &'a S, shards: &'a [Shard<K, V, S>]) -> Self
+        requires { IsAlone ⟦<Self as Keyed>⟧.by (record { hasher = hasher.now; row = shards.now }) }
+        ensures { result ≡ record { hasher = hasher.now; row = shards.now } }
+    {
+        Shards { hasher, shards }
+    }
+
+    // The key's hash, and the number of the shard that it goes to.
+    #[inline]
+    pub(crate) fn route_of(&self, key: &K) -> (u64, usize)
+        ensures hash { result.0 ≡ ⟦<Self as Keyed>⟧.by.hash self.now.hasher key.now }
+        ensures idx { result.1 ≡ (keys_in ⟦<Self as Keyed>⟧.by self.now).route key.now }
+        ensures below { result.1 < length self.now.row }
+    {
+        let hash = self.hasher.hash_one(key);
+        (hash, determine_shard(hash, self.shards.len()))
+    }
+
+    // The pair whose key equals `key`, by one hash and one search.
+    #[inline]
+    pub(crate) fn get(&self, key: &K) -> Option<(&'a K, &'a V)>
+        ensures { RepliesAlone ⟦<Self as Keyed>⟧.by self.now (Get key.now) (Pair (option_map deref_pair result)) }
+    {
+        let (hash, idx) = self.route_of(key);
+        self.get_hashed(hash, idx, key)
+    }
+
+    // As `get`, by the key's hash and shard.
+    #[inline]
+    fn get_hashed(&self, hash: u64, idx: usize, key: &K) -> Option<(&'a K, &'a V)>
+        requires hash { hash ≡ ⟦<Self as Keyed>⟧.by.hash self.now.hasher key.now }
+        requires idx { idx ≡ (keys_in ⟦<Self as Keyed>⟧.by self.now).route key.now }
+        requires below { idx < length self.now.row }
+        ensures { RepliesAlone ⟦<Self as Keyed>⟧.by self.now (Get key.now) (Pair (option_map deref_pair result)) }
+    {
+        prove!(idx < self.shards.len());
+        let shard = &self.shards[idx];
+        let position = shard.position_of_hashed(hash, key)?;
+        Some(shard.at(position))
+    }
+
+    // How many pairs there are, held at 2^64 - 1.
+    pub(crate) fn len(&self) -> usize
+        ensures len { result ≡ min (length (contents self.now)) (2 ^ 64 - 1) }
+    {
+        let mut len: usize = 0;
+        for shard in self.shards {
+            len = len.saturating_add(shard.len());
+        }
+        len
+    }
+
+    // How many pairs there may be before some shard takes memory, held at 2^64 - 1.
+    pub(crate) fn capacity(&self) -> usize
+        ensures capacity { result ≡ min (sum_by (λ s. s.capacity) self.now.row) (2 ^ 64 - 1) }
+        ensures holds { min (length (contents self.now)) (2 ^ 64 - 1) ≤ result }
+    {
+        let mut capacity: usize = 0;
+        for shard in self.shards {
+            prove!(shard.len() <= shard.capacity());
+            capacity = capacity.saturating_add(shard.capacity());
+        }
+        capacity
+    }
+
+    // The pairs, by rising shard and in each by rising slot.
+    #[inline]
+    pub(crate) fn iter(&self) -> ViewIter<'a, K, V, S>
+        ensures { result ≡ contents self.now }
+    {
+        ViewIter::new(self.shards)
+    }
+}

@@ -1,0 +1,33 @@
+//! Views of a map that nobody writes any more.
+use crate::map::map_of_four;
+use crate::places::is;
+use std::test::Fail;
+
+#[test]
+fn a_view_and_back(rt: HostRuntime) -> Result<(), Fail> {
+    let map = map_of_four(rt.alloc())?;
+    for (key, name) in [
+        (1, "one"),
+        (10, "ten"),
+        (27, "twenty seven"),
+        (45, "forty five"),
+    ] {
+        map.insert(&rt, key, name)?;
+    }
+    let view = map.into_read_only();
+    is(&rt, view.len(), 4);
+    is(&rt, view.get(&27), Some(&"twenty seven"));
+    is(&rt, view.get_key_value(&10), Some((&10, &"ten")));
+    assert!(rt; view.contains_key(&45) && !view.contains_key(&46));
+    is(&rt, view.iter().count(), 4);
+    is(&rt, view.keys().count(), view.values().count());
+    is(&rt, view.shards().len(), 4);
+
+    let Ok(map) = view.into_inner(rt.alloc()) else {
+        return Err("no memory".into());
+    };
+    is(&rt, map.remove(&rt, &45), Some((45, "forty five")));
+    let alone = map.alone();
+    is(&rt, alone.iter().count(), 3);
+    Ok(())
+}

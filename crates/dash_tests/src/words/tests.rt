@@ -1,0 +1,35 @@
+//! A page whose words two threads count.
+use super::{count, count_words, start_anew};
+use crate::places::{is, is_at};
+use dash_map::map::DashMap;
+use std::test::Fail;
+use std::thread;
+
+#[test]
+fn two_threads_count_the_words_of_a_page(rt: HostRuntime) -> Result<(), Fail> {
+    let counts = DashMap::new(rt.alloc(), 1)?;
+    let mut pages = ["the fox and the dog", "the dog\nsleeps"];
+    thread::for_each_mut(
+        &rt,
+        pages.as_mut_slice(),
+        2,
+        &|_, page: &mut &str| {
+            drop(count_words(&rt, &counts, *page));
+        },
+    );
+    for (word, count) in [
+        ("the", 3),
+        ("fox", 1),
+        ("and", 1),
+        ("dog", 2),
+        ("sleeps", 1),
+    ] {
+        let found = counts.view(&rt, &word, |_, count| *count);
+        is_at(&rt, found, Some(count), word);
+    }
+    is(&rt, start_anew(&rt, &counts, &"the"), Some(3));
+    is(&rt, start_anew(&rt, &counts, &"cat"), None);
+    is(&rt, count(&rt, &counts, "the")?, 1);
+    is(&rt, counts.len(&rt), 5);
+    Ok(())
+}
