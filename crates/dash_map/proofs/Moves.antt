@@ -11,7 +11,7 @@ use Rattle.dash_shard.specs.declared.shard.held.ShardTag.{ShardTag}
 use Rattle.dash_shard.proofs.Rows.{moved-length, moved-from}
 use Rattle.dash_map.specs.Alone.{IsAlone}
 use Rattle.dash_map.specs.Map.{MapState}
-use Rattle.dash_map.specs.inner.Locks.{IsAt, IsMap}
+use Rattle.dash_map.specs.Locks.{IsAt, IsMap}
 
 module _ {K V S : Type 0} (h : KeyHash K S) where
   -- what fits the lock of a shard is that shard

@@ -16,7 +16,7 @@ use Rattle.dash_shard.specs.Shard.{ShardState, SameShard, Routes, IsShard, IsTag
 use Rattle.dash_shard.specs.declared.shard.held.ShardTag.{ShardTag}
 use Rattle.dash_map.specs.Behind.{IsBehind, StandsAt, LeavesShard}
 use Rattle.dash_map.specs.Map.{MapState}
-use Rattle.dash_map.specs.inner.Locks.{IsMap}
+use Rattle.dash_map.specs.Locks.{IsMap}
 use Rattle.dash_map.proofs.Lifting.{keys-same, tagged-moved}
 use Rattle.dash_map.proofs.Found.{at-key}
 use Rattle.dash_map.proofs.Moves.{tagged-held}

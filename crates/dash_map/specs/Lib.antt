@@ -5,6 +5,8 @@ pub mod Run
 pub mod Behind
 pub mod AllPairs
 pub mod Lends
+pub mod Locks
 pub mod Tries
+pub mod Waiting
 pub mod Walks
 pub mod inner

@@ -1,5 +1,4 @@
 -- What only proofs, invariants and the contracts of private functions use.
 pub mod Amounts
-pub mod Locks
 pub mod Rooms
 pub mod Run

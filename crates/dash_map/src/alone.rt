@@ -12,7 +12,7 @@ ghost use Rattle.dash_shard.specs.Contents.{at};
 ghost use Rattle.dash_shard.specs.Steps.{Get, Contains, Insert, Remove, Pair, Found, Old, RemoveIf};
 ghost use Rattle.dash_shard.specs.Closures.{MayAsk, Viewed, Answered};
 ghost use Rattle.dash_map.specs.Alone.{IsAlone, ReservesAlone, TakesAlone, contents, keys_in, RepliesAlone, TakesAloneBy};
-ghost use Rattle.dash_map.specs.inner.Locks.{IsAt};
+ghost use Rattle.dash_map.specs.Locks.{IsAt};
 ghost use Rattle.dash_map.specs.Behind.{IsBehind};
 
 use crate::map::{DashMap, Locked};

@@ -3,8 +3,10 @@
 
 pub mod alone;
 mod calls;
+pub mod iter;
 pub mod map;
 pub mod read_only;
 pub mod run;
 mod shards;
 pub mod t;
+pub mod waiting;

@@ -4,6 +4,7 @@ ghost use Rattle.dash_shard.specs.Hashing.{by, IsAmount, HashAlike, hash_of, rou
 ghost use Rattle.dash_shard.specs.declared.error.ConstructError.TheVariants.{CapacityOverflow, Memory, Parallelism, ShardAmount};
 ghost use Rattle.dash_map.specs.Amounts.{IsParallelism, IsDefault, Overflows, OverflowsDefault};
 ghost use Rattle.dash_shard.specs.Errors.{IsOneOf};
+ghost use Rattle.dash_map.specs.Locks.{IsMap};
 
 use crate::alone::Alone;
 use crossbeam_utils::CachePadded;
@@ -32,7 +33,7 @@ pub struct DashMap<K: Eq + Hash, V, S: BuildHasher = FixedState> {
 impl<K: Eq + Hash, V, S: BuildHasher> Model for DashMap<K, V, S> {
     ghost use Rattle.std.specs.Prelude.{◌≡◌, ◌≤◌, [], length, vec_len, vec_capacity};
     ghost use Rattle.dash_map.specs.Map.{MapState};
-    ghost use Rattle.dash_map.specs.inner.Locks.{IsMap};
+    ghost use Rattle.dash_map.specs.Locks.{IsMap};
 
     ghost Value = { MapState S };
 
@@ -202,6 +203,24 @@ impl<K: Eq + Hash, V, S: BuildHasher> DashMap<K, V, S> {
         ensures { result ≡ hash_of S.BuildHasher S.Hasher.Hasher self.now.hasher (T.hash_input item.now) }
     {
         self.hasher.hash_one(item) as usize
+    }
+
+    /// The shards behind their locks, in the order of their numbers.
+    #[inline]
+    pub fn shards(&self) -> &[CachePadded<RwLock<Shard<K, V, S>>>]
+        ensures locks { IsMap self.now result.now }
+    {
+        self.row.items()
+    }
+
+    /// As `shards`, of a map that ends. It takes no memory, and waits for nobody.
+    pub fn into_shards(self) -> Vec<CachePadded<RwLock<Shard<K, V, S>>>>
+    where
+        S: Drop,
+        ensures locks { IsMap self result.items }
+    {
+        let DashMap { row, .. } = self;
+        row.into_items()
     }
 
     /// The number of the shard that a key goes to.

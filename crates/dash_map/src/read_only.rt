@@ -16,6 +16,7 @@ use dash_shard::row::Row;
 use dash_shard::shard::Shard;
 pub use iter::{Keys, Values, ViewIter};
 use std::alloc::Global;
+use std::fmt;
 use std::hash::{BuildHasher, Hash};
 use std::marker::Model;
 
@@ -165,6 +166,14 @@ impl<K: Eq + Hash, V, S: BuildHasher> ReadOnlyView<K, V, S> {
                 owner: ReadOnlyView { hasher, shards },
             }),
         }
+    }
+}
+
+impl<K: Eq + Hash + fmt::Debug, V: fmt::Debug, S: BuildHasher> fmt::Debug
+    for ReadOnlyView<K, V, S> {
+    // The pairs in the order of `iter`, as `{0: 5, 1: 6}`.
+    fn fmt<W: fmt::Write>(&self, f: &mut fmt::Formatter<W>) -> fmt::Result {
+        f.debug_map().entries(self.iter()).finish()
     }
 }
 

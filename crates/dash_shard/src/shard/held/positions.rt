@@ -1,5 +1,5 @@
 //! A held shard's calls by slot.
-ghost use Rattle.std.specs.Prelude.{◌≡◌, ◌+◌, ◌<◌, IsSome, Some, None};
+ghost use Rattle.std.specs.Prelude.{◌≡◌, ◌+◌, ◌-◌, ◌^◌, ◌<◌, IsSome, Some, None, IfSome};
 ghost use Rattle.std.specs.Map.Iter.{deref_pair};
 ghost use Rattle.dash_shard.specs.Hashing.{by};
 ghost use Rattle.dash_shard.specs.Contents.{at};
@@ -145,6 +145,7 @@ impl<K: Eq + Hash, V, S: BuildHasher> ShardMut<'_, K, V, S> {
     #[inline]
     pub fn next_taken(&self, position: usize) -> Option<usize>
         ensures next { IsNextTaken self.now.slots position result }
+        ensures below { IfSome result (λ slot. slot < 2 ^ 64 - 1) }
         ensures lawful { IsShard ⟦<Self as Keyed>⟧.by self.now }
     {
         self.table().next_taken(position)

@@ -1,0 +1,111 @@
+//! A map that threads share, with the right to wait: the operators of the original stand on it.
+ghost use Rattle.std.specs.Prelude.{◌≡◌, ⊤};
+ghost use Rattle.dash_shard.specs.Held.{Inserts, Loses};
+ghost use Rattle.dash_shard.specs.Shard.{RepliesOn, ShardState, TakesInPlace};
+ghost use Rattle.dash_shard.specs.Steps.{Contains, Found, Pair, Remove};
+ghost use Rattle.dash_shard.specs.Hashing.{by};
+ghost use Rattle.dash_map.specs.Behind.{LeavesShard, SawShard};
+ghost use Rattle.dash_map.specs.Waiting.{IsGot, IsGotMut};
+
+use crate::map::DashMap;
+use dash_ref::mapref::one::{Ref, RefMut};
+use dash_shard::keyed::Keyed;
+use dash_shard::shard::InsertRefused;
+use std::alloc::AllocError;
+use std::hash::{BuildHasher, Hash};
+use std::ops::{BitAnd, BitOr, Shl, Shr, Sub};
+use std::rt::Clock;
+use std::sync::Wait;
+
+/// A shared map, and the right to wait for its locks.
+///
+/// The original has its operators on `&DashMap`; here their signatures have no place for the right to wait.
+#[derive(Drop)]
+pub struct Waiting<'a, K: Eq + Hash, V, S: BuildHasher, R: Wait + Clock> {
+    pub map: &'a DashMap<K, V, S>,
+    pub rt: &'a R,
+}
+
+impl<K: Eq + Hash, V, S: BuildHasher, R: Wait + Clock> Copy for Waiting<'_, K, V, S, R> {}
+
+impl<K: Eq + Hash, V, S: BuildHasher, R: Wait + Clock> Clone for Waiting<'_, K, V, S, R> {
+    ghost is_clone = { λ w copy. copy ≡ w };
+
+    ghost is_infallible = { λ _. ⊤ };
+
+    #[inline]
+    fn clone(&self) -> Result<Self, AllocError> {
+        Ok(*self)
+    }
+}
+
+impl<K: Eq + Hash, V, S: BuildHasher> DashMap<K, V, S> {
+    /// The map with the right to wait, for the operators.
+    #[inline]
+    pub fn waiting<'a, R: Wait + Clock>(&'a self, rt: &'a R) -> Waiting<'a, K, V, S, R>
+        ensures { result.map.now ≡ self.now }
+    {
+        Waiting { map: self, rt }
+    }
+}
+
+/// `map << (key, value)`: as `DashMap::insert`.
+impl<K: Eq + Hash + Drop, V: Drop, S: BuildHasher, R: Wait + Clock> Shl<(K, V)>
+    for Waiting<'_, K, V, S, R> {
+    type Output = Result<Option<V>, InsertRefused<K, V>>;
+
+    ghost shl_gives = { λ w pair result. LeavesShard (by K.Hash S.BuildHasher S.Hasher.Hasher) w.map.now pair.0 (λ s t. Inserts K.eq s t pair.0 pair.1 result) };
+
+    #[inline]
+    fn shl(self, pair: (K, V)) -> Result<Option<V>, InsertRefused<K, V>> {
+        self.map.insert(self.rt, pair.0, pair.1)
+    }
+}
+
+/// `map >> &key`: as `DashMap::get`. Where there is no such pair the original panics.
+impl<'a, K: Eq + Hash, V, S: BuildHasher, R: Wait + Clock> Shr<&K> for Waiting<'a, K, V, S, R> {
+    type Output = Option<Ref<'a, K, V, S>>;
+
+    ghost shr_gives = { λ w key result. IsGot (by K.Hash S.BuildHasher S.Hasher.Hasher) w.map.now key.now result };
+
+    #[inline]
+    fn shr(self, key: &K) -> Option<Ref<'a, K, V, S>> {
+        self.map.get(self.rt, key)
+    }
+}
+
+/// `map | &key`: as `DashMap::get_mut`. Where there is no such pair the original panics.
+impl<'a, K: Eq + Hash, V, S: BuildHasher, R: Wait + Clock> BitOr<&K> for Waiting<'a, K, V, S, R> {
+    type Output = Option<RefMut<'a, K, V, S>>;
+
+    ghost bitor_gives = { λ w key result. IsGotMut (by K.Hash S.BuildHasher S.Hasher.Hasher) w.map.now key.now result };
+
+    #[inline]
+    fn bitor(self, key: &K) -> Option<RefMut<'a, K, V, S>> {
+        self.map.get_mut(self.rt, key)
+    }
+}
+
+/// `map - &key`: as `DashMap::remove`.
+impl<K: Eq + Hash, V, S: BuildHasher, R: Wait + Clock> Sub<&K> for Waiting<'_, K, V, S, R> {
+    type Output = Option<(K, V)>;
+
+    ghost sub_gives = { λ w key result. LeavesShard (by K.Hash S.BuildHasher S.Hasher.Hasher) w.map.now key.now (λ s t. TakesInPlace K.eq s t (Remove key.now) (Pair result) × Loses s t result) };
+
+    #[inline]
+    fn sub(self, key: &K) -> Option<(K, V)> {
+        self.map.remove(self.rt, key)
+    }
+}
+
+/// `map & &key`: as `DashMap::contains_key`.
+impl<K: Eq + Hash, V, S: BuildHasher, R: Wait + Clock> BitAnd<&K> for Waiting<'_, K, V, S, R> {
+    type Output = bool;
+
+    ghost bitand_gives = { λ w key result. SawShard (by K.Hash S.BuildHasher S.Hasher.Hasher) w.map.now key.now (λ (s : ShardState K V S). RepliesOn K.eq s (Contains key.now) (Found result)) };
+
+    #[inline]
+    fn bitand(self, key: &K) -> bool {
+        self.map.contains_key(self.rt, key)
+    }
+}
