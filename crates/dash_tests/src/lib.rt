@@ -35,4 +35,5 @@ mod step;
 mod t;
 #[cfg(test)]
 mod view;
-pub mod words;
+#[cfg(test)]
+mod words;

@@ -1,58 +1,35 @@
-//! The words of a page, counted on a map that threads share. `docs/CALLING.md` shows these functions.
-ghost use Rattle.std.specs.Prelude.{◌≡◌, ◌+◌, ◌-◌, ◌^◌, min, IfOk, IfErr};
-ghost use Rattle.std.specs.Option.{option_map, option_map_or};
-ghost use Rattle.dash_shard.specs.Contents.{at};
-ghost use Rattle.dash_shard.specs.Shard.{pairs};
-ghost use Rattle.dash_map.specs.Behind.{SawShard};
+//! A page whose words two threads count.
+use uses::words::{count, count_words, start_anew};
+use crate::places::{is, is_at};
+use dashmap::DashMap;
+use std::test::Fail;
+use std::thread;
 
-use dash_map::map::DashMap;
-use dash_ref::mapref::entry::EntryRefused;
-use dash_shard::keyed::Keyed;
-use std::hash::{BuildHasher, Hash};
-use std::mem;
-use std::rt::Clock;
-use std::sync::Wait;
-
-#[cfg(test)]
-mod tests;
-
-/// Counts the key once more, and says how often it came by now. Waits for the key's shard.
-pub fn count<K: Eq + Hash + Drop, S: BuildHasher, R: Wait + Clock>(
-    rt: &R,
-    counts: &DashMap<K, u64, S>,
-    key: K,
-) -> Result<u64, EntryRefused<K>>
-    ensures one_more { IfOk result (λ n. SawShard ⟦<DashMap<K, u64, S> as Keyed>⟧.by counts.now key
-        (λ s. n ≡ min (option_map_or (λ p. p.1) (at K.eq (pairs s) key) 0 + 1) (2 ^ 64 - 1))) }
-    ensures refused { IfErr result (λ e. e.key ≡ key) }
-{
-    let mut count = counts.entry(rt, key)?.or_insert(0);
-    let now = count.saturating_add(1);
-    *count = now;
-    Ok(now)
-}
-
-/// Counts each word of a page. Waits for one word's shard after the other.
-pub fn count_words<'p, R: Wait + Clock>(
-    rt: &R,
-    counts: &DashMap<&'p str, u64>,
-    page: &'p str,
-) -> Result<(), EntryRefused<&'p str>> {
-    for word in page.split_whitespace() {
-        count(rt, counts, word)?;
+#[test]
+fn two_threads_count_the_words_of_a_page(rt: HostRuntime) -> Result<(), Fail> {
+    let counts = DashMap::new(rt.alloc(), 1)?;
+    let mut pages = ["the fox and the dog", "the dog\nsleeps"];
+    thread::for_each_mut(
+        &rt,
+        pages.as_mut_slice(),
+        2,
+        &|_, page: &mut &str| {
+            drop(count_words(&rt, &counts, *page));
+        },
+    );
+    for (word, count) in [
+        ("the", 3),
+        ("fox", 1),
+        ("and", 1),
+        ("dog", 2),
+        ("sleeps", 1),
+    ] {
+        let found = counts.view(&rt, &word, |_, count| *count);
+        is_at(&rt, found, Some(count), word);
     }
+    is(&rt, start_anew(&rt, &counts, &"the"), Some(3));
+    is(&rt, start_anew(&rt, &counts, &"cat"), None);
+    is(&rt, count(&rt, &counts, "the")?, 1);
+    is(&rt, counts.len(&rt), 5);
     Ok(())
-}
-
-/// Starts the key's count anew, and says what it was. Waits for the key's shard.
-pub fn start_anew<K: Eq + Hash, S: BuildHasher, R: Wait + Clock>(
-    rt: &R,
-    counts: &DashMap<K, u64, S>,
-    key: &K,
-) -> Option<u64>
-    ensures was { SawShard ⟦<DashMap<K, u64, S> as Keyed>⟧.by counts.now key.now
-        (λ s. result ≡ option_map (λ p. p.1) (at K.eq (pairs s) key.now)) }
-{
-    let mut count = counts.get_mut(rt, key)?;
-    Some(mem::take(&mut *count))
 }

@@ -1,0 +1,2 @@
+//! Walks over the pairs of a map.
+pub use dash_map::iter::OwningIter;

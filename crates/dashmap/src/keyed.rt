@@ -1,0 +1,2 @@
+//! Names for a type's keys, for contracts alone.
+pub use dash_shard::keyed::{Keyed, Lender};

@@ -1,0 +1,2 @@
+//! The lock of a shard.
+pub use dash_shard::lock::{RwLock, RwLockReadGuard, RwLockWriteGuard};

@@ -1,0 +1,3 @@
+//! References into a map, each of which holds a shard.
+pub mod entry;
+pub mod one;

@@ -1,0 +1,3 @@
+//! One shard of a map.
+pub use dash_shard::shard::Shard;
+pub use dash_shard::shard::held::ShardMut;

@@ -1,0 +1,2 @@
+//! What is generic in a map that threads share.
+pub use dash_map::t::Map;
