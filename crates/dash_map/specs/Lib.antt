@@ -7,4 +7,5 @@ pub mod AllPairs
 pub mod Lends
 pub mod Tries
 pub mod Walks
+pub mod Walking
 pub mod inner

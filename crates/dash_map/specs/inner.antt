@@ -3,3 +3,4 @@ pub mod Amounts
 pub mod Locks
 pub mod Rooms
 pub mod Run
+pub mod Walking

@@ -1,5 +1,5 @@
 //! A table of pairs, found by the buckets of their hashes.
-ghost use Rattle.std.specs.Prelude.{ℕ, ◌≡◌, ◌+◌, ◌-◌, ◌<◌, ◌≤◌, ◌==◌, ◌++◌, IfSome, IfNone, IsOk, IfOk, OnOk, OnErr, IsSome, IsNone, length, map, false, [], ◌∷◌, if◌then◌else◌, vec_len, vec_capacity, slice_set, replicate, max};
+ghost use Rattle.std.specs.Prelude.{ℕ, ◌≡◌, ◌+◌, ◌-◌, ◌^◌, ◌<◌, ◌≤◌, ◌==◌, ◌++◌, IfSome, IfNone, IsOk, IfOk, OnOk, OnErr, IsSome, IsNone, length, map, false, [], ◌∷◌, if◌then◌else◌, vec_len, vec_capacity, slice_set, replicate, max};
 ghost use Rattle.dash_shard.specs.inner.Table.{IsTable, Holds, IsAbsent, blank, pairs_of, next_slot, IsGrown, pairs_in, hashes_in};
 ghost use Rattle.dash_shard.specs.Shard.{slot, taken, IsNextTaken};
 ghost use Rattle.std.specs.Option.{option_map};
@@ -209,7 +209,8 @@ impl<K, V> Table<K, V> {
     /// The lowest taken slot not below `position`.
     #[inline]
     pub fn next_taken(&self, position: usize) -> Option<usize>
-        ensures { IsNextTaken (pairs_in self.now) position result }
+        ensures next { IsNextTaken (pairs_in self.now) position result }
+        ensures below { IfSome result (λ i. i < 2 ^ 64 - 1) }
     {
         for slot in position..self.nodes.len() {
             if self.nodes[slot].pair.is_some() {

@@ -1,0 +1,4 @@
+//! The walks over a map.
+pub use locked::Iter;
+
+mod locked;
