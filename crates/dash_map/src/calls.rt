@@ -96,9 +96,9 @@ impl<K: Eq + Hash, V, S: BuildHasher> DashMap<K, V, S> {
         self.shards_mut(rt, idx).remove_hashed(hash, key)
     }
 
-    /// A walk over the pairs, by rising shard: `Iter`. This call waits for nobody and takes no memory, and the walk's steps do both.
+    /// A walk over the pairs, by rising shard. This call waits for nobody and takes no memory; the walk's steps do both.
     #[inline]
-    pub fn iter<'a, R: Wait + Clock>(&'a self, rt: &'a R) -> Iter<'a, K, V, S, R>
+    pub fn iter<'a, R>(&'a self, rt: &'a R) -> Iter<'a, K, V, S, R>
         ensures { result ≡ at_start self.now }
     {
         Iter::new(self, rt)

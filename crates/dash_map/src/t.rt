@@ -106,7 +106,7 @@ pub trait Map<K: Eq + Hash, V, S: BuildHasher> {
         ensures { LeavesBy (by K.Hash S.BuildHasher S.Hasher.Hasher) (state self.now) RemoveIfMut key.now (Pair result) (ChangesOn F.FnOnce f) (λ s t. Loses s t result) };
 
     /// As `DashMap::iter`.
-    fn _iter<'a, R: Wait + Clock>(&'a self, rt: &'a R) -> Iter<'a, K, V, S, R>
+    fn _iter<'a, R>(&'a self, rt: &'a R) -> Iter<'a, K, V, S, R>
         ensures { result ≡ at_start (state self.now) };
 
     /// As `DashMap::get`.
@@ -285,7 +285,7 @@ impl<K: Eq + Hash, V, S: BuildHasher> Map<K, V, S> for DashMap<K, V, S> {
     }
 
     #[inline]
-    fn _iter<'a, R: Wait + Clock>(&'a self, rt: &'a R) -> Iter<'a, K, V, S, R> {
+    fn _iter<'a, R>(&'a self, rt: &'a R) -> Iter<'a, K, V, S, R> {
         self.iter(rt)
     }
 
