@@ -15,3 +15,4 @@ mod Turning
 mod Union
 mod Trying
 mod Walks
+mod Stepping

@@ -9,4 +9,5 @@ pub mod Locks
 pub mod Tries
 pub mod Waiting
 pub mod Walks
+pub mod Walking
 pub mod inner

@@ -2,3 +2,4 @@
 pub mod Amounts
 pub mod Rooms
 pub mod Run
+pub mod Walking

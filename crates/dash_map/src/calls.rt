@@ -8,11 +8,13 @@ ghost use Rattle.dash_shard.specs.Shard.{shard_len, pairs, HasKey, IsShard, Repl
 ghost use Rattle.dash_map.specs.Behind.{SawShards, LeavesShard, SawShard, LeavesShards, StandsAt, LeavesBy};
 ghost use Rattle.dash_shard.specs.Hashing.{route_by};
 ghost use Rattle.dash_map.specs.Alone.{AloneState, contents, ReservesAlone};
+ghost use Rattle.dash_map.specs.Walking.{at_start};
 ghost use Rattle.dash_ref.specs.Ref.{Stands, pair_of};
 ghost use Rattle.dash_ref.specs.RefMut.{stored};
 ghost use Rattle.dash_shard.specs.Held.{Inserts, Loses};
 ghost use Rattle.dash_shard.specs.Steps.{Remove, RemoveIf, RemoveIfMut, Alter, Done, Pair, Found, Get, Contains};
 
+use crate::iter::Iter;
 use crate::map::DashMap;
 use core::mem::replace_with;
 use dash_ref::mapref::one::{Ref, RefMut};
@@ -92,6 +94,14 @@ impl<K: Eq + Hash, V, S: BuildHasher> DashMap<K, V, S> {
     {
         let (hash, idx) = self.route_of(key);
         self.shards_mut(rt, idx).remove_hashed(hash, key)
+    }
+
+    /// A walk over the pairs, by rising shard. This call waits for nobody and takes no memory; the walk's steps do both.
+    #[inline]
+    pub fn iter<'a, R>(&'a self, rt: &'a R) -> Iter<'a, K, V, S, R>
+        ensures { result ≡ at_start self.now }
+    {
+        Iter::new(self, rt)
     }
 
     /// The pair whose key equals `key`, with a hold of its shard for reading. Waits until no writer has the shard.

@@ -8,6 +8,7 @@ ghost use Rattle.dash_map.specs.Alone.{AloneState, contents};
 ghost use Rattle.dash_map.specs.Behind.{SawShards, LeavesShard, LeavesShards, CallableOnPairs, SawShard, StandsAt, LeavesBy};
 ghost use Rattle.dash_map.specs.Map.{MapState};
 ghost use Rattle.dash_map.specs.Tries.{UnlessLocked, UnlessLockedOut};
+ghost use Rattle.dash_map.specs.Walking.{at_start};
 ghost use Rattle.dash_map.specs.AllPairs.{ClearsAlone, ShrinksAlone, RetainsAlone, AltersAllAlone};
 ghost use Rattle.dash_ref.specs.EntryCases.{IsEntryOf, entry_shard};
 ghost use Rattle.dash_ref.specs.Ref.{Stands, pair_of};
@@ -18,6 +19,7 @@ ghost use Rattle.dash_shard.specs.Shard.{shard_len, HasKey, RepliesOn, TakesInPl
 ghost use Rattle.dash_shard.specs.Held.{Inserts, Loses};
 ghost use Rattle.dash_shard.specs.Steps.{Remove, RemoveIf, RemoveIfMut, Alter, Done, Pair, Found, Get, Contains};
 
+use crate::iter::Iter;
 use crate::map::DashMap;
 use dash_ref::mapref::entry::{Entry, EntryRefused, TryEntryRefused};
 use dash_ref::mapref::one::{Ref, RefMut};
@@ -102,6 +104,10 @@ pub trait Map<K: Eq + Hash, V, S: BuildHasher> {
     ) -> Option<(K, V)>
         requires { (p : K × V) → IsTrue (K.eq p.0 key.now) → MayChange F.FnOnce f p }
         ensures { LeavesBy (by K.Hash S.BuildHasher S.Hasher.Hasher) (state self.now) RemoveIfMut key.now (Pair result) (ChangesOn F.FnOnce f) (λ s t. Loses s t result) };
+
+    /// As `DashMap::iter`.
+    fn _iter<'a, R>(&'a self, rt: &'a R) -> Iter<'a, K, V, S, R>
+        ensures { result ≡ at_start (state self.now) };
 
     /// As `DashMap::get`.
     fn _get<R: Wait + Clock>(&self, rt: &R, key: &K) -> Option<Ref<'_, K, V, S>>
@@ -276,6 +282,11 @@ impl<K: Eq + Hash, V, S: BuildHasher> Map<K, V, S> for DashMap<K, V, S> {
         f: F,
     ) -> Option<(K, V)> {
         self.remove_if_mut(rt, key, f)
+    }
+
+    #[inline]
+    fn _iter<'a, R>(&'a self, rt: &'a R) -> Iter<'a, K, V, S, R> {
+        self.iter(rt)
     }
 
     #[inline]

@@ -1,3 +1,4 @@
 //! References to the pairs of a map.
 pub mod entry;
+pub mod multiple;
 pub mod one;

@@ -13,6 +13,8 @@ mod error;
 #[cfg(test)]
 mod hash;
 #[cfg(test)]
+mod iter;
+#[cfg(test)]
 mod kept;
 #[cfg(test)]
 mod lock;

@@ -127,11 +127,11 @@ impl<K: Eq + Hash, V, S: BuildHasher> Shard<K, V, S> {
         self.table.exchange(position, key, value)
     }
 
-    /// The lowest taken slot not below `position`, for `at`: a walk over the pairs goes on behind it.
+    /// The lowest taken slot not below `position`, for `at`: a walk over the pairs goes on behind it. There is a number above it.
     #[inline]
     pub fn next_taken(&self, position: usize) -> Option<usize>
         ensures next { IsNextTaken self.now.slots position result }
-        ensures below { IfSome result (λ slot. slot < 2 ^ 64 - 1) }
+        ensures below { IfSome result (λ i. i < 2 ^ 64 - 1) }
         ensures lawful { IsShard ⟦<Self as Keyed>⟧.by self.now }
     {
         self.table.next_taken(position)

@@ -210,7 +210,7 @@ impl<K, V> Table<K, V> {
     #[inline]
     pub fn next_taken(&self, position: usize) -> Option<usize>
         ensures next { IsNextTaken (pairs_in self.now) position result }
-        ensures below { IfSome result (λ slot. slot < 2 ^ 64 - 1) }
+        ensures below { IfSome result (λ i. i < 2 ^ 64 - 1) }
     {
         for slot in position..self.nodes.len() {
             if self.nodes[slot].pair.is_some() {

@@ -1,5 +1,5 @@
 //! A held shard's calls by slot.
-ghost use Rattle.std.specs.Prelude.{◌≡◌, ◌+◌, ◌-◌, ◌^◌, ◌<◌, IsSome, Some, None, IfSome};
+ghost use Rattle.std.specs.Prelude.{◌≡◌, ◌+◌, ◌-◌, ◌^◌, ◌<◌, IsSome, IfSome, Some, None};
 ghost use Rattle.std.specs.Map.Iter.{deref_pair};
 ghost use Rattle.dash_shard.specs.Hashing.{by};
 ghost use Rattle.dash_shard.specs.Contents.{at};
@@ -141,11 +141,11 @@ impl<K: Eq + Hash, V, S: BuildHasher> ShardMut<'_, K, V, S> {
         )
     }
 
-    /// The lowest taken slot not below `position`, for `at`: a walk over the pairs goes on behind it.
+    /// The lowest taken slot not below `position`, for `at`: a walk over the pairs goes on behind it. There is a number above it.
     #[inline]
     pub fn next_taken(&self, position: usize) -> Option<usize>
         ensures next { IsNextTaken self.now.slots position result }
-        ensures below { IfSome result (λ slot. slot < 2 ^ 64 - 1) }
+        ensures below { IfSome result (λ i. i < 2 ^ 64 - 1) }
         ensures lawful { IsShard ⟦<Self as Keyed>⟧.by self.now }
     {
         self.table().next_taken(position)

@@ -1,0 +1,146 @@
+-- A step of a walk over a map's locks.
+use Rattle.std.proofs.Common.{◌≡◌, ℕ, ◌+◌, ◌-◌, ◌^◌, ◌<◌, ◌≤◌, Option, Some, None, Result, Ok, Err, false, inl, inr, refl, sym, ap, subst, ◌∙◌, arith}
+use Rattle.std.specs.Prelude.{◌↔◌, IsTrue, IfSome, IsSome, IfOk, OnErr}
+use Rattle.std.specs.Option.{option_map_or}
+use Rattle.std.specs.Iterator.{size}
+use Rattle.std.proofs.lemmas.Bool.{cases_eq, true≢false}
+use Rattle.dash_shard.specs.Hashing.{KeyHash}
+use Rattle.dash_shard.specs.Shard.{ShardState, IsNextTaken, IsTagged}
+use Rattle.dash_ref.specs.Ref.{RefState}
+use Rattle.dash_map.specs.Walking.{IterState, IsDone, IsEnded, IsOver, SawNone, GivesPair, StepsOn, steps_left}
+use Rattle.dash_map.specs.inner.Walking.{IsWalk, GivesHere, IsLater, HasPassed}
+
+pub not-so : {P : Type 0} → (IsTrue false ↔ P) → ¬ P
+not-so iff p = true≢false (sym (iff.1 p))
+
+-- a shard is left to enter
+pub more : {K V S : Type 0} (w : IterState K V S) → w.entered ≤ w.base.amount → ¬ (w.entered ≡ w.base.amount) → w.entered < w.base.amount
+more w within other = omega (arith, within, other)
+
+module _ {K V S : Type 0} (h : KeyHash K S) where
+  -- a held shard with no pair from its first slot on was seen without pairs
+  held-none : (m : IterState K V S) (e n : ℕ) (o : Option (ShardState K V S)) → IsSome o → IfSome o (λ s. (e ≡ s.number + 1) × IsTagged h m.base.hasher m.base.amount s.number s) → IfSome o (λ s. IsNextTaken s.slots 0 None)
+      → e ≡ n + 1 → (s : ShardState K V S) × IsTagged h m.base.hasher m.base.amount n s × IsNextTaken s.slots 0 None
+  held-none m e n (Some s) some is none last = (s, subst (λ i. IsTagged h m.base.hasher m.base.amount i s) (omega (arith, is.0, last)) is.1, none)
+  held-none m e n None some is none last = absurd (true≢false (sym some))
+
+  -- with the shard that is held, where no pair is left in it
+  saw-all : (old w : IterState K V S) → IsLater h old w → IsWalk h w → IsDone w → SawNone h old w.entered
+  saw-all old w later is done i low high = elim (cases_eq (i + 1) w.entered) as (λ _. (s : ShardState K V S) × IsTagged h old.base.hasher old.base.amount i s × IsNextTaken s.slots 0 None) [
+    | inl last ↦ held-none old w.entered i w.held later.held
+        (subst (λ m. IfSome w.held (λ s. (w.entered ≡ s.number + 1) × IsTagged h m.hasher m.amount s.number s)) later.same is.held)
+        (subst (λ p. IfSome w.held (λ s. IsNextTaken s.slots p None)) later.first done) (sym last)
+    | inr other ↦ later.between i low (omega (arith, high, other))
+  ]
+
+  pub goes-on : (old w next : IterState K V S) → HasPassed h old w → IsWalk h w → IsDone w → w.entered < w.base.amount → next.base ≡ w.base → next.entered ≡ w.entered + 1 → next.position ≡ 0 → IsSome next.held → HasPassed h old next
+  goes-on old w next (inl here) is done more same entered first held = inr (record {
+    same = same ∙ ap (λ x. x.base) here;
+    later = omega (arith, entered, ap (λ x. x.entered) here);
+    within = omega (arith, entered, more, ap (λ m. m.amount) same);
+    held = held;
+    first = first;
+    done = subst IsDone here done;
+    between = λ i low high. absurd (omega (arith, low, high, entered, ap (λ x. x.entered) here));
+  })
+  goes-on old w next (inr later) is done more same entered first held = inr (record {
+    same = same ∙ later.same;
+    later = omega (arith, entered, later.later);
+    within = omega (arith, entered, more, ap (λ m. m.amount) same);
+    held = held;
+    first = first;
+    done = later.done;
+    between = λ i low high. saw-all old w later is done i low (omega (arith, high, entered));
+  })
+
+  -- no step from an end comes so far
+  not-ended : (old w : IterState K V S) → HasPassed h old w → ¬ (IsEnded w) → ¬ (IsEnded old)
+  not-ended old w (inl here) goes ended = goes (subst IsEnded (sym here) ended)
+  not-ended old w (inr later) goes ended = omega (arith, later.later, later.within, ended.0, ap (λ m. m.amount) later.same)
+
+  gives : (old w new : IterState K V S) (item : RefState K V S) → HasPassed h old w → GivesHere h w item new → GivesPair h old item new
+  gives old w new item (inl here) g = record {
+    tagged = subst (λ x. IsTagged h x.base.hasher x.base.amount item.shard.number item.shard) here g.tagged;
+    stands = g.stands;
+    order = inl (subst (λ x. x.held ≡ Some item.shard) here g.here, subst (λ x. x.entered ≡ item.shard.number + 1) here g.number, subst (λ x. IsNextTaken item.shard.slots x.position (Some item.position)) here g.next);
+    held = g.held;
+    entered = g.entered ∙ g.number;
+    position = g.position;
+  }
+  gives old w new item (inr later) g = record {
+    tagged = subst (λ m. IsTagged h m.hasher m.amount item.shard.number item.shard) later.same g.tagged;
+    stands = g.stands;
+    order = inr (record {
+      later = omega (arith, later.later, g.number);
+      done = later.done;
+      between = λ i low high. later.between i low (omega (arith, high, g.number));
+      first = subst (λ p. IsNextTaken item.shard.slots p (Some item.position)) later.first g.next;
+    });
+    held = g.held;
+    entered = g.entered ∙ g.number;
+    position = g.position;
+  }
+
+  same-base : (old w : IterState K V S) → HasPassed h old w → w.base ≡ old.base
+  same-base old w (inl here) = ap (λ x. x.base) here
+  same-base old w (inr later) = later.same
+
+  -- a step that gives a pair, or is refused
+  pub stepped : {E : Type 0} (old w new : IterState K V S) (r : Result (RefState K V S) E) → HasPassed h old w → ¬ (IsEnded w) → new.base ≡ w.base
+      → IfOk r (λ item. GivesHere h w item new) → OnErr r (IsOver new) → StepsOn h old (Some r) new
+  stepped old w new (Ok item) passed goes same gave over = record {
+    same = same ∙ same-base old w passed;
+    pair = gives old w new item passed gave;
+    refused = tt;
+    end = tt;
+    over = λ ended. absurd (not-ended old w passed goes ended);
+  }
+  stepped old w new (Err e) passed goes same gave over = record {
+    same = same ∙ same-base old w passed;
+    pair = tt;
+    refused = over;
+    end = tt;
+    over = λ ended. absurd (not-ended old w passed goes ended);
+  }
+
+  -- a step that finds the end
+  pub ends : {E : Type 0} (old w : IterState K V S) → HasPassed h old w → IsWalk h w → IsEnded w → StepsOn h {E = E} old None w
+  ends old w (inl here) is ended = record {
+    same = ap (λ x. x.base) here;
+    pair = tt;
+    refused = tt;
+    end = record {
+      done = subst IsDone here ended.1;
+      between = λ i low high. absurd (omega (arith, low, high, subst (λ x. x.entered ≡ x.base.amount) here ended.0));
+      ended = ended;
+      holds = inl (subst IsEnded here ended);
+    };
+    over = λ _. (refl, here);
+  }
+  ends old w (inr later) is ended = record {
+    same = later.same;
+    pair = tt;
+    refused = tt;
+    end = record {
+      done = later.done;
+      between = λ i low high. saw-all old w later is ended.1 i low (omega (arith, high, ended.0, ap (λ m. m.amount) later.same));
+      ended = ended;
+      holds = inr later.held;
+    };
+    over = λ over. absurd (omega (arith, over.0, later.later, later.within, ap (λ m. m.amount) later.same));
+  }
+
+  -- what a held shard has left is at most this much
+  at-most : (o : Option (ShardState K V S)) (p : ℕ) → option_map_or (λ _. 2 ^ 64 - p) o 0 ≤ 2 ^ 64
+  at-most None p = omega arith
+  at-most (Some s) p = omega arith
+
+  pub nearer : (old w new : IterState K V S) → HasPassed h old w → size (steps_left new) < size (steps_left w) → size (steps_left new) < size (steps_left old)
+  nearer old w new (inl here) less = subst (λ x. size (steps_left new) < size (steps_left x)) here less
+  nearer old w new (inr later) less = omega (arith, less, at-most w.held w.position, later.later, later.within, ap (λ m. m.amount) later.same)
+
+  -- a walk that ended by a refusal has no steps left, and one with a shard to enter has some
+  pub over-nearer : (old w new : IterState K V S) → HasPassed h old w → w.entered < w.base.amount → IsOver new → new.base ≡ w.base → size (steps_left new) < size (steps_left old)
+  over-nearer old w new passed more over same =
+      let none : option_map_or (λ _. 2 ^ 64 - new.position) new.held 0 ≡ 0 = ap (λ o. option_map_or (λ _. 2 ^ 64 - new.position) o 0) over.1 in
+      nearer old w new passed (omega (arith, none, over.0, more, ap (λ m. m.amount) same))

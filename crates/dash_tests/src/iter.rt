@@ -1,0 +1,2 @@
+//! The walks over a map, on maps that show which shard is held.
+mod locked;
