@@ -6,12 +6,16 @@ ghost use Rattle.dash_shard.specs.Steps.{Contains, Found, Pair, Remove};
 ghost use Rattle.dash_shard.specs.Hashing.{by};
 ghost use Rattle.dash_map.specs.Behind.{LeavesShard, SawShard};
 ghost use Rattle.dash_map.specs.Waiting.{IsGot, IsGotMut};
+ghost use Rattle.dash_map.specs.Walking.{at_start};
 
+use crate::iter::Iter;
 use crate::map::DashMap;
+use dash_ref::mapref::multiple::RefMulti;
 use dash_ref::mapref::one::{Ref, RefMut};
 use dash_shard::keyed::Keyed;
 use dash_shard::shard::InsertRefused;
 use std::alloc::AllocError;
+use std::fmt;
 use std::hash::{BuildHasher, Hash};
 use std::ops::{BitAnd, BitOr, Shl, Shr, Sub};
 use std::rt::Clock;
@@ -107,5 +111,34 @@ impl<K: Eq + Hash, V, S: BuildHasher, R: Wait + Clock> BitAnd<&K> for Waiting<'_
     #[inline]
     fn bitand(self, key: &K) -> bool {
         self.map.contains_key(self.rt, key)
+    }
+}
+
+/// `for pair in map`: as `DashMap::iter`.
+impl<'a, K: Eq + Hash, V, S: BuildHasher, R: Wait + Clock> IntoIterator for Waiting<'a, K, V, S, R> {
+    type Item = Result<RefMulti<'a, K, V, S>, AllocError>;
+
+    type IntoIter = Iter<'a, K, V, S, R>;
+
+    ghost into_iter_gives = { λ w walk. walk ≡ at_start w.map.now };
+
+    #[inline]
+    fn into_iter(self) -> Iter<'a, K, V, S, R> {
+        self.map.iter(self.rt)
+    }
+}
+
+/// The pairs in the order of a walk, as `{0: 5, 1: 6}`. It holds one shard after the other, and is an error where the walk finds no memory.
+impl<K: Eq + Hash + fmt::Debug, V: fmt::Debug, S: BuildHasher, R: Wait + Clock> fmt::Debug
+    for Waiting<'_, K, V, S, R> {
+    fn fmt<W: fmt::Write>(&self, f: &mut fmt::Formatter<W>) -> fmt::Result {
+        let mut out = f.debug_map();
+        for pair in *self {
+            let Ok(pair) = pair else {
+                return Err(fmt::Error);
+            };
+            out.entry(pair.key(), pair.value());
+        }
+        out.finish()
     }
 }
