@@ -9,6 +9,8 @@ mod alone;
 #[cfg(test)]
 mod calls;
 #[cfg(test)]
+mod entry;
+#[cfg(test)]
 mod error;
 #[cfg(test)]
 mod hash;
@@ -24,6 +26,8 @@ pub mod parts;
 #[cfg(test)]
 mod places;
 #[cfg(test)]
+mod projection;
+#[cfg(test)]
 mod record;
 #[cfg(test)]
 mod run;
@@ -33,6 +37,8 @@ mod shard;
 mod step;
 #[cfg(test)]
 mod t;
+#[cfg(test)]
+mod tries;
 #[cfg(test)]
 mod view;
 pub mod words;
