@@ -9,6 +9,8 @@ mod alone;
 #[cfg(test)]
 mod calls;
 #[cfg(test)]
+mod entry;
+#[cfg(test)]
 mod error;
 #[cfg(test)]
 mod hash;
@@ -26,6 +28,8 @@ pub mod parts;
 #[cfg(test)]
 mod places;
 #[cfg(test)]
+mod projection;
+#[cfg(test)]
 mod record;
 #[cfg(test)]
 mod run;
@@ -35,6 +39,8 @@ mod shard;
 mod step;
 #[cfg(test)]
 mod t;
+#[cfg(test)]
+mod tries;
 #[cfg(test)]
 mod view;
 #[cfg(test)]

@@ -1,5 +1,5 @@
 //! One shard's calls, as worked by hand.
-use crate::places::{here, is, is_at, new_shard, put, shard_one};
+use crate::places::{Noted, here, is, is_at, new_shard, put, shard_one};
 use dash_shard::hash::PlaceState;
 use dash_shard::shard::Shard;
 use std::process::Abort;
@@ -46,15 +46,6 @@ fn makes_room_ahead(rt: HostRuntime) -> Result<(), Fail> {
     assert!(rt; shard.try_reserve(usize::MAX).is_err());
     is(&rt, shard.len(), 1);
     Ok(())
-}
-
-// A name with a note, which says nothing to `==` and to hashers.
-#[derive_where(PartialEq, Eq, Hash, Debug)]
-#[derive(Drop)]
-struct Noted {
-    name: u64,
-    #[derive_where(skip(EqHashOrd))]
-    note: u64,
 }
 
 #[test]

@@ -19,8 +19,9 @@ fn a_view_and_back(rt: HostRuntime) -> Result<(), Fail> {
     is(&rt, view.get(&27), Some(&"twenty seven"));
     is(&rt, view.get_key_value(&10), Some((&10, &"ten")));
     assert!(rt; view.contains_key(&45) && !view.contains_key(&46));
-    is(&rt, view.iter().count(), 4);
-    is(&rt, view.keys().count(), view.values().count());
+    is(&rt, view.iter().last(), Some((&27, &"twenty seven")));
+    is(&rt, view.keys().last(), Some(&27));
+    is(&rt, view.values().last(), Some(&"twenty seven"));
     is(&rt, view.shards().len(), 4);
 
     let Ok(map) = view.into_inner(rt.alloc()) else {
@@ -28,6 +29,6 @@ fn a_view_and_back(rt: HostRuntime) -> Result<(), Fail> {
     };
     is(&rt, map.remove(&rt, &45), Some((45, "forty five")));
     let alone = map.alone();
-    is(&rt, alone.iter().count(), 3);
+    is(&rt, alone.iter().last(), Some((&27, &"twenty seven")));
     Ok(())
 }

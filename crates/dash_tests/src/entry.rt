@@ -1,0 +1,144 @@
+//! Entries of a map that threads share, as worked by hand.
+use crate::map::map_of_four;
+use crate::places::{Noted, is};
+use dash_map::map::DashMap;
+use dash_ref::mapref::entry::{Entry, OccupiedEntry, TryEntryRefused, VacantEntry};
+use dash_shard::hash::PlaceState;
+use std::hash::Hash;
+use std::rt::Clock;
+use std::sync::Wait;
+use std::test::Fail;
+
+type Map<K> = DashMap<K, u64, PlaceState>;
+
+// The entry of a key that has a pair, in a shard that nobody has.
+fn occupied<K: Eq + Hash + Drop>(
+    map: &Map<K>,
+    key: K,
+) -> Option<OccupiedEntry<'_, K, u64, PlaceState>> {
+    match map.try_entry(key) {
+        Ok(Entry::Occupied(entry)) => Some(entry),
+        _ => None,
+    }
+}
+
+// The entry of a key that has no pair, in a shard that nobody has.
+fn vacant<K: Eq + Hash + Drop>(
+    map: &Map<K>,
+    key: K,
+) -> Option<VacantEntry<'_, K, u64, PlaceState>> {
+    match map.try_entry(key) {
+        Ok(Entry::Vacant(entry)) => Some(entry),
+        _ => None,
+    }
+}
+
+// The value of a key.
+fn value_of<R: Wait + Clock>(rt: &R, map: &Map<u64>, key: u64) -> Option<u64> {
+    map.view(rt, &key, |_, value| *value)
+}
+
+#[test]
+fn an_entry_holds_its_shard(rt: HostRuntime) -> Result<(), Fail> {
+    let map: Map<u64> = map_of_four(rt.alloc())?;
+    map.insert(&rt, 1, 10)?;
+    let entry = occupied(&map, 1).ok_or("no pair")?;
+    assert!(rt; map.try_get(&5).is_locked());
+    assert!(rt; map.try_get(&2).is_absent());
+    drop(entry);
+    let entry = vacant(&map, 5).ok_or("a pair")?;
+    assert!(rt; map.try_get(&1).is_locked());
+    drop(entry);
+    let held = map.get(&rt, &1).ok_or("no pair")?;
+    assert!(rt; matches!(map.try_entry(1), Err(TryEntryRefused::Locked(1))));
+    assert!(rt; matches!(map.try_entry(5), Err(TryEntryRefused::Locked(5))));
+    drop(held);
+    is(&rt, map.len(&rt), 1);
+    Ok(())
+}
+
+#[test]
+fn noted_keys(rt: HostRuntime) -> Result<(), Fail> {
+    let a = |note| Noted { name: 5, note };
+    let map = Map::<Noted>::with_hasher_and_shard_amount(rt.alloc(), PlaceState, 4)?;
+    is(&rt, map.insert(&rt, a(1), 100)?, None);
+    is(&rt, map.insert(&rt, a(2), 200)?, Some(100));
+    let entry = occupied(&map, a(3)).ok_or("no pair")?;
+    is(&rt, entry.key().note, 1);
+    let (key, value) = entry.replace_entry(300);
+    is(&rt, (key.note, value), (1, 200));
+    let (key, value) = occupied(&map, a(4)).ok_or("no pair")?.remove_entry();
+    is(&rt, (key.note, value), (3, 300));
+    assert!(rt; map.is_empty(&rt));
+    Ok(())
+}
+
+#[test]
+fn vacant_then_occupied(rt: HostRuntime) -> Result<(), Fail> {
+    let map: Map<u64> = map_of_four(rt.alloc())?;
+    let entry = Entry::Vacant(vacant(&map, 1).ok_or("a pair")?);
+    let entry = entry.insert_entry(2).ok().ok_or("no memory")?;
+    is(&rt, *entry.get(), 2);
+    drop(entry);
+    is(&rt, value_of(&rt, &map, 1), Some(2));
+    map.insert(&rt, 1, 1000)?;
+    let entry = occupied(&map, 1).ok_or("no pair")?;
+    is(&rt, *entry.get(), 1000);
+    let entry = Entry::Occupied(entry).insert_entry(2);
+    let entry = entry.ok().ok_or("no memory")?;
+    is(&rt, *entry.get(), 2);
+    drop(entry);
+    is(&rt, value_of(&rt, &map, 1), Some(2));
+    Ok(())
+}
+
+#[test]
+fn what_stands_or_is_put(rt: HostRuntime) -> Result<(), Fail> {
+    let map: Map<u64> = map_of_four(rt.alloc())?;
+    is(&rt, *map.entry(&rt, 1)?.or_default(), 0);
+    let entry = map.entry(&rt, 1)?.and_modify(|value| *value = 10);
+    is(&rt, *entry.or_default(), 10);
+    is(&rt, *map.entry(&rt, 5)?.or_insert(50), 50);
+    is(&rt, *map.entry(&rt, 5)?.or_insert(51), 50);
+    is(&rt, *map.entry(&rt, 9)?.or_insert_with(|| 90), 90);
+    is(&rt, *map.entry(&rt, 9)?.or_insert_with(|| 91), 90);
+    is(&rt, *map.entry(&rt, 9)?.insert(92), 92);
+    is(&rt, *map.entry(&rt, 13)?.insert(130), 130);
+    is(&rt, map.len(&rt), 4);
+    Ok(())
+}
+
+#[test]
+fn what_is_put_may_be_refused(rt: HostRuntime) -> Result<(), Fail> {
+    let map: Map<u64> = map_of_four(rt.alloc())?;
+    let refused = map
+        .entry(&rt, 1)?
+        .or_try_insert_with(|| Err("no value"))
+        .err();
+    is(&rt, refused, Some("no value"));
+    assert!(rt; map.is_empty(&rt));
+    let put = map.entry(&rt, 1)?.or_try_insert_with(|| Ok::<_, &str>(10))?;
+    is(&rt, put.pair(), (&1, &10));
+    drop(put);
+    is(&rt, value_of(&rt, &map, 1), Some(10));
+    Ok(())
+}
+
+#[test]
+fn what_an_entry_leaves_stays(rt: HostRuntime) -> Result<(), Fail> {
+    let map: Map<u64> = map_of_four(rt.alloc())?;
+    map.insert(&rt, 1, 10)?;
+    let mut entry = occupied(&map, 1).ok_or("no pair")?;
+    *entry.get_mut() = 11;
+    drop(entry);
+    let (old, shard) = occupied(&map, 1).ok_or("no pair")?.replace_held(12);
+    is(&rt, old, (1, 11));
+    drop(shard);
+    let (old, shard) = occupied(&map, 1).ok_or("no pair")?.remove_held();
+    is(&rt, old, (1, 12));
+    drop(shard);
+    map.insert(&rt, 1, 13)?;
+    is(&rt, occupied(&map, 1).ok_or("no pair")?.remove(), 13);
+    is(&rt, map.len(&rt), 0);
+    Ok(())
+}

@@ -1,0 +1,76 @@
+//! References that may be written, and calls that wait for nobody.
+use crate::map::map_of_four;
+use crate::places::is;
+use dash_map::map::DashMap;
+use dash_shard::hash::FixedState;
+use std::test::Fail;
+
+#[test]
+fn try_get(rt: HostRuntime) -> Result<(), Fail> {
+    let map = DashMap::<&str, u64, FixedState>::with_shard_amount(rt.alloc(), 4)?;
+    map.insert(&rt, "Johnny", 21)?;
+    let found = map.try_get(&"Johnny").try_unwrap();
+    is(&rt, found.map(|found| *found), Some(21));
+    assert!(rt; map.try_get(&"Sam").is_absent());
+    let held = map.get_mut(&rt, &"Johnny").ok_or("no pair")?;
+    assert!(rt; map.try_get(&"Johnny").is_locked());
+    drop(held);
+    assert!(rt; map.try_get(&"Johnny").is_present());
+    Ok(())
+}
+
+#[test]
+fn try_get_mut(rt: HostRuntime) -> Result<(), Fail> {
+    let map = DashMap::<&str, u64, FixedState>::with_shard_amount(rt.alloc(), 4)?;
+    map.insert(&rt, "Johnny", 21)?;
+    let mut found = map.try_get_mut(&"Johnny").try_unwrap().ok_or("no pair")?;
+    *found = found.wrapping_add(1);
+    drop(found);
+    let held = map.get(&rt, &"Johnny").ok_or("no pair")?;
+    is(&rt, *held, 22);
+    assert!(rt; map.try_get_mut(&"Johnny").is_locked());
+    drop(held);
+    assert!(rt; map.try_get_mut(&"Sam").is_absent());
+    Ok(())
+}
+
+#[test]
+fn held_pairs(rt: HostRuntime) -> Result<(), Fail> {
+    let map = map_of_four::<u64>(rt.alloc())?;
+    map.insert(&rt, 0, 10)?;
+    map.insert(&rt, 1, 11)?;
+    let held = map.get_mut(&rt, &0).ok_or("no pair")?;
+    assert!(rt; map.try_get(&0).is_locked());
+    assert!(rt; map.try_get(&1).is_present());
+    assert!(rt; map.try_get(&5).is_absent());
+    drop(held);
+
+    let held = map.get(&rt, &0).ok_or("no pair")?;
+    let second = map.get(&rt, &0).ok_or("no pair")?;
+    assert!(rt; map.contains_key(&rt, &0));
+    is(&rt, map.len(&rt), 2);
+    assert!(rt; map.try_get_mut(&0).is_locked());
+    drop(second);
+    drop(held);
+    Ok(())
+}
+
+#[test]
+fn writes_in_place(rt: HostRuntime) -> Result<(), Fail> {
+    let map = map_of_four::<u64>(rt.alloc())?;
+    map.insert(&rt, 1, 10)?;
+    map.insert(&rt, 5, 50)?;
+    assert!(rt; map.get_mut(&rt, &9).is_none());
+    let mut found = map.get_mut(&rt, &1).ok_or("no pair")?;
+    is(&rt, found.pair(), (&1, &10));
+    *found.value_mut() = 3;
+    let (key, value) = found.pair_mut();
+    *value = value.wrapping_sub(*key);
+    is(&rt, (*found.key(), *found.value()), (1, 2));
+    let text = format!(in rt.alloc(); "{found:?}")?;
+    is(&rt, text.as_str(), "RefMut { k: 1, v: 2 }");
+    is(&rt, found.into_shard().len(), 2);
+    is(&rt, map.remove(&rt, &1), Some((1, 2)));
+    is(&rt, map.remove(&rt, &5), Some((5, 50)));
+    Ok(())
+}
