@@ -1,9 +1,9 @@
 //! A page whose words two threads count.
-use uses::words::{count, count_words, start_anew};
 use crate::places::{is, is_at};
 use dashmap::DashMap;
 use std::test::Fail;
 use std::thread;
+use uses::words::{count, count_words, start_anew};
 
 #[test]
 fn two_threads_count_the_words_of_a_page(rt: HostRuntime) -> Result<(), Fail> {
