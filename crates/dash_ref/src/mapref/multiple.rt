@@ -131,8 +131,7 @@ impl<K: Eq + Hash, V, S: BuildHasher> Deref for RefMulti<'_, K, V, S> {
 
 /// `RefMulti { k: 1, v: 2 }`, which the original hasn't.
 impl<K: Eq + Hash + fmt::Debug, V: fmt::Debug, S: BuildHasher> fmt::Debug
-    for RefMulti<'_, K, V, S>
-{
+    for RefMulti<'_, K, V, S> {
     fn fmt<W: fmt::Write>(&self, f: &mut fmt::Formatter<W>) -> fmt::Result {
         let (key, value) = self.pair();
         f.debug_struct("RefMulti")
