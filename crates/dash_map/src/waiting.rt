@@ -115,7 +115,8 @@ impl<K: Eq + Hash, V, S: BuildHasher, R: Wait + Clock> BitAnd<&K> for Waiting<'_
 }
 
 /// `for pair in map`: as `DashMap::iter`.
-impl<'a, K: Eq + Hash, V, S: BuildHasher, R: Wait + Clock> IntoIterator for Waiting<'a, K, V, S, R> {
+impl<'a, K: Eq + Hash, V, S: BuildHasher, R: Wait + Clock> IntoIterator
+    for Waiting<'a, K, V, S, R> {
     type Item = Result<RefMulti<'a, K, V, S>, AllocError>;
 
     type IntoIter = Iter<'a, K, V, S, R>;
