@@ -1,47 +1,51 @@
-//! An election: threads count the ballots of their boxes on one map.
-ghost use Rattle.std.specs.Prelude.{◌<◌};
-
-use crate::words::count;
+//! An election: threads count the ballots on one map.
 use dashmap::DashMap;
 use dashmap::error::EntryRefused;
+use std::alloc::AllocError;
 use std::rt::Clock;
 use std::sync::Wait;
 use std::thread::{self, Threads};
 
-/// A box with ballots, each of which names a candidate by number.
-#[derive(Drop)]
-pub struct BallotBox {
-    pub ballots: Vec<u64>,
-    pub is_counted: bool,
+/// How many votes each candidate has, by the candidate's number.
+pub type Votes = DashMap<u64, u64>;
+
+/// Puts a candidate on the list, who has no votes yet. Says whether there was memory.
+pub fn register<R: Wait + Clock>(rt: &R, votes: &Votes, candidate: u64) -> bool {
+    votes.insert(rt, candidate, 0).is_ok()
 }
 
-// Counts each ballot. Waits for one candidate's shard after the other.
-fn count_all<R: Wait + Clock>(
-    rt: &R,
-    votes: &DashMap<u64, u64>,
-    ballots: &[u64],
-) -> Result<(), EntryRefused<u64>> {
-    for ballot in ballots {
-        count(rt, votes, *ballot)?;
-    }
+// Counts one ballot. No vote is lost between the look-up and the write: the entry holds its shard.
+fn count<R: Wait + Clock>(rt: &R, votes: &Votes, ballot: u64) -> Result<(), EntryRefused<u64>> {
+    let mut count = votes.entry(rt, ballot)?.or_insert(0);
+    *count = count.saturating_add(1);
     Ok(())
 }
 
-/// Counts the ballots of all boxes, on so many threads, and notes in each box whether there was memory for its count.
-pub fn tally<R: Threads + Wait + Clock + Sync>(
-    rt: &R,
-    votes: &DashMap<u64, u64>,
-    boxes: &mut [BallotBox],
-    threads: usize,
-)
-    requires { 0 < threads }
-{
-    thread::for_each_mut(
-        rt,
-        boxes,
-        threads,
-        &|_, it: &mut BallotBox| {
-            it.is_counted = count_all(rt, votes, &it.ballots).is_ok();
-        },
-    );
+/// Counts the ballots on four threads. One for which there is no memory becomes 0.
+pub fn tally<R: Threads + Wait + Clock + Sync>(rt: &R, votes: &Votes, ballots: &mut [u64]) {
+    let count_one = |_: usize, ballot: &mut u64| {
+        if count(rt, votes, *ballot).is_err() {
+            *ballot = 0;
+        }
+    };
+    thread::for_each_mut(rt, ballots, 4, &count_one);
+}
+
+/// How many votes a candidate has, who is on the list.
+pub fn votes_of<R: Wait + Clock>(rt: &R, votes: &Votes, candidate: u64) -> Option<u64> {
+    let found = votes.get(rt, &candidate)?;
+    Some(*found.value())
+}
+
+/// The candidate with the most votes, and how many. The walk takes memory once a shard.
+pub fn leader<R: Wait + Clock>(rt: &R, votes: &Votes) -> Result<Option<(u64, u64)>, AllocError> {
+    let mut best: Option<(u64, u64)> = None;
+    for found in votes.iter(rt) {
+        let found = found?;
+        let (candidate, count) = found.pair();
+        if best.is_none_or(|(_, most)| *count > most) {
+            best = Some((*candidate, *count));
+        }
+    }
+    Ok(best)
 }
