@@ -142,3 +142,32 @@ fn what_an_entry_leaves_stays(rt: HostRuntime) -> Result<(), Fail> {
     is(&rt, map.len(&rt), 0);
     Ok(())
 }
+
+#[test]
+fn keys_that_are_handed_in(rt: HostRuntime) -> Result<(), Fail> {
+    let map = Map::<Noted>::with_hasher_and_shard_amount(rt.alloc(), PlaceState, 4)?;
+    let entry = map.entry(&rt, Noted { name: 1, note: 1 })?;
+    is(&rt, entry.key().note, 1);
+    is(&rt, entry.into_key().note, 1);
+    let entry = vacant(&map, Noted { name: 1, note: 2 }).ok_or("a pair")?;
+    is(&rt, entry.key().note, 2);
+    is(&rt, entry.into_key().note, 2);
+    map.insert(&rt, Noted { name: 1, note: 3 }, 10)?;
+    let entry = map.entry(&rt, Noted { name: 1, note: 4 })?;
+    is(&rt, entry.key().note, 3);
+    is(&rt, entry.into_key().note, 4);
+    Ok(())
+}
+
+#[test]
+fn values_that_are_put(rt: HostRuntime) -> Result<(), Fail> {
+    let map: Map<u64> = map_of_four(rt.alloc())?;
+    is(&rt, *vacant(&map, 1).ok_or("a pair")?.insert(10), 10);
+    let mut entry = occupied(&map, 1).ok_or("no pair")?;
+    is(&rt, entry.insert(11), 10);
+    is(&rt, entry.into_ref().pair(), (&1, &11));
+    is(&rt, value_of(&rt, &map, 1), Some(11));
+    let entry = occupied(&map, 1).ok_or("no pair")?;
+    is(&rt, entry.into_key(), 1);
+    Ok(())
+}

@@ -44,4 +44,6 @@ mod tries;
 #[cfg(test)]
 mod view;
 #[cfg(test)]
+mod waiting;
+#[cfg(test)]
 mod words;

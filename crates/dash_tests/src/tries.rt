@@ -2,6 +2,8 @@
 use crate::map::map_of_four;
 use crate::places::is;
 use dash_map::map::DashMap;
+use dash_ref::try_result::TryResult;
+use dash_ref::util::SharedValue;
 use dash_shard::hash::FixedState;
 use std::test::Fail;
 
@@ -73,4 +75,14 @@ fn writes_in_place(rt: HostRuntime) -> Result<(), Fail> {
     is(&rt, map.remove(&rt, &1), Some((1, 2)));
     is(&rt, map.remove(&rt, &5), Some((5, 50)));
     Ok(())
+}
+
+#[test]
+fn what_is_there_is_unwrapped(rt: HostRuntime) {
+    is(&rt, TryResult::Present(5).unwrap(), 5);
+    is(&rt, TryResult::<u64>::Absent.try_unwrap(), None);
+    let mut value = SharedValue::new(5);
+    is(&rt, *value.get(), 5);
+    *value.get_mut() = 6;
+    is(&rt, value.into_inner(), 6);
 }
