@@ -1,5 +1,5 @@
 //! The map that threads share.
-ghost use Rattle.std.specs.Prelude.{◌≡◌, ◌<◌, ◌↔◌, ◌∷◌, [], IsErrOf, IfOk, IfErr, OnOk};
+ghost use Rattle.std.specs.Prelude.{◌≡◌, ◌<◌, ◌↔◌, ◌∷◌, [], length, IsErrOf, IfOk, IfErr, OnOk};
 ghost use Rattle.dash_shard.specs.Hashing.{by, IsAmount, HashAlike, hash_of, route_of_hash, route_by};
 ghost use Rattle.dash_shard.specs.declared.error.ConstructError.TheVariants.{CapacityOverflow, Memory, Parallelism, ShardAmount};
 ghost use Rattle.dash_map.specs.Amounts.{IsParallelism, IsDefault, Overflows, OverflowsDefault};
@@ -208,6 +208,7 @@ impl<K: Eq + Hash, V, S: BuildHasher> DashMap<K, V, S> {
     /// The shards behind their locks, in the order of their numbers.
     #[inline]
     pub fn shards(&self) -> &[CachePadded<RwLock<Shard<K, V, S>>>]
+        ensures count { length result.now ≡ self.now.amount }
         ensures locks { IsMap self.now result.now }
     {
         self.row.items()
@@ -217,6 +218,7 @@ impl<K: Eq + Hash, V, S: BuildHasher> DashMap<K, V, S> {
     pub fn into_shards(self) -> Vec<CachePadded<RwLock<Shard<K, V, S>>>>
     where
         S: Drop,
+        ensures count { length result.items ≡ self.amount }
         ensures locks { IsMap self result.items }
     {
         let DashMap { row, .. } = self;
