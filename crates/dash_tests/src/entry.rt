@@ -1,6 +1,7 @@
 //! Entries of a map that threads share, as worked by hand.
+use crate::checks::is;
 use crate::map::map_of_four;
-use crate::places::{Noted, is};
+use base_tests::values::Noted;
 use dash_map::map::DashMap;
 use dash_ref::mapref::entry::{Entry, OccupiedEntry, TryEntryRefused, VacantEntry};
 use dash_shard::hash::PlaceState;

@@ -1,4 +1,4 @@
-//! The tests of the libraries below, over their public items alone.
+//! The tests of maps, over their public items alone.
 //!
 //! They stand in a crate of their own, so that each library is proved once, without them. Modules are named as those that they test.
 //! `words` is a caller, which the documents show, and `parts` has what the tests of mapped references map to.
@@ -9,34 +9,20 @@ mod alone;
 #[cfg(test)]
 mod calls;
 #[cfg(test)]
+mod checks;
+#[cfg(test)]
 mod entry;
 #[cfg(test)]
 mod error;
 #[cfg(test)]
-mod hash;
-#[cfg(test)]
 mod iter;
 #[cfg(test)]
-mod kept;
-#[cfg(test)]
-mod lock;
-#[cfg(test)]
 mod map;
-#[cfg(test)]
-mod mapref;
 pub mod parts;
-#[cfg(test)]
-mod places;
 #[cfg(test)]
 mod projection;
 #[cfg(test)]
-mod record;
-#[cfg(test)]
 mod run;
-#[cfg(test)]
-mod shard;
-#[cfg(test)]
-mod step;
 #[cfg(test)]
 mod t;
 #[cfg(test)]

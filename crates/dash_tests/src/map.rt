@@ -1,5 +1,5 @@
 //! Amounts, capacities and routes of a map, as worked by hand.
-use crate::places::{is, is_at};
+use crate::checks::{is, is_at};
 use dash_map::map::DashMap;
 use dash_map::t::Map as _;
 use dash_shard::error::ConstructError;

@@ -1,7 +1,7 @@
 //! References that are mapped to a part of their value.
+use crate::checks::is;
 use crate::map::map_of_four;
 use crate::parts::{Left, Payload, Sides};
-use crate::places::is;
 use dash_ref::mapref::one::Compose;
 use std::convert::AsRef;
 use std::test::Fail;

@@ -1,6 +1,7 @@
 //! Runs of a few steps, as worked by hand.
+use crate::checks::is;
 use crate::map::map_of_four;
-use crate::places::is;
+use base_tests::values::Uncopied;
 use dash_history::action::Action;
 use dash_history::kept::Kept;
 use dash_history::step::{Reply, ShardStep};
@@ -60,26 +61,6 @@ fn six_steps_of_one_owner(rt: HostRuntime) -> Result<(), Fail> {
     is(&rt, alone.get(&1), None);
     is(&rt, alone.len(), 1);
     Ok(())
-}
-
-/// A value whose copies find no memory.
-#[derive(Debug, Drop)]
-pub(crate) struct Uncopied(pub(crate) u64);
-
-impl Kept for Uncopied {
-    ghost use Rattle.std.specs.Prelude.{true, refl};
-
-    ghost alike = { λ _ _. true };
-
-    fn copy(&self) -> Result<Uncopied, AllocError> {
-        Err(AllocError)
-    }
-
-    fn same(&self, _: &Uncopied) -> bool {
-        true
-    }
-
-    ghost alike_laws = { record { refl = λ x. refl; symm = λ x y. refl; congr = λ x y z same. refl } };
 }
 
 #[test]

@@ -1,6 +1,6 @@
 //! References that may be written, and calls that wait for nobody.
+use crate::checks::is;
 use crate::map::map_of_four;
-use crate::places::is;
 use dash_map::map::DashMap;
 use dash_ref::try_result::TryResult;
 use dash_ref::util::SharedValue;

@@ -1,5 +1,5 @@
 //! A page whose words two threads count.
-use crate::places::{is, is_at};
+use crate::checks::{is, is_at};
 use dashmap::DashMap;
 use std::test::Fail;
 use std::thread;

@@ -1,6 +1,6 @@
 //! A walk over a map that threads share: rising shards, each pair once, and which shard it holds.
+use crate::checks::is;
 use crate::map::map_of_four;
-use crate::places::is;
 use dash_map::map::DashMap;
 use dash_map::t::Map;
 use dash_shard::error::ConstructError;

@@ -53,15 +53,6 @@ pub(crate) fn lock_of_one<V: fmt::Debug + Drop, const N: usize>(
     Ok(RwLock::new(shard, &tag))
 }
 
-/// A name with a note, which says nothing to `==` and to hashers.
-#[derive_where(PartialEq, Eq, Hash, Debug)]
-#[derive(Drop)]
-pub(crate) struct Noted {
-    pub name: u64,
-    #[derive_where(skip(EqHashOrd))]
-    pub note: u64,
-}
-
 /// The key, which has to go to the shard.
 pub(crate) fn here<K: Eq + Hash, V, S: BuildHasher>(
     rt: &impl Abort,

@@ -1,5 +1,6 @@
 //! One shard's calls, as worked by hand.
-use crate::places::{Noted, here, is, is_at, new_shard, put, shard_one};
+use crate::places::{here, is, is_at, new_shard, put, shard_one};
+use crate::values::Noted;
 use dash_shard::hash::PlaceState;
 use dash_shard::shard::Shard;
 use std::process::Abort;

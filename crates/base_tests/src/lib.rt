@@ -1,0 +1,23 @@
+//! The tests of `dash_shard`, `dash_history` and `dash_ref`, over their public items alone.
+//!
+//! They stand in a crate of their own, so that each library is proved once, without them. Modules are named as those that they test.
+//! `values` has keys and values that tests of maps use too.
+#![tactic(auto)]
+
+#[cfg(test)]
+mod hash;
+#[cfg(test)]
+mod kept;
+#[cfg(test)]
+mod lock;
+#[cfg(test)]
+mod mapref;
+#[cfg(test)]
+mod places;
+#[cfg(test)]
+mod record;
+#[cfg(test)]
+mod shard;
+#[cfg(test)]
+mod step;
+pub mod values;
