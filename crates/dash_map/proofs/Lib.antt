@@ -1,3 +1,6 @@
+mod AloneWalks
+mod Copying
+mod CopyingMaps
 mod Distincts
 mod Entering
 mod Found

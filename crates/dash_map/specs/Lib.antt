@@ -4,6 +4,8 @@ pub mod Alone
 pub mod Run
 pub mod Behind
 pub mod AllPairs
+pub mod AloneWalk
+pub mod Copies
 pub mod Lends
 pub mod Locks
 pub mod Tries

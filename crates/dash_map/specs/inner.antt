@@ -1,5 +1,7 @@
 -- What only proofs, invariants and the contracts of private functions use.
+pub mod AloneWalk
 pub mod Amounts
+pub mod Copies
 pub mod Rooms
 pub mod Run
 pub mod Walking

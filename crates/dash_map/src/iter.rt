@@ -1,6 +1,8 @@
 //! The walks over a map.
+pub use alone_mut::AloneIterMut;
 pub use locked::Iter;
 pub use owning::OwningIter;
 
+mod alone_mut;
 mod locked;
 mod owning;

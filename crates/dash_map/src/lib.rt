@@ -3,6 +3,7 @@
 
 pub mod alone;
 mod calls;
+mod copies;
 pub mod iter;
 pub mod map;
 pub mod read_only;

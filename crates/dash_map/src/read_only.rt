@@ -7,15 +7,19 @@ ghost use Rattle.dash_shard.specs.Contents.{at};
 ghost use Rattle.dash_shard.specs.Steps.{Get, Contains, Found, Pair};
 ghost use Rattle.dash_map.specs.Alone.{IsAlone, RepliesAlone, contents};
 ghost use Rattle.dash_map.specs.Behind.{IsBehind};
+ghost use Rattle.dash_map.specs.Copies.{kinds, CopiesAlone};
+ghost use Rattle.dash_shard.specs.Hashing.{HashAlike};
 
 use crate::alone::Alone;
+use crate::copies::copy_shards;
 use crate::map::DashMap;
 use crate::shards::Shards;
+use dash_history::kept::{Kept, KeptKey};
 use dash_shard::keyed::Keyed;
 use dash_shard::row::Row;
 use dash_shard::shard::Shard;
 pub use iter::{Keys, Values, ViewIter};
-use std::alloc::Global;
+use std::alloc::{AllocError, Global};
 use std::fmt;
 use std::hash::{BuildHasher, Hash};
 use std::marker::Model;
@@ -166,6 +170,22 @@ impl<K: Eq + Hash, V, S: BuildHasher> ReadOnlyView<K, V, S> {
                 owner: ReadOnlyView { hasher, shards },
             }),
         }
+    }
+}
+
+impl<K: KeptKey + Drop, V: Kept + Drop, S: BuildHasher + Clone + Drop> ReadOnlyView<K, V, S> {
+    /// A view of copies of the pairs, each alike its source, with a clone of the hasher.
+    ///
+    /// It takes memory once a shard and once for the row, and what the copies of keys and values take, and hashes each key once. Where there
+    /// is none it is refused (4), and keeps nothing. Which slots the pairs have is left open.
+    pub fn clone(&self) -> Result<Self, AllocError>
+        requires { (s t : S) → S.is_clone s t → HashAlike ⟦<Self as Keyed>⟧.by s t }
+        ensures copies { IfOk result (CopiesAlone (kinds K.eq K.alike V.alike S.is_clone) self.now) }
+        ensures lawful { IfOk result (IsAlone ⟦<Self as Keyed>⟧.by) }
+    {
+        let hasher = self.hasher.clone()?;
+        let shards = copy_shards(*self.shards.allocator(), &self.shards)?;
+        Ok(ReadOnlyView { hasher, shards })
     }
 }
 

@@ -1,4 +1,5 @@
 pub mod Part
+pub mod Multi
 pub mod Ref
 pub mod Try
 pub mod inner

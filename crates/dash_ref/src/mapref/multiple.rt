@@ -1,17 +1,19 @@
 //! References to the pairs that a walk gives.
-ghost use Rattle.std.specs.Prelude.{◌≡◌, IsSome};
-ghost use Rattle.std.specs.Map.Iter.{deref_pair};
+ghost use Rattle.std.specs.Prelude.{[], ◌≡◌, IsSome};
+ghost use Rattle.std.specs.Borrow.{Lends, sem};
+ghost use Rattle.std.specs.Map.Iter.{deref_pair, deref_pair_mut};
 ghost use Rattle.dash_shard.specs.Hashing.{by};
 ghost use Rattle.dash_shard.specs.Shard.{slot, IsShard};
+ghost use Rattle.dash_ref.specs.Multi.{lent_pair, lent_value, with_lent_value};
 ghost use Rattle.dash_ref.specs.Ref.{Stands, pair_of};
 
-use dash_shard::keyed::Keyed;
+use dash_shard::keyed::{Keyed, Lender};
 use dash_shard::lock::RwLockReadGuard;
 use dash_shard::shard::Shard;
 use std::fmt;
 use std::hash::{BuildHasher, Hash};
 use std::marker::Model;
-use std::ops::Deref;
+use std::ops::{Deref, DerefMut};
 use std::rc::Rc;
 use std::snapshot::Snapshot;
 
@@ -137,6 +139,112 @@ impl<K: Eq + Hash + fmt::Debug, V: fmt::Debug, S: BuildHasher> fmt::Debug
         f.debug_struct("RefMulti")
             .field("k", key)
             .field("v", value)
+            .finish()
+    }
+}
+
+/// A pair that a walk lends, its value to be written, as the original's `RefMutMulti`. The walk has the hold of the pair's shard, if there
+/// is one, and can't go on while this is there.
+///
+/// No call takes memory or waits. A contract sees it as the pair, `lent_pair`, and the loan of the value, `lent_value`.
+#[derive(Drop)]
+pub struct RefMutMulti<'a, K, V> {
+    key: &'a K,
+    value: &'a mut V,
+}
+
+impl<K, V> Lender for RefMutMulti<'_, K, V> {
+    ghost use mir.Syntax.{named};
+    ghost use Rattle.dash_ref.specs.contracts.mapref.multiple.RefMutMulti.{the_row};
+
+    ghost row = { the_row (record { mir = named 1; lft = [] }) K.row V.row };
+}
+
+impl<'a, K, V> RefMutMulti<'a, K, V> {
+    /// The pair of a key and a value that are lent.
+    #[inline]
+    pub fn new(key: &'a K, value: &'a mut V) -> RefMutMulti<'a, K, V>
+        ensures pair { lent_pair result ≡ (key.now, value.old) }
+        ensures loan { (lent_value result).ghost_name ≡ value.entry.ghost_name }
+    {
+        RefMutMulti { key, value }
+    }
+
+    /// The key that is stored.
+    #[inline]
+    pub fn key(&self) -> &K
+        ensures { result.now ≡ (lent_pair self.now).0 }
+    {
+        self.key
+    }
+
+    /// The value.
+    #[inline]
+    pub fn value(&self) -> &V
+        ensures { result.now ≡ (lent_pair self.now).1 }
+    {
+        self.value
+    }
+
+    /// The value, to be written.
+    #[inline]
+    pub fn value_mut(&mut self) -> &mut V
+        ensures* writes_back { sem 𝓛 (Lends ⟦<Self as Lender>⟧.row V.row self.entry result (with_lent_value self.old)) }
+        ensures value { result.now ≡ (lent_pair self.old).1 }
+    {
+        &mut *self.value
+    }
+
+    /// Key and value.
+    #[inline]
+    pub fn pair(&self) -> (&K, &V)
+        ensures { deref_pair result ≡ lent_pair self.now }
+    {
+        (self.key, self.value)
+    }
+
+    /// Key and value, the value to be written.
+    #[inline]
+    pub fn pair_mut(&mut self) -> (&K, &mut V)
+        ensures* writes_back { sem 𝓛 (Lends ⟦<Self as Lender>⟧.row V.row self.entry result.1 (with_lent_value self.old)) }
+        ensures pair { deref_pair_mut result ≡ lent_pair self.old }
+    {
+        (self.key, &mut *self.value)
+    }
+}
+
+impl<K, V> Deref for RefMutMulti<'_, K, V> {
+    type Target = V;
+
+    ghost deref_gives = { λ r value. value ≡ (lent_pair r).1 };
+
+    #[inline]
+    fn deref(&self) -> &V {
+        self.value()
+    }
+}
+
+impl<K, V> DerefMut for RefMutMulti<'_, K, V> {
+    ghost use Rattle.std.specs.Prelude.{◌≡◌};
+    ghost use Rattle.dash_ref.specs.Multi.{lent_pair};
+
+    ghost deref_mut_gives = { λ r value. value ≡ (lent_pair r).1 };
+
+    #[inline]
+    fn deref_mut(&mut self) -> &mut V
+        ensures* writes_back { sem 𝓛 (Lends ⟦<Self as Lender>⟧.row V.row self.entry result (with_lent_value self.old)) }
+        ensures value { result.now ≡ (lent_pair self.old).1 }
+    {
+        self.value_mut()
+    }
+}
+
+/// `RefMutMulti { k: 1, v: 2 }`, which the original hasn't.
+impl<K: fmt::Debug, V: fmt::Debug> fmt::Debug for RefMutMulti<'_, K, V> {
+    fn fmt<W: fmt::Write>(&self, f: &mut fmt::Formatter<W>) -> fmt::Result {
+        f.debug_struct("RefMutMulti")
+            .field("k", self.key)
+            .field("v", self.value())
             .finish()
     }
 }

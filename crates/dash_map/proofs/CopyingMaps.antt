@@ -1,0 +1,68 @@
+-- A map that was copied, shard by shard.
+use Rattle.std.proofs.Common.{◌≡◌, ℕ, zero, suc, ◌+◌, ◌<◌, Bool, List, [], ◌∷◌, ◌++◌, length, Option, Some, None, slice_get, refl, sym, ap, subst, ◌∙◌, inl, inr, arith, get_or}
+use Rattle.std.proofs.lemmas.List.{length_push}
+use Rattle.std.proofs.lemmas.Option.{none-some, same_Some, slice_get_within, slice_get-get_or}
+use Rattle.dash_shard.specs.Hashing.{KeyHash, HashAlike, IsAmount}
+use Rattle.dash_shard.specs.Shard.{ShardState, IsTagged}
+use Rattle.dash_map.specs.Alone.{AloneState, IsAlone}
+use Rattle.dash_map.specs.Copies.{Kinds, CopiesAlone}
+use Rattle.dash_map.specs.inner.Copies.{IsCopied, AreCopied}
+use Rattle.dash_map.specs.Behind.{SawShards}
+use Rattle.dash_map.specs.Map.{MapState}
+use Rattle.dash_map.proofs.Seeing.{append-cases, SoFar, all-seen}
+
+module _ {K V S : Type 0} (c : Kinds K V S) (h : KeyHash K S) where
+  pub none-copied : AreCopied c h [] []
+  none-copied = record { len = refl; each = λ i s t e f. absurd (none-some s e) }
+
+  pub more-copied : (row copies : List (ShardState K V S)) → AreCopied c h row copies → (s t : ShardState K V S) → IsCopied c h s t → AreCopied c h (row ++ s ∷ []) (copies ++ t ∷ [])
+  more-copied row copies are s t is = record {
+    len = length_push copies t ∙ ap (λ n. n + 1) are.len ∙ sym (length_push row s);
+    each = λ i x y e f. elim (append-cases row s i x e) as (λ _. IsCopied c h x y) [
+      | inl old ↦ elim (append-cases copies t i y f) as (λ _. IsCopied c h x y) [
+        | inl also ↦ are.each i x y old also
+        | inr new ↦ absurd (omega (arith, slice_get_within row i x old, new.0, are.len))
+      ]
+      | inr new ↦ elim (append-cases copies t i y f) as (λ _. IsCopied c h x y) [
+        | inl old ↦ absurd (omega (arith, slice_get_within copies i y old, new.0, are.len))
+        | inr also ↦ subst (λ z. IsCopied c h z y) new.1 (subst (λ z. IsCopied c h s z) also.1 is)
+      ]
+    ];
+  }
+
+  module _ (a : AloneState K V S) (copies : List (ShardState K V S)) (are : AreCopied c h a.row copies) (hasher : S) (clone : c.is_clone a.hasher hasher) where
+    pub all-copied : CopiesAlone c a (record { hasher = hasher; row = copies })
+    all-copied = record {
+      shards = λ i s t e f. (are.each i s t e f).copies;
+      amount = are.len;
+      hasher = clone;
+    }
+
+    pub copied-lawful : IsAlone h a → HashAlike h a.hasher hasher → IsAlone h (record { hasher = hasher; row = copies })
+    copied-lawful is alike = record {
+      amount = subst IsAmount (sym are.len) is.amount;
+      tagged = λ i t f.
+          let s : ShardState K V S = get_or a.row i t in
+          let e : slice_get a.row i ≡ Some s = slice_get-get_or a.row i t (omega (arith, slice_get_within copies i t f, are.len)) in
+          let from = is.tagged i s e in
+          let made = are.each i s t e f in
+          record {
+            number = made.copies.number ∙ from.number;
+            amount = made.copies.amount ∙ from.amount ∙ sym are.len;
+            hashes = λ k. made.hashes k ∙ from.hashes k ∙ sym (alike k);
+            shard = made.lawful;
+          };
+    }
+
+  -- a map behind its locks that was copied, each shard when it was held
+  pub copied-map : (m : MapState S) (n : ℕ) (row copies : List (ShardState K V S)) → SoFar h m n row → n ≡ m.amount → IsAmount m.amount → AreCopied c h row copies
+      → (base : S) → base ≡ m.hasher → (hasher : S) → c.is_clone base hasher → ((s t : S) → c.is_clone s t → HashAlike h s t) → (made : List (ShardState K V S)) → made ≡ copies
+      → SawShards h m (λ a. CopiesAlone c a (record { hasher = hasher; row = made })) × IsAlone h (record { hasher = hasher; row = made })
+  copied-map m n row copies so all amount are base is hasher clone alike made same =
+      let a : AloneState K V S = record { hasher = m.hasher; row = row } in
+      let behind = all-seen h m n row so all amount in
+      let cloned : c.is_clone m.hasher hasher = subst (λ z. c.is_clone z hasher) is clone in
+      let made-of = subst (λ l. AreCopied c h row l) (sym same) are in (
+        (a, behind, all-copied a made made-of hasher cloned),
+        copied-lawful a made made-of hasher cloned behind.lawful (alike _ _ cloned),
+      )

@@ -1,0 +1,107 @@
+-- A walk over a map of one owner, for writing: the map, the pairs that it passed, as they were left, and those to come.
+use Rattle.std.specs.Prelude.{ℕ, zero, suc, ◌≡◌, List, [], ◌∷◌, ◌++◌, take, drop, flat_map, Option, Some, None}
+use Rattle.std.specs.Borrow.{GName}
+use Rattle.dash_shard.specs.Shard.{ShardState, slot, taken, pairs, with_value_in}
+use Rattle.dash_map.specs.Alone.{AloneState, SameMap}
+use Rattle.dash_map.specs.AllPairs.{EachShard}
+use Rattle.dash_map.specs.declared.iter.alone_mut.AloneIterMut.{AloneIterMut}
+
+module _ {K V S : Type 0} where
+  -- the pairs of a row of shards in front of the slot n of the shard i
+  abbrev pub pairs_before : List (ShardState K V S) → ℕ → ℕ → List (K × V)
+  pairs_before [] i n = []
+  pairs_before (s ∷ row) zero n = taken (take n s.slots)
+  pairs_before (s ∷ row) (suc i) n = pairs s ++ pairs_before row i n
+
+  -- and those from there on
+  abbrev pub pairs_from : List (ShardState K V S) → ℕ → ℕ → List (K × V)
+  pairs_from [] i n = []
+  pairs_from (s ∷ row) zero n = taken (drop n s.slots) ++ flat_map pairs row
+  pairs_from (s ∷ row) (suc i) n = pairs_from row i n
+
+  -- the pair in the slot n of the shard i, or none
+  abbrev pub pair_in : List (ShardState K V S) → ℕ → ℕ → Option (K × V)
+  pair_in [] i n = None
+  pair_in (s ∷ row) zero n = slot s.slots n
+  pair_in (s ∷ row) (suc i) n = pair_in row i n
+
+  -- the row with another value in that pair
+  abbrev pub row_with : List (ShardState K V S) → ℕ → ℕ → V → List (ShardState K V S)
+  row_with [] i n v = []
+  row_with (s ∷ row) zero n v = with_value_in s n v ∷ row
+  row_with (s ∷ row) (suc i) n v = s ∷ row_with row i n v
+
+  -- the pair in the slot in front of the slot n
+  abbrev pub pair_at_end : List (ShardState K V S) → ℕ → ℕ → Option (K × V)
+  pair_at_end row i zero = None
+  pair_at_end row i (suc n) = pair_in row i n
+
+  abbrev pub row_with_end : List (ShardState K V S) → ℕ → ℕ → V → List (ShardState K V S)
+  row_with_end row i zero v = row
+  row_with_end row i (suc n) v = row_with row i n v
+
+  -- the map with another value in the pair of the slot n of the shard i
+  abbrev pub map_with : AloneState K V S → ℕ → ℕ → V → AloneState K V S
+  map_with a i n v = record a { row = row_with a.row i n v }
+
+  module _ {H : Type 0} where
+    -- the map, as the walk left it so far
+    abbrev pub walked : AloneIterMut K V S H → AloneState K V S
+    walked w = w.map.now
+
+    -- the loan of the map
+    abbrev pub loan_of : AloneIterMut K V S H → GName
+    loan_of w = w.map.ghost_name
+
+    -- the pairs that the walk passed, as they were left
+    abbrev pub passed : AloneIterMut K V S H → List (K × V)
+    passed w = pairs_before w.map.now.row w.shard_i w.position
+
+    -- the pairs to come
+    abbrev pub to_come : AloneIterMut K V S H → List (K × V)
+    to_come w = pairs_from w.map.now.row w.shard_i w.position
+
+    -- the pair on which the walk stands, which it passed last
+    abbrev pub here : AloneIterMut K V S H → Option (K × V)
+    here w = pair_at_end w.map.now.row w.shard_i w.position
+
+    -- with another value in that pair
+    abbrev pub rewritten : AloneIterMut K V S H → V → AloneIterMut K V S H
+    rewritten w v = record w { map = record w.map { now = record w.map.now { row = row_with_end w.map.now.row w.shard_i w.position v } } }
+
+    -- the walk stays where it is, and changed nothing
+    pub record Rests (old new : AloneIterMut K V S H) : Type 0 where
+      pub loan : loan_of new ≡ loan_of old
+      pub map : walked new ≡ walked old
+      pub passed : passed new ≡ passed old
+      pub to_come : to_come new ≡ to_come old
+
+    -- the walk changed values alone: hasher, amount and the room of each shard stay, and the loan
+    pub record Goes (old new : AloneIterMut K V S H) : Type 0 where
+      pub loan : loan_of new ≡ loan_of old
+      pub stays : SameMap (walked old) (walked new)
+      pub room : EachShard (λ s t. t.capacity ≡ s.capacity) (walked old) (walked new)
+
+    -- a step from old to new passed the first of the pairs to come, and v is its value now
+    pub record Passes (old new : AloneIterMut K V S H) (item : K × V) (v : V) : Type 0 where
+      pub goes : Goes old new
+      pub first : to_come old ≡ item ∷ to_come new
+      pub left : passed new ≡ passed old ++ (item.0, v) ∷ []
+      pub stands : here new ≡ Some (item.0, v)
+
+    -- the same of some pair
+    abbrev pub Passed : AloneIterMut K V S H → AloneIterMut K V S H → V → Type 0
+    Passed old new v = (item : K × V) × Passes old new item v
+
+    -- the same without a write
+    abbrev pub Advances : AloneIterMut K V S H → AloneIterMut K V S H → Type 0
+    Advances old new = (walked new ≡ walked old) × (item : K × V) × Passes old new item item.1
+
+    -- v is now the value of the pair that was passed last
+    pub record Rewrites (old new : AloneIterMut K V S H) (item : K × V) (v : V) : Type 0 where
+      pub goes : Goes old new
+      pub before : List (K × V)
+      pub was : passed old ≡ before ++ item ∷ []
+      pub left : passed new ≡ before ++ (item.0, v) ∷ []
+      pub to_come : to_come new ≡ to_come old
+      pub stands : here new ≡ Some (item.0, v)

@@ -1,0 +1,12 @@
+-- Where a walk over a map of one owner goes next.
+use Rattle.std.specs.Prelude.{ℕ, suc, ◌≡◌, List, [], ◌∷◌, ◌++◌, Some}
+use Rattle.dash_shard.specs.Shard.{ShardState}
+use Rattle.dash_map.specs.AloneWalk.{pairs_before, pairs_from, pair_in}
+
+-- the first pair from the slot n of the shard i on stands in the slot m of the shard j
+pub record IsNextSlot {K V S : Type 0} (row : List (ShardState K V S)) (i n j m : ℕ) : Type 0 where
+  pub item : K × V
+  pub there : pair_in row j m ≡ Some item
+  pub first : pairs_from row i n ≡ item ∷ pairs_from row j (suc m)
+  pub before : pairs_before row j m ≡ pairs_before row i n
+  pub left : pairs_before row j (suc m) ≡ pairs_before row i n ++ item ∷ []
