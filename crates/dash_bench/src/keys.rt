@@ -1,0 +1,35 @@
+//! Keys that look random, each number giving another one.
+
+/// The key of a number. Its bits are mixed by steps that can be undone, so no two numbers have one key.
+#[inline]
+pub fn key(number: u64) -> u64 {
+    let mut key = number.wrapping_mul(0x9e37_79b9_7f4a_7c15);
+    key = (key ^ (key >> 30)).wrapping_mul(0xbf58_476d_1ce4_e5b9);
+    key = (key ^ (key >> 27)).wrapping_mul(0x94d0_49bb_1331_11eb);
+    key ^ (key >> 31)
+}
+
+/// Numbers that look random, from a seed.
+#[derive(Clone, Copy)]
+pub struct Random {
+    state: u64,
+}
+
+impl Random {
+    pub fn new(seed: u64) -> Self {
+        Random {
+            state: key(seed) | 1,
+        }
+    }
+
+    /// The next number, by xorshift.
+    #[inline]
+    pub fn next(&mut self) -> u64 {
+        let mut state = self.state;
+        state ^= (state & 0x0007_ffff_ffff_ffff) << 13;
+        state ^= state >> 7;
+        state ^= (state & 0x0000_7fff_ffff_ffff) << 17;
+        self.state = state;
+        state
+    }
+}

@@ -1,0 +1,83 @@
+//! `dash_bench WORK THREADS` takes the time of one kind of work on a map of a million pairs.
+//!
+//! It prints a line: nanoseconds, operations, and a checksum that any right map gives for the same work.
+#![tactic(auto)]
+
+mod keys;
+mod memory;
+mod run;
+mod work;
+mod worker;
+
+use dashmap::error::ConstructError;
+use std::alloc::AllocError;
+use std::process::ExitCode;
+use std::{env, io};
+use thiserror::Error;
+use work::Work;
+
+const USAGE: &str = "usage: dash_bench WORK THREADS";
+
+/// The most threads that a command line may ask for.
+const MOST_THREADS: usize = 64;
+
+/// Why there is no time to print.
+#[derive(Debug, Drop, Error)]
+pub enum Refused {
+    #[error("no memory")]
+    Memory,
+    #[error("no clock")]
+    Clock,
+}
+
+impl From<AllocError> for Refused {
+    fn from(_: AllocError) -> Refused {
+        Refused::Memory
+    }
+}
+
+impl From<ConstructError> for Refused {
+    fn from(_: ConstructError) -> Refused {
+        Refused::Memory
+    }
+}
+
+impl From<io::Error> for Refused {
+    fn from(_: io::Error) -> Refused {
+        Refused::Clock
+    }
+}
+
+fn main(rt: HostRuntime) -> io::Result<ExitCode> {
+    let mut words = Vec::new(rt.alloc());
+    for word in env::args(&rt)?.skip(1) {
+        words.push(word)?;
+    }
+    let Some((work, threads)) = asked(words.as_slice()) else {
+        eprintln!(rt; "{USAGE}")?;
+        return Ok(ExitCode::from(2));
+    };
+    match run::measure(&rt, rt.alloc(), work, threads) {
+        Ok(measured) => {
+            println!(rt; "{measured}")?;
+            Ok(ExitCode::from(0))
+        }
+        Err(refused) => {
+            eprintln!(rt; "refused: {refused}")?;
+            Ok(ExitCode::from(1))
+        }
+    }
+}
+
+// The work and the number of threads that the words ask for.
+fn asked(words: &[String]) -> Option<(Work, usize)> {
+    if words.len() != 2 {
+        return None;
+    }
+    let work = Work::of_name(words[0].as_str())?;
+    let threads = words[1].as_str().parse::<usize>().ok()?;
+    if threads == 0 || threads > MOST_THREADS {
+        return None;
+    }
+    Some((work, threads))
+}
