@@ -1,5 +1,7 @@
+mod Copying
 mod Distincts
 mod Entering
+mod Extending
 mod Found
 mod Leaving
 mod Lending
@@ -11,6 +13,7 @@ mod Running
 mod Seeing
 mod Spots
 mod Sweeping
+mod Taken
 mod Turning
 mod Union
 mod Trying
