@@ -10,7 +10,7 @@ use Rattle.dash_history.specs.inner.Sweep.{AddsAlike}
 use Rattle.dash_history.proofs.Placing.{drop-next}
 
 -- alike lists, one after the other
-alike-append : {X : Type 0} (e : X → X → Bool) (xs ys us vs : List X) → pointwise e xs us ≡ true → pointwise e ys vs ≡ true → pointwise e (xs ++ ys) (us ++ vs) ≡ true
+pub alike-append : {X : Type 0} (e : X → X → Bool) (xs ys us vs : List X) → pointwise e xs us ≡ true → pointwise e ys vs ≡ true → pointwise e (xs ++ ys) (us ++ vs) ≡ true
 alike-append e [] ys [] vs h k = k
 alike-append e [] ys (u ∷ us) vs h k = cc
 alike-append e (x ∷ xs) ys [] vs h k = cc

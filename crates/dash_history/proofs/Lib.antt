@@ -26,4 +26,4 @@ mod Indexing
 mod Following
 mod Matching
 mod Gathering
-mod Copying
+pub mod Copying

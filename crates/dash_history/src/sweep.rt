@@ -27,7 +27,7 @@ pub fn copy_pairs<K: Kept + Drop, V: Kept + Drop>(
 }
 
 /// Adds copies of these pairs, in their order.
-pub(crate) fn add_copies<K: Kept + Drop, V: Kept + Drop>(
+pub fn add_copies<K: Kept + Drop, V: Kept + Drop>(
     copies: &mut Vec<(K, V)>,
     pairs: Iter<'_, K, V>,
 ) -> Result<(), AllocError>

@@ -1,8 +1,10 @@
 mod AloneWalks
 mod Copying
 mod CopyingMaps
+mod CopyingPairs
 mod Distincts
 mod Entering
+mod Extending
 mod Found
 mod Leaving
 mod Lending
@@ -14,6 +16,7 @@ mod Running
 mod Seeing
 mod Spots
 mod Sweeping
+mod Taken
 mod Turning
 mod Union
 mod Trying

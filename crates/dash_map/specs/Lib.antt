@@ -3,6 +3,8 @@ pub mod Map
 pub mod Alone
 pub mod Run
 pub mod Behind
+pub mod Copies
+pub mod Extend
 pub mod AllPairs
 pub mod AloneWalk
 pub mod Copies

@@ -1,5 +1,5 @@
 //! A map of one owner, without locks.
-ghost use Rattle.std.specs.Prelude.{◌≡◌, ◌⊎◌, ℕ, ◌+◌, ◌-◌, ◌^◌, ◌<◌, ◌≤◌, ◌↔◌, min, IsErrOf, IfOk, IfErr, Some, None, length, slice_get, OnErr, is_some, IsSomeAnd, IfSome, sum_by, ◌==◌};
+ghost use Rattle.std.specs.Prelude.{◌≡◌, ◌⊎◌, ℕ, ◌+◌, ◌-◌, ◌^◌, ◌<◌, ◌≤◌, ◌↔◌, min, IsErrOf, IfOk, IfErr, Some, None, length, slice_get, OnErr, is_some, IsSomeAnd, IfSome, sum_by, map, ◌==◌};
 ghost use Rattle.crossbeam_utils.specs.Padded.{padded_value};
 ghost use Rattle.dash_shard.specs.Hashing.{by, IsAmount, HashAlike};
 ghost use Rattle.dash_shard.specs.Shard.{shard_len, IsTagged};
@@ -16,7 +16,7 @@ ghost use Rattle.dash_map.specs.Locks.{IsAt};
 ghost use Rattle.dash_map.specs.Behind.{IsBehind};
 
 use crate::map::{DashMap, Locked};
-use crate::read_only::ViewIter;
+use crate::read_only::{Keys, ViewIter};
 use crate::shards::Shards;
 use crossbeam_utils::CachePadded;
 use dash_shard::error::{ConstructError, TryReserveError};
@@ -134,6 +134,14 @@ impl<K: Eq + Hash + Drop, V: Drop, S: BuildHasher> Alone<K, V, S> {
         ensures lawful { IsAlone ⟦<Self as Keyed>⟧.by self.now }
     {
         self.lent().iter()
+    }
+
+    /// The keys, in the order of `iter`.
+    pub fn keys(&self) -> Keys<'_, K, V, S>
+        ensures keys { result ≡ map (λ p. p.0) (contents self.now) }
+        ensures lawful { IsAlone ⟦<Self as Keyed>⟧.by self.now }
+    {
+        Keys::new(self.iter())
     }
 
     // The shards, to be read.

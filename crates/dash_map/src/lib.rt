@@ -4,8 +4,10 @@
 pub mod alone;
 mod calls;
 mod copies;
+pub mod extend;
 pub mod iter;
 pub mod map;
+mod pairs;
 pub mod read_only;
 pub mod run;
 mod shards;

@@ -51,7 +51,7 @@ impl<K: Eq + Hash, V, S: BuildHasher> Keyed for DashMap<K, V, S> {
 }
 
 /// The number of shards for so many processors: four for each, rounded up to a power of two.
-fn default_shard_amount(parallelism: usize) -> Result<usize, ConstructError>
+pub(crate) fn default_shard_amount(parallelism: usize) -> Result<usize, ConstructError>
     ensures default { IfOk result (IsDefault parallelism) }
     ensures lawful { IfOk result IsAmount }
     ensures good { OnOk result (IsParallelism parallelism) }

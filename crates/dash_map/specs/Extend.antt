@@ -1,0 +1,69 @@
+-- Pairs that come one after the other, and are inserted into a map of one owner.
+use Rattle.std.specs.Prelude.{◌≡◌, Bool, List, [], ◌∷◌, ◌++◌, reverse, option_map, option_and_then, Option, Some, None, Result, Ok, Err, IfErr, IsSomeAnd, slice_get}
+use Rattle.std.specs.Iterator.{YieldsThen}
+use Rattle.dash_shard.specs.Hashing.{KeyHash}
+use Rattle.dash_shard.specs.Contents.{at}
+use Rattle.dash_shard.specs.Steps.{Insert, Old}
+use Rattle.dash_shard.specs.Shard.{shard_len}
+use Rattle.dash_shard.specs.declared.error.ConstructError.{ConstructError}
+use Rattle.dash_map.specs.Alone.{AloneState, SameMap, TakesAlone, contents, keys_in}
+use Rattle.dash_map.specs.declared.extend.ExtendRefused.{ExtendRefused}
+use Rattle.dash_map.specs.declared.extend.FromRefused.{FromRefused}
+use Rattle.dash_map.specs.declared.extend.FromRefused.TheVariants.{Construct, Pair}
+
+-- of the pairs whose keys equal k: the key of the first, with the value of the last
+abbrev pub first_with_last : {K V : Type 0} → (K → K → Bool) → List (K × V) → K → Option (K × V)
+first_with_last eq ps k = option_and_then (λ first. option_map (λ last. (first.0, last.1)) (at eq (reverse ps) k)) (at eq ps k)
+
+-- what is iterated over gave items of which P is so, and then this one, or its end
+abbrev pub Gave : {U T A : Type 0} → (U → T → Type 0) → (T → Option A → T → Type 0) → U → Option A → (List A → Type 0) → Type 0
+Gave {U} {T} {A} becomes gives iter then P = (it : T) × (rest : T) × (items : List A) × becomes iter it × YieldsThen gives it items then rest × P items
+
+module _ {K V : Type 0} where
+  -- the pair that is refused, or none
+  abbrev pub refused_pair : Result (Unit {0}) (ExtendRefused K V) → Option (K × V)
+  refused_pair (Ok _) = None
+  refused_pair (Err e) = Some (e.key, e.value)
+
+  -- why no map was made: P of the refusal of a map, or Q of that of a pair
+  abbrev pub MatchFrom : FromRefused K V → (ConstructError → Type 0) → (ExtendRefused K V → Type 0) → Type 0
+  MatchFrom (Construct e) P Q = P e
+  MatchFrom (Pair e) P Q = Q e
+
+module _ {K V S : Type 0} (h : KeyHash K S) where
+  -- a step of the table for each pair, one after the other
+  abbrev pub InsertsEach : AloneState K V S → List (K × V) → AloneState K V S → Type 0
+  InsertsEach old [] new = new ≡ old
+  InsertsEach old (p ∷ ps) new = (next : AloneState K V S) × (o : Option V) × TakesAlone h old next (Insert p.0 p.1) (Old o) × InsertsEach next ps new
+
+  -- the pairs were inserted: so of equal keys the first stays, and the last value
+  pub record Gains (old : AloneState K V S) (ps : List (K × V)) (new : AloneState K V S) : Type 0 where
+    pub steps : InsertsEach old ps new
+    pub settles : (k : K) → at h.eq (contents new) k ≡ first_with_last h.eq (contents old ++ ps) k
+    pub stays : SameMap old new
+
+  -- the pairs were inserted into a map without pairs
+  pub record MadeOf (ps : List (K × V)) (a : AloneState K V S) : Type 0 where
+    pub none : AloneState K V S
+    pub empty : contents none ≡ []
+    pub steps : InsertsEach none ps a
+    pub settles : (k : K) → at h.eq (contents a) k ≡ first_with_last h.eq ps k
+
+  -- no equal key is there, and the key's shard is full
+  pub record HasNoRoom (key : K) (a : AloneState K V S) : Type 0 where
+    pub absent : at h.eq (contents a) key ≡ None
+    pub full : IsSomeAnd (slice_get a.row ((keys_in h a).route key)) (λ s. shard_len s ≡ s.capacity)
+
+  -- the pairs were inserted into a map without pairs, which has no room for this key
+  abbrev pub Overfills : List (K × V) → K → Type 0
+  Overfills ps key = (a : AloneState K V S) × MadeOf ps a × HasNoRoom key a
+
+  -- it is a pair of the list, and those before it leave no room for it
+  abbrev pub IsRefusedAmong : List (K × V) → ExtendRefused K V → Type 0
+  IsRefusedAmong ps e = (front : List (K × V)) × (behind : List (K × V)) × (ps ≡ front ++ (e.key, e.value) ∷ behind) × Overfills front e.key
+
+  module _ {U T : Type 0} (becomes : U → T → Type 0) (gives : T → Option (K × V) → T → Type 0) (iter : U) where
+    -- all that `extend` promises: the pairs up to the end, or up to the one that is refused, were inserted
+    pub record Extends (old new : AloneState K V S) (result : Result (Unit {0}) (ExtendRefused K V)) : Type 0 where
+      pub gains : Gave becomes gives iter (refused_pair result) (λ ps. Gains old ps new)
+      pub refused : IfErr result (λ e. HasNoRoom e.key new)

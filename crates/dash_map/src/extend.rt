@@ -1,0 +1,207 @@
+//! Lists of pairs that are put into a map, or make one.
+ghost use Rattle.std.specs.Prelude.{◌≡◌, ◌∷◌, [], ◌↔◌, None, Some, IfErr, IfOk, IsErrOf, length};
+ghost use Rattle.std.specs.Iterator.{IsFiniteIterable};
+ghost use Rattle.dash_shard.specs.Errors.{IsOneOf};
+ghost use Rattle.dash_shard.specs.Hashing.{HashAlike};
+ghost use Rattle.dash_shard.specs.declared.error.ConstructError.TheVariants.{Memory, Parallelism};
+ghost use Rattle.dash_map.specs.Alone.{IsAlone, SameMap, contents};
+ghost use Rattle.dash_map.specs.Amounts.{IsDefault, IsParallelism};
+ghost use Rattle.dash_map.specs.Behind.{LeavesShards, SawShards};
+ghost use Rattle.dash_map.specs.Extend.{Extends, Gave, MadeOf, MatchFrom, IsRefusedAmong, Overfills};
+ghost use Rattle.dash_map.specs.declared.extend.FromRefused.TheVariants.{Construct, Pair};
+
+use crate::alone::Alone;
+use crate::map::{DashMap, default_shard_amount};
+use core::mem::replace_with;
+use dash_shard::error::ConstructError;
+use dash_shard::keyed::Keyed;
+use dash_shard::shard::InsertRefused;
+use std::alloc::Global;
+use std::hash::{BuildHasher, Hash};
+
+/// No memory for this pair of a list (12). The pairs before it were inserted, and those behind it were let go.
+#[derive(Debug, Drop)]
+pub struct ExtendRefused<K, V> {
+    pub key: K,
+    pub value: V,
+}
+
+impl<K, V> From<InsertRefused<K, V>> for ExtendRefused<K, V> {
+    ghost from_gives = { λ from refused. (refused.key ≡ from.key) × (refused.value ≡ from.value) };
+
+    fn from(refused: InsertRefused<K, V>) -> Self {
+        let InsertRefused { key, value } = refused;
+        ExtendRefused { key, value }
+    }
+}
+
+/// Why no map was made of a list of pairs.
+#[derive(Debug, Drop)]
+pub enum FromRefused<K, V> {
+    /// The map can't be made, whatever its pairs (5 to 8).
+    Construct(ConstructError),
+    /// There is no memory for a pair (12).
+    Pair(ExtendRefused<K, V>),
+}
+
+impl<K, V> From<ConstructError> for FromRefused<K, V> {
+    ghost from_gives = { λ e refused. refused ≡ Construct e };
+
+    fn from(e: ConstructError) -> Self {
+        FromRefused::Construct(e)
+    }
+}
+
+impl<K, V> From<ExtendRefused<K, V>> for FromRefused<K, V> {
+    ghost from_gives = { λ e refused. refused ≡ Pair e };
+
+    fn from(e: ExtendRefused<K, V>) -> Self {
+        FromRefused::Pair(e)
+    }
+}
+
+impl<K: Eq + Hash + Drop, V: Drop, S: BuildHasher> Alone<K, V, S> {
+    /// Inserts the pairs in the order in which they come: of equal keys the first stays, and the last value.
+    ///
+    /// Each takes memory as `insert` does. Where there is none for a new key, that pair is refused (12): the pairs before it stay, and the
+    /// rest of the iterator is dropped. It waits for nobody.
+    pub fn extend<U: IntoIterator<Item = (K, V)>>(
+        &mut self,
+        iter: U,
+    ) -> Result<(), ExtendRefused<K, V>>
+        requires { IsFiniteIterable U.into_iter_gives U.IntoIter.can_next U.IntoIter.remaining iter }
+        ensures extends { Extends ⟦<Self as Keyed>⟧.by U.into_iter_gives U.IntoIter.next_gives iter self.old self.new result }
+        ensures lawful { IsAlone ⟦<Self as Keyed>⟧.by self.new }
+    {
+        // Only a look at the map tells the prover its invariant, which a list without pairs needs too.
+        let _ = &self.hasher;
+        for (key, value) in iter {
+            self.insert(key, value)?;
+        }
+        Ok(())
+    }
+
+    // Makes room in each shard for its share of so many pairs more, where there is memory. The number may be too high, so want of memory
+    // is told by the pair that finds none.
+    fn reserve_share(&mut self, additional: usize)
+        ensures same { contents self.new ≡ contents self.old }
+        ensures stays { SameMap self.old self.new }
+        ensures lawful { IsAlone ⟦<Self as Keyed>⟧.by self.new }
+    {
+        let share = additional.div_ceil(self.row.len());
+        let _ = self.try_reserve(share);
+    }
+}
+
+impl<K: Eq + Hash + Drop, V: Drop, S: BuildHasher + Clone + Default + Drop> Alone<K, V, S> {
+    /// A map of one owner into which the pairs were inserted in the order in which they come, of the default number of shards for so many
+    /// processors: of equal keys the first stays, and the last value.
+    ///
+    /// Its room is taken by the iterator's size hint, and grows as `insert` does. It is refused where the parallelism is 0 or above 2^61
+    /// (6), then where there is no memory for a map (8), then where there is none for a pair (12); then nothing is made.
+    pub fn from_iter<U: IntoIterator<Item = (K, V)>>(
+        alloc: Global,
+        iter: U,
+        parallelism: usize,
+    ) -> Result<Self, FromRefused<K, V>>
+        requires alike { (s t : S) → S.is_clone s t → HashAlike ⟦<Self as Keyed>⟧.by s t }
+        requires finite { IsFiniteIterable U.into_iter_gives U.IntoIter.can_next U.IntoIter.remaining iter }
+        ensures made { IfOk result (λ a. Gave U.into_iter_gives U.IntoIter.next_gives iter None (λ ps. MadeOf ⟦<Self as Keyed>⟧.by ps a)) }
+        ensures hasher { IfOk result (λ a. S.is_default a.hasher) }
+        ensures amount { IfOk result (λ a. IsDefault parallelism (length a.row)) }
+        ensures lawful { IfOk result (IsAlone ⟦<Self as Keyed>⟧.by) }
+        ensures bad_parallelism { IsErrOf result (Construct Parallelism) ↔ (IsParallelism parallelism → ⊥) }
+        ensures refused { IfErr result (λ r. MatchFrom r (IsOneOf (Parallelism ∷ Memory ∷ []))
+            (λ e. Gave U.into_iter_gives U.IntoIter.next_gives iter (Some (e.key, e.value)) (λ ps. Overfills ⟦<Self as Keyed>⟧.by ps e.key))) }
+    {
+        let iter = iter.into_iter();
+        let amount = default_shard_amount(parallelism)?;
+        let mut alone = Alone::new(alloc, 0, S::default(), amount)?;
+        alone.reserve_share(iter.size_hint().0);
+        alone.extend(iter)?;
+        Ok(alone)
+    }
+
+    /// As `from_iter`, of the pairs of a list.
+    pub fn from_pairs(
+        alloc: Global,
+        list: Vec<(K, V)>,
+        parallelism: usize,
+    ) -> Result<Self, FromRefused<K, V>>
+        requires alike { (s t : S) → S.is_clone s t → HashAlike ⟦<Self as Keyed>⟧.by s t }
+        ensures made { IfOk result (MadeOf ⟦<Self as Keyed>⟧.by list.items) }
+        ensures hasher { IfOk result (λ a. S.is_default a.hasher) }
+        ensures amount { IfOk result (λ a. IsDefault parallelism (length a.row)) }
+        ensures lawful { IfOk result (IsAlone ⟦<Self as Keyed>⟧.by) }
+        ensures bad_parallelism { IsErrOf result (Construct Parallelism) ↔ (IsParallelism parallelism → ⊥) }
+        ensures refused { IfErr result (λ r. MatchFrom r (IsOneOf (Parallelism ∷ Memory ∷ [])) (λ e. IsRefusedAmong ⟦<Self as Keyed>⟧.by list.items e)) }
+    {
+        Self::from_iter(alloc, list, parallelism)
+    }
+}
+
+impl<K: Eq + Hash + Drop, V: Drop, S: BuildHasher> DashMap<K, V, S> {
+    /// As `Alone::extend`, on this map, which nobody else has. It waits for nobody, even where a hold was leaked.
+    ///
+    /// The shards leave their locks for it and go back, which takes no memory.
+    pub fn extend<U: IntoIterator<Item = (K, V)>>(
+        &mut self,
+        iter: U,
+    ) -> Result<(), ExtendRefused<K, V>>
+        requires { IsFiniteIterable U.into_iter_gives U.IntoIter.can_next U.IntoIter.remaining iter }
+        ensures extends { LeavesShards ⟦<Self as Keyed>⟧.by self.old (λ a b. Extends ⟦<Self as Keyed>⟧.by U.into_iter_gives U.IntoIter.next_gives iter a b result) }
+        ensures same { self.new ≡ self.old }
+    {
+        replace_with(self, iter, Self::extend_alone::<U>)
+    }
+
+    // Inserts the pairs, and the map after it.
+    fn extend_alone<U: IntoIterator<Item = (K, V)>>(
+        self,
+        iter: U,
+    ) -> (Self, Result<(), ExtendRefused<K, V>>)
+        requires { IsFiniteIterable U.into_iter_gives U.IntoIter.can_next U.IntoIter.remaining iter }
+        ensures extends { LeavesShards ⟦<Self as Keyed>⟧.by self (λ a b. Extends ⟦<Self as Keyed>⟧.by U.into_iter_gives U.IntoIter.next_gives iter a b result.1) }
+        ensures same { result.0 ≡ self }
+    {
+        let mut alone = self.alone();
+        let extended = alone.extend(iter);
+        (alone.end(), extended)
+    }
+}
+
+impl<K: Eq + Hash + Drop, V: Drop, S: BuildHasher + Clone + Default + Drop> DashMap<K, V, S> {
+    /// As `Alone::from_iter`, behind locks. It waits for nobody.
+    pub fn from_iter<U: IntoIterator<Item = (K, V)>>(
+        alloc: Global,
+        iter: U,
+        parallelism: usize,
+    ) -> Result<Self, FromRefused<K, V>>
+        requires alike { (s t : S) → S.is_clone s t → HashAlike ⟦<Self as Keyed>⟧.by s t }
+        requires finite { IsFiniteIterable U.into_iter_gives U.IntoIter.can_next U.IntoIter.remaining iter }
+        ensures made { IfOk result (λ m. Gave U.into_iter_gives U.IntoIter.next_gives iter None (λ ps. SawShards ⟦<Self as Keyed>⟧.by m (MadeOf ⟦<Self as Keyed>⟧.by ps))) }
+        ensures hasher { IfOk result (λ m. S.is_default m.hasher) }
+        ensures amount { IfOk result (λ m. IsDefault parallelism m.amount) }
+        ensures bad_parallelism { IsErrOf result (Construct Parallelism) ↔ (IsParallelism parallelism → ⊥) }
+        ensures refused { IfErr result (λ r. MatchFrom r (IsOneOf (Parallelism ∷ Memory ∷ []))
+            (λ e. Gave U.into_iter_gives U.IntoIter.next_gives iter (Some (e.key, e.value)) (λ ps. Overfills ⟦<Self as Keyed>⟧.by ps e.key))) }
+    {
+        Ok(Alone::from_iter(alloc, iter, parallelism)?.end())
+    }
+
+    /// As `Alone::from_pairs`, behind locks. It waits for nobody.
+    pub fn from_pairs(
+        alloc: Global,
+        list: Vec<(K, V)>,
+        parallelism: usize,
+    ) -> Result<Self, FromRefused<K, V>>
+        requires alike { (s t : S) → S.is_clone s t → HashAlike ⟦<Self as Keyed>⟧.by s t }
+        ensures made { IfOk result (λ m. SawShards ⟦<Self as Keyed>⟧.by m (MadeOf ⟦<Self as Keyed>⟧.by list.items)) }
+        ensures hasher { IfOk result (λ m. S.is_default m.hasher) }
+        ensures amount { IfOk result (λ m. IsDefault parallelism m.amount) }
+        ensures bad_parallelism { IsErrOf result (Construct Parallelism) ↔ (IsParallelism parallelism → ⊥) }
+        ensures refused { IfErr result (λ r. MatchFrom r (IsOneOf (Parallelism ∷ Memory ∷ [])) (λ e. IsRefusedAmong ⟦<Self as Keyed>⟧.by list.items e)) }
+    {
+        Ok(Alone::from_pairs(alloc, list, parallelism)?.end())
+    }
+}

@@ -1,0 +1,49 @@
+//! Lists of copies of a map's pairs.
+ghost use Rattle.std.specs.Prelude.{IfOk};
+ghost use Rattle.dash_map.specs.Alone.{IsAlone};
+ghost use Rattle.dash_map.specs.Behind.{SawShards};
+ghost use Rattle.dash_map.specs.Copies.{CopiesPairs};
+
+use crate::alone::Alone;
+use crate::map::DashMap;
+use dash_history::kept::Kept;
+use dash_history::sweep::add_copies;
+use dash_shard::keyed::Keyed;
+use std::alloc::AllocError;
+use std::hash::{BuildHasher, Hash};
+use std::rt::Clock;
+use std::sync::Wait;
+
+impl<K: Eq + Hash + Kept + Drop, V: Kept + Drop, S: BuildHasher> Alone<K, V, S> {
+    /// A copy of each pair, by rising shard and in each by rising slot.
+    ///
+    /// It takes memory for the list, once, and what `Kept::copy` takes. Where there is none it is refused (4).
+    pub fn pairs(&self) -> Result<Vec<(K, V)>, AllocError>
+        ensures copies { IfOk result (λ list. CopiesPairs K.alike V.alike list.items self.now) }
+        ensures lawful { IsAlone ⟦<Self as Keyed>⟧.by self.now }
+    {
+        let mut copies = Vec::with_capacity(self.row.allocator(), self.len())?;
+        for (key, value) in self.iter() {
+            let key = key.copy()?;
+            copies.push((key, value.copy()?))?;
+        }
+        Ok(copies)
+    }
+}
+
+impl<K: Eq + Hash + Kept + Drop, V: Kept + Drop, S: BuildHasher> DashMap<K, V, S> {
+    /// A copy of each pair, by rising shard and in each by rising slot. Waits until no writer has a shard, for one shard after the other:
+    /// others may change those that it copied before.
+    ///
+    /// It takes memory as `Alone::pairs` does, where nobody puts pairs meanwhile, and is refused (4) where there is none.
+    pub fn pairs<R: Wait + Clock>(&self, rt: &R) -> Result<Vec<(K, V)>, AllocError>
+        ensures { IfOk result (λ list. SawShards ⟦<Self as Keyed>⟧.by self.now (CopiesPairs K.alike V.alike list.items)) }
+    {
+        let mut copies = Vec::with_capacity(self.row.allocator(), self.len(rt))?;
+        for lock in self.row.items() {
+            let shard = lock.read(rt);
+            add_copies(&mut copies, shard.iter())?;
+        }
+        Ok(copies)
+    }
+}
