@@ -7,7 +7,6 @@ pub mod Copies
 pub mod Extend
 pub mod AllPairs
 pub mod AloneWalk
-pub mod Copies
 pub mod Lends
 pub mod Locks
 pub mod Tries
