@@ -19,3 +19,4 @@ mod Union
 mod Trying
 mod Walks
 mod Stepping
+mod SteppingMut
