@@ -7,7 +7,7 @@ use Rattle.std.proofs.lemmas.Option.{same_Some}
 use Rattle.dash_shard.specs.Hashing.{KeyHash}
 use Rattle.dash_shard.specs.Shard.{ShardState, IsNextTaken, IsTagged, slot, with_value_in}
 use Rattle.dash_shard.specs.inner.Keys.{IsLawful}
-use Rattle.dash_shard.specs.inner.Loans.{joined, MayLend, lent_slot, with_lent}
+use Rattle.dash_shard.specs.inner.Loans.{MayLend, lent_slot, with_lent}
 use Rattle.dash_shard.specs.declared.shard.held.parts.Loan.{Loan}
 use Rattle.dash_shard.proofs.Loans.{slot-lent, parts-lent, joined-lent}
 use Rattle.dash_ref.specs.Ref.{RefState}
