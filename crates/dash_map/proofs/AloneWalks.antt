@@ -1,16 +1,15 @@
 -- A walk over a map of one owner: what it passed, and what is to come.
-use Rattle.std.proofs.Common.{◌≡◌, ℕ, MutBor, zero, suc, ◌+◌, ◌<◌, ◌≤◌, Bool, cond, List, [], ◌∷◌, ◌++◌, take, drop, length, Option, Some, None, IsSome, slice_get, slice_set, flat_map, refl, sym, ap, subst, ◌∙◌, inl, inr, arith, add-one}
+use Rattle.std.proofs.Common.{◌≡◌, ℕ, MutBor, zero, suc, ◌+◌, ◌<◌, ◌≤◌, Bool, List, [], ◌∷◌, ◌++◌, take, drop, length, Option, Some, None, IsSome, slice_get, slice_set, flat_map, refl, sym, ap, subst, ◌∙◌, inl, inr, arith, add-one}
 use Rattle.std.specs.Option.{option_map}
 use Rattle.std.proofs.lemmas.Bool.{cases_Bool}
 use Rattle.std.proofs.lemmas.Option.{none-some, same_Some}
 use Rattle.dash_shard.specs.Hashing.{KeyHash}
-use Rattle.dash_shard.specs.Contents.{at, Distinct, IsOnShard}
+use Rattle.dash_shard.specs.Contents.{at, Distinct}
 use Rattle.dash_shard.specs.Shard.{ShardState, IsShard, IsNextTaken, slot, taken, pairs, with_value_in}
-use Rattle.dash_shard.specs.inner.Keys.{keys_of}
-use Rattle.dash_map.specs.Alone.{AloneState, IsAlone, SameMap}
-use Rattle.dash_map.specs.AloneWalk.{pairs_before, pairs_from, pair_in, pair_at_end, row_with, map_with, rewritten, Passes, Passed, Rewrites}
+use Rattle.dash_map.specs.Alone.{AloneState, IsAlone}
+use Rattle.dash_map.specs.AloneWalk.{pairs_before, pairs_from, pair_in, pair_at_end, row_with, rewritten, passed, to_come, valued, Passes, Passed, LeavesEach, Rewrites}
 use Rattle.dash_map.specs.declared.iter.alone_mut.AloneIterMut.{AloneIterMut}
-use Rattle.dash_map.specs.inner.AloneWalk.{IsNextSlot}
+use Rattle.dash_map.specs.inner.AloneWalk.{IsNextSlot, map_with}
 use Rattle.dash_map.proofs.Lifting.{alone-set}
 
 module _ {A : Type 0} where
@@ -171,15 +170,15 @@ module _ {K V S : Type 0} where
 
 -- another value in a slot
 module _ {K V : Type 0} where
-  abbrev valued : List (Option (K × V)) → ℕ → V → List (Option (K × V))
-  valued xs i v = slice_set xs i (option_map (λ p. (p.0, v)) (slot xs i))
+  abbrev slot-with : List (Option (K × V)) → ℕ → V → List (Option (K × V))
+  slot-with xs i v = slice_set xs i (option_map (λ p. (p.0, v)) (slot xs i))
 
-  from-valued : (xs : List (Option (K × V))) (m : ℕ) (v : V) → taken (drop (suc m) (valued xs m v)) ≡ taken (drop (suc m) xs)
+  from-valued : (xs : List (Option (K × V))) (m : ℕ) (v : V) → taken (drop (suc m) (slot-with xs m v)) ≡ taken (drop (suc m) xs)
   from-valued [] m v = refl
   from-valued (o ∷ xs) zero v = refl
   from-valued (o ∷ xs) (suc m) v = from-valued xs m v
 
-  before-valued : (xs : List (Option (K × V))) (m : ℕ) (v : V) (p : K × V) → slot xs m ≡ Some p → taken (take (suc m) (valued xs m v)) ≡ taken (take m xs) ++ (p.0, v) ∷ []
+  before-valued : (xs : List (Option (K × V))) (m : ℕ) (v : V) (p : K × V) → slot xs m ≡ Some p → taken (take (suc m) (slot-with xs m v)) ≡ taken (take m xs) ++ (p.0, v) ∷ []
   before-valued [] m v p e = absurd (none-some p e)
   before-valued (None ∷ xs) zero v p e = absurd (none-some p e)
   before-valued (Some q ∷ xs) zero v p e = ap (λ k. (k.0, v) ∷ []) (same_Some q p e)
@@ -189,14 +188,14 @@ module _ {K V : Type 0} where
   before-here : (xs : List (Option (K × V))) (m : ℕ) (p : K × V) → slot xs m ≡ Some p → taken (take (suc m) xs) ≡ taken (take m xs) ++ p ∷ []
   before-here xs m p e = before-next xs m m p (omega arith) e (λ j a b. absurd (omega (arith, a, b)))
 
-  slot-valued : (xs : List (Option (K × V))) (i : ℕ) (v : V) (p : K × V) → slot xs i ≡ Some p → slot (valued xs i v) i ≡ Some (p.0, v)
+  slot-valued : (xs : List (Option (K × V))) (i : ℕ) (v : V) (p : K × V) → slot xs i ≡ Some p → slot (slot-with xs i v) i ≡ Some (p.0, v)
   slot-valued [] i v p e = absurd (none-some p e)
   slot-valued (None ∷ xs) zero v p e = absurd (none-some p e)
   slot-valued (Some q ∷ xs) zero v p e = ap (λ k. Some (k.0, v)) (same_Some q p e)
   slot-valued (o ∷ xs) (suc i) v p e = slot-valued xs i v p e
 
   module _ (eq : K → K → Bool) where
-    none-valued : (xs : List (Option (K × V))) (i : ℕ) (v : V) (k : K) → at eq (taken xs) k ≡ None → at eq (taken (valued xs i v)) k ≡ None
+    none-valued : (xs : List (Option (K × V))) (i : ℕ) (v : V) (k : K) → at eq (taken xs) k ≡ None → at eq (taken (slot-with xs i v)) k ≡ None
     none-valued [] i v k e = e
     none-valued (None ∷ xs) zero v k e = e
     none-valued (None ∷ xs) (suc i) v k e = none-valued xs i v k e
@@ -204,12 +203,12 @@ module _ {K V : Type 0} where
       | inl holds ↦ absurd (none-some p (sym (rw holds at e)))
       | inr fails ↦ rw fails (rw fails at e)
     ]
-    none-valued (Some p ∷ xs) (suc i) v k e = elim (cases_Bool (eq p.0 k)) as (λ _. at eq (p ∷ taken (valued xs i v)) k ≡ None) [
+    none-valued (Some p ∷ xs) (suc i) v k e = elim (cases_Bool (eq p.0 k)) as (λ _. at eq (p ∷ taken (slot-with xs i v)) k ≡ None) [
       | inl holds ↦ absurd (none-some p (sym (rw holds at e)))
       | inr fails ↦ rw fails (none-valued xs i v k (rw fails at e))
     ]
 
-    distinct-valued : (xs : List (Option (K × V))) (i : ℕ) (v : V) → Distinct eq (taken xs) → Distinct eq (taken (valued xs i v))
+    distinct-valued : (xs : List (Option (K × V))) (i : ℕ) (v : V) → Distinct eq (taken xs) → Distinct eq (taken (slot-with xs i v))
     distinct-valued [] i v d = d
     distinct-valued (None ∷ xs) zero v d = d
     distinct-valued (None ∷ xs) (suc i) v d = distinct-valued xs i v d
@@ -267,6 +266,10 @@ module _ {K V S : Type 0} where
   room-written (x ∷ row) (suc i) m v zero s t old new = ap (λ y. y.capacity) (same_Some t s (sym new ∙ old))
   room-written (x ∷ row) (suc i) m v (suc j) s t old new = room-written row i m v j s t old new
 
+valued-none : {K V : Type 0} (ps : List (K × V)) → valued ps [] ≡ []
+valued-none [] = refl
+valued-none (p ∷ ps) = refl
+
 module _ {K V S H : Type 0} where
   -- a step that goes to the next slot
   pub advanced : (w : AloneIterMut K V S H) (i m : ℕ) → IsNextSlot w.map.now.row w.shard_i w.position i m
@@ -311,3 +314,11 @@ module _ {K V S H : Type 0} where
         to_come = from-written row i n v;
         stands = pair-written row i n v p e;
       }
+
+  -- the law of a whole run
+  pub leaves-each : (w : AloneIterMut K V S H) → LeavesEach w
+  leaves-each w [] z rests end =
+      whole z.map.now.row z.shard_i z.position ∙ ap (λ l. passed z ++ l) end ∙ ap (λ l. l ++ []) rests.passed ∙ ap (λ l. passed w ++ l) (sym (valued-none (to_come w)))
+  leaves-each w (v ∷ vs) z (u, (item, p), rest) end =
+      leaves-each u vs z rest end ∙ ap (λ l. l ++ valued (to_come u) vs) p.left ∙ append-assoc (passed w) ((item.0, v) ∷ []) (valued (to_come u) vs)
+      ∙ ap (λ l. passed w ++ valued l (v ∷ vs)) (sym p.first)

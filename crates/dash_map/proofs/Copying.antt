@@ -1,17 +1,16 @@
 -- A shard that is being copied, pair by pair.
-use Rattle.std.proofs.Common.{◌≡◌, ◌≢◌, ℕ, suc, ◌+◌, ◌<◌, ◌≤◌, Bool, true, false, cond, IsTrue, List, [], ◌∷◌, length, Option, Some, None, refl, sym, ap, subst, ◌∙◌, inl, inr, arith}
+use Rattle.std.proofs.Common.{◌≡◌, ◌<◌, ◌≤◌, Bool, true, false, cond, List, [], ◌∷◌, length, Option, Some, None, refl, sym, ap, subst, ◌∙◌, inl, inr, arith}
 use Rattle.std.specs.Cmp.{IsEquivalence}
 use Rattle.std.specs.Option.{option_eq, option_map_or}
 use Rattle.std.proofs.lemmas.Bool.{cases_Bool, cases_eq, and_parts, and_from}
-use Rattle.std.proofs.lemmas.Option.{none-some, same_Some}
+use Rattle.std.proofs.lemmas.Option.{none-some}
 use Rattle.dash_shard.specs.Hashing.{KeyHash, HashAlike, route_by, route_of_hash}
-use Rattle.dash_shard.specs.Contents.{at, IsOnShard}
-use Rattle.dash_shard.specs.Steps.{Insert, Old}
-use Rattle.dash_shard.specs.Shard.{ShardState, pairs, shard_len, Routes, IsShard, TakesInPlace}
+use Rattle.dash_shard.specs.Contents.{at}
+use Rattle.dash_shard.specs.Shard.{ShardState, pairs, shard_len, Routes, IsShard}
 use Rattle.dash_shard.specs.inner.Keys.{IsLawful, keys_of}
 use Rattle.dash_shard.proofs.Equals.{along, apart, at-equal}
 use Rattle.dash_history.specs.Alike.{alike_pair}
-use Rattle.dash_map.specs.Copies.{Kinds, kinds, CopiesShard}
+use Rattle.dash_map.specs.Copies.{CopyRules, copy_rules}
 use Rattle.dash_map.specs.inner.Copies.{or_else, PutsCopy, IsCopying, IsCopied}
 
 none-of-length : {A : Type 0} (xs : List A) → length xs ≡ 0 → xs ≡ []
@@ -38,8 +37,8 @@ module _ {K V : Type 0} (k : K → K → Bool) (v : V → V → Bool) (laws-k : 
       and_from (k r.0 q.0) (v r.1 q.1) (laws-k.congr r.0 p.0 q.0 parts.0 ∙ a) (laws-v.congr r.1 p.1 q.1 parts.1 ∙ b)
 
   module _ {S : Type 0} (h : KeyHash K S) (law : IsLawful h) (equal : (i j : K) → k i j ≡ true → h.eq i j ≡ true) (C : S → S → Type 0) where
-    abbrev c : Kinds K V S
-    c = kinds h.eq k v C
+    abbrev c : CopyRules K V S
+    c = copy_rules h.eq k v C
 
     -- what stands behind the first pair
     tail-none : (p : K × V) (ps : List (K × V)) (j : K) → at h.eq (p ∷ ps) j ≡ None → at h.eq ps j ≡ None

@@ -1,17 +1,17 @@
 -- A map that was copied, shard by shard.
-use Rattle.std.proofs.Common.{◌≡◌, ℕ, zero, suc, ◌+◌, ◌<◌, Bool, List, [], ◌∷◌, ◌++◌, length, Option, Some, None, slice_get, refl, sym, ap, subst, ◌∙◌, inl, inr, arith, get_or}
+use Rattle.std.proofs.Common.{◌≡◌, ℕ, ◌+◌, List, [], ◌∷◌, ◌++◌, Some, slice_get, refl, sym, ap, subst, ◌∙◌, inl, inr, arith, get_or}
 use Rattle.std.proofs.lemmas.List.{length_push}
-use Rattle.std.proofs.lemmas.Option.{none-some, same_Some, slice_get_within, slice_get-get_or}
+use Rattle.std.proofs.lemmas.Option.{none-some, slice_get_within, slice_get-get_or}
 use Rattle.dash_shard.specs.Hashing.{KeyHash, HashAlike, IsAmount}
-use Rattle.dash_shard.specs.Shard.{ShardState, IsTagged}
+use Rattle.dash_shard.specs.Shard.{ShardState}
 use Rattle.dash_map.specs.Alone.{AloneState, IsAlone}
-use Rattle.dash_map.specs.Copies.{Kinds, CopiesAlone}
+use Rattle.dash_map.specs.Copies.{CopyRules, CopiesAlone}
 use Rattle.dash_map.specs.inner.Copies.{IsCopied, AreCopied}
 use Rattle.dash_map.specs.Behind.{SawShards}
 use Rattle.dash_map.specs.Map.{MapState}
 use Rattle.dash_map.proofs.Seeing.{append-cases, SoFar, all-seen}
 
-module _ {K V S : Type 0} (c : Kinds K V S) (h : KeyHash K S) where
+module _ {K V S : Type 0} (c : CopyRules K V S) (h : KeyHash K S) where
   pub none-copied : AreCopied c h [] []
   none-copied = record { len = refl; each = λ i s t e f. absurd (none-some s e) }
 

@@ -22,3 +22,4 @@ mod Union
 mod Trying
 mod Walks
 mod Stepping
+mod SteppingMut

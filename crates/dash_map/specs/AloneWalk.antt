@@ -2,9 +2,15 @@
 use Rattle.std.specs.Prelude.{ℕ, zero, suc, ◌≡◌, List, [], ◌∷◌, ◌++◌, take, drop, flat_map, Option, Some, None}
 use Rattle.std.specs.Borrow.{GName}
 use Rattle.dash_shard.specs.Shard.{ShardState, slot, taken, pairs, with_value_in}
-use Rattle.dash_map.specs.Alone.{AloneState, SameMap}
+use Rattle.dash_map.specs.Alone.{AloneState, SameMap, contents}
 use Rattle.dash_map.specs.AllPairs.{EachShard}
 use Rattle.dash_map.specs.declared.iter.alone_mut.AloneIterMut.{AloneIterMut}
+
+-- the pairs with these values, in their order
+abbrev pub valued : {K V : Type 0} → List (K × V) → List V → List (K × V)
+valued [] vs = []
+valued (p ∷ ps) [] = []
+valued (p ∷ ps) (v ∷ vs) = (p.0, v) ∷ valued ps vs
 
 module _ {K V S : Type 0} where
   -- the pairs of a row of shards in front of the slot n of the shard i
@@ -39,10 +45,6 @@ module _ {K V S : Type 0} where
   abbrev pub row_with_end : List (ShardState K V S) → ℕ → ℕ → V → List (ShardState K V S)
   row_with_end row i zero v = row
   row_with_end row i (suc n) v = row_with row i n v
-
-  -- the map with another value in the pair of the slot n of the shard i
-  abbrev pub map_with : AloneState K V S → ℕ → ℕ → V → AloneState K V S
-  map_with a i n v = record a { row = row_with a.row i n v }
 
   module _ {H : Type 0} where
     -- the map, as the walk left it so far
@@ -92,6 +94,16 @@ module _ {K V S : Type 0} where
     -- the same of some pair
     abbrev pub Passed : AloneIterMut K V S H → AloneIterMut K V S H → V → Type 0
     Passed old new v = (item : K × V) × Passes old new item v
+
+    -- steps from w to z passed a pair each, and left these values, one after the other
+    abbrev pub PassesAlong : AloneIterMut K V S H → List V → AloneIterMut K V S H → Type 0
+    PassesAlong w [] z = Rests w z
+    PassesAlong w (v ∷ vs) z = (u : AloneIterMut K V S H) × Passed w u v × PassesAlong u vs z
+
+    -- A WHOLE RUN of steps from w to the end leaves in the map, behind the pairs that w had passed, each pair that was to come with the value
+    -- that was left at it
+    abbrev pub LeavesEach : AloneIterMut K V S H → Type 0
+    LeavesEach w = (vs : List V) (z : AloneIterMut K V S H) → PassesAlong w vs z → to_come z ≡ [] → contents (walked z) ≡ passed w ++ valued (to_come w) vs
 
     -- the same without a write
     abbrev pub Advances : AloneIterMut K V S H → AloneIterMut K V S H → Type 0

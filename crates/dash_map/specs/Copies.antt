@@ -1,5 +1,5 @@
 -- Copies of a map, and of its pairs: each alike its source.
-use Rattle.std.specs.Prelude.{ℕ, ◌≡◌, Bool, IsTrue, List, length}
+use Rattle.std.specs.Prelude.{◌≡◌, Bool, IsTrue, List, length}
 use Rattle.std.specs.Cmp.Lexicographic.{pointwise}
 use Rattle.std.specs.Option.{option_eq}
 use Rattle.dash_shard.specs.Contents.{at}
@@ -9,17 +9,17 @@ use Rattle.dash_map.specs.Alone.{AloneState, contents}
 use Rattle.dash_map.specs.AllPairs.{EachShard}
 
 -- when a copy of a map is one: which keys are equal, which keys and values are alike, and which hasher is a clone
-pub record Kinds (K V S : Type 0) : Type 1 where
+pub record CopyRules (K V S : Type 0) : Type 1 where
   pub eq : K → K → Bool
   pub alike_key : K → K → Bool
   pub alike_value : V → V → Bool
   pub is_clone : S → S → Type 0
 
 -- the same, in one row
-abbrev pub kinds : {K V S : Type 0} → (K → K → Bool) → (K → K → Bool) → (V → V → Bool) → (S → S → Type 0) → Kinds K V S
-kinds eq k v clone = record { eq = eq; alike_key = k; alike_value = v; is_clone = clone }
+abbrev pub copy_rules : {K V S : Type 0} → (K → K → Bool) → (K → K → Bool) → (V → V → Bool) → (S → S → Type 0) → CopyRules K V S
+copy_rules eq k v clone = record { eq = eq; alike_key = k; alike_value = v; is_clone = clone }
 
-module _ {K V S : Type 0} (c : Kinds K V S) where
+module _ {K V S : Type 0} (c : CopyRules K V S) where
   -- t has the pairs of the shard s, each once and alike its source; which slots they have is left open
   pub record CopiesShard (s t : ShardState K V S) : Type 0 where
     pub pairs : (j : K) → IsTrue (option_eq (alike_pair c.alike_key c.alike_value) (at c.eq (pairs s) j) (at c.eq (pairs t) j))

@@ -13,4 +13,5 @@ pub mod Tries
 pub mod Waiting
 pub mod Walks
 pub mod Walking
+pub mod WalkingMut
 pub mod inner

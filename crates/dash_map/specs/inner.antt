@@ -5,3 +5,4 @@ pub mod Copies
 pub mod Rooms
 pub mod Run
 pub mod Walking
+pub mod WalkingMut

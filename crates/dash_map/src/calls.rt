@@ -14,7 +14,7 @@ ghost use Rattle.dash_ref.specs.RefMut.{stored};
 ghost use Rattle.dash_shard.specs.Held.{Inserts, Loses};
 ghost use Rattle.dash_shard.specs.Steps.{Remove, RemoveIf, RemoveIfMut, Alter, Done, Pair, Found, Get, Contains};
 
-use crate::iter::Iter;
+use crate::iter::{Iter, IterMut};
 use crate::map::DashMap;
 use core::mem::replace_with;
 use dash_ref::mapref::one::{Ref, RefMut};
@@ -102,6 +102,14 @@ impl<K: Eq + Hash, V, S: BuildHasher> DashMap<K, V, S> {
         ensures { result ≡ at_start self.now }
     {
         Iter::new(self, rt)
+    }
+
+    /// A walk over the pairs, by rising shard, their values to be written. This call waits for nobody; the walk's steps do. None takes memory.
+    #[inline]
+    pub fn iter_mut<'a, R>(&'a self, rt: &'a R) -> IterMut<'a, K, V, S, R>
+        ensures { result ≡ at_start self.now }
+    {
+        IterMut::new(self, rt)
     }
 
     /// The pair whose key equals `key`, with a hold of its shard for reading. Waits until no writer has the shard.

@@ -7,7 +7,7 @@ ghost use Rattle.dash_shard.specs.Contents.{at};
 ghost use Rattle.dash_shard.specs.Steps.{Get, Contains, Found, Pair};
 ghost use Rattle.dash_map.specs.Alone.{IsAlone, RepliesAlone, contents};
 ghost use Rattle.dash_map.specs.Behind.{IsBehind};
-ghost use Rattle.dash_map.specs.Copies.{kinds, CopiesAlone};
+ghost use Rattle.dash_map.specs.Copies.{copy_rules, CopiesAlone};
 ghost use Rattle.dash_shard.specs.Hashing.{HashAlike};
 
 use crate::alone::Alone;
@@ -180,7 +180,7 @@ impl<K: KeptKey + Drop, V: Kept + Drop, S: BuildHasher + Clone + Drop> ReadOnlyV
     /// is none it is refused (4), and keeps nothing. Which slots the pairs have is left open.
     pub fn clone(&self) -> Result<Self, AllocError>
         requires { (s t : S) → S.is_clone s t → HashAlike ⟦<Self as Keyed>⟧.by s t }
-        ensures copies { IfOk result (CopiesAlone (kinds K.eq K.alike V.alike S.is_clone) self.now) }
+        ensures copies { IfOk result (CopiesAlone (copy_rules K.eq K.alike V.alike S.is_clone) self.now) }
         ensures lawful { IfOk result (IsAlone ⟦<Self as Keyed>⟧.by) }
     {
         let hasher = self.hasher.clone()?;

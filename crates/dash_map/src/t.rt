@@ -19,7 +19,7 @@ ghost use Rattle.dash_shard.specs.Shard.{shard_len, HasKey, RepliesOn, TakesInPl
 ghost use Rattle.dash_shard.specs.Held.{Inserts, Loses};
 ghost use Rattle.dash_shard.specs.Steps.{Remove, RemoveIf, RemoveIfMut, Alter, Done, Pair, Found, Get, Contains};
 
-use crate::iter::Iter;
+use crate::iter::{Iter, IterMut};
 use crate::map::DashMap;
 use dash_ref::mapref::entry::{Entry, EntryRefused, TryEntryRefused};
 use dash_ref::mapref::one::{Ref, RefMut};
@@ -107,6 +107,10 @@ pub trait Map<K: Eq + Hash, V, S: BuildHasher> {
 
     /// As `DashMap::iter`.
     fn _iter<'a, R>(&'a self, rt: &'a R) -> Iter<'a, K, V, S, R>
+        ensures { result ≡ at_start (state self.now) };
+
+    /// As `DashMap::iter_mut`.
+    fn _iter_mut<'a, R>(&'a self, rt: &'a R) -> IterMut<'a, K, V, S, R>
         ensures { result ≡ at_start (state self.now) };
 
     /// As `DashMap::get`.
@@ -287,6 +291,11 @@ impl<K: Eq + Hash, V, S: BuildHasher> Map<K, V, S> for DashMap<K, V, S> {
     #[inline]
     fn _iter<'a, R>(&'a self, rt: &'a R) -> Iter<'a, K, V, S, R> {
         self.iter(rt)
+    }
+
+    #[inline]
+    fn _iter_mut<'a, R>(&'a self, rt: &'a R) -> IterMut<'a, K, V, S, R> {
+        self.iter_mut(rt)
     }
 
     #[inline]

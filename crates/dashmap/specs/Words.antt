@@ -16,3 +16,7 @@ pub use Rattle.dash_map.specs.Alone.{AloneState, contents, IsAlone, ReservesAlon
 pub use Rattle.dash_map.specs.Behind.{IsBehind, LeavesShard, LeavesShards, SawShard, SawShards, StandsAt}
 pub use Rattle.dash_map.specs.Lends.{with_value_at}
 pub use Rattle.dash_map.specs.Walking.{IterState, StepsOn, GivesPair, FindsEnd, at_start}
+pub use Rattle.dash_ref.specs.Multi.{lent_pair, lent_value, with_lent_value}
+pub use Rattle.dash_map.specs.AloneWalk.{walked, loan_of, passed, to_come, valued, Passes, Passed, PassesAlong, LeavesEach, Rests}
+pub use Rattle.dash_map.specs.WalkingMut.{StepsTo, StepsToEnd}
+pub use Rattle.dash_map.specs.Copies.{copy_rules, CopiesShard, CopiesAlone}

@@ -1,2 +1,2 @@
 //! Walks over the pairs of a map.
-pub use dash_map::iter::{Iter, OwningIter};
+pub use dash_map::iter::{AloneIterMut, Iter, IterMut, OwningIter};

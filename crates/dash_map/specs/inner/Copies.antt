@@ -1,20 +1,20 @@
 -- A shard that is being copied.
-use Rattle.std.specs.Prelude.{ℕ, ◌≡◌, ◌+◌, ◌≤◌, Bool, IsTrue, List, length, Option, Some, None, slice_get}
+use Rattle.std.specs.Prelude.{ℕ, ◌≡◌, ◌+◌, ◌≤◌, IsTrue, List, length, Option, Some, None, slice_get}
 use Rattle.std.specs.Option.{option_eq}
 use Rattle.dash_shard.specs.Hashing.{KeyHash, HashAlike}
-use Rattle.dash_shard.specs.Contents.{Keys, at, IsOnShard}
+use Rattle.dash_shard.specs.Contents.{at, IsOnShard}
 use Rattle.dash_shard.specs.Steps.{Insert, Old}
 use Rattle.dash_shard.specs.Shard.{ShardState, pairs, shard_len, IsShard, TakesInPlace}
 use Rattle.dash_shard.specs.inner.Keys.{keys_of}
 use Rattle.dash_history.specs.Alike.{alike_pair}
-use Rattle.dash_map.specs.Copies.{Kinds, CopiesShard}
+use Rattle.dash_map.specs.Copies.{CopyRules, CopiesShard}
 
 -- the one, or where it is none the other
 abbrev pub or_else : {A : Type 0} → Option A → Option A → Option A
 or_else None p = p
 or_else (Some x) p = Some x
 
-module _ {K V S : Type 0} (c : Kinds K V S) where
+module _ {K V S : Type 0} (c : CopyRules K V S) where
   -- a copy of the pair was put in the shard, which had none with an equal key
   pub record PutsCopy (old new : ShardState K V S) (key : K) (value : V) : Type 0 where
     pub key_copy : K

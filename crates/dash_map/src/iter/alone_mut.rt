@@ -42,8 +42,8 @@ impl<K: Eq + Hash, V, S: BuildHasher> Lender for AloneIterMut<'_, K, V, S> {
 }
 
 impl<K: Eq + Hash, V, S: BuildHasher> Alone<K, V, S> {
-    ghost use Rattle.dash_map.specs.AloneWalk.{passed, to_come, walked, loan_of, pairs_from, pair_in, map_with};
-    ghost use Rattle.dash_map.specs.inner.AloneWalk.{IsNextSlot};
+    ghost use Rattle.dash_map.specs.AloneWalk.{passed, to_come, walked, loan_of, pairs_from, pair_in, LeavesEach};
+    ghost use Rattle.dash_map.specs.inner.AloneWalk.{IsNextSlot, map_with};
 
     /// The pairs, by rising shard and in each by rising slot, their values to be written. It takes no memory, and waits for nobody.
     #[inline]
@@ -52,6 +52,7 @@ impl<K: Eq + Hash, V, S: BuildHasher> Alone<K, V, S> {
         ensures map { walked result ≡ self.old }
         ensures passed { passed result ≡ [] }
         ensures to_come { to_come result ≡ contents self.old }
+        ensures each { LeavesEach result }
     {
         AloneIterMut {
             map: self,

@@ -1,5 +1,5 @@
 -- A held shard in two parts: the shard behind the lock, and what was taken out from behind it.
-use Rattle.std.specs.Prelude.{ℕ, ◌≡◌, true, Option}
+use Rattle.std.specs.Prelude.{ℕ, ◌≡◌, true, false, Option, length}
 use Rattle.dash_shard.specs.Hashing.{KeyHash}
 use Rattle.dash_shard.specs.Shard.{ShardState, slot}
 use Rattle.dash_shard.specs.inner.Table.{IsTable, IsHeld, held_state, pairs_in, with_value_at}
@@ -13,6 +13,12 @@ module _ {K V : Type 0} where
   -- the two are parts of one held shard
   abbrev pub AreParts : {S : Type 0} → KeyHash K S → ShardState K V S → Loan K V → Type 0
   AreParts h s l = IsHeld h s l.table l.is_lent
+
+  -- nothing was taken out, and no shard is meant
+  pub record IsBlank (l : Loan K V) : Type 0 where
+    pub lent : l.is_lent ≡ false
+    pub table : IsTable l.table
+    pub empty : length l.table.nodes.items ≡ 0
 
   -- the table was taken out
   pub record MayLend (l : Loan K V) : Type 0 where

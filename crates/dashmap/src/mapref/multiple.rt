@@ -1,2 +1,2 @@
 //! References that a walk gives.
-pub use dash_ref::mapref::multiple::RefMulti;
+pub use dash_ref::mapref::multiple::{RefMulti, RefMutMulti};

@@ -1,9 +1,9 @@
-use Rattle.std.proofs.Common.{◌≡◌, ℕ, List, Some, length, slice_get, sym, ap, subst, ◌∙◌, arith}
+use Rattle.std.proofs.Common.{◌≡◌, ℕ, List, Some, slice_get, sym, ap, subst, ◌∙◌, arith}
 use Rattle.std.proofs.lemmas.Option.{slice_get-get_or, same_Some}
 use Rattle.dash_shard.specs.Hashing.{key_hash}
 use Rattle.dash_shard.specs.Shard.{ShardState}
 use Rattle.dash_shard.proofs.Rows.{each-more}
-use Rattle.dash_map.specs.Copies.{kinds}
+use Rattle.dash_map.specs.Copies.{copy_rules}
 use Rattle.dash_map.specs.inner.Copies.{IsCopied}
 use Rattle.dash_map.proofs.copies.copy_shards.Goals as goal
 
@@ -11,7 +11,7 @@ pub loop-shard-preserved : goal.loop-shard-preserved
 loop-shard-preserved g c =
     let At : Type 0 = ShardState g.row.K.Denot g.row.V.Denot g.row.S.Denot in
     let h = key_hash g.K.PartialEq.eq g.K.Hash.hash_input g.S.BuildHasher g.S.Hasher.Hasher in
-    let k = kinds g.K.PartialEq.eq g.K.Kept.alike g.V.Kept.alike g.S.Clone.is_clone in
+    let k = copy_rules g.K.PartialEq.eq g.K.Kept.alike g.V.Kept.alike g.S.Clone.is_clone in
     let item = c.shard-item.result in
     let here = slice_get-get_or c.args.shards.now c.loop-shard.shard-index item c.loop-shard-test.true ∙ ap Some (sym c.shard-item.is) in
     let Made : ℕ → At → Type 0 = λ i t. (s : At) → slice_get c.args.shards.now i ≡ Some s → IsCopied k h s t in

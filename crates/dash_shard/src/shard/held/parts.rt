@@ -1,11 +1,11 @@
 //! A held shard in two parts, for references that lend a value of it: the guard of its lock, and what was taken out from behind it.
-ghost use Rattle.std.specs.Prelude.{◌≡◌, IsSome, IsTrue, Some};
+ghost use Rattle.std.specs.Prelude.{◌≡◌, ◌-◌, ◌^◌, ◌<◌, IfSome, IsSome, IsTrue, Some};
 ghost use Rattle.std.specs.Borrow.{Lends, sem};
 ghost use Rattle.std.specs.Option.{option_map};
 ghost use Rattle.std.specs.Map.Iter.{deref_pair, deref_pair_mut};
 ghost use Rattle.dash_shard.specs.Hashing.{by};
-ghost use Rattle.dash_shard.specs.Shard.{slot, with_value_in, SameShard, IsShard};
-ghost use Rattle.dash_shard.specs.inner.Loans.{joined, AreParts, MayLend, lent_slot, with_lent};
+ghost use Rattle.dash_shard.specs.Shard.{slot, with_value_in, SameShard, IsShard, IsNextTaken};
+ghost use Rattle.dash_shard.specs.inner.Loans.{joined, AreParts, IsBlank, MayLend, lent_slot, with_lent};
 
 use super::ShardMut;
 use super::lent::move_table;
@@ -13,6 +13,7 @@ use crate::keyed::{Keyed, Lender};
 use crate::lock::RwLockWriteGuard;
 use crate::shard::Shard;
 use crate::shard::table::Table;
+use std::alloc::Global;
 use std::hash::{BuildHasher, Hash};
 use std::marker::PhantomData;
 use std::mem;
@@ -63,6 +64,28 @@ impl<'a, K: Eq + Hash, V, S: BuildHasher> ShardMut<'a, K, V, S> {
     }
 }
 
+impl<K, V> Loan<K, V> {
+    /// A loan of nothing, for a reference that holds no shard yet. It takes no memory.
+    #[inline]
+    pub fn new(alloc: Global) -> Loan<K, V>
+        ensures { IsBlank result }
+    {
+        Loan {
+            table: Table::new(alloc),
+            is_lent: false,
+        }
+    }
+
+    /// Ends a loan of nothing.
+    #[inline]
+    pub fn end_blank(self)
+        requires { IsBlank self }
+    {
+        let Self { table, is_lent: _ } = self;
+        table.end_blank();
+    }
+}
+
 impl<K: Eq + Hash, V> Loan<K, V> {
     /// The pair of a taken slot of the held shard.
     #[inline]
@@ -79,6 +102,24 @@ impl<K: Eq + Hash, V> Loan<K, V> {
             self.table.at(position)
         } else {
             guard.at(position)
+        }
+    }
+
+    /// The lowest taken slot of the held shard not below `position`. There is a number above it.
+    #[inline]
+    pub fn next_taken<S: BuildHasher>(
+        &self,
+        guard: &RwLockWriteGuard<'_, Shard<K, V, S>>,
+        position: usize,
+    ) -> Option<usize>
+        requires { AreParts ⟦<Shard<K, V, S> as Keyed>⟧.by guard.now.value self.now }
+        ensures next { IsNextTaken (joined guard.now.value self.now).slots position result }
+        ensures below { IfSome result (λ i. i < 2 ^ 64 - 1) }
+    {
+        if self.is_lent {
+            self.table.next_taken(position)
+        } else {
+            guard.next_taken(position)
         }
     }
 

@@ -1,6 +1,6 @@
 use Rattle.std.proofs.Common.{◌≡◌, [], ◌∷◌, ◌++◌, length, sym, ap, subst, ◌∙◌, arith}
 use Rattle.dash_shard.specs.Hashing.{IsAmount, key_hash}
-use Rattle.dash_map.specs.Copies.{kinds}
+use Rattle.dash_map.specs.Copies.{copy_rules}
 use Rattle.dash_map.specs.inner.Copies.{AreCopied}
 use Rattle.dash_map.proofs.CopyingMaps.{more-copied, copied-map}
 use Rattle.dash_map.proofs.Seeing.{read-at, one-more}
@@ -9,7 +9,7 @@ use Rattle.dash_map.proofs.map.DashMap.copied.Goals as goal
 pub loop-lock-preserved : goal.loop-lock-preserved
 loop-lock-preserved g c =
     let h = key_hash g.K.PartialEq.eq g.K.Hash.hash_input g.S.BuildHasher g.S.Hasher.Hasher in
-    let k = kinds g.K.PartialEq.eq g.K.Kept.alike g.V.Kept.alike g.S.Clone.is_clone in
+    let k = copy_rules g.K.PartialEq.eq g.K.Kept.alike g.V.Kept.alike g.S.Clone.is_clone in
     let so = c.loop-lock.invariant.seen in
     let s = c.deref-in-loop-lock.result.now in
     let tagged = read-at h _ _ c.self.view_is c.self.inside.row c.items-lock-items.result.now c.items-lock-items.ensures c.self.invariant c.loop-lock.lock-index c.loop-lock-test.true c.lock-item.result c.lock-item.is _ c.deref.ensures c.read-shard.result.value c.read-shard.ensures.fits s c.deref-in-loop-lock.ensures.0 in
@@ -25,7 +25,7 @@ loop-lock-preserved g c =
 pub invariant_of-result : goal.invariant_of-result
 invariant_of-result g c =
     let h = key_hash g.K.PartialEq.eq g.K.Hash.hash_input g.S.BuildHasher g.S.Hasher.Hasher in
-    let k = kinds g.K.PartialEq.eq g.K.Kept.alike g.V.Kept.alike g.S.Clone.is_clone in
+    let k = copy_rules g.K.PartialEq.eq g.K.Kept.alike g.V.Kept.alike g.S.Clone.is_clone in
     let so = c.loop-lock.invariant.seen in
     let count : length c.items-lock-items.result.now ≡ c.args.self.now.amount = ap length c.items-lock-items.ensures ∙ ap (λ m. m.amount) c.self.view_is in
     let all : c.loop-lock.lock-index ≡ c.args.self.now.amount = omega (arith, count, c.loop-lock-test.false, c.loop-lock.auto.lock-index-end) in
@@ -36,7 +36,7 @@ invariant_of-result g c =
 pub returns-clause-saw : goal.returns-clause-saw
 returns-clause-saw g c =
     let h = key_hash g.K.PartialEq.eq g.K.Hash.hash_input g.S.BuildHasher g.S.Hasher.Hasher in
-    let k = kinds g.K.PartialEq.eq g.K.Kept.alike g.V.Kept.alike g.S.Clone.is_clone in
+    let k = copy_rules g.K.PartialEq.eq g.K.Kept.alike g.V.Kept.alike g.S.Clone.is_clone in
     let so = c.loop-lock.invariant.seen in
     let count : length c.items-lock-items.result.now ≡ c.args.self.now.amount = ap length c.items-lock-items.ensures ∙ ap (λ m. m.amount) c.self.view_is in
     let all : c.loop-lock.lock-index ≡ c.args.self.now.amount = omega (arith, count, c.loop-lock-test.false, c.loop-lock.auto.lock-index-end) in
@@ -47,7 +47,7 @@ returns-clause-saw g c =
 pub returns-clause-lawful : goal.returns-clause-lawful
 returns-clause-lawful g c =
     let h = key_hash g.K.PartialEq.eq g.K.Hash.hash_input g.S.BuildHasher g.S.Hasher.Hasher in
-    let k = kinds g.K.PartialEq.eq g.K.Kept.alike g.V.Kept.alike g.S.Clone.is_clone in
+    let k = copy_rules g.K.PartialEq.eq g.K.Kept.alike g.V.Kept.alike g.S.Clone.is_clone in
     let so = c.loop-lock.invariant.seen in
     let count : length c.items-lock-items.result.now ≡ c.args.self.now.amount = ap length c.items-lock-items.ensures ∙ ap (λ m. m.amount) c.self.view_is in
     let all : c.loop-lock.lock-index ≡ c.args.self.now.amount = omega (arith, count, c.loop-lock-test.false, c.loop-lock.auto.lock-index-end) in

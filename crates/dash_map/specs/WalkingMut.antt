@@ -1,0 +1,50 @@
+-- A walk over a map's locks, for writing: it goes as one for reading does, and may rewrite the pair on which it stands.
+use Rattle.std.specs.Prelude.{ℕ, zero, suc, ◌≡◌, ◌<◌, Bool, true, false, Option, Some, None, Ok, option_and_then}
+use Rattle.std.specs.Option.{option_map}
+use Rattle.std.specs.Iterator.{size}
+use Rattle.dash_shard.specs.Hashing.{KeyHash}
+use Rattle.dash_shard.specs.Shard.{ShardState, slot, with_value_in}
+use Rattle.dash_ref.specs.Ref.{RefState}
+use Rattle.dash_map.specs.Walking.{IterState, StepsOn, steps_left}
+
+module _ {K V S : Type 0} where
+  -- the pair in the slot in front of a position of a shard, if it is held
+  abbrev pub pair_before : Option (ShardState K V S) → ℕ → Option (K × V)
+  pair_before held zero = None
+  pair_before held (suc i) = option_and_then (λ s. slot s.slots i) held
+
+  -- the shard with another value in that pair
+  abbrev pub valued_before : Option (ShardState K V S) → ℕ → V → Option (ShardState K V S)
+  valued_before held zero v = held
+  valued_before held (suc i) v = option_map (λ s. with_value_in s i v) held
+
+  -- the pair on which the walk stands
+  abbrev pub here : IterState K V S → Option (K × V)
+  here w = pair_before w.held w.position
+
+  -- with another value in that pair
+  abbrev pub rewritten : IterState K V S → V → IterState K V S
+  rewritten w v = record w { held = valued_before w.held w.position v }
+
+  module _ (h : KeyHash K S) where
+    -- a step from old to new found the item, as one for reading does
+    pub record StepsTo (old : IterState K V S) (item : RefState K V S) (new : IterState K V S) : Type 0 where
+      pub steps : StepsOn h {E = Unit {0}} old (Some (Ok item)) new
+      pub nearer : size (steps_left new) < size (steps_left old)
+
+    -- a step found the end, as one for reading does
+    abbrev pub StepsToEnd : IterState K V S → IterState K V S → Type 0
+    StepsToEnd old new = StepsOn h {E = Unit {0}} old None new
+
+    -- what a step says that answers whether there was a pair
+    abbrev pub Advances : IterState K V S → Bool → IterState K V S → Type 0
+    Advances old true new = (item : RefState K V S) × StepsTo old item new
+    Advances old false new = StepsToEnd old new
+
+    -- a step that lent the value v of its pair, where w was left
+    pub record Rewrites (old : IterState K V S) (v : V) (new : IterState K V S) (w : V) : Type 0 where
+      pub item : RefState K V S
+      pub found : IterState K V S
+      pub steps : StepsTo old item found
+      pub value : item.value ≡ v
+      pub left : new ≡ rewritten found w
