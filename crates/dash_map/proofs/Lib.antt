@@ -1,4 +1,4 @@
-mod Copying
+mod Listing
 mod Distincts
 mod Entering
 mod Extending

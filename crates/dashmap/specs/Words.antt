@@ -16,3 +16,6 @@ pub use Rattle.dash_map.specs.Alone.{AloneState, contents, IsAlone, ReservesAlon
 pub use Rattle.dash_map.specs.Behind.{IsBehind, LeavesShard, LeavesShards, SawShard, SawShards, StandsAt}
 pub use Rattle.dash_map.specs.Lends.{with_value_at}
 pub use Rattle.dash_map.specs.Walking.{IterState, StepsOn, GivesPair, FindsEnd, at_start}
+pub use Rattle.dash_map.specs.Extend.{Extends, Gains, Gave, HasNoRoom, IsRefusedAmong, InsertsEach, MadeOf, MatchFrom, Overfills, first_with_last}
+pub use Rattle.dash_map.specs.Pairs.{CopiesPairs}
+pub use Rattle.dashmap.specs.Set.{stood, member, inserted, keys_of, of_members}
