@@ -1,7 +1,7 @@
 mod AloneWalks
 mod Copying
 mod CopyingMaps
-mod CopyingPairs
+mod Listing
 mod Distincts
 mod Entering
 mod Extending

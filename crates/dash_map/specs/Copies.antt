@@ -1,11 +1,10 @@
--- Copies of a map, and of its pairs: each alike its source.
-use Rattle.std.specs.Prelude.{◌≡◌, Bool, IsTrue, List, length}
-use Rattle.std.specs.Cmp.Lexicographic.{pointwise}
+-- A copy of a map: the same pairs, each alike its source.
+use Rattle.std.specs.Prelude.{◌≡◌, Bool, IsTrue, length}
 use Rattle.std.specs.Option.{option_eq}
 use Rattle.dash_shard.specs.Contents.{at}
 use Rattle.dash_shard.specs.Shard.{ShardState, pairs, shard_len}
 use Rattle.dash_history.specs.Alike.{alike_pair}
-use Rattle.dash_map.specs.Alone.{AloneState, contents}
+use Rattle.dash_map.specs.Alone.{AloneState}
 use Rattle.dash_map.specs.AllPairs.{EachShard}
 
 -- when a copy of a map is one: which keys are equal, which keys and values are alike, and which hasher is a clone
@@ -33,7 +32,3 @@ module _ {K V S : Type 0} (c : CopyRules K V S) where
     pub shards : EachShard CopiesShard old new
     pub amount : length new.row ≡ length old.row
     pub hasher : c.is_clone old.hasher new.hasher
-
--- a copy of each pair of the map, once, in the order of its shards and slots
-abbrev pub CopiesPairs : {K V S : Type 0} → (K → K → Bool) → (V → V → Bool) → List (K × V) → AloneState K V S → Type 0
-CopiesPairs k v copies a = IsTrue (pointwise (alike_pair k v) (contents a) copies)

@@ -4,6 +4,7 @@ pub mod Alone
 pub mod Run
 pub mod Behind
 pub mod Copies
+pub mod Pairs
 pub mod Extend
 pub mod AllPairs
 pub mod AloneWalk

@@ -20,3 +20,6 @@ pub use Rattle.dash_ref.specs.Multi.{lent_pair, lent_value, with_lent_value}
 pub use Rattle.dash_map.specs.AloneWalk.{walked, loan_of, passed, to_come, valued, Passes, Passed, PassesAlong, LeavesEach, Rests}
 pub use Rattle.dash_map.specs.WalkingMut.{StepsTo, StepsToEnd}
 pub use Rattle.dash_map.specs.Copies.{copy_rules, CopiesShard, CopiesAlone}
+pub use Rattle.dash_map.specs.Extend.{Extends, Gains, Gave, HasNoRoom, IsRefusedAmong, InsertsEach, MadeOf, MatchFrom, Overfills, first_with_last}
+pub use Rattle.dash_map.specs.Pairs.{CopiesPairs}
+pub use Rattle.dashmap.specs.Set.{stood, member, inserted, keys_of, of_members}

@@ -1,0 +1,17 @@
+use Rattle.dashmap.specs.Set.{of_members}
+use Rattle.dashmap.proofs.Members.{came-inside}
+use Rattle.dashmap.proofs.set.DashSet.extend.Goals as goal
+
+pub returns-clause-extends : goal.returns-clause-extends
+returns-clause-extends g c =
+    let left = c.extend.ensures.extends in
+    rw (← c.self.view_is) (
+      left.0,
+      left.1,
+      left.2,
+      left.3,
+      record {
+        gains = came-inside (λ m. m.keys) (of_members g.U.IntoIter.Iterator.next_gives) _ _ _ (g.U.IntoIterator.into_iter_gives c.args.iter) c.into_iter-keys.ensures.into_iter_gives left.4.gains;
+        refused = left.4.refused;
+      },
+    )

@@ -1,0 +1,17 @@
+use Rattle.std.proofs.Common.{sym, ap}
+use Rattle.dashmap.proofs.set.DashSet.from_iter.Goals as goal
+
+pub returns-clause-made : goal.returns-clause-made
+returns-clause-made g c =
+    let made = c.in_ok-from_iter.ensures.made in (
+      made.0,
+      made.1,
+      made.2,
+      made.3,
+      made.4,
+      (
+        c.in_ok-from_iter.field-0,
+        record { hasher = sym (ap (λ m. m.hasher) c.end.ensures); amount = sym (ap (λ m. m.amount) c.end.ensures); lawful = c.in_ok-from_iter.ensures.lawful },
+        made.5,
+      ),
+    )

@@ -1,0 +1,3 @@
+//! References into a set, each of which holds a shard.
+pub mod multiple;
+pub mod one;
