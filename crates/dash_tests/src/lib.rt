@@ -13,6 +13,8 @@ mod entry;
 #[cfg(test)]
 mod error;
 #[cfg(test)]
+mod extend;
+#[cfg(test)]
 mod hash;
 #[cfg(test)]
 mod iter;
@@ -24,6 +26,8 @@ mod lock;
 mod map;
 #[cfg(test)]
 mod mapref;
+#[cfg(test)]
+mod names;
 pub mod parts;
 #[cfg(test)]
 mod places;
@@ -33,6 +37,8 @@ mod projection;
 mod record;
 #[cfg(test)]
 mod run;
+#[cfg(test)]
+mod set;
 #[cfg(test)]
 mod shard;
 #[cfg(test)]
