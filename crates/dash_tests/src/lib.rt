@@ -15,14 +15,20 @@ mod entry;
 #[cfg(test)]
 mod error;
 #[cfg(test)]
+mod extend;
+#[cfg(test)]
 mod iter;
 #[cfg(test)]
 mod map;
+#[cfg(test)]
+mod names;
 pub mod parts;
 #[cfg(test)]
 mod projection;
 #[cfg(test)]
 mod run;
+#[cfg(test)]
+mod set;
 #[cfg(test)]
 mod t;
 #[cfg(test)]

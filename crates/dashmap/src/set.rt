@@ -209,10 +209,10 @@ impl<K: Eq + Hash, S: BuildHasher> DashSet<K, S> {
         let (key, _) = self.inner.remove_if(
             rt,
             key,
-            |key: &K, _: &()| -> bool
-                requires { F.pre f key }
-                ensures { F.post f key.entry result }
-            { f(key) },
+            |found: &K, _: &()| -> bool
+                requires { F.pre f found }
+                ensures { F.post f found.entry result }
+            { f(found) },
         )?;
         Some(key)
     }

@@ -2,6 +2,7 @@
 #![tactic(auto)]
 
 pub mod interner;
+pub mod names;
 pub mod sessions;
 pub mod tally;
 pub mod words;
