@@ -1,2 +1,3 @@
 //! The walks over a map, on maps that show which shard is held.
 mod locked;
+mod writing;

@@ -32,3 +32,34 @@ fn a_view_and_back(rt: HostRuntime) -> Result<(), Fail> {
     is(&rt, alone.iter().last(), Some((&27, &"twenty seven")));
     Ok(())
 }
+
+#[test]
+fn a_cloned_view(rt: HostRuntime) -> Result<(), Fail> {
+    let map = map_of_four::<String>(rt.alloc())?;
+    let pairs = [
+        (1, "one"),
+        (10, "ten"),
+        (27, "twenty seven"),
+        (45, "forty five"),
+    ];
+    for (key, name) in pairs {
+        map.insert(&rt, key, String::from_str(rt.alloc(), name)?)?;
+    }
+    let copy = map.clone(&rt)?;
+    assert!(rt; map.remove(&rt, &45).is_some());
+    let view = copy.into_read_only();
+    let copy = view.clone()?;
+    drop(view);
+    is(&rt, copy.len(), 4);
+    for (key, name) in pairs {
+        let found = copy.get(&key).ok_or("no pair")?;
+        is(&rt, found.as_str(), name);
+    }
+    let Ok(map) = copy.into_inner(rt.alloc()) else {
+        return Err("no memory".into());
+    };
+    is(&rt, map.len(&rt), 4);
+    let (_, name) = map.remove(&rt, &45).ok_or("no pair")?;
+    is(&rt, name.as_str(), "forty five");
+    Ok(())
+}
