@@ -10,6 +10,7 @@ pub mod Equals
 mod Exchanging
 mod HoldFields
 pub mod Lawful
+mod Lanes
 pub mod Lending
 pub mod Loans
 mod LockBorrows

@@ -14,6 +14,7 @@ ghost use Rattle.dash_shard.specs.declared.error.ConstructError.TheVariants.{Mem
 use crate::error::{ConstructError, TryReserveError};
 use crate::hash::determine_shard;
 use crate::keyed::{Keyed, Lender};
+pub use group::probe;
 use std::alloc::Global;
 use std::hash::{BuildHasher, Hash};
 use std::marker::Model;
@@ -21,7 +22,9 @@ use table::Table;
 pub use table::walk::{IntoIter, Iter};
 
 mod all_pairs;
+mod group;
 pub mod held;
+pub mod lanes;
 mod positions;
 mod table;
 
