@@ -6,6 +6,7 @@ mod Asking
 mod Carrying
 mod Chaining
 mod Changing
+mod Counts
 pub mod Equals
 mod Exchanging
 mod HoldFields
@@ -34,4 +35,5 @@ mod Sweeping
 mod Tables
 pub mod Unions
 mod Walking
+mod Ways
 mod WordSteps

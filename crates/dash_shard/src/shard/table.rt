@@ -10,6 +10,7 @@ use std::alloc::{AllocError, Global};
 use std::mem::{self, ManuallyDrop};
 
 mod links;
+mod marks;
 mod shrink;
 mod sweep;
 mod values;
