@@ -16,6 +16,7 @@ pub mod Lending
 pub mod Loans
 mod LockBorrows
 mod LockShown
+mod Marked
 pub mod Moving
 mod Nodes
 mod Passing

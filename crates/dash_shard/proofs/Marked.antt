@@ -199,8 +199,8 @@ module _ {A : Type 0} where
 
       filled-counted : (g : ℕ) → g < n → slice_index now g ≡ tally (stands_past n (set hs i h) g) 0 (set xs i (Some p))
       filled-counted g lt =
-          let f = stands_past {A} n hs g in
-          let f' = stands_past {A} n (set hs i h) g in
+          let f = stands_past {A = A} n hs g in
+          let f' = stands_past {A = A} n (set hs i h) g in
           let w = tally-write f f' 0 xs i i (Some p) (omega arith) place.within (λ j r other. past-same n hs (set hs i h) g j r (get_or-set_other hs i j h 0 other)) in
           let before : f i (slot xs i) ≡ 0 = ap (f i) place.empty in
           let mine : f' i (Some p) ≡ goes_past n (h % n) (step_to n (h % n) (i / 16)) g = ap (λ x. goes_past n (x % n) (step_to n (x % n) (i / 16)) g) filled-hash in
@@ -209,10 +209,10 @@ module _ {A : Type 0} where
       filled-full : (g : ℕ) → g < n → 0 < slice_index now g → IsFull (set tags i (tag_of h)) g
       filled-full g lt some j within = set-apart tags i (tag_of h) 128 (16 * g + j) tag-spot (λ e. omega (arith, e, low)) (λ _. elim (cases_lt 0 (slice_index counts g)) as (λ _. lane tags g j ≢ 128) [
         | inl was ↦ m.full g lt was j within
-        | inr zero ↦
+        | inr not ↦
             let pos : 0 < n = omega (arith, lt) in
             let below = mod_below n h pos in
-            let step = past-before n (h % n) (step_to n (h % n) (i / 16)) g (omega (arith, counts-now g lt, zero, some, past-most n (h % n) (step_to n (h % n) (i / 16)) g)) in
+            let step = past-before n (h % n) (step_to n (h % n) (i / 16)) g (omega (arith, counts-now g lt, not, some, past-most n (h % n) (step_to n (h % n) (i / 16)) g)) in
             let all = subst (IsAllTaken tags) (round_step n (h % n) g below lt) (place.before (step_to n (h % n) g) step) in
             λ e. omega (arith, all j within, e)
       ])
@@ -283,7 +283,7 @@ module _ {A : Type 0} where
 
       cleared-counted : (g : ℕ) → g < n → slice_index now g ≡ tally (stands_past n hs g) 0 (set xs i None)
       cleared-counted g lt =
-          let f = stands_past {A} n hs g in
+          let f = stands_past {A = A} n hs g in
           let w = tally-write f f 0 xs i i None (omega arith) was-inside (λ j r _. refl) in
           let mine : f i (slot xs i) ≡ goes_past n (slice_index hs i % n) (step_to n (slice_index hs i % n) (i / 16)) g = ap (f i) here in
           omega (arith, w, mine, counts-now g lt, m.counted g lt)
