@@ -4,20 +4,22 @@ mod Amounts
 pub mod BySlot
 mod Asking
 mod Carrying
-mod Chaining
 mod Changing
+mod Counts
 pub mod Equals
 mod Exchanging
 mod HoldFields
 pub mod Lawful
+mod Lanes
 pub mod Lending
 pub mod Loans
 mod LockBorrows
 mod LockShown
+mod Marked
 pub mod Moving
 mod Nodes
-mod Passing
 mod Slots
+mod Placing
 mod Positions
 pub mod Remade
 mod RoundParts
@@ -25,12 +27,11 @@ mod Rewriting
 mod Rounds
 pub mod Routing
 pub mod Rows
-mod Seeking
+mod Searching
 mod Shards
 mod Shrinking
-mod Stacks
 mod Sweeping
-mod Tables
 pub mod Unions
 mod Walking
+mod Ways
 mod WordSteps

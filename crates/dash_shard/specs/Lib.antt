@@ -2,6 +2,7 @@ pub mod Hashing
 pub mod Contents
 pub mod Steps
 pub mod Shard
+pub mod Search
 pub mod Held
 pub mod Guarded
 pub mod Closures

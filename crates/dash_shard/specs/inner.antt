@@ -8,3 +8,4 @@ pub mod Steps
 pub mod Table
 pub mod Walks
 pub mod Loans
+pub mod Marks

@@ -1,0 +1,33 @@
+//! Sixteen tags at once.
+ghost use Rattle.std.specs.Prelude.{◌≡◌, ℕ, ◌<◌, ◌≤◌, ◌↔◌, slice_index};
+ghost use Rattle.std.specs.Int.{bit_at};
+ghost use Rattle.dash_shard.specs.Search.{IsMask};
+
+use std::simd::prelude::*;
+
+/// What a look at a group of tags finds: a bit for each lane with the tag, and one for each that is empty.
+#[derive(Clone, Copy, PartialEq, Eq, Debug)]
+pub struct Probe {
+    pub matches: u16,
+    pub empty: u16,
+}
+
+// A bit for each lane that has the tag.
+#[inline(always)]
+pub(super) fn lanes_with(group: &[u8; 16], tag: u8) -> u16
+    ensures { IsMask group.now tag result }
+{
+    u8x16::from_array(*group)
+        .simd_eq(u8x16::splat(tag))
+        .to_bitmask() as u16
+}
+
+// A bit for each lane that is empty or removed.
+#[inline(always)]
+pub(super) fn free_lanes(group: &[u8; 16]) -> u16
+    ensures { (i : ℕ) → (bit_at result i ≡ 1) ↔ ((i < 16) × (128 ≤ slice_index group.now i)) }
+{
+    u8x16::from_array(*group)
+        .simd_ge(u8x16::splat(128))
+        .to_bitmask() as u16
+}

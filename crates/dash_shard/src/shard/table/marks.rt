@@ -1,0 +1,135 @@
+//! The marks of a table: a tag for each slot, in groups of sixteen, and for each group how many pairs stand past it on their ways.
+ghost use Rattle.std.specs.Prelude.{◌≡◌, ◌⊎◌, ℕ, ◌+◌, ◌*◌, ◌/◌, ◌%◌, ◌-◌, ◌^◌, ◌<◌, ◌≤◌, length, slice_index};
+ghost use Rattle.std.specs.Int.{bit_at, IsPowerOfTwo};
+ghost use Rattle.dash_shard.specs.inner.Marks.{round, step_to, goes_past, IsClean, KeepsTags};
+
+// What stands for a tag where a slot is empty, and where its pair was removed from a group that pairs stand past.
+pub(super) const EMPTY: u8 = 128;
+
+pub(super) const REMOVED: u8 = 129;
+
+// The lowest bit of a mask.
+#[inline(always)]
+pub(super) fn lowest(mask: u16) -> usize
+    requires { 0 < mask }
+    ensures bound { result < 16 }
+    ensures set { bit_at mask result ≡ 1 }
+{
+    mask.trailing_zeros() as usize
+}
+
+// The mask without a bit.
+#[inline(always)]
+pub(super) fn without(mask: u16, bit: usize) -> u16
+    requires bound { bit < 16 }
+    requires set { bit_at mask bit ≡ 1 }
+    ensures smaller { result < mask }
+    ensures kept { (j : ℕ) → j < 16 → (j ≡ bit → ⊥) → bit_at result j ≡ bit_at mask j }
+{
+    mask & !(1 << bit)
+}
+
+// The tags of a group.
+#[inline(always)]
+pub(super) fn group_of(tags: &[u8], group: usize) -> &[u8; 16]
+    requires { 16 * group + 16 ≤ length tags.now }
+    ensures { (j : ℕ) → j < 16 → slice_index result.now j ≡ slice_index tags.now (16 * group + j) }
+{
+    match <&[u8; 16]>::try_from(&tags[16 * group..16 * group + 16]) {
+        Ok(row) => row,
+        Err(_) => unreachable!(),
+    }
+}
+
+// The group where a hash's way begins.
+#[inline(always)]
+pub(super) fn home(hash: u64, count: usize) -> usize
+    requires { IsPowerOfTwo count }
+    ensures is { result ≡ hash % count }
+    ensures below { result < count }
+{
+    (hash & (count as u64 - 1)) as usize
+}
+
+// The group that comes next on each way.
+#[inline(always)]
+pub(super) fn next_group(group: usize, count: usize) -> usize
+    requires { group < count }
+    ensures next { (home s : ℕ) → home < count → s < count → group ≡ round count (home + s) → result ≡ round count (home + (s + 1)) }
+    ensures below { result < count }
+{
+    if group + 1 == count { 0 } else { group + 1 }
+}
+
+// How many groups a way from `home` goes past before it comes to a group.
+#[inline(always)]
+pub(super) fn steps_to(home: usize, group: usize, count: usize) -> usize
+    requires home { home < count }
+    requires group { group < count }
+    ensures is { result ≡ step_to count home group }
+    ensures below { result < count }
+{
+    if group < home {
+        count - home + group
+    } else {
+        group - home
+    }
+}
+
+// Counts a pair at each group that its way goes past.
+#[inline]
+pub(super) fn count_past(counts: &mut [usize], home: usize, steps: usize)
+    requires home { home < length counts.old }
+    requires steps { steps ≤ length counts.old }
+    requires room { (g : ℕ) → g < length counts.old → slice_index counts.old g < 2 ^ 64 - 1 }
+    ensures len { length counts.new ≡ length counts.old }
+    ensures counts { (g : ℕ) → g < length counts.old → slice_index counts.new g ≡ slice_index counts.old g + goes_past (length counts.old) home steps g }
+{
+    let count = counts.len();
+    let mut group = home;
+    for _step in 0..steps {
+        counts[group] += 1;
+        group = next_group(group, count);
+    }
+}
+
+// Makes the removed marks of a group empty ones.
+#[inline]
+fn clean_group(tags: &mut [u8], group: usize)
+    requires { 16 * group + 16 ≤ length tags.old }
+    ensures len { length tags.new ≡ length tags.old }
+    ensures clean { IsClean tags.new group }
+    ensures keeps { (i : ℕ) → (slice_index tags.new i ≡ slice_index tags.old i) ⊎ ((slice_index tags.old i ≡ 129) × (slice_index tags.new i ≡ 128) × (i / 16 ≡ group)) }
+{
+    for slot in 16 * group..16 * group + 16 {
+        if tags[slot] == REMOVED {
+            tags[slot] = EMPTY;
+        }
+    }
+}
+
+// Takes a pair off the count of each group that its way goes past. Where no pair is left that stands past a group, its removed marks become
+// empty ones.
+#[inline]
+pub(super) fn uncount_past(counts: &mut [usize], tags: &mut [u8], home: usize, steps: usize)
+    requires home { home < length counts.old }
+    requires steps { steps ≤ length counts.old }
+    requires tags { length tags.old ≡ 16 * length counts.old }
+    requires some { (g : ℕ) → g < length counts.old → goes_past (length counts.old) home steps g ≤ slice_index counts.old g }
+    requires clean { (g : ℕ) → g < length counts.old → slice_index counts.old g ≡ 0 → IsClean tags.old g }
+    ensures len { length counts.new ≡ length counts.old }
+    ensures tags_len { length tags.new ≡ length tags.old }
+    ensures counts { (g : ℕ) → g < length counts.old → slice_index counts.new g + goes_past (length counts.old) home steps g ≡ slice_index counts.old g }
+    ensures keeps { KeepsTags counts.new tags.old tags.new }
+    ensures clean { (g : ℕ) → g < length counts.old → slice_index counts.new g ≡ 0 → IsClean tags.new g }
+{
+    let count = counts.len();
+    let mut group = home;
+    for _step in 0..steps {
+        counts[group] -= 1;
+        if counts[group] == 0 {
+            clean_group(tags, group);
+        }
+        group = next_group(group, count);
+    }
+}
