@@ -13,7 +13,7 @@ use Rattle.dash_history.specs.Alike.{alike_pair}
 use Rattle.dash_map.specs.Copies.{CopyRules, copy_rules}
 use Rattle.dash_map.specs.inner.Copies.{or_else, PutsCopy, IsCopying, IsCopied}
 
-none-of-length : {A : Type 0} (xs : List A) → length xs ≡ 0 → xs ≡ []
+pub none-of-length : {A : Type 0} (xs : List A) → length xs ≡ 0 → xs ≡ []
 none-of-length [] e = refl
 none-of-length (x ∷ xs) e = absurd (omega (arith, e))
 

@@ -1,6 +1,7 @@
 //! Lists of pairs that are put into a map, or make one.
 ghost use Rattle.std.specs.Prelude.{◌≡◌, ◌∷◌, [], ◌↔◌, None, Some, IfErr, IfOk, IsErrOf, length};
 ghost use Rattle.std.specs.Iterator.{IsFiniteIterable};
+ghost use Rattle.dash_shard.specs.Contents.{EachOnce};
 ghost use Rattle.dash_shard.specs.Errors.{IsOneOf};
 ghost use Rattle.dash_shard.specs.Hashing.{HashAlike};
 ghost use Rattle.dash_shard.specs.declared.error.ConstructError.TheVariants.{Memory, Parallelism};
@@ -84,7 +85,8 @@ impl<K: Eq + Hash + Drop, V: Drop, S: BuildHasher> Alone<K, V, S> {
     // Makes room in each shard for its share of so many pairs more, where there is memory. The number may be too high, so want of memory
     // is told by the pair that finds none.
     fn reserve_share(&mut self, additional: usize)
-        ensures same { contents self.new ≡ contents self.old }
+        ensures same { EachOnce K.eq (contents self.old) (contents self.new) }
+        ensures len { length (contents self.new) ≡ length (contents self.old) }
         ensures stays { SameMap self.old self.new }
         ensures lawful { IsAlone ⟦<Self as Keyed>⟧.by self.new }
     {

@@ -1,7 +1,8 @@
-use Rattle.std.proofs.Common.{◌≡◌, [], sym, subst, ◌∙◌}
+use Rattle.std.proofs.Common.{◌≡◌, [], length, sym, ap, subst, ◌∙◌}
 use Rattle.std.specs.Iterator.{IsFinite}
 use Rattle.dash_shard.specs.Hashing.{key_hash}
 use Rattle.dash_map.specs.Alone.{contents}
+use Rattle.dash_map.proofs.Copying.{none-of-length}
 use Rattle.dash_map.proofs.Extending.{made-of, none-in}
 use Rattle.dash_map.proofs.Taken.{pair-refused}
 use Rattle.dash_map.proofs.alone.Alone.from_iter.Given.{Over}
@@ -9,7 +10,7 @@ use Rattle.dash_map.proofs.alone.Alone.from_iter.Goals.{After-reserve_share}
 use Rattle.dash_map.proofs.alone.Alone.from_iter.Goals as goal
 
 empty : (g : Over) (c : After-reserve_share g) → contents c.reserve_share.new.self ≡ []
-empty g c = c.reserve_share.ensures.same ∙ none-in c.in_ok-alone.alone.row (λ i s e. (c.in_ok-alone.ensures.fresh i s e).0)
+empty g c = none-of-length (contents c.reserve_share.new.self) (c.reserve_share.ensures.len ∙ ap length (none-in c.in_ok-alone.alone.row (λ i s e. (c.in_ok-alone.ensures.fresh i s e).0)))
 
 pub extend-requires : goal.extend-requires
 extend-requires g c it same =
