@@ -1,13 +1,13 @@
 -- A row of shards that have their turns one after the other.
 use Rattle.std.proofs.Common.{◌≡◌, ℕ, zero, suc, ◌+◌, ◌<◌, ◌≤◌, List, [], ◌∷◌, ◌++◌, length, Some, slice_get, slice_set, flat_map, get_or, length-append, sym, ap, ap₂, subst, refl, ◌∙◌, inl, inr, arith}
-use Rattle.std.proofs.lemmas.Bool.{cases_eq}
+use Rattle.std.proofs.lemmas.Bool.{cases_eq, cases_lt}
 use Rattle.std.proofs.lemmas.Option.{slice_get_within, slice_get-get_or, same_Some}
 use Rattle.std.proofs.Math.ListN.{length-set}
 use Rattle.std.specs.Cmp.{IsEquivalence}
 use Rattle.dash_shard.proofs.Rows.{slice_get-set_same, slice_get-set_other}
 use Rattle.dash_shard.proofs.Routing.{route_below}
 use Rattle.dash_shard.specs.Hashing.{KeyHash, route_by}
-use Rattle.dash_shard.specs.Contents.{Keys, keys, at}
+use Rattle.dash_shard.specs.Contents.{Keys, keys, at, EachOnce}
 use Rattle.dash_shard.specs.Shard.{ShardState, SameShard, IsShard, pairs, shard_len}
 use Rattle.dash_shard.specs.Each.{Clears, Shrinks}
 use Rattle.dash_map.specs.Alone.{AloneState, IsAlone, contents, keys_in}
@@ -89,27 +89,46 @@ module _ {K V S : Type 0} (h : KeyHash K S) where
         stays = record { hasher = r.hasher; amount = r.amount };
       }
 
+  -- where each shard keeps its pairs, the map does
+  pub kept-pairs : IsEquivalence h.eq → (old now : AloneState K V S) → IsAlone h old → IsAlone h now → now.hasher ≡ old.hasher → length now.row ≡ length old.row → EachShard (λ s t. EachOnce h.eq (pairs s) (pairs t)) old now
+      → EachOnce h.eq (contents old) (contents now)
+  kept-pairs laws old now a b base amount each = record {
+    distinct = distinct-contents h laws now b;
+    same = λ k. same-there k (on-shards h old.hasher old.row a) (subst (λ x. OnShards x 0 now.row) (known-same old now base amount) (on-shards h now.hasher now.row b));
+  }
+    where
+      same-there : (k : K) → OnShards (keys_in h old) 0 old.row → OnShards (keys_in h old) 0 now.row → at h.eq (contents now) k ≡ at h.eq (contents old) k
+      same-there k on on' =
+          let w : Keys K = keys_in h old in
+          let below : w.route k < length old.row = route_below (h.hash old.hasher k) (length old.row) (omega (arith, a.amount.several)) in
+          let s = some-there old.row (w.route k) below in
+          let t = some-there now.row (w.route k) (omega (arith, below, amount)) in
+          at-union w now.row k t.0 on' t.1 ∙ (each (w.route k) s.0 t.0 s.1 t.1).same k ∙ sym (at-union w old.row k s.0 on s.1)
+
   pub shrinks-alone : IsEquivalence h.eq → (i : ℕ) (old now : AloneState K V S) → IsAlone h old → Turning (Shrinks h.eq) i old now → i ≡ length now.row → ShrinksAlone h.eq old now
   shrinks-alone laws i old now a r all =
       let each = each-turned (Shrinks h.eq) i old now r all in
-      let w : Keys K = keys_in h old in
-      let known : keys_in h now ≡ w = known-same old now r.hasher r.amount in
-      let on : OnShards w 0 old.row = on-shards h old.hasher old.row a in
-      let on' : OnShards w 0 now.row = subst (λ x. OnShards x 0 now.row) known (on-shards h now.hasher now.row r.lawful) in
       record {
-        pairs = record {
-          distinct = distinct-contents h laws now r.lawful;
-          same = λ k. same-there k on on' each;
-        };
+        pairs = kept-pairs laws old now a r.lawful r.hasher r.amount (λ j s t e f. (each j s t e f).pairs);
         len = as-many old.row now.row r.amount (λ j s t e f. (each j s t e f).len);
         shards = each;
         stays = record { hasher = r.hasher; amount = r.amount };
       }
+
+  -- what a shard keeps that is given room
+  pub record Keeps (s t : ShardState K V S) : Type 0 where
+    pub pairs : EachOnce h.eq (pairs s) (pairs t)
+    pub len : shard_len t ≡ shard_len s
+
+  -- the shards below i kept their pairs, and the others are as they were
+  pub keeps-alone : IsEquivalence h.eq → (i : ℕ) (old now : AloneState K V S) → IsAlone h old → Turning Keeps i old now → EachOnce h.eq (contents old) (contents now) × (length (contents now) ≡ length (contents old))
+  keeps-alone laws i old now a r = (
+    kept-pairs laws old now a r.lawful r.hasher r.amount (λ j s t e f. (each j s t e f).pairs),
+    as-many old.row now.row r.amount (λ j s t e f. (each j s t e f).len),
+  )
     where
-      same-there : (k : K) → OnShards (keys_in h old) 0 old.row → OnShards (keys_in h old) 0 now.row → EachShard (Shrinks h.eq) old now → at h.eq (contents now) k ≡ at h.eq (contents old) k
-      same-there k on on' each =
-          let w : Keys K = keys_in h old in
-          let below : w.route k < length old.row = route_below (h.hash old.hasher k) (length old.row) (omega (arith, a.amount.several)) in
-          let s = some-there old.row (w.route k) below in
-          let t = some-there now.row (w.route k) (omega (arith, below, r.amount)) in
-          at-union w now.row k t.0 on' t.1 ∙ (each (w.route k) s.0 t.0 s.1 t.1).pairs.same k ∙ sym (at-union w old.row k s.0 on s.1)
+      each : EachShard Keeps old now
+      each j s t e f = elim (cases_lt j i) as (λ _. Keeps s t) [
+        | inl below ↦ r.done j s t below e f
+        | inr from ↦ subst (Keeps s) (same_Some s t (sym e ∙ r.rest j t from f)) (record { pairs = record { distinct = (a.tagged j s e).shard.contents.distinct; same = λ k. refl }; len = refl })
+      ]

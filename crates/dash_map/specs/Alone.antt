@@ -1,7 +1,7 @@
 -- A map of one owner: a row of shards.
 use Rattle.std.specs.Prelude.{ℕ, ◌≡◌, ◌+◌, ◌≤◌, Bool, List, length, flat_map, Some, Result, OnOk, slice_get}
 use Rattle.dash_shard.specs.Hashing.{KeyHash, IsAmount, route_by}
-use Rattle.dash_shard.specs.Contents.{Keys, keys, at}
+use Rattle.dash_shard.specs.Contents.{Keys, keys, at, EachOnce}
 use Rattle.dash_shard.specs.Steps.{Act, Step, Reply, line, LineReplies, IsTaken, BySome}
 use Rattle.dash_shard.specs.Shard.{ShardState, IsTagged, pairs, shard_len}
 
@@ -21,9 +21,10 @@ module _ {K V S : Type 0} where
     pub amount : length new.row ≡ length old.row
 
   -- room in each shard for so many pairs more, or in some of them where it is refused; the pairs stay
-  pub record ReservesAlone (additional : ℕ) (old new : AloneState K V S) {E : Type 0} (result : Result (Unit {0}) E) : Type 0 where
+  pub record ReservesAlone (eq : K → K → Bool) (additional : ℕ) (old new : AloneState K V S) {E : Type 0} (result : Result (Unit {0}) E) : Type 0 where
     pub room : OnOk result ((i : ℕ) (s : ShardState K V S) → slice_get new.row i ≡ Some s → shard_len s + additional ≤ s.capacity)
-    pub pairs : contents new ≡ contents old
+    pub pairs : EachOnce eq (contents old) (contents new)
+    pub len : length (contents new) ≡ length (contents old)
     pub stays : SameMap old new
 
   module _ (h : KeyHash K S) where

@@ -258,7 +258,7 @@ impl<K: Eq + Hash + Drop, V: Drop, S: BuildHasher> Alone<K, V, S> {
     ///
     /// It asks the shards in their order, and is refused (11) at the first that finds no memory: those before it keep their room.
     pub fn try_reserve(&mut self, additional: usize) -> Result<(), TryReserveError>
-        ensures reserves { ReservesAlone additional self.old self.new result }
+        ensures reserves { ReservesAlone K.eq additional self.old self.new result }
         ensures lawful { IsAlone ⟦<Self as Keyed>⟧.by self.new }
     {
         for idx in 0..self.row.len() {

@@ -249,7 +249,7 @@ impl<K: Eq + Hash, V, S: BuildHasher> DashMap<K, V, S> {
     where
         K: Drop,
         V: Drop,
-        ensures reserves { LeavesShards {V = V} ⟦<Self as Keyed>⟧.by self.old (λ old new. ReservesAlone additional old new result) }
+        ensures reserves { LeavesShards {V = V} ⟦<Self as Keyed>⟧.by self.old (λ old new. ReservesAlone K.eq additional old new result) }
         ensures same { self.new ≡ self.old }
     {
         replace_with(self, additional, Self::try_reserve_alone)
@@ -260,7 +260,7 @@ impl<K: Eq + Hash, V, S: BuildHasher> DashMap<K, V, S> {
     where
         K: Drop,
         V: Drop,
-        ensures reserves { LeavesShards {V = V} ⟦<Self as Keyed>⟧.by self (λ old new. ReservesAlone additional old new result.1) }
+        ensures reserves { LeavesShards {V = V} ⟦<Self as Keyed>⟧.by self (λ old new. ReservesAlone K.eq additional old new result.1) }
         ensures same { result.0 ≡ self }
     {
         let mut alone = self.alone();

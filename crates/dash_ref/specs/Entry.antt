@@ -1,6 +1,6 @@
 -- What contracts see of entries of a held shard.
 use Rattle.std.specs.Prelude.{◌≡◌, ◌<◌, Bool, Some, None, IsTrue, IsSomeAnd}
-use Rattle.dash_shard.specs.Contents.{at}
+use Rattle.dash_shard.specs.Contents.{at, EachOnce}
 use Rattle.dash_shard.specs.Steps.{Insert, Old}
 use Rattle.dash_shard.specs.Shard.{ShardState, HasKey, SameShard, TakesInPlace, pairs, shard_len}
 use Rattle.dash_ref.specs.RefMut.{RefMutState, stored, rewritten}
@@ -47,6 +47,7 @@ module _ {K V S : Type 0} where
   pub record VacantOf (eq : K → K → Bool) (s : ShardState K V S) (k : K) (v : VacantState K V S) : Type 0 where
     pub absent : at eq (pairs s) k ≡ None
     pub key : v.key ≡ k
-    pub same : pairs v.shard ≡ pairs s
+    pub same : EachOnce eq (pairs s) (pairs v.shard)
+    pub len : shard_len v.shard ≡ shard_len s
     pub stays : SameShard s v.shard
     pub room : shard_len v.shard < v.shard.capacity

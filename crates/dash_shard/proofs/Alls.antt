@@ -10,7 +10,7 @@ use Rattle.dash_shard.specs.Shard.{ShardState, slot, taken, pairs, own_keys, IsS
 use Rattle.dash_shard.specs.Each.{SweepsBy, Clears}
 use Rattle.dash_shard.specs.inner.Walks.{Sweeps, if_kept, altered, SweepsShard}
 use Rattle.dash_shard.specs.declared.shard.table.Table.{Table}
-use Rattle.dash_shard.specs.inner.Table.{pairs_of, hashes_of, IsHashed, IsTable}
+use Rattle.dash_shard.specs.inner.Table.{pairs_of, hashes_of, limit, IsHashed, IsTable}
 use Rattle.dash_shard.proofs.Remade.{KeepsKey, remade, fewer-remade, hashed-remade, on_shard-remade, becomes-remade, stays-remade, each-once, Acts, acts, makes}
 use Rattle.dash_shard.proofs.Shards.{state, Inside}
 use Rattle.dash_shard.proofs.Sweeping.{taken-none}
@@ -49,13 +49,13 @@ module _ {K V S : Type 0} (h : KeyHash K S)
       amount = inside.shard.amount;
     }
 
-    pub remade-inside : hashes_of new.nodes.items ≡ hashes_of t.nodes.items → new.len ≡ length (taken (pairs_of new.nodes.items)) → IsTable new → Inside h law s number amount new
-    remade-inside hashes counted table = record {
+    pub remade-inside : hashes_of new.nodes.items ≡ hashes_of t.nodes.items → IsTable new → Inside h law s number amount new
+    remade-inside hashes table = record {
       shard = remade-shard;
       table = table;
       hashed = subst (λ xs. IsHashed (λ j. h.hash s j) xs (hashes_of new.nodes.items)) (sym slots)
           (subst (λ hs. IsHashed (λ j. h.hash s j) (remade becomes (pairs_of t.nodes.items)) hs) (sym hashes) (hashed-remade becomes keeps (λ j. h.hash s j) _ _ inside.hashed));
-      counted = counted;
+      counted = table.counted;
     }
 
     -- by the keys of the shard alone, which all go to it
@@ -87,7 +87,7 @@ module _ {K V S : Type 0} (h : KeyHash K S)
       did : Acts T if_kept (keys_of h (of t)) law.laws f (pairs_of t.nodes.items) (pairs_of new.nodes.items) swept.0
       did = acts T if_kept (keys_of h (of t)) law.laws f _ _ swept.0 inside.shard.contents.distinct swept.1
 
-      pub retained-inside : hashes_of new.nodes.items ≡ hashes_of t.nodes.items → new.len ≡ length (taken (pairs_of new.nodes.items)) → IsTable new → Inside h law s number amount new
+      pub retained-inside : hashes_of new.nodes.items ≡ hashes_of t.nodes.items → IsTable new → Inside h law s number amount new
       retained-inside = remade-inside t new inside _ (kept-key did.act) did.made
 
       pub retained-shard : IsShard h (of new)
@@ -101,7 +101,7 @@ module _ {K V S : Type 0} (h : KeyHash K S)
         does = record {
           taken = remade-takes t new inside _ (kept-key did.act) did.made (Retain number did.act) refl;
           slots = remade-stays t new inside _ (kept-key did.act) did.made (Retain number did.act) refl;
-          room = room;
+          room = ap limit room;
         };
       })
 
@@ -111,7 +111,7 @@ module _ {K V S : Type 0} (h : KeyHash K S)
       pub sweeps-kept : length new.nodes.items ≡ length t.nodes.items → (z : ShardState K V S) → of t ≡ z → SweepsShard T if_kept f swept.0 z (of new)
       sweeps-kept room z view = subst (λ x. SweepsShard T if_kept f swept.0 x (of new)) view (record {
         swept = swept.1;
-        room = room;
+        room = ap limit room;
         stays = record { number = refl; amount = refl; hasher = refl };
       })
 
@@ -123,8 +123,8 @@ module _ {K V S : Type 0} (h : KeyHash K S)
       same-length : length (taken (pairs_of new.nodes.items)) ≡ length (taken (pairs_of t.nodes.items))
       same-length = ap (λ xs. length (taken xs)) made.made ∙ length-altered made.act (pairs_of t.nodes.items)
 
-      pub altered-inside : hashes_of new.nodes.items ≡ hashes_of t.nodes.items → new.len ≡ t.len → IsTable new → Inside h law s number amount new
-      altered-inside hashes len table = remade-inside t new inside _ (altered-key made.act) made.made hashes (len ∙ inside.counted ∙ sym same-length) table
+      pub altered-inside : hashes_of new.nodes.items ≡ hashes_of t.nodes.items → IsTable new → Inside h law s number amount new
+      altered-inside hashes table = remade-inside t new inside _ (altered-key made.act) made.made hashes table
 
       pub altered-shard : IsShard h (of new)
       altered-shard = remade-shard t new inside _ (altered-key made.act) made.made
@@ -137,7 +137,7 @@ module _ {K V S : Type 0} (h : KeyHash K S)
         does = record {
           taken = remade-takes t new inside _ (altered-key made.act) made.made (AlterAll number made.act) refl;
           slots = remade-stays t new inside _ (altered-key made.act) made.made (AlterAll number made.act) refl;
-          room = room;
+          room = ap limit room;
         };
       })
 
@@ -147,7 +147,7 @@ module _ {K V S : Type 0} (h : KeyHash K S)
       pub sweeps-altered : length new.nodes.items ≡ length t.nodes.items → (z : ShardState K V S) → of t ≡ z → SweepsShard T altered f swept.0 z (of new)
       sweeps-altered room z view = subst (λ x. SweepsShard T altered f swept.0 x (of new)) view (record {
         swept = swept.1;
-        room = room;
+        room = ap limit room;
         stays = record { number = refl; amount = refl; hasher = refl };
       })
 
@@ -167,8 +167,8 @@ module _ {K V S : Type 0} (h : KeyHash K S)
     none-left : taken (pairs_of new.nodes.items) ≡ []
     none-left = ap taken slots ∙ taken-none (pairs_of t.nodes.items)
 
-    pub cleared-inside : hashes_of new.nodes.items ≡ hashes_of t.nodes.items → new.len ≡ 0 → IsTable new → Inside h law s number amount new
-    cleared-inside hashes len table = remade-inside t new inside (λ _. None) none-key (slots ∙ none-made (pairs_of t.nodes.items)) hashes (len ∙ ap length (sym none-left)) table
+    pub cleared-inside : hashes_of new.nodes.items ≡ hashes_of t.nodes.items → IsTable new → Inside h law s number amount new
+    cleared-inside hashes table = remade-inside t new inside (λ _. None) none-key (slots ∙ none-made (pairs_of t.nodes.items)) hashes table
 
     pub cleared-shard : IsShard h (of new)
     cleared-shard = remade-shard t new inside (λ _. None) none-key (slots ∙ none-made (pairs_of t.nodes.items))
@@ -176,6 +176,6 @@ module _ {K V S : Type 0} (h : KeyHash K S)
     pub clears : length new.nodes.items ≡ length t.nodes.items → (z : ShardState K V S) → of t ≡ z → Clears z (of new)
     clears room z view = subst (λ x. Clears x (of new)) view (record {
       empty = none-left;
-      room = room;
+      room = ap limit room;
       stays = record { number = refl; amount = refl; hasher = refl };
     })

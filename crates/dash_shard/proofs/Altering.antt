@@ -9,7 +9,7 @@ use Rattle.dash_shard.specs.Contents.{Keys, at}
 use Rattle.dash_shard.specs.Steps.{Act, Remove, RemoveIfMut, Alter, Pair, Done, changed, if_no, if_yes}
 use Rattle.dash_shard.specs.Shard.{ShardState, slot, pairs, own_keys, Routes, TakesInPlace, TakesBy}
 use Rattle.dash_shard.specs.Held.{Loses, Replaces}
-use Rattle.dash_shard.specs.inner.Table.{Holds, IsTable, IsRewritten, pairs_of, hashes_of}
+use Rattle.dash_shard.specs.inner.Table.{Holds, IsTable, IsRewritten, limit, pairs_of, hashes_of}
 use Rattle.dash_shard.proofs.Shards.{state, Inside, at-found, removed, removes, lost}
 use Rattle.dash_shard.proofs.Rewriting.{found-at, rewritten-len, rewritten-inside, rewritten-at, rewritten-becomes, rewritten-stays}
 use Rattle.dash_shard.specs.Hashing.{KeyHash}
@@ -128,7 +128,7 @@ module _ {K V S : Type 0} (h : KeyHash K S) where
           };
           stays = record { number = refl; amount = refl; hasher = refl };
         };
-        room = r.slots;
+        room = ap limit r.slots;
         slots = rewritten-stays h law s number amount t new inside k i found (valued v) found.equal r (option_map (changed (to v c))) refl;
       })
 
@@ -143,7 +143,7 @@ module _ {K V S : Type 0} (h : KeyHash K S) where
               };
               stays = record { number = refl; amount = refl; hasher = refl };
             };
-            room = r.slots;
+            room = ap limit r.slots;
             slots = rewritten-stays h law s number amount t new inside k i found (valued v) found.equal r f refl;
           })
 
@@ -184,7 +184,7 @@ module _ {K V S : Type 0} (h : KeyHash K S) where
         let of : List (Option (K × V)) → ℕ → ShardState K V S = λ ps n. record { slots = ps; number = number; amount = amount; hasher = s; capacity = n } in
         subst (λ x. Replaces h.eq x now i q.0 q.1 old) view (record {
           answers = there;
-          here = ap (λ ps. of ps (length new.nodes.items)) r.pairs ∙ ap (of (slice_set (pairs_of t.nodes.items) i (Some q))) r.slots;
+          here = ap (λ ps. of ps (limit (length new.nodes.items))) r.pairs ∙ ap (of (slice_set (pairs_of t.nodes.items) i (Some q))) (ap limit r.slots);
           contents = λ j. rewritten-at h law s number amount t new inside k i found q equal r j ∙ ap (λ x. cond (h.eq x j) (Some q) (at h.eq (pairs (state h law s number amount t)) j)) same;
           len = rewritten-len h law s number amount t new inside k i found q equal r;
         })

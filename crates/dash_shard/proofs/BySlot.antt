@@ -9,9 +9,9 @@ use Rattle.dash_shard.specs.Hashing.{KeyHash}
 use Rattle.dash_shard.specs.Contents.{at}
 use Rattle.dash_shard.specs.Steps.{Insert, Remove, Old, Pair}
 use Rattle.dash_shard.specs.Shard.{ShardState, slot, pairs, own_keys, HasKey, Routes, SameShard, TakesInPlace, TakesAt, with_value_in}
-use Rattle.dash_shard.specs.inner.Table.{Holds, IsTable, pairs_of, hashes_of}
+use Rattle.dash_shard.specs.inner.Table.{Holds, IsTable, limit, pairs_of, hashes_of}
 use Rattle.dash_shard.proofs.Equals.{at-equal}
-use Rattle.dash_shard.proofs.Rewriting.{spot-within}
+use Rattle.dash_shard.proofs.Nodes.{spot-within}
 use Rattle.dash_shard.proofs.Shards.{state, Inside, Inserted, Removed, holds-key, at-found, replaced, removed, removes}
 use Rattle.dash_shard.proofs.Slots.{absent-at}
 use Rattle.dash_shard.specs.inner.Steps.{after}
@@ -70,15 +70,15 @@ module _ {K V S : Type 0} (h : KeyHash K S) (law : IsLawful h) where
       pub set-here : length new.nodes.items ≡ length t.nodes.items → now ≡ with_value_in z i v
       set-here long =
           let of : List (Option (K × V)) → ℕ → ShardState K V S = λ xs n. record { slots = xs; number = number; amount = amount; hasher = s; capacity = n } in
-          ap (λ xs. of xs (length new.nodes.items)) slots
-          ∙ ap (of (set (pairs_of t.nodes.items) i (option_map (λ p. (p.0, v)) (slot (pairs_of t.nodes.items) i)))) long
+          ap (λ xs. of xs (limit (length new.nodes.items))) slots
+          ∙ ap (of (set (pairs_of t.nodes.items) i (option_map (λ p. (p.0, v)) (slot (pairs_of t.nodes.items) i)))) (ap limit long)
           ∙ ap (λ x. with_value_in x i v) view
 
       pub sets : length new.nodes.items ≡ length t.nodes.items → (old : V) → Some old ≡ option_map (λ p. p.1) (slot (pairs_of t.nodes.items) i) → TakesAt h.eq z now i (λ k. Insert k v) (Old (Some old))
       sets long old was k has =
           let found = held k has in
           let x = set-there k found in
-          rw (was ∙ ap (λ o. option_map (λ p. p.1) o) found.is) (subst (λ y. TakesInPlace h.eq y now (Insert k v) (Old (Some found.pair.1))) view (record { taken = x.takes; slots = x.stays; room = long }))
+          rw (was ∙ ap (λ o. option_map (λ p. p.1) o) found.is) (subst (λ y. TakesInPlace h.eq y now (Insert k v) (Old (Some found.pair.1))) view (record { taken = x.takes; slots = x.stays; room = ap limit long }))
 
     module _ (slots : pairs_of new.nodes.items ≡ set (pairs_of t.nodes.items) i None) (hashes : hashes_of new.nodes.items ≡ hashes_of t.nodes.items) (len : new.len + 1 ≡ t.len) (table : IsTable new) where
       pub gone-there : (k : K) (found : Holds h.eq t.nodes.items k i) → Removed h law s number amount t new k (Some found.pair)

@@ -1,8 +1,8 @@
 -- Counting a pair at the groups that its way goes past, and taking it off their counts.
-use Rattle.std.proofs.Common.{◌≡◌, ◌⊎◌, ℕ, zero, suc, ◌+◌, ◌-◌, ◌*◌, ◌/◌, ◌%◌, ◌^◌, ◌<◌, ◌≤◌, Bool, true, false, List, length, set, refl, sym, ap, subst, ◌∙◌, inl, inr, arith, slice_index, get_or-set_same, get_or-set_other}
+use Rattle.std.proofs.Common.{◌≡◌, ◌⊎◌, ℕ, ◌+◌, ◌-◌, ◌*◌, ◌/◌, ◌<◌, ◌≤◌, List, length, set, refl, sym, ap, subst, ◌∙◌, inl, inr, arith, slice_index, get_or-set_same, get_or-set_other}
 use Rattle.std.proofs.lemmas.Bool.{cases_eq}
 use Rattle.std.proofs.Math.ListN.{length-set}
-use Rattle.dash_shard.specs.inner.Marks.{round, step_to, goes_past, lane, IsClean, KeepsTags}
+use Rattle.dash_shard.specs.inner.Marks.{round, step_to, goes_past, IsClean, KeepsTags}
 use Rattle.dash_shard.proofs.Ways.{past_yes, past_no, past_more, past_here, round-low, step_round}
 
 -- the pair was counted at the groups of its way's first steps

@@ -8,10 +8,10 @@ use Rattle.std.proofs.lemmas.Option.{same_Some}
 use Rattle.std.proofs.Math.ListN.{length-set}
 use Rattle.dash_shard.specs.declared.shard.table.Table.{Table}
 use Rattle.dash_shard.specs.Shard.{ShardState, slot, HasKey, with_value_in, with_value_of}
-use Rattle.dash_shard.specs.inner.Table.{node, pairs_of, with_value, with_value_at}
+use Rattle.dash_shard.specs.inner.Table.{node, limit, pairs_of, with_value, with_value_at}
 use Rattle.dash_shard.proofs.Rewriting.{holds-pair, valued-rewritten, rewritten-inside}
 use Rattle.dash_shard.proofs.Shards.{state, Inside}
-use Rattle.dash_shard.proofs.Tables.{slot_node}
+use Rattle.dash_shard.proofs.Nodes.{slot_node}
 use Rattle.dash_shard.specs.Hashing.{KeyHash}
 use Rattle.dash_shard.specs.inner.Keys.{IsLawful}
 
@@ -27,9 +27,9 @@ module _ {K V S : Type 0} (h : KeyHash K S)
   lent-state v =
       let nodes = t.nodes.items in
       let of : List (Option (K × V)) → ℕ → ShardState K V S = λ ps n. record { slots = ps; number = number; amount = amount; hasher = s; capacity = n } in
-      let wide = length (set nodes i (with_value (node nodes i) v)) in
+      let wide = limit (length (set nodes i (with_value (node nodes i) v))) in
       ap (λ ps. of ps wide) (map-set (λ n. n.pair) nodes i (with_value (node nodes i) v) ∙ ap (λ o. set (pairs_of nodes) i (option_map (λ p. (p.0, v)) o)) (sym (slot_node nodes i)))
-      ∙ ap (of (set (pairs_of nodes) i (option_map (λ p. (p.0, v)) (slot (pairs_of nodes) i)))) (length-set nodes i (with_value (node nodes i) v))
+      ∙ ap (of (set (pairs_of nodes) i (option_map (λ p. (p.0, v)) (slot (pairs_of nodes) i)))) (ap limit (length-set nodes i (with_value (node nodes i) v)))
 
 -- the one slot with a key equal to k has another value just where each such pair has
 module _ {K V : Type 0} (eq : K → K → Bool) (k : K) (v : V) where

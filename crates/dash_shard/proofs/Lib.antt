@@ -4,7 +4,6 @@ mod Amounts
 pub mod BySlot
 mod Asking
 mod Carrying
-mod Chaining
 mod Changing
 mod Counts
 pub mod Equals
@@ -19,8 +18,8 @@ mod LockShown
 mod Marked
 pub mod Moving
 mod Nodes
-mod Passing
 mod Slots
+mod Placing
 mod Positions
 pub mod Remade
 mod RoundParts
@@ -28,12 +27,10 @@ mod Rewriting
 mod Rounds
 pub mod Routing
 pub mod Rows
-mod Seeking
+mod Searching
 mod Shards
 mod Shrinking
-mod Stacks
 mod Sweeping
-mod Tables
 pub mod Unions
 mod Walking
 mod Ways

@@ -1,14 +1,19 @@
 -- What a look-up answers, by the shard's slots.
-use Rattle.std.proofs.Common.{◌≡◌, ℕ, Option, Some, None, IfSome, IfNone, refl, sym, ap, subst, ◌∙◌, inl, inr}
+use Rattle.std.proofs.Common.{◌≡◌, ℕ, ◌+◌, ◌-◌, ◌/◌, ◌%◌, ◌<◌, ◌≤◌, arith, Option, Some, None, IfSome, IfNone, refl, sym, ap, subst, ◌∙◌, inl, inr}
 use Rattle.std.specs.Option.{IsSomeAnd}
 use Rattle.std.proofs.lemmas.Bool.{cases_eq, both_ways, true≢false}
+use Rattle.std.proofs.lemmas.List.{length-map}
 use Rattle.std.proofs.lemmas.Option.{none-some, same_Some}
 use Rattle.dash_shard.specs.Hashing.{KeyHash}
 use Rattle.dash_shard.specs.inner.Keys.{IsLawful}
 use Rattle.dash_shard.specs.Shard.{ShardState, slot, HasKey}
 use Rattle.dash_shard.specs.Held.{Finds}
 use Rattle.dash_shard.specs.declared.shard.table.Table.{Table}
-use Rattle.dash_shard.specs.inner.Table.{Holds, IsAbsent, pairs_of}
+use Rattle.dash_shard.specs.Search.{groups, Searches}
+use Rattle.dash_shard.specs.declared.shard.table.Search.{Search}
+use Rattle.dash_shard.specs.inner.Marks.{group_at}
+use Rattle.dash_shard.specs.inner.Table.{Holds, IsAbsent, IsTable, groups_in, pairs_of}
+use Rattle.dash_shard.proofs.Ways.{round_mod}
 use Rattle.dash_shard.proofs.Shards.{state, Inside, at-found, at-missing, others-found, missing}
 
 -- what stands at a slot that holds something
@@ -46,3 +51,31 @@ module _ {K V S : Type 0} (h : KeyHash K S) where
     pub located : (z : ShardState K V S) → state h law s number amount t ≡ z → (r : Option ℕ) → IfSome r (Holds h.eq t.nodes.items k) → IfNone r (IsAbsent h.eq t.nodes.items hash k) → Finds h.eq z k r
     located z view None some none = subst (λ x. Finds h.eq x k None) view (misses none)
     located z view (Some m) some none = subst (λ x. Finds h.eq x k (Some m)) view (finds m some)
+
+  -- the groups of a shard are those of its table
+  pub groups-of : (s : S) (number amount : ℕ) (law : IsLawful h) (t : Table K V) → IsTable t → groups (state h law s number amount t) ≡ groups_in t
+  groups-of s number amount law t table = let slots = table.marked.slots_len in omega (arith, slots)
+
+  -- what a search says, by the shard's slots
+  pub searched : (law : IsLawful h) (s : S) (number amount : ℕ) (t : Table K V) (inside : Inside h law s number amount t) (k : K) (hash : ℕ) (is : hash ≡ h.hash s k) (z : ShardState K V S)
+      → state h law s number amount t ≡ z → (r : Search) → IfSome r.position (Holds h.eq t.nodes.items k) → IfNone r.position (IsAbsent h.eq t.nodes.items hash k) → (r.visits ≤ groups_in t) × (0 < groups_in t → 0 < r.visits)
+      → IfSome r.position (λ i. i / 16 ≡ group_at (groups_in t) hash (r.visits - 1)) → Searches h z k r
+  searched law s number amount t inside k hash is z view r some none visits last = subst (λ x. Searches h x k r) view (record {
+    finds = located law s number amount t inside k hash is (state h law s number amount t) refl r.position some none;
+    some = λ pos. visits.1 (omega (arith, pos, whole));
+    most = let most = visits.0 in omega (arith, most, whole);
+    last = from r.position some last;
+  })
+    where
+      whole : groups (state h law s number amount t) ≡ groups_in t
+      whole = groups-of s number amount law t inside.table
+
+      from : (o : Option ℕ) → IfSome o (Holds h.eq t.nodes.items k) → IfSome o (λ i. i / 16 ≡ group_at (groups_in t) hash (r.visits - 1)) → IfSome o (λ i. i / 16 ≡ (h.hash s k + (r.visits - 1)) % groups (state h law s number amount t))
+      from None found e = tt
+      from (Some i) found e = e ∙ round_mod (groups_in t) hash (r.visits - 1) pos within ∙ ap (λ x. (x + (r.visits - 1)) % groups_in t) is ∙ ap (λ n. (h.hash s k + (r.visits - 1)) % n) (sym whole)
+        where
+          pos : 0 < groups_in t
+          pos = let slots = inside.table.marked.slots_len in let lt = found.within in omega (arith, slots, lt, length-map t.nodes.items (λ n. n.pair))
+
+          within : r.visits - 1 < groups_in t
+          within = let most = visits.0 in let some = visits.1 pos in omega (arith, most, some, pos)

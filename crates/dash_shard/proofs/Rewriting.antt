@@ -1,5 +1,5 @@
 -- A table with another pair in a taken slot, and the shard that has it.
-use Rattle.std.proofs.Common.{◌≡◌, ℕ, ◌+◌, ◌<◌, ◌==◌, Bool, true, List, length, set, get_or, Option, Some, None, is_some, IsSome, IsTrue, refl, sym, ap, subst, ◌∙◌, inl, inr, arith, eq-eqb, get_or-set_same, get_or-set_other}
+use Rattle.std.proofs.Common.{◌≡◌, ℕ, ◌<◌, ◌==◌, Bool, true, List, length, set, get_or, Option, Some, None, is_some, IsSome, IsTrue, refl, sym, ap, subst, ◌∙◌, inl, inr, arith, eq-eqb, get_or-set_same, get_or-set_other}
 use Rattle.std.specs.Prelude.{IfSome, if◌then◌else◌}
 use Rattle.std.specs.Option.{option_map, IsSomeAnd}
 use Rattle.std.specs.Vec.{with_item}
@@ -15,35 +15,20 @@ use Rattle.dash_shard.specs.Contents.{Keys, at, IsOnShard}
 use Rattle.dash_shard.specs.Shard.{ShardState, slot, taken, pairs, Routes, IsShard}
 use Rattle.dash_shard.specs.inner.Table.{node, blank, Holds, IsTable, IsRewritten, IsHashed, pairs_of, hashes_of, with_value_at}
 use Rattle.dash_shard.proofs.Equals.{at-equal}
-use Rattle.dash_shard.proofs.Nodes.{pairs-revalued, hashes-revalued, chained-revalued, stack-revalued, taken_within}
+use Rattle.dash_shard.proofs.Nodes.{spot-within, node-read, slot_node, pairs-revalued, hashes-revalued, table-revalued}
 use Rattle.dash_shard.proofs.Slots.{NoOther, Equal, at-written, on_shard-written, length-taken-replace, stays-written}
 use Rattle.dash_shard.proofs.Shards.{state, Inside, hashed-replace, routes-equal, equal-found, others-found, at-found}
-use Rattle.dash_shard.proofs.Tables.{slot_node}
-
-module _ {K V : Type 0} (nodes : List (Node K V)) (i : ℕ) where
-  -- a taken slot is one of the slots
-  pub spot-within : IsSome (slot (pairs_of nodes) i) → i < length nodes
-  spot-within some = taken_within nodes i (ap is_some (sym (slot_node nodes i)) ∙ some)
-
-  -- the node that an index reads
-  pub node-read : (n : Node K V) → i < length nodes → n ≡ get_or nodes i n → n ≡ node nodes i
-  node-read n within read = read ∙ get_or_default nodes i n blank within
 
 module _ {K V : Type 0} (t : Table K V) (i : ℕ) (n : Node K V) (p q : K × V) (table : IsTable t) (within : i < length t.nodes.items) (read : n ≡ get_or t.nodes.items i n) (stored : n.pair ≡ Some p) where
-  pub rewritten : (new : Table K V) → new.nodes.items ≡ set t.nodes.items i (record n { pair = Some q }) → new.len ≡ t.len → new.free ≡ t.free → IsRewritten i q t new
-  rewritten new nodes len free =
+  pub rewritten : (new : Table K V) → new.nodes.items ≡ set t.nodes.items i (record n { pair = Some q }) → new.tags.items ≡ t.tags.items → new.counts.items ≡ t.counts.items → new.len ≡ t.len → IsRewritten i q t new
+  rewritten new nodes tags counts len =
       let row = ap length nodes ∙ length-set t.nodes.items i _ in
       record {
         pairs = ap pairs_of nodes ∙ pairs-revalued t.nodes.items i n p q within read stored;
         hashes = ap hashes_of nodes ∙ hashes-revalued t.nodes.items i n p q within read stored;
         len = len;
         slots = row;
-        table = record {
-          free = table.free;
-          counted = ap (λ m. m + table.free) len ∙ table.counted ∙ sym row;
-          chained = rw nodes (chained-revalued t.nodes.items i n p q within read stored table.chained);
-          stack = rw (nodes, free) (stack-revalued t.nodes.items i n p q within read stored table.free t.free table.stack);
-        };
+        table = table-revalued t new i n p q table within read stored nodes tags counts len;
       }
 
 -- what a slot has, if its key is equal
@@ -63,7 +48,7 @@ module _ {K V : Type 0} (t : Table K V) (i : ℕ) (p : K × V) (v : V) (table : 
       let within : i < length nodes = spot-within nodes i (ap is_some there) in
       let stored : (node nodes i).pair ≡ Some p = sym (slot_node nodes i) ∙ there in
       rewritten t i (node nodes i) p (p.0, v) table within (sym (get_or_default nodes i (node nodes i) blank within)) stored _
-      (ap (λ o. set nodes i (record (node nodes i) { pair = option_map (λ q. (q.0, v)) o })) stored) refl refl
+      (ap (λ o. set nodes i (record (node nodes i) { pair = option_map (λ q. (q.0, v)) o })) stored) refl refl refl
 
   pub valued-slot : slot (pairs_of (with_value_at t i v).nodes.items) i ≡ Some (p.0, v)
   valued-slot =
@@ -82,7 +67,7 @@ module _ {K V : Type 0} (t : Table K V) (i : ℕ) (n : Node K V) (table : IsTabl
       from : (o : Option (K × V)) → n.pair ≡ o → IfSome o (λ p. (w : V) × (now ≡ Some (p.0, w)) × G p w)
           → IfSome (slot (pairs_of t.nodes.items) i) (λ p. (w : V) × IsRewritten i (p.0, w) t (record t { nodes = with_item t.nodes i (record n { pair = now }) }) × G p w)
       from None e h = absurd (true≢false (sym some ∙ ap is_some (there ∙ e)))
-      from (Some p) e h = rw (there ∙ e) (h.0, rewritten t i n p (p.0, h.0) table within read e _ (ap (λ o. set t.nodes.items i (record n { pair = o })) h.1) refl refl, h.2)
+      from (Some p) e h = rw (there ∙ e) (h.0, rewritten t i n p (p.0, h.0) table within read e _ (ap (λ o. set t.nodes.items i (record n { pair = o })) h.1) refl refl refl, h.2)
 
 module _ {K V S : Type 0} (h : KeyHash K S)
     (law : IsLawful h) (s : S) (number amount : ℕ)

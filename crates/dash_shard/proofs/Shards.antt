@@ -1,35 +1,23 @@
 -- A shard's state after each change of its table.
-use Rattle.std.proofs.Common.{◌≡◌, ◌⊎◌, ℕ, zero, suc, ◌+◌, ◌<◌, ◌≤◌, Bool, true, false, cond, List, [], ◌∷◌, ◌++◌, length, get_or, set, Option, Some, None, refl, sym, ap, subst, ◌∙◌, inl, inr, arith, add-zero, is_some, IsTrue, Ok, Err, get_or-set_same, get_or-set_other}
-use Rattle.std.specs.Prelude.{Result, OnOk, OnErr}
+use Rattle.std.proofs.Common.{◌≡◌, ◌⊎◌, ℕ, zero, suc, ◌+◌, ◌<◌, Bool, true, false, cond, List, [], ◌∷◌, length, get_or, set, Option, Some, None, refl, sym, ap, subst, ◌∙◌, inl, inr, arith, add-zero, is_some, IsTrue, Ok, Err, get_or-set_same, get_or-set_other}
+use Rattle.std.specs.Prelude.{IfSome}
 use Rattle.std.specs.Option.{option_map, IsSomeAnd}
 use Rattle.std.proofs.lemmas.Bool.{cases_Bool, cases_eq}
 use Rattle.std.proofs.lemmas.List.{length-map}
 use Rattle.std.proofs.lemmas.Option.{none-some, same_Some}
-use Rattle.std.proofs.Math.ListN.{replicate, length-set}
+use Rattle.std.proofs.Math.ListN.{length-set}
 use Rattle.dash_shard.specs.Hashing.{KeyHash, IsAmount, route_of_hash}
 use Rattle.dash_shard.specs.inner.Keys.{IsLawful, keys_of}
 use Rattle.dash_shard.specs.Contents.{Keys, at, IsOnShard}
 use Rattle.dash_shard.specs.Steps.{Insert, Remove, Old, Pair}
 use Rattle.dash_shard.specs.inner.Steps.{key_or, after}
 use Rattle.dash_shard.specs.Shard.{ShardState, slot, taken, pairs, shard_len, own_keys, Routes, IsShard, TakesStep, TakesInPlace, StaysPut}
-use Rattle.dash_shard.specs.Held.{Inserts, Loses, Reserves}
+use Rattle.dash_shard.specs.Held.{Inserts, Loses}
 use Rattle.dash_shard.specs.declared.shard.table.Node.{Node}
 use Rattle.dash_shard.specs.declared.shard.table.Table.{Table}
-use Rattle.dash_shard.specs.inner.Table.{pairs_of, hashes_of, next_slot, Holds, IsAbsent, IsHashed, IsGrown, IsTable, IsInside}
+use Rattle.dash_shard.specs.inner.Table.{pairs_of, hashes_of, limit, Holds, IsAbsent, IsHashed, IsTable, IsInside}
 use Rattle.dash_shard.proofs.Equals.{at-equal}
-use Rattle.dash_shard.proofs.Tables.{next_free}
-use Rattle.dash_shard.proofs.Slots.{NoOther, Equal, at-absent, absent-at, at-sole, at-written, others-fail, on_shard-written, taken-empties, length-taken-fill, length-taken-replace, length-taken-clear, stays-written}
-
--- empty slots behind
-slot-empties : {A : Type 0} (xs : List (Option A)) (n i : ℕ) → slot (xs ++ replicate n None) i ≡ slot xs i
-slot-empties {A} [] n i = nothing n i
-  where
-    nothing : (n i : ℕ) → slot (replicate {A = Option A} n None) i ≡ None
-    nothing zero i = refl
-    nothing (suc n) zero = refl
-    nothing (suc n) (suc i) = nothing n i
-slot-empties (o ∷ xs) n zero = refl
-slot-empties (o ∷ xs) n (suc i) = slot-empties xs n i
+use Rattle.dash_shard.proofs.Slots.{NoOther, Equal, at-absent, absent-at, at-sole, at-written, others-fail, on_shard-written, length-taken-fill, length-taken-replace, length-taken-clear, stays-written}
 
 -- where no slot is taken, none has a pair
 none-taken : {A : Type 0} (xs : List (Option A)) (i : ℕ) (p : A) → taken xs ≡ [] → slot xs i ≡ Some p → ⊥
@@ -38,23 +26,12 @@ none-taken (None ∷ xs) zero p none e = none-some p e
 none-taken (None ∷ xs) (suc i) p none e = none-taken xs i p none e
 none-taken (Some q ∷ xs) i p none e = cc
 
--- a number that stands at an index still stands there with more behind
-get_or-more : (xs ys : List ℕ) (i : ℕ) → i < length xs → get_or (xs ++ ys) i 0 ≡ get_or xs i 0
-get_or-more [] ys i lt = absurd (omega arith)
-get_or-more (x ∷ xs) ys zero lt = refl
-get_or-more (x ∷ xs) ys (suc i) lt = get_or-more xs ys i (omega arith)
-
-slot-within : {A : Type 0} (xs : List (Option A)) (i : ℕ) (p : A) → slot xs i ≡ Some p → i < length xs
+pub slot-within : {A : Type 0} (xs : List (Option A)) (i : ℕ) (p : A) → slot xs i ≡ Some p → i < length xs
 slot-within [] i p e = absurd (none-some p e)
 slot-within (o ∷ xs) zero p e = omega arith
 slot-within (o ∷ xs) (suc i) p e = omega (arith, slot-within xs i p e)
 
 module _ {K V : Type 0} (hash : K → ℕ) where
-  hashed-empties : (xs : List (Option (K × V))) (hs : List ℕ) (n : ℕ) → length hs ≡ length xs → IsHashed hash xs hs → IsHashed hash (xs ++ replicate n None) (hs ++ replicate n 0)
-  hashed-empties xs hs n long h i p e =
-      let old = sym (slot-empties xs n i) ∙ e in
-      get_or-more hs (replicate n 0) i (omega (arith, long, slot-within xs i p old)) ∙ h i p old
-
   hashed-fill : (xs : List (Option (K × V))) (hs : List ℕ) (i : ℕ) (k : K) (v : V) (n : ℕ) → i < length xs → length hs ≡ length xs → n ≡ hash k → IsHashed hash xs hs → IsHashed hash (set xs i (Some (k, v))) (set hs i n)
   hashed-fill xs hs i k v n within long is h j p e = elim (cases_eq j i) as (λ _. get_or (set hs i n) j 0 ≡ hash p.0) [
     | inl same ↦
@@ -71,7 +48,7 @@ module _ {K V : Type 0} (hash : K → ℕ) where
     | inr other ↦ h j q (sym (get_or-set_other xs i j (Some r) None other) ∙ e)
   ]
 
-  hashed-clear : (xs : List (Option (K × V))) (hs : List ℕ) (i : ℕ) → i < length xs → IsHashed hash xs hs → IsHashed hash (set xs i None) hs
+  pub hashed-clear : (xs : List (Option (K × V))) (hs : List ℕ) (i : ℕ) → i < length xs → IsHashed hash xs hs → IsHashed hash (set xs i None) hs
   hashed-clear xs hs i within h j p e = elim (cases_eq j i) as (λ _. get_or hs j 0 ≡ hash p.0) [
     | inl same ↦ absurd (none-some p (sym (get_or-set_same xs i None None within) ∙ ap (λ m. slot (set xs i None) m) (sym same) ∙ e))
     | inr other ↦ h j p (sym (get_or-set_other xs i j None None other) ∙ e)
@@ -87,17 +64,25 @@ holds-key {K} {V} eq nodes k i has = from (slot (pairs_of nodes) i) refl has
 
 -- as many hashes as slots
 columns : {K V : Type 0} (nodes : List (Node K V)) → length (hashes_of nodes) ≡ length (pairs_of nodes)
-columns nodes = length-map nodes (λ n. n.hash) ∙ sym (length-map nodes (λ n. n.pair))
+columns nodes = length-map nodes (λ n. n.hash.value) ∙ sym (length-map nodes (λ n. n.pair))
 
 -- the hash by the hasher of a state is that by the hasher of the same state
 pub hash-same : {K V S : Type 0} {h : KeyHash K S} → IsLawful h → (k : K) (s t : ShardState K V S) → s ≡ t → (hash : ℕ) → hash ≡ h.hash t.hasher k → hash ≡ h.hash s.hasher k
 hash-same {h = h} law k s t same hash is = is ∙ sym (ap (λ x. h.hash x.hasher k) same)
 
+-- the hash of a key is that of an equal one in a slot
+pub hash-there : {K V S : Type 0} {h : KeyHash K S} → IsLawful h → (z : ShardState K V S) (k : K) (i hash : ℕ) → IsSomeAnd (slot z.slots i) (λ p. IsTrue (h.eq p.0 k)) → hash ≡ h.hash z.hasher k → IfSome (slot z.slots i) (λ p. hash ≡ h.hash z.hasher p.0)
+hash-there {K} {V} {h = h} law z k i hash has is = from (slot z.slots i) has
+  where
+    from : (o : Option (K × V)) → IsSomeAnd o (λ p. IsTrue (h.eq p.0 k)) → IfSome o (λ p. hash ≡ h.hash z.hasher p.0)
+    from None e = absurd e
+    from (Some p) e = is ∙ sym (law.respects z.hasher p.0 k e)
+
 module _ {K V S : Type 0} (h : KeyHash K S)
     (law : IsLawful h) (s : S) (number amount : ℕ) where
   -- the state of the shard that has this table
   abbrev pub state : Table K V → ShardState K V S
-  state t = record { slots = pairs_of t.nodes.items; number = number; amount = amount; hasher = s; capacity = length t.nodes.items }
+  state t = record { slots = pairs_of t.nodes.items; number = number; amount = amount; hasher = s; capacity = limit (length t.nodes.items) }
 
   abbrev pub Inside : Table K V → Type 0
   Inside t = IsInside h t (state t)
@@ -118,7 +103,7 @@ module _ {K V S : Type 0} (h : KeyHash K S)
 
   -- the same as contracts see it, where the state before is written z
   module _ (old new : Table K V) (k : K) (v : V) (o : Option V) (z : ShardState K V S) (view : state old ≡ z) (i : Inserted old new k v o) where
-    pub inserts : (shard_len z < z.capacity → length new.nodes.items ≡ z.capacity) → Inserts h.eq z (state new) k v (Ok o)
+    pub inserts : (shard_len z < z.capacity → limit (length new.nodes.items) ≡ z.capacity) → Inserts h.eq z (state new) k v (Ok o)
     inserts room = record {
       taken = subst (λ x. TakesStep h.eq x (state new) (Insert k v) (Old o)) view i.takes;
       len = subst (λ x. shard_len (state new) ≡ shard_len x + cond (is_some o) 0 1) view i.len;
@@ -130,11 +115,11 @@ module _ {K V S : Type 0} (h : KeyHash K S)
     }
 
   -- what an insert that finds no memory leaves
-  pub refuses : (old new : Table K V) (k : K) (v : V) (z : ShardState K V S) → state old ≡ z → Inside old → (new.nodes.items ≡ old.nodes.items) × (old.len ≡ length old.nodes.items) → at h.eq (pairs (state old)) k ≡ None
+  pub refuses : (old new : Table K V) (k : K) (v : V) (z : ShardState K V S) → state old ≡ z → Inside old → new ≡ old → (old.len < limit (length old.nodes.items) → ⊥) → at h.eq (pairs (state old)) k ≡ None
       → Inserts h.eq z (state new) k v (Err (record { key = k; value = v }))
-  refuses old new k v z view inside same none =
-      let of : List (Node K V) → ShardState K V S = λ ns. record { slots = pairs_of ns; number = number; amount = amount; hasher = s; capacity = length ns } in
-      let back : state new ≡ z = ap of same.0 ∙ view in
+  refuses old new k v z view inside same full none =
+      let back : state new ≡ z = ap state same ∙ view in
+      let fits = inside.table.fits in
       record {
         taken = tt;
         len = tt;
@@ -142,7 +127,7 @@ module _ {K V S : Type 0} (h : KeyHash K S)
         slots = tt;
         refused = (refl, refl, back);
         absent = subst (λ x. at h.eq (pairs x) k ≡ None) view none;
-        full = subst (λ x. shard_len x ≡ x.capacity) view (sym inside.counted ∙ same.1);
+        full = subst (λ x. shard_len x ≡ x.capacity) view (omega (arith, inside.counted, full, fits));
       }
 
   module _ (t : Table K V) (inside : Inside t) (k : K) where
@@ -295,17 +280,9 @@ module _ {K V S : Type 0} (h : KeyHash K S)
               ∙ stays-written w law.laws (pairs_of t.nodes.items) k i _ (λ o. Some (key_or k o, v)) room equal-before no-other (λ q there. absurd (none-some q (sym empty ∙ there))) j p e;
         }
 
-      -- a new pair on the next free slot, where there is room
-      module _ (hash : ℕ) (room : shard_len z < z.capacity) (slots : pairs_of new.nodes.items ≡ set (pairs_of t.nodes.items) (next_slot t) (Some (k, v))) where
-        next : (next_slot t < length t.nodes.items) × (slot (pairs_of t.nodes.items) (next_slot t) ≡ None)
-        next = next_free t inside.table (omega (arith, inside.counted, subst (λ x. shard_len x < x.capacity) (sym view) room))
-
-        pub filled-next : hash ≡ h.hash s k → at h.eq (pairs z) k ≡ None → hashes_of new.nodes.items ≡ set (hashes_of t.nodes.items) (next_slot t) hash → new.len ≡ t.len + 1
-            → IsTable new → Inserted t new k v None
-        filled-next is none hashes len table = filled (next_slot t) hash next.0 next.1 is (subst (λ x. at h.eq (pairs x) k ≡ None) (sym view) none) slots hashes len table
-
-        pub filled-slot : slot (pairs_of new.nodes.items) (next_slot t) ≡ Some (k, v)
-        filled-slot = ap (λ xs. slot xs (next_slot t)) slots ∙ get_or-set_same (pairs_of t.nodes.items) (next_slot t) (Some (k, v)) None (omega (arith, next.0, length-map t.nodes.items (λ n. n.pair)))
+      -- the slot has it
+      pub filled-slot : (i : ℕ) → i < length t.nodes.items → pairs_of new.nodes.items ≡ set (pairs_of t.nodes.items) i (Some (k, v)) → slot (pairs_of new.nodes.items) i ≡ Some (k, v)
+      filled-slot i within slots = ap (λ xs. slot xs i) slots ∙ get_or-set_same (pairs_of t.nodes.items) i (Some (k, v)) None (omega (arith, within, length-map t.nodes.items (λ n. n.pair)))
 
     module _ (z : ShardState K V S) (view : state t ≡ z) (here : Routes h z k) where
       -- the pair goes, and its slot is empty
@@ -358,16 +335,16 @@ module _ {K V S : Type 0} (h : KeyHash K S)
         pub removes : TakesInPlace h.eq z (state new) (Remove k) (Pair (Some found.pair))
         removes = subst (λ x. TakesInPlace h.eq x (state new) (Remove k) (Pair (Some found.pair))) view (record {
           taken = removed.takes;
-          room = sym (length-map new.nodes.items (λ n. n.pair)) ∙ ap length slots ∙ length-set (pairs_of t.nodes.items) i None ∙ length-map t.nodes.items (λ n. n.pair);
+          room = ap limit (sym (length-map new.nodes.items (λ n. n.pair)) ∙ ap length slots ∙ length-set (pairs_of t.nodes.items) i None ∙ length-map t.nodes.items (λ n. n.pair));
           slots = removed.stays;
         })
 
-    -- a pair that stands somewhere is counted
-    pub some-found : (i : ℕ) → Holds h.eq t.nodes.items k i → 0 < t.len
-    some-found i found = omega (arith, inside.counted, length-taken-clear (pairs_of t.nodes.items) i found.pair found.is)
+    -- the hash of a key stands beside the pair that a look-up of it found
+    pub hash-found : (hash : ℕ) → hash ≡ h.hash s k → (i : ℕ) → Holds h.eq t.nodes.items k i → hash ≡ get_or (hashes_of t.nodes.items) i 0
+    hash-found hash is i found = is ∙ sym (inside.hashed i found.pair found.is ∙ law.respects s found.pair.0 k found.equal)
 
   -- a table with no pairs
-  module _ (t : Table K V) (table : IsTable t) (empty : taken (pairs_of t.nodes.items) ≡ []) (len : t.len ≡ 0) where
+  module _ (t : Table K V) (table : IsTable t) (empty : taken (pairs_of t.nodes.items) ≡ []) where
     pub fresh-shard : number < amount → IsAmount amount → IsShard h (state t)
     fresh-shard below lawful = record {
       contents = subst (λ ps. IsOnShard (keys_of h (state t)) number ps) (sym empty) (record { distinct = tt; routed = λ k away. refl });
@@ -380,79 +357,5 @@ module _ {K V S : Type 0} (h : KeyHash K S)
       shard = fresh-shard below lawful;
       table = table;
       hashed = λ i p e. absurd (none-taken (pairs_of t.nodes.items) i p empty e);
-      counted = len ∙ ap length (sym empty);
+      counted = table.counted;
     }
-
-  -- empty slots came behind
-  module _ (t new : Table K V) (inside : Inside t) (grown : IsGrown t.nodes.items new.nodes.items) (len : new.len ≡ t.len) (table : IsTable new) where
-    pub grown-pairs : pairs (state new) ≡ pairs (state t)
-    grown-pairs = ap taken grown.pairs ∙ taken-empties (pairs_of t.nodes.items) grown.more
-
-    pub grown-inside : Inside new
-    grown-inside = record {
-      shard = record {
-        contents = subst (λ ps. IsOnShard (keys_of h (state t)) number ps) (sym grown-pairs) inside.shard.contents;
-        number = inside.shard.number;
-        amount = inside.shard.amount;
-      };
-      table = table;
-      hashed = subst (λ xs. IsHashed (λ j. h.hash s j) xs (hashes_of new.nodes.items)) (sym grown.pairs)
-          (subst (λ hs. IsHashed (λ j. h.hash s j) (pairs_of t.nodes.items ++ replicate grown.more None) hs) (sym grown.hashes)
-          (hashed-empties (λ j. h.hash s j) _ _ grown.more (columns t.nodes.items) inside.hashed));
-      counted = len ∙ inside.counted ∙ ap length (sym grown-pairs);
-    }
-
-    -- what making room leaves, where the state before is written z
-    pub reserved : (z : ShardState K V S) → state t ≡ z → {E : Type 0} → (additional : ℕ) (r : Result (Unit {0}) E) → OnOk r (new.len + additional ≤ length new.nodes.items) → OnErr r (new.nodes.items ≡ t.nodes.items)
-        → OnErr r (length t.nodes.items < t.len + additional) → Reserves additional z (state new) r
-    reserved z view additional r ok err full = subst (λ x. Reserves additional x (state new) r) view (record {
-      room = on-ok r ok;
-      pairs = grown-pairs;
-      slots = λ i p e. ap (λ xs. slot xs i) grown.pairs ∙ slot-empties (pairs_of t.nodes.items) grown.more i ∙ e;
-      stays = record { number = refl; amount = refl; hasher = refl };
-      refused = on-err r err;
-      full = on-full r full;
-    })
-      where
-        on-ok : {E : Type 0} (q : Result (Unit {0}) E) → OnOk q (new.len + additional ≤ length new.nodes.items) → OnOk q (shard_len (state new) + additional ≤ length new.nodes.items)
-        on-ok (Ok x) fits = omega (arith, fits, grown-inside.counted)
-        on-ok (Err e) fits = tt
-
-        on-full : {E : Type 0} (q : Result (Unit {0}) E) → OnErr q (length t.nodes.items < t.len + additional) → OnErr q (length t.nodes.items < shard_len (state t) + additional)
-        on-full (Ok x) full = tt
-        on-full (Err e) full = omega (arith, full, inside.counted)
-
-        of : List (Node K V) → ShardState K V S
-        of ns = record { slots = pairs_of ns; number = number; amount = amount; hasher = s; capacity = length ns }
-
-        on-err : {E : Type 0} (q : Result (Unit {0}) E) → OnErr q (new.nodes.items ≡ t.nodes.items) → OnErr q (state new ≡ state t)
-        on-err (Ok x) same = tt
-        on-err (Err e) same = ap of same
-
-    -- what an insert leaves of the table before it grew
-    pub inserted-grown : (last : Table K V) (k : K) (v : V) (o : Option V) → Inserted new last k v o → Inserted t last k v o
-    inserted-grown last k v o i = record {
-      inside = i.inside;
-      takes = record {
-        table = record {
-          replies = i.takes.table.replies ∙ ap (λ ps. Old (option_map (λ p. p.1) (at h.eq ps k))) grown-pairs;
-          becomes = λ j. i.takes.table.becomes j ∙ ap (λ ps. after (own_keys h.eq (state t)) (Insert k v) j (at h.eq ps j)) grown-pairs;
-        };
-        stays = record { number = refl; amount = refl; hasher = refl };
-      };
-      len = i.len ∙ ap (λ ps. length ps + cond (is_some o) 0 1) grown-pairs;
-      stays = λ j p e. i.stays j p (ap (λ xs. slot xs j) grown.pairs ∙ slot-empties (pairs_of t.nodes.items) grown.more j ∙ e);
-    }
-
-    -- a new pair, in the room that was made
-    module _ (k : K) (z : ShardState K V S) (view : state t ≡ z) (here : Routes h z k) (v : V) (last : Table K V) (hash : ℕ) where
-      pub pushed : new.len < length new.nodes.items → hash ≡ h.hash s k → IsAbsent h.eq t.nodes.items hash k
-          → pairs_of last.nodes.items ≡ set (pairs_of new.nodes.items) (next_slot new) (Some (k, v)) → hashes_of last.nodes.items ≡ set (hashes_of new.nodes.items) (next_slot new) hash
-          → last.len ≡ new.len + 1 → IsTable last → Inserted t last k v None
-      pushed room is absent slots hashes longer lawful =
-          let free = next_free new table room in
-          inserted-grown last k v None
-          (filled new grown-inside k (state new) refl (subst (λ x. Routes h x k) (sym view) here) v last (next_slot new) hash free.0 free.1
-          is
-          (ap (λ ps. at h.eq ps k) grown-pairs ∙ at-missing t inside k hash is absent)
-          slots hashes longer lawful)

@@ -1,46 +1,122 @@
 -- A shard whose pairs were moved to other slots.
-use Rattle.std.proofs.Common.{◌≡◌, ℕ, ◌≤◌, length, refl, sym, ◌∙◌, subst}
-use Rattle.std.specs.Cmp.{IsEquivalence}
-use Rattle.dash_shard.specs.Contents.{Keys, Distinct, EachOnce}
-use Rattle.dash_shard.specs.Shard.{ShardState, taken, pairs, IsShard}
+use Rattle.std.proofs.Common.{◌≡◌, ℕ, ◌+◌, ◌<◌, ◌≤◌, length, set, Some, None, refl, sym, ap, ◌∙◌, subst, arith, Ok, Err}
+use Rattle.std.specs.Prelude.{Result, OnOk, OnErr}
+use Rattle.std.specs.Option.{option_map}
+use Rattle.dash_shard.specs.Contents.{at, EachOnce}
+use Rattle.dash_shard.specs.Steps.{Insert, Old}
+use Rattle.dash_shard.specs.inner.Steps.{after}
+use Rattle.dash_shard.specs.Shard.{ShardState, slot, taken, pairs, own_keys, Routes, IsShard, TakesStep}
 use Rattle.dash_shard.specs.inner.Keys.{keys_of, IsLawful}
 use Rattle.dash_shard.specs.Each.{Shrinks}
+use Rattle.dash_shard.specs.Held.{Inserts, Reserves}
 use Rattle.dash_shard.specs.declared.shard.table.Table.{Table}
-use Rattle.dash_shard.specs.inner.Table.{pairs_of, IsTable, IsCarried}
-use Rattle.dash_shard.proofs.Shards.{state, Inside}
+use Rattle.dash_shard.specs.inner.Table.{pairs_of, hashes_of, limit, IsTable, IsMoved, IsAbsent}
+use Rattle.dash_shard.proofs.Shards.{state, Inside, Inserted, filled, at-missing}
 use Rattle.dash_shard.specs.Hashing.{KeyHash}
+
+-- a table whose pairs stayed
+pub moved-self : {K V : Type 0} (t : Table K V) → IsTable t → IsMoved t t
+moved-self t table = record {
+  once = λ w laws d. record { distinct = d; same = λ k. refl };
+  carried = λ i p e. (i, e, refl);
+  len = refl;
+  table = table;
+}
 
 module _ {K V S : Type 0} (h : KeyHash K S)
     (law : IsLawful h) (s : S) (number amount : ℕ)
-    (t new : Table K V) (inside : Inside h law s number amount t)
-    (once : (w : Keys K) → IsEquivalence w.eq → Distinct w.eq (taken (pairs_of t.nodes.items)) → EachOnce w.eq (taken (pairs_of t.nodes.items)) (taken (pairs_of new.nodes.items)))
-    (carried : IsCarried t.nodes.items new.nodes.items) (len : new.len ≡ t.len) (counted : new.len ≡ length (taken (pairs_of new.nodes.items))) (table : IsTable new) where
+    (t new : Table K V) (inside : Inside h law s number amount t) (moved : IsMoved t new) where
   abbrev of : Table K V → ShardState K V S
   of u = state h law s number amount u
 
-  each : EachOnce h.eq (pairs (of t)) (pairs (of new))
-  each = once (keys_of h (of t)) law.laws inside.shard.contents.distinct
+  pub each : EachOnce h.eq (pairs (of t)) (pairs (of new))
+  each = moved.once (keys_of h (of t)) law.laws inside.shard.contents.distinct
 
-  shrunk-shard : IsShard h (of new)
-  shrunk-shard = record {
+  moved-shard : IsShard h (of new)
+  moved-shard = record {
     contents = record { distinct = each.distinct; routed = λ k away. each.same k ∙ inside.shard.contents.routed k away };
     number = inside.shard.number;
     amount = inside.shard.amount;
   }
 
-  pub shrunk-inside : Inside h law s number amount new
-  shrunk-inside = record {
-    shard = shrunk-shard;
-    table = table;
-    hashed = λ i p e. let from = carried i p e in sym from.2 ∙ inside.hashed from.0 p from.1;
-    counted = counted;
+  pub moved-inside : Inside h law s number amount new
+  moved-inside = record {
+    shard = moved-shard;
+    table = moved.table;
+    hashed = λ i p e. let from = moved.carried i p e in sym from.2 ∙ inside.hashed from.0 p from.1;
+    counted = moved.table.counted;
   }
+
+  pub moved-len : length (pairs (of new)) ≡ length (pairs (of t))
+  moved-len = sym moved.table.counted ∙ moved.len ∙ inside.counted
 
   pub shrinks : length new.nodes.items ≤ length t.nodes.items → (t.len ≡ 0 → length new.nodes.items ≡ 0) → (z : ShardState K V S) → of t ≡ z → Shrinks h.eq z (of new)
   shrinks room none z view = subst (λ x. Shrinks h.eq x (of new)) view (record {
     pairs = each;
-    len = sym counted ∙ len ∙ inside.counted;
-    room = room;
-    none = λ e. none (inside.counted ∙ e);
+    len = moved-len;
+    room = omega (arith, room);
+    none = λ e. let gone : length new.nodes.items ≡ 0 = none (inside.counted ∙ e) in omega (arith, gone);
     stays = record { number = refl; amount = refl; hasher = refl };
   })
+
+  -- a new pair in a table that has grown
+  module _ (last : Table K V) (k : K) (v : V) (hash : ℕ) (i : ℕ) (z : ShardState K V S) (view : of t ≡ z) (here : Routes h z k) (free : i < length new.nodes.items) (empty : slot (pairs_of new.nodes.items) i ≡ None)
+      (is : hash ≡ h.hash s k) (absent : IsAbsent h.eq t.nodes.items hash k) (slots : pairs_of last.nodes.items ≡ set (pairs_of new.nodes.items) i (Some (k, v)))
+      (hashes : hashes_of last.nodes.items ≡ set (hashes_of new.nodes.items) i hash) (longer : last.len ≡ new.len + 1) (lawful : IsTable last) where
+    none : at h.eq (pairs (of t)) k ≡ None
+    none = at-missing h law s number amount t inside k hash is absent
+
+    pub pushed : Inserted h law s number amount new last k v None
+    pushed = filled h law s number amount new moved-inside k (of new) refl (subst (λ x. Routes h x k) (sym view) here) v last i hash free empty is (each.same k ∙ none) slots hashes longer lawful
+
+    pub pushed-takes : TakesStep h.eq (of t) (of last) (Insert k v) (Old None)
+    pushed-takes = record {
+      table = record {
+        replies = ap (λ o. Old (option_map (λ p. p.1) o)) (sym none);
+        becomes = λ j. pushed.takes.table.becomes j ∙ ap (after (own_keys h.eq (of t)) (Insert k v) j) (each.same j);
+      };
+      stays = record { number = refl; amount = refl; hasher = refl };
+    }
+
+    pub pushed-inserts : (t.len < limit (length t.nodes.items) → ⊥) → Inserts h.eq z (of last) k v (Ok None)
+    pushed-inserts full = subst (λ x. Inserts h.eq x (of last) k v (Ok None)) view (record {
+      taken = pushed-takes;
+      len = pushed.len ∙ ap (λ n. n + 1) moved-len;
+      room = λ room. absurd (full (omega (arith, room, inside.counted)));
+      slots = λ same. absurd (
+          let more = lawful.fits in
+          let was = moved.len in
+          let fits = inside.table.fits in
+          omega (arith, same, more, longer, was, full, fits));
+      refused = tt;
+      absent = tt;
+      full = tt;
+    })
+
+-- a shard for which room was made, or not
+module _ {K V S : Type 0} (h : KeyHash K S)
+    (law : IsLawful h) (s : S) (number amount : ℕ)
+    (t new : Table K V) (inside : Inside h law s number amount t) where
+  pub reserved : (z : ShardState K V S) → state h law s number amount t ≡ z → {E : Type 0} → (additional : ℕ) (r : Result (Unit {0}) E) → IsMoved t new → OnOk r (new.len + additional ≤ limit (length new.nodes.items))
+      → (t.len + additional ≤ limit (length t.nodes.items) → new ≡ t) → OnErr r ((new ≡ t) × (limit (length t.nodes.items) < t.len + additional)) → Reserves h.eq additional z (state h law s number amount new) r
+  reserved z view additional r moved ok kept err = subst (λ x. Reserves h.eq additional x (state h law s number amount new) r) view (record {
+    room = on-ok r ok;
+    pairs = each h law s number amount t new inside moved;
+    len = moved-len h law s number amount t new inside moved;
+    kept = λ room. ap (state h law s number amount) (kept (omega (arith, room, inside.counted)));
+    stays = record { number = refl; amount = refl; hasher = refl };
+    refused = on-err r err;
+    full = on-full r err;
+  })
+    where
+      on-ok : {E : Type 0} (q : Result (Unit {0}) E) → OnOk q (new.len + additional ≤ limit (length new.nodes.items)) → OnOk q (length (taken (pairs_of new.nodes.items)) + additional ≤ limit (length new.nodes.items))
+      on-ok (Ok x) fits = omega (arith, fits, moved.table.counted)
+      on-ok (Err e) fits = tt
+
+      on-full : {E : Type 0} (q : Result (Unit {0}) E) → OnErr q ((new ≡ t) × (limit (length t.nodes.items) < t.len + additional)) → OnErr q (limit (length t.nodes.items) < length (taken (pairs_of t.nodes.items)) + additional)
+      on-full (Ok x) full = tt
+      on-full (Err e) full = let lt = full.1 in omega (arith, lt, inside.counted)
+
+      on-err : {E : Type 0} (q : Result (Unit {0}) E) → OnErr q ((new ≡ t) × (limit (length t.nodes.items) < t.len + additional)) → OnErr q (state h law s number amount new ≡ state h law s number amount t)
+      on-err (Ok x) same = tt
+      on-err (Err e) same = ap (state h law s number amount) same.0

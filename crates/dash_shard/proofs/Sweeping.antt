@@ -8,8 +8,9 @@ use Rattle.std.proofs.lemmas.Option.{none-some}
 use Rattle.std.specs.Map.Calls.{CallableOnEachPair}
 use Rattle.dash_shard.specs.declared.shard.table.Node.{Node}
 use Rattle.dash_shard.specs.Shard.{slot, taken}
-use Rattle.dash_shard.specs.inner.Table.{pairs_of}
+use Rattle.dash_shard.specs.inner.Table.{pairs_of, IsHashed}
 use Rattle.dash_shard.specs.inner.Walks.{Visits, Sweeps, Asks, if_kept}
+use Rattle.dash_shard.proofs.Shards.{hashed-replace, hashed-clear}
 use Rattle.dash_shard.proofs.Slots.{length-taken-replace, length-taken-clear}
 use Rattle.dash_shard.proofs.Nodes.{pairs-revalued, slot-here}
 
@@ -118,6 +119,14 @@ module _ {F K V : Type 0} (T : F → K → V → Bool → V → F → Type 0) (f
       from : (o : Option (K × V)) → slot xs i ≡ o → (n : Option (K × V)) → Asks T f o b n f' → length (taken (set xs i n)) ≡ length (taken xs)
       from None e n x = ap (λ m. length (taken (set xs i m))) x.1 ∙ length-taken-none xs i e
       from (Some p) e n x = ap (λ m. length (taken (set xs i m))) x.2 ∙ length-taken-replace xs i (p.0, x.0) p e
+
+  -- the key stays, and so does its hash beside it
+  pub asked-hashed : (hash : K → ℕ) (hs : List ℕ) → i < length xs → IsHashed hash xs hs → IsHashed hash ys hs
+  asked-hashed hash hs within h = subst (λ zs. IsHashed hash zs hs) (sym is) (from (slot xs i) refl (slot ys i) a)
+    where
+      from : (o : Option (K × V)) → slot xs i ≡ o → (n : Option (K × V)) → Asks T f o b n f' → IsHashed hash (set xs i n) hs
+      from None e n x = subst (λ m. IsHashed hash (set xs i m) hs) (sym x.1) (hashed-clear hash xs hs i within h)
+      from (Some p) e n x = subst (λ m. IsHashed hash (set xs i m) hs) (sym x.2) (hashed-replace hash xs hs i p (p.0, x.0) within e refl h)
 
   -- the slot's pair was taken out then
   pub asked-cleared : (zs : List (Option (K × V))) → zs ≡ set ys i None → zs ≡ set xs i None

@@ -1,7 +1,7 @@
 -- What a shard's calls promise, and those of a held one, and those for a caller who has the key's hash.
 use Rattle.std.specs.Prelude.{◌≡◌, ℕ, ◌+◌, ◌<◌, ◌≤◌, ◌↔◌, Bool, Option, Some, None, IfSome, IsNone, Result, IfOk, OnOk, IfErr, OnErr, is_some, slice_set, if◌then◌else◌}
 use Rattle.dash_shard.specs.Hashing.{KeyHash}
-use Rattle.dash_shard.specs.Contents.{at}
+use Rattle.dash_shard.specs.Contents.{at, EachOnce}
 use Rattle.dash_shard.specs.Steps.{Insert, Old}
 use Rattle.dash_shard.specs.Shard.{ShardState, slot, pairs, shard_len, HasKey, SameShard, IsTagged, TakesStep, StaysPut}
 use Rattle.dash_shard.specs.declared.shard.InsertRefused.{InsertRefused}
@@ -34,11 +34,12 @@ pub record Replaces {K V S : Type 0} (eq : K → K → Bool) (old new : ShardSta
 abbrev pub Loses : {K V S : Type 0} → ShardState K V S → ShardState K V S → Option (K × V) → Type 0
 Loses old new result = shard_len old ≡ shard_len new + (if is_some result then 1 else 0)
 
--- all that making room for so many pairs more promises
-pub record Reserves {K V S : Type 0} (additional : ℕ) (old new : ShardState K V S) {E : Type 0} (result : Result (Unit {0}) E) : Type 0 where
+-- all that making room for so many pairs more promises: the pairs stay, and so do their slots where there was room
+pub record Reserves {K V S : Type 0} (eq : K → K → Bool) (additional : ℕ) (old new : ShardState K V S) {E : Type 0} (result : Result (Unit {0}) E) : Type 0 where
   pub room : OnOk result (shard_len new + additional ≤ new.capacity)
-  pub pairs : pairs new ≡ pairs old
-  pub slots : (i : ℕ) (p : K × V) → slot old.slots i ≡ Some p → slot new.slots i ≡ Some p
+  pub pairs : EachOnce eq (pairs old) (pairs new)
+  pub len : shard_len new ≡ shard_len old
+  pub kept : shard_len old + additional ≤ old.capacity → new ≡ old
   pub stays : SameShard old new
   pub refused : OnErr result (new ≡ old)
   pub full : OnErr result (old.capacity < shard_len old + additional)

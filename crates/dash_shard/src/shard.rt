@@ -18,6 +18,7 @@ pub use group::probe;
 use std::alloc::Global;
 use std::hash::{BuildHasher, Hash};
 use std::marker::Model;
+pub use table::Search;
 use table::Table;
 pub use table::walk::{IntoIter, Iter};
 
@@ -43,16 +44,16 @@ impl<K: Eq + Hash, V, S: BuildHasher> Model for Shard<K, V, S> {
     ghost use Rattle.std.specs.Prelude.{length};
     ghost use Rattle.dash_shard.specs.Shard.{ShardState};
     ghost use Rattle.dash_shard.specs.inner.Codes.{shard_code};
-    ghost use Rattle.dash_shard.specs.inner.Table.{IsInside, pairs_of};
+    ghost use Rattle.dash_shard.specs.inner.Table.{IsInside, pairs_of, limit};
     ghost use Rattle.dash_shard.specs.Hashing.{key_hash};
 
     ghost Value = { ShardState K V S };
 
     ghost coded = { shard_code K.code V.code S.code };
 
-    ghost view = { λ s. record { slots = pairs_of s.table.nodes.items; number = s.number; amount = s.amount; hasher = s.hasher; capacity = length s.table.nodes.items } };
+    ghost view = { λ s. record { slots = pairs_of s.table.nodes.items; number = s.number; amount = s.amount; hasher = s.hasher; capacity = limit (length s.table.nodes.items) } };
 
-    ghost invariant = { λ s. IsInside (key_hash K.eq K.hash_input S.BuildHasher S.Hasher.Hasher) s.table (record { slots = pairs_of s.table.nodes.items; number = s.number; amount = s.amount; hasher = s.hasher; capacity = length s.table.nodes.items }) };
+    ghost invariant = { λ s. IsInside (key_hash K.eq K.hash_input S.BuildHasher S.Hasher.Hasher) s.table (record { slots = pairs_of s.table.nodes.items; number = s.number; amount = s.amount; hasher = s.hasher; capacity = limit (length s.table.nodes.items) }) };
 }
 
 impl<K: Eq + Hash, V, S: BuildHasher> Keyed for Shard<K, V, S> {
@@ -187,10 +188,15 @@ impl<K: Eq + Hash, V, S: BuildHasher> Shard<K, V, S> {
         ensures inserts { Inserts K.eq self.old self.new key value result }
         ensures lawful { IsShard ⟦<Self as Keyed>⟧.by self.new }
     {
-        if let Some(slot) = self.table.find(hash, &key) {
+        let place = self.table.find_or_place(hash, &key);
+        if let Some(slot) = place.position {
             return Ok(Some(self.table.replace(slot, value)));
         }
-        let Ok(()) = self.table.make_room() else {
+        if self.table.len() < self.table.capacity() {
+            self.table.fill(place.free, hash, key, value);
+            return Ok(None);
+        }
+        let Ok(()) = self.table.double(&self.hasher) else {
             return Err(InsertRefused { key, value });
         };
         self.table.push(hash, key, value);
@@ -221,7 +227,7 @@ impl<K: Eq + Hash, V, S: BuildHasher> Shard<K, V, S> {
         ensures lawful { IsShard ⟦<Self as Keyed>⟧.by self.new }
     {
         let position = self.position_of_hashed(hash, key)?;
-        Some(self.remove_at(position))
+        Some(self.take_at(position, hash))
     }
 
     /// Takes the pair whose key equals `key` out if `f` answers yes on it, and answers it. It takes no memory, and can't be refused.
@@ -255,7 +261,7 @@ impl<K: Eq + Hash, V, S: BuildHasher> Shard<K, V, S> {
         let slot = self.position_of_hashed(hash, key)?;
         let (stored, value) = self.at(slot);
         if f(stored, value) {
-            return Some(self.remove_at(slot));
+            return Some(self.take_at(slot, hash));
         }
         None
     }
@@ -291,7 +297,7 @@ impl<K: Eq + Hash, V, S: BuildHasher> Shard<K, V, S> {
         let slot = self.position_of_hashed(hash, key)?;
         let (key, value) = self.table.pair_mut(slot);
         if f(key, value) {
-            return Some(self.table.take(slot));
+            return Some(self.table.take(slot, hash));
         }
         None
     }
@@ -396,16 +402,16 @@ impl<K: Eq + Hash, V, S: BuildHasher> Shard<K, V, S> {
     pub fn capacity(&self) -> usize
         ensures { result ≡ self.now.capacity }
     {
-        self.table.slots()
+        self.table.capacity()
     }
 
-    /// Makes room for so many pairs more, where there is less. It is refused (11) only where there is no memory for it; the pairs stay, and
-    /// so do their slots.
+    /// Makes room for so many pairs more, where there is less. It is refused (11) only where there is no memory for it. The pairs stay;
+    /// their slots change, unless there was room.
     pub fn try_reserve(&mut self, additional: usize) -> Result<(), TryReserveError>
-        ensures reserves { Reserves additional self.old self.new result }
+        ensures reserves { Reserves K.eq additional self.old self.new result }
         ensures lawful { IsShard ⟦<Self as Keyed>⟧.by self.new }
     {
-        match self.table.reserve(additional) {
+        match self.table.reserve(additional, &self.hasher) {
             Ok(()) => Ok(()),
             Err(_) => Err(TryReserveError {}),
         }

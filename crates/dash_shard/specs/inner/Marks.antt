@@ -2,7 +2,7 @@
 -- an empty slot, 129 one whose pair was removed, and a lower one is the top seven bits of a stored pair's hash.
 use Rattle.std.specs.Prelude.{◌≡◌, ◌≢◌, ◌⊎◌, ℕ, suc, ◌+◌, ◌-◌, ◌*◌, ◌/◌, ◌%◌, ◌^◌, ◌<◌, ◌≤◌, List, [], ◌∷◌, length, Option, Some, None, slice_index, nat_lt, if◌then◌else◌}
 use Rattle.std.specs.Int.{IsPowerOfTwo}
-use Rattle.dash_shard.specs.Shard.{slot, taken}
+use Rattle.dash_shard.specs.Shard.{slot}
 
 -- the tag of a hash
 abbrev pub tag_of : ℕ → ℕ

@@ -25,7 +25,7 @@ impl<K: Eq + Hash, V, S: BuildHasher> Shard<K, V, S> {
         ensures len { shard_len self.new ≤ shard_len self.old }
         ensures lawful { IsShard ⟦<Self as Keyed>⟧.by self.new }
     {
-        self.table.retain(&mut f);
+        self.table.retain(&mut f, &self.hasher);
     }
 
     /// As `retain`, with an `f` that is lent: the caller may go on with it.
@@ -37,7 +37,7 @@ impl<K: Eq + Hash, V, S: BuildHasher> Shard<K, V, S> {
         ensures sweeps { SweepsShard (CalledAtPair F.FnMut) if_kept f.old f.new self.old self.new }
         ensures lawful { IsShard ⟦<Self as Keyed>⟧.by self.new }
     {
-        self.table.retain(f);
+        self.table.retain(f, &self.hasher);
     }
 
     /// Puts what `f` makes of each value in its place.
@@ -83,7 +83,7 @@ impl<K: Eq + Hash, V, S: BuildHasher> Shard<K, V, S> {
         ensures shrinks { Shrinks K.eq self.old self.new }
         ensures lawful { IsShard ⟦<Self as Keyed>⟧.by self.new }
     {
-        self.table.shrink();
+        self.table.shrink(&self.hasher);
     }
 
     /// The pairs, in rising order of slots.

@@ -411,20 +411,20 @@ impl<K: Eq + Hash, V, S: BuildHasher> ShardMut<'_, K, V, S> {
     pub fn capacity(&self) -> usize
         ensures { result ≡ self.now.capacity }
     {
-        self.table().slots()
+        self.table().capacity()
     }
 
-    /// Makes room for so many pairs more, where there is less. It is refused (11) only where there is no memory for it; the pairs stay, and
-    /// so do their slots.
+    /// Makes room for so many pairs more, where there is less. It is refused (11) only where there is no memory for it. The pairs stay;
+    /// their slots change, unless there was room.
     pub fn try_reserve(&mut self, additional: usize) -> Result<(), TryReserveError>
-        ensures reserves { Reserves additional self.old self.new result }
+        ensures reserves { Reserves K.eq additional self.old self.new result }
         ensures lawful { IsShard ⟦<Self as Keyed>⟧.by self.new }
     {
         move_table(&mut self.guard, &mut self.table, self.is_lent, false);
         self.is_lent = false;
         self.guard.change(
             |shard: &mut Shard<K, V, S>| -> Result<(), TryReserveError>
-                ensures reserves { Reserves additional shard.old shard.new result }
+                ensures reserves { Reserves K.eq additional shard.old shard.new result }
                 ensures lawful { IsShard (by K.Hash S.BuildHasher S.Hasher.Hasher) shard.new }
             { shard.try_reserve(additional) },
         )

@@ -6,9 +6,10 @@ ghost use Rattle.std.specs.Borrow.{Lends, sem};
 ghost use Rattle.dash_shard.specs.Contents.{at};
 ghost use Rattle.dash_shard.specs.Shard.{slot, pairs, shard_len, HasKey, IsNextTaken, Routes, IsShard, TakesInPlace, with_value_in, SameShard, TakesAt};
 ghost use Rattle.dash_shard.specs.Held.{Finds, Replaces};
+ghost use Rattle.dash_shard.specs.Search.{groups, Searches};
 ghost use Rattle.dash_shard.specs.Steps.{Insert, Remove, Old, Pair};
 
-use super::Shard;
+use super::{Search, Shard};
 use crate::keyed::{Keyed, Lender};
 use std::hash::{BuildHasher, Hash};
 
@@ -30,6 +31,23 @@ impl<K: Eq + Hash, V, S: BuildHasher> Shard<K, V, S> {
         ensures lawful { IsShard ⟦<Self as Keyed>⟧.by self.now }
     {
         self.table.find(hash, key)
+    }
+
+    /// How many groups of sixteen slots there are.
+    #[inline]
+    pub fn groups(&self) -> usize
+        ensures { result ≡ groups self.now }
+    {
+        self.table.groups()
+    }
+
+    /// As `position_of`, with how many groups of slots were looked at: those from the key's hash modulo `groups()` on, rising, round.
+    #[inline]
+    pub fn search(&self, key: &K) -> Search
+        ensures searches { Searches ⟦<Self as Keyed>⟧.by self.now key.now result }
+        ensures lawful { IsShard ⟦<Self as Keyed>⟧.by self.now }
+    {
+        self.table.search(self.hash_one(key), key)
     }
 
     /// The pair of a taken slot, without a look at any other.
@@ -113,7 +131,22 @@ impl<K: Eq + Hash, V, S: BuildHasher> Shard<K, V, S> {
         ensures len { shard_len self.old ≡ shard_len self.new + 1 }
         ensures lawful { IsShard ⟦<Self as Keyed>⟧.by self.new }
     {
-        self.table.take(position)
+        let hash = self.hash_one(self.at(position).0);
+        self.take_at(position, hash)
+    }
+
+    // As `remove_at`, by the hash of the key that stands there.
+    #[inline(always)]
+    pub(super) fn take_at(&mut self, position: usize, hash: u64) -> (K, V)
+        requires taken { IsSome (slot self.old.slots position) }
+        requires hash { IfSome (slot self.old.slots position) (λ p. hash ≡ ⟦<Self as Keyed>⟧.by.hash self.old.hasher p.0) }
+        ensures removes { TakesAt K.eq self.old self.new position Remove (Pair (Some result)) }
+        ensures pair { slot self.old.slots position ≡ Some result }
+        ensures stays { SameShard self.old self.new }
+        ensures len { shard_len self.old ≡ shard_len self.new + 1 }
+        ensures lawful { IsShard ⟦<Self as Keyed>⟧.by self.new }
+    {
+        self.table.take(position, hash)
     }
 
     /// Puts a pair in the slot of the one with an equal key, and answers that one: the new key is stored too. It makes no look-up, takes

@@ -1,12 +1,25 @@
 //! What goes over all pairs of a table, in rising order of slots.
 ghost use Rattle.std.specs.Prelude.{ℕ, ◌≡◌, ◌<◌, Option, Some, None, IfSome, true, length, map, slice_set};
 ghost use Rattle.std.specs.Map.Calls.{CalledAtPair, TakesPair, CallableOnEachPair};
-ghost use Rattle.dash_shard.specs.inner.Table.{IsTable, pairs_in, hashes_in};
+ghost use Rattle.dash_shard.specs.inner.Table.{IsTable, IsHashed, pairs_of, pairs_in, hashes_of, hashes_in};
+ghost use Rattle.dash_shard.specs.Hashing.{hash_of};
 ghost use Rattle.dash_shard.specs.Shard.{slot, taken};
 ghost use Rattle.dash_shard.specs.Each.{CalledOnPair, TakesOnPair};
 ghost use Rattle.dash_shard.specs.inner.Walks.{Asks, Visits, Sweeps, if_kept, altered};
 
-use super::Table;
+use super::marks::EMPTY;
+use super::{Node, Table};
+use std::hash::{BuildHasher, Hash};
+
+// Lets the pair of each slot go.
+fn let_go<K: Drop, V: Drop>(nodes: &mut [Node<K, V>])
+    ensures pairs { pairs_of nodes.new ≡ map (λ _. None) (pairs_of nodes.old) }
+    ensures hashes { hashes_of nodes.new ≡ hashes_of nodes.old }
+{
+    for slot in 0..nodes.len() {
+        nodes[slot].pair = None;
+    }
+}
 
 impl<K, V> Table<K, V> {
     // Asks `f` at the pair of a slot, if there is one. An empty slot answers yes.
@@ -28,22 +41,22 @@ impl<K, V> Table<K, V> {
     }
 
     /// Keeps the pairs on which `f` answers yes, with the values that it leaves.
-    pub fn retain<F: FnMut(&K, &mut V) -> bool>(&mut self, f: &mut F)
+    pub fn retain<S: BuildHasher, F: FnMut(&K, &mut V) -> bool>(&mut self, f: &mut F, hasher: &S)
     where
-        K: Drop,
+        K: Eq + Hash + Drop,
         V: Drop,
         requires table { IsTable self.old }
-        requires counted { self.old.len ≡ length (taken (pairs_in self.old)) }
+        requires hashed { IsHashed (λ k. hash_of S.BuildHasher S.Hasher.Hasher hasher.now (K.hash_input k)) (pairs_in self.old) (hashes_in self.old) }
         requires callable { CallableOnEachPair (CalledAtPair F.FnMut) (TakesPair F.FnMut) f.old (taken (pairs_in self.old)) }
         ensures swept { Sweeps (CalledAtPair F.FnMut) if_kept f.old (pairs_in self.old) (pairs_in self.new) f.new }
         ensures hashes { hashes_in self.new ≡ hashes_in self.old }
-        ensures counted { self.new.len ≡ length (taken (pairs_in self.new)) }
         ensures slots { length self.new.nodes.items ≡ length self.old.nodes.items }
         ensures table { IsTable self.new }
     {
         for slot in 0..self.nodes.len() {
             if !self.ask_at(slot, f) {
-                drop(self.take(slot));
+                let hash = self.hash_at(slot, hasher);
+                drop(self.take(slot, hash));
             }
         }
     }
@@ -96,14 +109,16 @@ impl<K, V> Table<K, V> {
     where
         K: Drop,
         V: Drop,
-        requires table { IsTable self.old }
-        requires counted { self.old.len ≡ length (taken (pairs_in self.old)) }
+        requires { IsTable self.old }
         ensures pairs { pairs_in self.new ≡ map (λ _. None) (pairs_in self.old) }
         ensures hashes { hashes_in self.new ≡ hashes_in self.old }
         ensures len { self.new.len ≡ 0 }
         ensures slots { length self.new.nodes.items ≡ length self.old.nodes.items }
         ensures table { IsTable self.new }
     {
-        self.retain(&mut |_, _| false);
+        let_go(&mut self.nodes);
+        self.tags.fill(EMPTY);
+        self.counts.fill(0);
+        self.len = 0;
     }
 }

@@ -143,7 +143,8 @@ impl<K: Drop, V: Drop> Iterator for IntoIter<K, V> {
     #[inline]
     fn next(&mut self) -> Option<(K, V)> {
         while let Some(node) = self.nodes.next() {
-            if let Some(pair) = node.pair {
+            let Node { hash: _, pair } = node;
+            if let Some(pair) = pair {
                 return Some(pair);
             }
         }

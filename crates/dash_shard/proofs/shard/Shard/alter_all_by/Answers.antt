@@ -6,7 +6,7 @@ use Rattle.dash_shard.proofs.shard.Shard.alter_all_by.Goals as goal
 pub invariant_of-self : goal.invariant_of-self
 invariant_of-self g c =
     let r = c.alter_all.ensures in
-    altered-inside _ (lawful-of g.S.BuildHasher g.S.Hasher.Hasher g.met.K.Eq.laws g.met.K.Hash.respects_eq) _ _ _ c.self.inside.table c.alter_all.new.self c.self.invariant (CalledOnPair g.F.FnMut) c.args.f.now (_, r.swept) r.hashes r.len r.table
+    altered-inside _ (lawful-of g.S.BuildHasher g.S.Hasher.Hasher g.met.K.Eq.laws g.met.K.Hash.respects_eq) _ _ _ c.self.inside.table c.alter_all.new.self c.self.invariant (CalledOnPair g.F.FnMut) c.args.f.now (_, r.swept) r.hashes r.table
 
 pub returns : goal.returns
 returns g c =

@@ -5,6 +5,8 @@ use Rattle.dash_shard.specs.Contents.{at}
 use Rattle.dash_shard.specs.Shard.{pairs}
 use Rattle.dash_shard.specs.Closures.{AnswersOn}
 use Rattle.dash_shard.proofs.Asking.{asked-yes, asked-no}
+use Rattle.dash_shard.proofs.Lawful.{lawful-of}
+use Rattle.dash_shard.proofs.Shards.{hash-there}
 use Rattle.dash_shard.proofs.shard.Shard.remove_if_hashed.Goals as goal
 
 pub returns-in_err-slot : goal.returns-in_err-slot
@@ -20,9 +22,12 @@ returns-in_err-slot g c =
       lawful = c.in_err-slot.ensures.lawful;
     }
 
+pub take_at-requires-clause-hash : goal.take_at-requires-clause-hash
+take_at-requires-clause-hash g c = hash-there (lawful-of g.S.BuildHasher g.S.Hasher.Hasher g.met.K.Eq.laws g.met.K.Hash.respects_eq) c.args.self.now c.args.key.now c.in_ok-slot.slot c.args.hash ((c.in_ok-slot.ensures.finds.position c.in_ok-slot.slot).0 refl) c.requires.hash
+
 pub returns-then-f : goal.returns-then-f
 returns-then-f g c =
-    let r = c.remove_at.ensures in
+    let r = c.take_at.ensures in
     let here = (c.in_ok-slot.ensures.finds.position c.in_ok-slot.slot).0 refl in
     let pair : at g.K.PartialEq.eq (pairs c.args.self.now) c.args.key.now ≡ Some (deref_pair c.at.result) = sym c.in_ok-slot.ensures.finds.pair ∙ c.at.ensures.pair in
     record {

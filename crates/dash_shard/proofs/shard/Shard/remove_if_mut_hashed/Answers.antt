@@ -1,8 +1,9 @@
-use Rattle.std.proofs.Common.{true, false, is_some, refl, sym, subst, ap, ◌∙◌, add-zero}
+use Rattle.std.proofs.Common.{true, false, is_some, refl, sym, subst, ap, ◌∙◌, add-zero, slice_index}
 use Rattle.std.specs.Prelude.{IfSome}
 use Rattle.dash_shard.specs.Shard.{HasKey}
 use Rattle.dash_shard.specs.Closures.{ChangesOn}
 use Rattle.dash_shard.proofs.Altering.{idle, to, unremoved, altered-inside, gone-inside, gone-changed, stays-changed, stood, gone-len, as-many}
+use Rattle.dash_shard.proofs.Shards.{hash-same, hash-found}
 use Rattle.dash_shard.proofs.Rewriting.{holds-pair, valued-rewritten, valued-slot}
 use Rattle.dash_shard.proofs.shard.Shard.remove_if_mut_hashed.Goals as goal
 use Rattle.dash_shard.proofs.Lawful.{lawful-of}
@@ -25,6 +26,15 @@ take-requires-clause-table g c = (valued-rewritten c.self.inside.table c.in_ok-s
 
 pub take-requires-clause-taken : goal.take-requires-clause-taken
 take-requires-clause-taken g c = ap is_some (valued-slot c.self.inside.table c.in_ok-slot.slot _ c.f.new.arg3 c.self.invariant.table c.pair_mut-value.ensures.pair)
+
+pub take-requires-clause-hash : goal.take-requires-clause-hash
+take-requires-clause-hash g c =
+    let t = c.self.inside.table in
+    let there = c.pair_mut-value.ensures.pair in
+    let found = holds-pair g.K.PartialEq.eq t.nodes.items c.args.key.now c.in_ok-slot.slot _ there (subst (λ s. HasKey g.K.PartialEq.eq s c.args.key.now c.in_ok-slot.slot) (sym c.self.view_is) ((c.in_ok-slot.ensures.finds.position c.in_ok-slot.slot).0 refl)) in
+    let hash = hash-same (lawful-of g.S.BuildHasher g.S.Hasher.Hasher g.met.K.Eq.laws g.met.K.Hash.respects_eq) c.args.key.now _ _ c.self.view_is c.args.hash c.requires.hash in
+    hash-found _ (lawful-of g.S.BuildHasher g.S.Hasher.Hasher g.met.K.Eq.laws g.met.K.Hash.respects_eq) _ _ _ t c.self.invariant c.args.key.now c.args.hash hash c.in_ok-slot.slot found
+    ∙ ap (λ hs. slice_index hs c.in_ok-slot.slot) (sym (valued-rewritten t c.in_ok-slot.slot _ c.f.new.arg3 c.self.invariant.table there).hashes)
 
 pub invariant_of-self : goal.invariant_of-self
 invariant_of-self g c =

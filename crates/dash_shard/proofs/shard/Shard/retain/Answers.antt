@@ -6,7 +6,7 @@ use Rattle.dash_shard.proofs.shard.Shard.retain.Goals as goal
 pub invariant_of-self : goal.invariant_of-self
 invariant_of-self g c =
     let r = c.retain.ensures in
-    retained-inside _ (lawful-of g.S.BuildHasher g.S.Hasher.Hasher g.met.K.Eq.laws g.met.K.Hash.respects_eq) _ _ _ c.self.inside.table c.retain.new.self c.self.invariant (CalledAtPair g.F.FnMut) c.args.f (_, r.swept) r.hashes r.counted r.table
+    retained-inside _ (lawful-of g.S.BuildHasher g.S.Hasher.Hasher g.met.K.Eq.laws g.met.K.Hash.respects_eq) _ _ _ c.self.inside.table c.retain.new.self c.self.invariant (CalledAtPair g.F.FnMut) c.args.f (_, r.swept) r.hashes r.table
 
 pub returns : goal.returns
 returns g c =

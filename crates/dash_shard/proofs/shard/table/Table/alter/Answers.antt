@@ -1,5 +1,6 @@
 use Rattle.dash_shard.specs.inner.Gives.{GivesOn}
-use Rattle.dash_shard.proofs.Rewriting.{spot-within, altered}
+use Rattle.dash_shard.proofs.Nodes.{spot-within}
+use Rattle.dash_shard.proofs.Rewriting.{altered}
 use Rattle.dash_shard.proofs.shard.table.Table.alter.Goals as goal
 
 pub returns : goal.returns

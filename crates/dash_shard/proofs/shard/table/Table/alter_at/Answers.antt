@@ -1,6 +1,5 @@
 use Rattle.std.proofs.Common.{true, refl, sym, ◌∙◌}
-use Rattle.std.proofs.Math.ListN.{length-set}
-use Rattle.dash_shard.proofs.Nodes.{hashes-revalued, chained-revalued, stack-revalued}
+use Rattle.dash_shard.proofs.Nodes.{hashes-revalued, table-revalued}
 use Rattle.dash_shard.proofs.Sweeping.{slot-before, pairs-valued, slot-revalued}
 use Rattle.dash_shard.proofs.shard.table.Table.alter_at.Goals as goal
 
@@ -24,11 +23,4 @@ returns-clause-hashes g c =
 
 pub returns-clause-table : goal.returns-clause-table
 returns-clause-table g c =
-    let t = c.requires.table in
-    let stored = sym c.take.ensures.value ∙ c.in-Some.is in
-    rw c.replace.ensures.after (record {
-      free = t.free;
-      counted = t.counted ∙ sym (length-set c.args.self.now.nodes.items c.args.position _);
-      chained = chained-revalued _ _ _ _ _ c.requires.within c.index_mut.ensures.value stored t.chained;
-      stack = stack-revalued _ _ _ _ _ c.requires.within c.index_mut.ensures.value stored _ _ t.stack;
-    })
+    rw c.replace.ensures.after (table-revalued c.args.self.now _ _ _ _ _ c.requires.table c.requires.within c.index_mut.ensures.value (sym c.take.ensures.value ∙ c.in-Some.is) refl refl refl refl)

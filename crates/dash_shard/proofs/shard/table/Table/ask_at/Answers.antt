@@ -1,6 +1,5 @@
-use Rattle.std.proofs.Common.{refl, sym, ◌∙◌}
-use Rattle.std.proofs.Math.ListN.{length-set}
-use Rattle.dash_shard.proofs.Nodes.{hashes-revalued, chained-revalued, stack-revalued}
+use Rattle.std.proofs.Common.{refl}
+use Rattle.dash_shard.proofs.Nodes.{hashes-revalued, table-revalued}
 use Rattle.dash_shard.proofs.Sweeping.{slot-before, pairs-valued, slot-revalued}
 use Rattle.dash_shard.proofs.shard.table.Table.ask_at.Goals as goal
 
@@ -20,12 +19,4 @@ pub returns-in-Some-clause-hashes : goal.returns-in-Some-clause-hashes
 returns-in-Some-clause-hashes g c = hashes-revalued _ _ _ _ _ c.requires.within c.index_mut.ensures.value c.in-Some.is
 
 pub returns-in-Some-clause-table : goal.returns-in-Some-clause-table
-returns-in-Some-clause-table g c =
-    let t = c.requires.table in
-    let row = length-set c.args.self.now.nodes.items c.args.position _ in
-    record {
-      free = t.free;
-      counted = t.counted ∙ sym row;
-      chained = chained-revalued _ _ _ _ _ c.requires.within c.index_mut.ensures.value c.in-Some.is t.chained;
-      stack = stack-revalued _ _ _ _ _ c.requires.within c.index_mut.ensures.value c.in-Some.is _ _ t.stack;
-    }
+returns-in-Some-clause-table g c = table-revalued c.args.self.now _ _ _ _ _ c.requires.table c.requires.within c.index_mut.ensures.value c.in-Some.is refl refl refl refl

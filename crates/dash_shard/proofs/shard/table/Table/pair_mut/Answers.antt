@@ -3,8 +3,8 @@ use Rattle.std.specs.Vec.{with_item}
 use Rattle.dash_shard.specs.declared.shard.table.Node.{Node}
 use Rattle.dash_shard.specs.declared.shard.table.Table.{Table}
 use Rattle.dash_shard.specs.inner.Table.{with_value}
-use Rattle.dash_shard.proofs.Rewriting.{spot-within, node-read}
-use Rattle.dash_shard.proofs.Tables.{slot_node}
+use Rattle.dash_shard.proofs.Nodes.{spot-within, node-read}
+use Rattle.dash_shard.proofs.Nodes.{slot_node}
 use Rattle.dash_shard.proofs.shard.table.Table.pair_mut.Goals as goal
 
 pub returns : goal.returns

@@ -1,8 +1,7 @@
-use Rattle.std.proofs.Common.{set, sym, ap, ◌∙◌}
+use Rattle.std.proofs.Common.{set, refl, sym, ap, ◌∙◌}
 use Rattle.std.specs.Option.{option_map}
-use Rattle.std.proofs.Math.ListN.{length-set}
 use Rattle.dash_shard.specs.inner.Table.{pairs_of}
-use Rattle.dash_shard.proofs.Nodes.{slot-here, pairs-revalued, hashes-revalued, chained-revalued, stack-revalued}
+use Rattle.dash_shard.proofs.Nodes.{slot-here, pairs-revalued, hashes-revalued, table-revalued}
 use Rattle.dash_shard.proofs.shard.table.Table.replace.Goals as goal
 
 pub returns-clause-pairs : goal.returns-clause-pairs
@@ -18,12 +17,4 @@ pub returns-clause-hashes : goal.returns-clause-hashes
 returns-clause-hashes g c = hashes-revalued _ _ _ _ _ c.requires.within c.index_mut.ensures.value c.in-Some.is
 
 pub returns-clause-table : goal.returns-clause-table
-returns-clause-table g c =
-    let t = c.requires.table in
-    let row = length-set c.args.self.now.nodes.items c.args.position _ in
-    record {
-      free = t.free;
-      counted = t.counted ∙ sym row;
-      chained = chained-revalued _ _ _ _ _ c.requires.within c.index_mut.ensures.value c.in-Some.is t.chained;
-      stack = stack-revalued _ _ _ _ _ c.requires.within c.index_mut.ensures.value c.in-Some.is _ _ t.stack;
-    }
+returns-clause-table g c = table-revalued c.args.self.now _ _ _ _ _ c.requires.table c.requires.within c.index_mut.ensures.value c.in-Some.is refl refl refl refl

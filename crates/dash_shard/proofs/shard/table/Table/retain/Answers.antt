@@ -1,9 +1,10 @@
-use Rattle.std.proofs.Common.{◌<◌, length, sym, ◌∙◌, arith}
+use Rattle.std.proofs.Common.{◌<◌, length, ◌∙◌, arith}
 use Rattle.std.specs.Map.Calls.{CalledAtPair}
 use Rattle.std.proofs.lemmas.List.{length-map}
-use Rattle.dash_shard.specs.Shard.{taken}
-use Rattle.dash_shard.specs.inner.Table.{pairs_of}
-use Rattle.dash_shard.proofs.Sweeping.{sweeping-ready, sweeping-next, sweeping-last, taken-some, asked-yes, asked-no, asked-some, asked-length, asked-cleared, cleared-length}
+use Rattle.dash_shard.specs.Hashing.{hash_of}
+use Rattle.dash_shard.specs.inner.Table.{pairs_of, hashes_of}
+use Rattle.dash_shard.proofs.Shards.{hashed-clear}
+use Rattle.dash_shard.proofs.Sweeping.{sweeping-ready, sweeping-next, sweeping-last, asked-yes, asked-no, asked-hashed, asked-cleared}
 use Rattle.dash_shard.proofs.shard.table.Table.retain.Goals.{then-not-ask_at, else-not-ask_at}
 use Rattle.dash_shard.proofs.shard.table.Table.retain.Goals as goal
 
@@ -11,27 +12,27 @@ pub ask_at-requires-clause-callable : goal.ask_at-requires-clause-callable
 ask_at-requires-clause-callable g c =
     sweeping-ready _ _ _ _ _ _ _ _ (omega (arith, length-map c.loop-slot.self.nodes.items (λ n. n.pair))) c.loop-slot.invariant.sweeping
 
-pub take-requires-clause-some : goal.take-requires-clause-some
-take-requires-clause-some g c =
+pub hash_at-hash-requires-clause-hashed : goal.hash_at-hash-requires-clause-hashed
+hash_at-hash-requires-clause-hashed g c =
+    let at = c.loop-slot.invariant in
     let a = c.ask_at.ensures in
-    let long = asked-length (CalledAtPair g.F.FnMut) _ _ _ _ _ _ a.asks a.pairs in
-    let some : 0 < length (taken (pairs_of c.ask_at.new.self.nodes.items)) = taken-some (pairs_of c.ask_at.new.self.nodes.items) c.loop-slot.slot (asked-some (CalledAtPair g.F.FnMut) _ _ _ _ _ _ a.asks a.pairs c.if-not-ask_at.true) in
-    omega (arith, long, some, a.len, c.loop-slot.invariant.counted)
+    let within : c.loop-slot.slot < length (pairs_of c.loop-slot.self.nodes.items) = omega (arith, length-map c.loop-slot.self.nodes.items (λ n. n.pair)) in
+    rw a.hashes (asked-hashed (CalledAtPair g.F.FnMut) _ _ _ _ _ _ a.asks a.pairs (λ k. hash_of g.S.BuildHasher g.S.Hasher.Hasher c.args.hasher.now (g.K.Hash.hash_input k)) _ within at.hashed)
 
 pub loop-slot-preserved : goal.loop-slot-preserved
 loop-slot-preserved g c =
     let at = c.loop-slot.invariant in
     let a = c.ask_at.ensures in
     let within : c.loop-slot.slot < length (pairs_of c.loop-slot.self.nodes.items) = omega (arith, length-map c.loop-slot.self.nodes.items (λ n. n.pair)) in
-    let long = asked-length (CalledAtPair g.F.FnMut) _ _ _ _ _ _ a.asks a.pairs in
+    let hash = λ (k : g.row.K.Denot). hash_of g.S.BuildHasher g.S.Hasher.Hasher c.args.hasher.now (g.K.Hash.hash_input k) in
     elim c.if-not-ask_at.branch [
       | then-not-ask_at w ↦
           let r = w.take.ensures in
-          let fewer = cleared-length (CalledAtPair g.F.FnMut) _ _ _ _ _ _ a.asks a.pairs _ r.pairs w.if-not-ask_at.true in
+          let gone = asked-cleared (CalledAtPair g.F.FnMut) _ _ _ _ _ _ a.asks a.pairs _ r.pairs in
           rw w.self-is (record {
-            sweeping = sweeping-next _ _ _ _ _ _ _ _ within at.sweeping _ _ _ (asked-no (CalledAtPair g.F.FnMut) _ _ _ _ _ _ a.asks a.pairs w.if-not-ask_at.true) (asked-cleared (CalledAtPair g.F.FnMut) _ _ _ _ _ _ a.asks a.pairs _ r.pairs);
+            sweeping = sweeping-next _ _ _ _ _ _ _ _ within at.sweeping _ _ _ (asked-no (CalledAtPair g.F.FnMut) _ _ _ _ _ _ a.asks a.pairs w.if-not-ask_at.true) gone;
             hashes = r.hashes ∙ a.hashes ∙ at.hashes;
-            counted = omega (arith, r.len, a.len, at.counted, long, fewer);
+            hashed = rw (gone, r.hashes, a.hashes) (hashed-clear hash (pairs_of c.loop-slot.self.nodes.items) (hashes_of c.loop-slot.self.nodes.items) c.loop-slot.slot within at.hashed);
             slots = r.slots ∙ a.slots ∙ at.slots;
             table = r.table;
           })
@@ -39,7 +40,7 @@ loop-slot-preserved g c =
           rw w.self-is (record {
             sweeping = sweeping-next _ _ _ _ _ _ _ _ within at.sweeping _ _ _ (asked-yes (CalledAtPair g.F.FnMut) _ _ _ _ _ _ a.asks a.pairs w.if-not-ask_at.false) a.pairs;
             hashes = a.hashes ∙ at.hashes;
-            counted = a.len ∙ at.counted ∙ sym long;
+            hashed = rw a.hashes (asked-hashed (CalledAtPair g.F.FnMut) _ _ _ _ _ _ a.asks a.pairs hash _ within at.hashed);
             slots = a.slots ∙ at.slots;
             table = a.table;
           })

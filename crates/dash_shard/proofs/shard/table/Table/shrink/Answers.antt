@@ -1,11 +1,5 @@
-use Rattle.std.proofs.Common.{ap, ◌∙◌, [], ◌++◌, None}
-use Rattle.std.proofs.Math.ListN.{replicate}
-use Rattle.dash_shard.specs.Shard.{taken}
-use Rattle.dash_shard.specs.inner.Table.{pairs_of}
-use Rattle.dash_shard.proofs.Slots.{taken-empties}
+use Rattle.dash_shard.proofs.Placing.{moved-none}
 use Rattle.dash_shard.proofs.shard.table.Table.shrink.Goals as goal
 
-pub move_pairs-requires-clause-empty : goal.move_pairs-requires-clause-empty
-move_pairs-requires-clause-empty g c =
-    let grown = c.in-Ok.ensures.grown in
-    ap taken (grown.pairs ∙ ap (λ ns. pairs_of ns ++ replicate grown.more None) c.new-table.ensures.empty) ∙ taken-empties [] grown.more
+pub returns-then-self-eq0-clause-moved : goal.returns-then-self-eq0-clause-moved
+returns-then-self-eq0-clause-moved g c = moved-none c.args.self.now c.new.result c.requires.table c.if-self-eq0.true c.new.ensures.table c.new.ensures.empty

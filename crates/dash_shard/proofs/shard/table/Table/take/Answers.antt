@@ -1,9 +1,52 @@
-use Rattle.std.proofs.Common.{refl, ◌∙◌}
+use Rattle.std.proofs.Common.{◌≡◌, ℕ, ◌+◌, ◌/◌, ◌%◌, ◌<◌, ◌≤◌, List, length, set, None, ap, subst, ◌∙◌, arith, slice_index}
+use Rattle.dash_shard.specs.inner.Marks.{goes_past, IsClean, KeepsTags}
+use Rattle.dash_shard.specs.inner.Table.{groups_in, pairs_of, hashes_of, pairs_in, hashes_in}
+use Rattle.dash_shard.specs.Shard.{slot}
+use Rattle.dash_shard.proofs.Marked.{counted-there}
 use Rattle.dash_shard.proofs.Nodes.{written}
-use Rattle.dash_shard.proofs.Tables.{table_taken}
+use Rattle.dash_shard.proofs.Placing.{by-way, to-way, some-of, table-some, table-taken}
 use Rattle.dash_shard.proofs.shard.table.Table.take.Goals as goal
+
+pub uncount_past-requires-clause-some : goal.uncount_past-requires-clause-some
+uncount_past-requires-clause-some g c =
+    let t = c.args.self.now in
+    let i = c.args.position in
+    let p = some-of (slot (pairs_in t) i) c.requires.taken in
+    let long : c.len-count.result ≡ groups_in t = omega (arith, c.len-count.ensures, t.counts.ok.0) in
+    to-way (λ l a s. (j : ℕ) → j < length l → goes_past (length l) a s j ≤ slice_index l j) (slice_index (hashes_in t) i) i _ t.counts.items c.len-count.result c.home-home.result c.steps_to-steps.result c.deref_mut.ensures.value long
+    (subst (λ h. c.home-home.result ≡ h % c.len-count.result) c.requires.hash c.home-home.ensures.is) c.steps_to-steps.ensures.is
+    (counted-there c.requires.table.marked i p.0 p.1)
+
+pub overflow_sub-self : goal.overflow_sub-self
+overflow_sub-self g c = table-some c.args.self.now c.requires.table c.args.position c.requires.taken
+
+pub returns-clause-len : goal.returns-clause-len
+returns-clause-len g c = let some = table-some c.args.self.now c.requires.table c.args.position c.requires.taken in omega (arith, some)
 
 pub returns-clause-table : goal.returns-clause-table
 returns-clause-table g c =
-    let whole = written c.args.self.now.nodes.len c.take-pair.new.nodes _ (c.take-pair.auto.nodes ∙ c.deref_mut.ensures.len) in
-    table_taken c.args.self.now _ _ _ _ c.requires.table c.requires.taken c.requires.some c.deref_mut.ensures.value whole c.take-pair.ensures.chained c.take-pair.ensures.frees c.take-pair.ensures.pairs c.take-pair.auto.nodes c.take-pair.ensures.next refl refl
+    let t = c.args.self.now in
+    let i = c.args.position in
+    let p = some-of (slot (pairs_in t) i) c.requires.taken in
+    let some = table-some t c.requires.table i c.requires.taken in
+    let long : c.len-count.result ≡ groups_in t = omega (arith, c.len-count.ensures, t.counts.ok.0) in
+    let u = c.uncount_past.ensures in
+    let now = c.uncount_past.new.counts in
+    let then = c.uncount_past.new.tags in
+    let counts = written t.counts.len now _ (u.len ∙ c.deref_mut.ensures.len) in
+    let tags = written t.tags.len then _ (u.tags_len ∙ c.deref_mut-2.ensures.len) in
+    let nodes = written t.nodes.len c.vacate.new.nodes _ (c.vacate.auto.nodes ∙ c.deref_mut-3.ensures.len) in
+    let seen = c.deref.ensures.value ∙ counts in
+    let whose : c.home-home.result ≡ slice_index (hashes_in t) i % c.len-count.result = subst (λ h. c.home-home.result ≡ h % c.len-count.result) c.requires.hash c.home-home.ensures.is in
+    let lengths = ap length c.deref_mut.ensures.value in
+    table-taken t _ c.requires.table i now counts (u.len ∙ lengths) (ap length nodes ∙ c.vacate.auto.nodes ∙ ap length c.deref_mut-3.ensures.value)
+    p.0 then c.left_mark.result p.1 (u.tags_len ∙ ap length c.deref_mut-2.ensures.value)
+    (by-way (λ l a s. (j : ℕ) → j < length l → slice_index now j + goes_past (length l) a s j ≡ slice_index l j) (slice_index (hashes_in t) i) i _ t.counts.items c.len-count.result c.home-home.result c.steps_to-steps.result c.deref_mut.ensures.value long whose c.steps_to-steps.ensures.is u.counts)
+    (subst (λ l. KeepsTags now l then) c.deref_mut-2.ensures.value u.keeps)
+    (subst (λ (l : List ℕ). (j : ℕ) → j < length l → slice_index now j ≡ 0 → IsClean then j) c.deref_mut.ensures.value u.clean)
+    (subst (λ (l : List ℕ). slice_index l (i / 16) ≡ 0 → c.left_mark.result ≡ 128) seen c.left_mark.ensures.empty)
+    (subst (λ (l : List ℕ). 0 < slice_index l (i / 16) → c.left_mark.result ≡ 129) seen c.left_mark.ensures.removed)
+    (ap (λ (l : List ℕ). set l i c.left_mark.result) tags)
+    (ap pairs_of nodes ∙ c.vacate.ensures.pairs ∙ ap (λ ns. set (pairs_of ns) i None) c.deref_mut-3.ensures.value)
+    (ap hashes_of nodes ∙ c.vacate.ensures.hashes ∙ ap hashes_of c.deref_mut-3.ensures.value)
+    (omega (arith, some))

@@ -1,5 +1,4 @@
-use Rattle.std.proofs.Common.{◌≡◌, ◌+◌, ◌<◌, ◌^◌, length, refl, arith, slice_index}
-use Rattle.dash_shard.specs.inner.Marks.{goes_past}
+use Rattle.std.proofs.Common.{◌<◌, length, refl, arith}
 use Rattle.dash_shard.proofs.Counts.{counting-first, counting-more}
 use Rattle.dash_shard.proofs.Ways.{past_here}
 use Rattle.dash_shard.proofs.shard.table.marks.count_past.Goals as goal

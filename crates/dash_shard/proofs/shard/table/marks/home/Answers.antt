@@ -1,4 +1,4 @@
-use Rattle.std.proofs.Common.{◌≡◌, ◌-◌, ◌%◌, ◌^◌, ℕ, bit_and, sym, ap, subst, ◌∙◌, arith, pow_pos}
+use Rattle.std.proofs.Common.{◌-◌, ◌%◌, ℕ, bit_and, sym, ap, ◌∙◌, arith, pow_pos}
 use Rattle.std.proofs.lemmas.Nat.{and_mask}
 use Rattle.dash_shard.proofs.Ways.{mod_below}
 use Rattle.dash_shard.proofs.shard.table.marks.home.Goals as goal

@@ -1,4 +1,4 @@
-use Rattle.std.proofs.Common.{arith, w16}
+use Rattle.std.proofs.Common.{w16}
 use Rattle.std.proofs.lemmas.Nat.Bits.{bit_at-trailing_zeros}
 use Rattle.dash_shard.proofs.shard.table.marks.lowest.Goals as goal
 

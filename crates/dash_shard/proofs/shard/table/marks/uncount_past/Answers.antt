@@ -1,5 +1,4 @@
-use Rattle.std.proofs.Common.{◌≡◌, ◌+◌, ◌-◌, ◌<◌, ◌≤◌, length, refl, sym, ap, arith, slice_index, set, subst, inl, inr, List, ℕ, ◌∙◌, get_or-set_same}
-use Rattle.dash_shard.specs.inner.Marks.{goes_past}
+use Rattle.std.proofs.Common.{◌≡◌, ◌+◌, ◌-◌, ◌<◌, length, refl, sym, arith, slice_index, set, subst, inl, inr, List, ℕ, ◌∙◌, get_or-set_same}
 use Rattle.dash_shard.proofs.Counts.{Uncounting, uncounting-first, uncounting-some, uncounting-whole, uncounting-more}
 use Rattle.dash_shard.proofs.shard.table.marks.uncount_past.Goals.{then-counts-group-eq0, else-counts-group-eq0}
 use Rattle.dash_shard.proofs.shard.table.marks.uncount_past.Goals as goal

@@ -1,0 +1,202 @@
+//! The places of a table: which one a pair is put on, and what is left where one goes.
+ghost use Rattle.std.specs.Prelude.{ℕ, ◌≡◌, ◌+◌, ◌*◌, ◌/◌, ◌^◌, ◌<◌, ◌≤◌, Some, None, IfSome, IfNone, IsSome, length, slice_set, slice_index};
+ghost use Rattle.dash_shard.specs.inner.Table.{IsTable, IsSpot, Holds, IsAbsent, limit, pairs_of, hashes_of, pairs_in, hashes_in};
+ghost use Rattle.dash_shard.specs.Shard.{slot};
+
+use super::marks::{
+    EMPTY, REMOVED, count_past, group_of, home, lowest, next_group, steps_to, uncount_past,
+};
+use super::{Node, Table, find_in};
+use crate::shard::group::probe;
+use crate::shard::lanes::free_lanes;
+use std::snapshot::Snapshot;
+
+// Where a key's pair stands, or else a place for it where there is room.
+#[derive(Clone, Copy)]
+pub struct Place {
+    pub position: Option<usize>,
+    pub free: usize,
+}
+
+// The place that was found before, or else the first free lane of a group.
+#[inline(always)]
+fn first_free(free: Option<usize>, row: &[u8; 16], start: usize) -> Option<usize>
+    requires { start + 16 < 2 ^ 64 }
+    ensures kept { (i : ℕ) → free ≡ Some i → result ≡ Some i }
+    ensures found { free ≡ None → IfSome result (λ i. (j : ℕ) × (j < 16) × (i ≡ start + j) × (128 ≤ slice_index row.now j)) }
+    ensures none { free ≡ None → IfNone result ((j : ℕ) → j < 16 → slice_index row.now j < 128) }
+{
+    if free.is_some() {
+        return free;
+    }
+    let mask = free_lanes(row);
+    if mask == 0 {
+        return None;
+    }
+    Some(start + lowest(mask))
+}
+
+// What marks a slot of a group whose pair goes: it is empty unless pairs stand past the group.
+#[inline(always)]
+fn left_mark(counts: &[usize], group: usize) -> u8
+    requires { group < length counts.now }
+    ensures empty { slice_index counts.now group ≡ 0 → result ≡ 128 }
+    ensures removed { 0 < slice_index counts.now group → result ≡ 129 }
+{
+    if counts[group] == 0 { EMPTY } else { REMOVED }
+}
+
+// Puts a pair on a free slot.
+#[inline(always)]
+fn put<K, V>(nodes: &mut [Node<K, V>], position: usize, hash: u64, key: K, value: V)
+    requires within { position < length nodes.old }
+    requires free { slot (pairs_of nodes.old) position ≡ None }
+    ensures pairs { pairs_of nodes.new ≡ slice_set (pairs_of nodes.old) position (Some (key, value)) }
+    ensures hashes { hashes_of nodes.new ≡ slice_set (hashes_of nodes.old) position hash }
+{
+    let node = &mut nodes[position];
+    node.hash = Snapshot::of(&hash);
+    match node.pair.replace((key, value)) {
+        None => {}
+        Some(_) => unreachable!(),
+    }
+}
+
+// Takes the pair off a slot.
+#[inline(always)]
+fn vacate<K, V>(nodes: &mut [Node<K, V>], position: usize) -> (K, V)
+    requires { IsSome (slot (pairs_of nodes.old) position) }
+    ensures old { slot (pairs_of nodes.old) position ≡ Some result }
+    ensures pairs { pairs_of nodes.new ≡ slice_set (pairs_of nodes.old) position None }
+    ensures hashes { hashes_of nodes.new ≡ hashes_of nodes.old }
+{
+    match nodes[position].pair.take() {
+        Some(pair) => pair,
+        None => unreachable!(),
+    }
+}
+
+impl<K, V> Table<K, V> {
+    /// Looks for the pair of this hash whose key is equal, and for the first place on its way where it may be put, in one pass.
+    #[inline(always)]
+    pub fn find_or_place(&self, hash: u64, key: &K) -> Place
+    where
+        K: Eq,
+        requires { IsTable self.now }
+        ensures found { IfSome result.position (Holds K.eq self.now.nodes.items key.now) }
+        ensures absent { IfNone result.position (IsAbsent K.eq self.now.nodes.items hash key.now) }
+        ensures free { IfNone result.position (self.now.len < limit (length self.now.nodes.items) → IsSpot self.now hash result.free) }
+    {
+        let count = self.counts.len();
+        if count == 0 {
+            return Place {
+                position: None,
+                free: 0,
+            };
+        }
+        let tag = (hash >> 57) as u8;
+        let mut group = home(hash, count);
+        let mut free = None;
+        for _step in 0..count {
+            let row = group_of(&self.tags, group);
+            let seen = probe(row, tag);
+            if let Some(position) = find_in(&self.nodes, 16 * group, seen.matches, key) {
+                return Place {
+                    position: Some(position),
+                    free: 0,
+                };
+            }
+            free = first_free(free, row, 16 * group);
+            if seen.empty != 0 {
+                break;
+            }
+            group = next_group(group, count);
+        }
+        Place {
+            position: None,
+            free: free.unwrap_or(0),
+        }
+    }
+
+    // The first place on a hash's way where a pair of it may be put.
+    #[inline]
+    fn place_for(&self, hash: u64) -> usize
+        requires table { IsTable self.now }
+        requires room { self.now.len < limit (length self.now.nodes.items) }
+        ensures { IsSpot self.now hash result }
+    {
+        let count = self.counts.len();
+        let mut group = home(hash, count);
+        for _step in 0..count {
+            let free = first_free(None, group_of(&self.tags, group), 16 * group);
+            if let Some(position) = free {
+                return position;
+            }
+            group = next_group(group, count);
+        }
+        unreachable!()
+    }
+
+    /// Puts a pair on a place where it may be put.
+    #[inline(always)]
+    pub fn fill(&mut self, position: usize, hash: u64, key: K, value: V)
+        requires table { IsTable self.old }
+        requires room { self.old.len < limit (length self.old.nodes.items) }
+        requires spot { IsSpot self.old hash position }
+        ensures pairs { pairs_in self.new ≡ slice_set (pairs_in self.old) position (Some (key, value)) }
+        ensures hashes { hashes_in self.new ≡ slice_set (hashes_in self.old) position hash }
+        ensures len { self.new.len ≡ self.old.len + 1 }
+        ensures slots { length self.new.nodes.items ≡ length self.old.nodes.items }
+        ensures table { IsTable self.new }
+    {
+        let count = self.counts.len();
+        let home = home(hash, count);
+        let steps = steps_to(home, position / 16, count);
+        count_past(&mut self.counts, home, steps);
+        self.tags[position] = (hash >> 57) as u8;
+        put(&mut self.nodes, position, hash, key, value);
+        self.len += 1;
+    }
+
+    /// Puts a pair on the first place of its way, and answers the slot.
+    #[inline]
+    pub fn push(&mut self, hash: u64, key: K, value: V) -> usize
+        requires table { IsTable self.old }
+        requires room { self.old.len < limit (length self.old.nodes.items) }
+        ensures within { result < length self.old.nodes.items }
+        ensures free { slot (pairs_in self.old) result ≡ None }
+        ensures pairs { pairs_in self.new ≡ slice_set (pairs_in self.old) result (Some (key, value)) }
+        ensures hashes { hashes_in self.new ≡ slice_set (hashes_in self.old) result hash }
+        ensures len { self.new.len ≡ self.old.len + 1 }
+        ensures slots { length self.new.nodes.items ≡ length self.old.nodes.items }
+        ensures table { IsTable self.new }
+    {
+        let position = self.place_for(hash);
+        self.fill(position, hash, key, value);
+        position
+    }
+
+    /// Takes the pair of a taken slot, by the hash of its key. The slot is empty then, or marked as one whose pair was removed where others
+    /// stand past its group.
+    #[inline(always)]
+    pub fn take(&mut self, position: usize, hash: u64) -> (K, V)
+        requires table { IsTable self.old }
+        requires taken { IsSome (slot (pairs_in self.old) position) }
+        requires hash { hash ≡ slice_index (hashes_in self.old) position }
+        ensures old { slot (pairs_in self.old) position ≡ Some result }
+        ensures pairs { pairs_in self.new ≡ slice_set (pairs_in self.old) position None }
+        ensures hashes { hashes_in self.new ≡ hashes_in self.old }
+        ensures len { self.new.len + 1 ≡ self.old.len }
+        ensures slots { length self.new.nodes.items ≡ length self.old.nodes.items }
+        ensures table { IsTable self.new }
+    {
+        let count = self.counts.len();
+        let home = home(hash, count);
+        let group = position / 16;
+        let steps = steps_to(home, group, count);
+        uncount_past(&mut self.counts, &mut self.tags, home, steps);
+        self.tags[position] = left_mark(&self.counts, group);
+        self.len -= 1;
+        vacate(&mut self.nodes, position)
+    }
+}
