@@ -2,7 +2,7 @@
 use crate::places::{here, is, is_at, new_shard, put, shard_one};
 use crate::values::Noted;
 use dash_shard::hash::PlaceState;
-use dash_shard::shard::Shard;
+use dash_shard::shard::{Shard, probe};
 use std::process::Abort;
 use std::test::Fail;
 
@@ -70,11 +70,12 @@ fn shrink_to_fit_gives_places_back(rt: HostRuntime) -> Result<(), Fail> {
         rt.alloc(),
         [(1, 15u64), (5, 22), (9, 27), (13, 30), (17, 36)],
     )?;
-    is(&rt, shard.capacity(), 8);
+    shard.try_reserve(10)?;
+    is(&rt, shard.capacity(), 28);
     shard.retain(|_, value| *value % 3 == 0);
     shard.shrink_to_fit();
     is(&rt, shard.len(), 4);
-    is(&rt, shard.capacity(), 4);
+    is(&rt, shard.capacity(), 14);
     is(&rt, shard.get(&5), None);
     for (key, value) in [(1, 15), (9, 27), (13, 30), (17, 36)] {
         is(&rt, shard.get(&key), Some((&key, &value)));
@@ -82,5 +83,40 @@ fn shrink_to_fit_gives_places_back(rt: HostRuntime) -> Result<(), Fail> {
     shard.clear();
     shard.shrink_to_fit();
     is(&rt, shard.capacity(), 0);
+    Ok(())
+}
+
+#[test]
+fn looks_at_sixteen_tags(rt: HostRuntime) {
+    let mut group = [128u8; 16];
+    group[3] = 129;
+    group[15] = 7;
+    let seen = probe(&group, 7);
+    is(&rt, seen.matches, 0b1000_0000_0000_0000);
+    is(&rt, seen.empty, 0b0111_1111_1111_0111);
+}
+
+// All these keys begin in the first of two groups, and the last four stand past it.
+#[test]
+fn removed_marks_go(rt: HostRuntime) -> Result<(), Fail> {
+    let mut shard = shard_one(&rt, rt.alloc(), [])?;
+    is(&rt, shard.search(&81).visits, 0);
+    shard.try_reserve(20)?;
+    is(&rt, shard.groups(), 2);
+    for i in 0..20u64 {
+        is_at(&rt, put(&rt, &mut shard, 4 * i + 1, i)?, None, i);
+    }
+    is(&rt, shard.search(&81).visits, 2);
+    is(&rt, shard.search(&77).position, shard.position_of(&77));
+    is(&rt, shard.search(&77).visits, 2);
+    let key = here(&rt, &shard, 1);
+    is(&rt, shard.remove(&key), Some((1, 0)));
+    is(&rt, shard.search(&81).visits, 2);
+    for i in 16..20u64 {
+        let key = here(&rt, &shard, 4 * i + 1);
+        is_at(&rt, shard.remove(&key), Some((key, i)), i);
+    }
+    is(&rt, shard.search(&81).visits, 1);
+    is(&rt, shard.search(&5).visits, 1);
     Ok(())
 }

@@ -14,15 +14,6 @@ use Rattle.dash_shard.specs.inner.Table.{pairs_of, hashes_of, limit, IsTable, Is
 use Rattle.dash_shard.proofs.Shards.{state, Inside, Inserted, filled, at-missing}
 use Rattle.dash_shard.specs.Hashing.{KeyHash}
 
--- a table whose pairs stayed
-pub moved-self : {K V : Type 0} (t : Table K V) → IsTable t → IsMoved t t
-moved-self t table = record {
-  once = λ w laws d. record { distinct = d; same = λ k. refl };
-  carried = λ i p e. (i, e, refl);
-  len = refl;
-  table = table;
-}
-
 module _ {K V S : Type 0} (h : KeyHash K S)
     (law : IsLawful h) (s : S) (number amount : ℕ)
     (t new : Table K V) (inside : Inside h law s number amount t) (moved : IsMoved t new) where

@@ -1,17 +1,16 @@
 -- A walk over all slots of a table, which calls a closure at the pair of each.
-use Rattle.std.proofs.Common.{◌≡◌, ℕ, zero, suc, ◌+◌, ◌<◌, Bool, true, false, List, map, [], ◌∷◌, ◌++◌, length, get_or, set, Option, Some, None, IfSome, IsSome, is_some, refl, sym, ap, subst, ◌∙◌, arith, append_assoc, append-nil, get_or-set_same}
+use Rattle.std.proofs.Common.{◌≡◌, ℕ, suc, ◌+◌, ◌<◌, Bool, true, false, List, map, [], ◌∷◌, ◌++◌, length, get_or, set, Option, Some, None, IfSome, IsSome, is_some, refl, sym, ap, subst, ◌∙◌, arith, append_assoc, append-nil, get_or-set_same}
 use Rattle.std.proofs.Math.ListN.{take, drop}
 use Rattle.std.proofs.Math.Seq.{drop-cons, drop-length, take-length}
 use Rattle.std.proofs.lemmas.Bool.{true≢false}
 use Rattle.std.proofs.lemmas.List.{length-map, take_more_set, drop-set-lt, set-set}
-use Rattle.std.proofs.lemmas.Option.{none-some}
 use Rattle.std.specs.Map.Calls.{CallableOnEachPair}
 use Rattle.dash_shard.specs.declared.shard.table.Node.{Node}
 use Rattle.dash_shard.specs.Shard.{slot, taken}
 use Rattle.dash_shard.specs.inner.Table.{pairs_of, IsHashed}
 use Rattle.dash_shard.specs.inner.Walks.{Visits, Sweeps, Asks, if_kept}
 use Rattle.dash_shard.proofs.Shards.{hashed-replace, hashed-clear}
-use Rattle.dash_shard.proofs.Slots.{length-taken-replace, length-taken-clear}
+use Rattle.dash_shard.proofs.Slots.{length-taken-clear}
 use Rattle.dash_shard.proofs.Nodes.{pairs-revalued, slot-here}
 
 module _ {K V : Type 0} (nodes : List (Node K V)) (i : ℕ) (n : Node K V) (k : K) (u v : V) (within : i < length nodes) (read : n ≡ get_or nodes i n) (stored : n.pair ≡ Some (k, u)) where
@@ -74,13 +73,6 @@ module _ {F K V : Type 0} (T : F → K → V → Bool → V → F → Type 0) (Q
       let whole : take i now ++ [] ≡ now = append-nil (take i now) ∙ ap (λ n. take n now) all ∙ take-length now in
       subst (λ xs. Sweeps T leaves first old xs f) whole (s.rest [] f (subst (λ xs. Sweeps T leaves f xs [] f) (sym none) (refl, refl)))
 
-length-taken-none : {A : Type 0} (xs : List (Option A)) (i : ℕ) → slot xs i ≡ None → length (taken (set xs i None)) ≡ length (taken xs)
-length-taken-none [] i e = refl
-length-taken-none (None ∷ xs) zero e = refl
-length-taken-none (Some q ∷ xs) zero e = absurd (none-some q (sym e))
-length-taken-none (None ∷ xs) (suc i) e = length-taken-none xs i e
-length-taken-none (Some q ∷ xs) (suc i) e = ap suc (length-taken-none xs i e)
-
 -- a slot that is taken is counted
 pub taken-some : {A : Type 0} (xs : List (Option A)) (i : ℕ) → IsSome (slot xs i) → 0 < length (taken xs)
 taken-some {A} xs i some = from (slot xs i) refl some
@@ -113,13 +105,6 @@ module _ {F K V : Type 0} (T : F → K → V → Bool → V → F → Type 0) (f
       from None n x = absurd (true≢false (sym x.0 ∙ said))
       from (Some p) n x = ap is_some x.2
 
-  pub asked-length : length (taken ys) ≡ length (taken xs)
-  asked-length = ap (λ zs. length (taken zs)) is ∙ from (slot xs i) refl (slot ys i) a
-    where
-      from : (o : Option (K × V)) → slot xs i ≡ o → (n : Option (K × V)) → Asks T f o b n f' → length (taken (set xs i n)) ≡ length (taken xs)
-      from None e n x = ap (λ m. length (taken (set xs i m))) x.1 ∙ length-taken-none xs i e
-      from (Some p) e n x = ap (λ m. length (taken (set xs i m))) x.2 ∙ length-taken-replace xs i (p.0, x.0) p e
-
   -- the key stays, and so does its hash beside it
   pub asked-hashed : (hash : K → ℕ) (hs : List ℕ) → i < length xs → IsHashed hash xs hs → IsHashed hash ys hs
   asked-hashed hash hs within h = subst (λ zs. IsHashed hash zs hs) (sym is) (from (slot xs i) refl (slot ys i) a)
@@ -132,24 +117,7 @@ module _ {F K V : Type 0} (T : F → K → V → Bool → V → F → Type 0) (f
   pub asked-cleared : (zs : List (Option (K × V))) → zs ≡ set ys i None → zs ≡ set xs i None
   asked-cleared zs e = e ∙ ap (λ l. set l i None) is ∙ set-set xs i (slot ys i) None
 
-  pub cleared-length : (zs : List (Option (K × V))) → zs ≡ set ys i None → b ≡ false → length (taken ys) ≡ length (taken zs) + 1
-  cleared-length zs e said = from (slot ys i) refl (asked-some said) ∙ ap (λ l. length (taken l) + 1) (sym e)
-    where
-      from : (o : Option (K × V)) → slot ys i ≡ o → IsSome o → length (taken ys) ≡ length (taken (set ys i None)) + 1
-      from None there s = absurd (true≢false (sym s))
-      from (Some q) there s = length-taken-clear ys i q there
-
--- where every answer is no, no pair stays
-pub swept-none : {F K V : Type 0} (T : F → K → V → Bool → V → F → Type 0) → ((f : F) (k : K) (v : V) (b : Bool) (w : V) (f' : F) → T f k v b w f' → b ≡ false)
-    → (f : F) (olds news : List (Option (K × V))) (last : F) → Sweeps T if_kept f olds news last → news ≡ map (λ _. None) olds
-swept-none T never f [] news last s = s.0
-swept-none T never f (None ∷ olds) news last s = s.4 ∙ ap (λ o. o ∷ s.2) s.3.0 ∙ ap (λ xs. None ∷ xs) (swept-none T never s.1 olds s.2 last s.5)
-swept-none T never f (Some p ∷ olds) news last s =
-    s.4 ∙ ap (λ o. o ∷ s.2) (s.3.3 ∙ rw (never f p.0 p.1 s.3.0 s.3.1 s.1 s.3.2) refl) ∙ ap (λ xs. None ∷ xs) (swept-none T never s.1 olds s.2 last s.5)
-
+-- no pair
 pub taken-none : {A B : Type 0} (xs : List A) → taken {A = B} (map (λ _. None) xs) ≡ []
 taken-none [] = refl
 taken-none (x ∷ xs) = taken-none xs
-
-pub none-length : {A : Type 0} (xs ys : List (Option A)) → ys ≡ map (λ _. None) xs → length (taken ys) ≡ 0
-none-length {A} xs ys e = ap (λ zs. length (taken zs)) e ∙ ap length (taken-none {B = A} xs)

@@ -30,9 +30,6 @@ round_below n a s below within =
 pub mod_below : (n h : ℕ) → 0 < n → h % n < n
 mod_below n h pos = mod-lt h pos
 
-pub group_below : (n h s : ℕ) → s < n → group_at n h s < n
-group_below n h s within = round_below n (h % n) s (mod-lt h (omega (arith, within))) (omega (arith, within))
-
 -- one step on
 pub round_last : (n a s g : ℕ) → a < n → s < n → g ≡ round n (a + s) → g + 1 ≡ n → round n (a + (s + 1)) ≡ 0
 round_last n a s g below within here last =

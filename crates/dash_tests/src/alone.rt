@@ -89,7 +89,7 @@ fn a_value_is_lent_and_room_goes_back(rt: HostRuntime) -> Result<(), Fail> {
     *alone.get_mut(&4).ok_or("no pair")? = 1;
     assert!(rt; alone.get_mut(&8).is_none());
     alone.shrink_to_fit();
-    is(&rt, alone.capacity(), 2);
+    is(&rt, alone.capacity(), 14);
     is(&rt, alone.get(&4), Some((&4, &1)));
     is(&rt, alone.get(&0), Some((&0, &5)));
     is(&rt, alone.remove(&0), Some((0, 5)));

@@ -237,10 +237,10 @@ fn the_list_for_shared_calls(rt: HostRuntime) -> Result<(), Fail> {
     is(&rt, map.remove(&rt, &4), Some((4, 11)));
     is(&rt, map.view(&rt, &0, |_, value| *value), Some(6));
     map.shrink_to_fit(&rt);
-    is(&rt, map.capacity(&rt), 1);
+    is(&rt, map.capacity(&rt), 14);
     map.clear(&rt);
     assert!(rt; map.is_empty(&rt));
-    is(&rt, map.capacity(&rt), 1);
+    is(&rt, map.capacity(&rt), 14);
     map.shrink_to_fit(&rt);
     is(&rt, map.capacity(&rt), 0);
     Ok(())

@@ -414,8 +414,8 @@ impl<K: Eq + Hash, V, S: BuildHasher> ShardMut<'_, K, V, S> {
         self.table().capacity()
     }
 
-    /// Makes room for so many pairs more, where there is less. It is refused (11) only where there is no memory for it; the pairs stay, and
-    /// so do their slots.
+    /// Makes room for so many pairs more, where there is less. It is refused (11) only where there is no memory for it. The pairs stay;
+    /// their slots change, unless there was room.
     pub fn try_reserve(&mut self, additional: usize) -> Result<(), TryReserveError>
         ensures reserves { Reserves K.eq additional self.old self.new result }
         ensures lawful { IsShard ⟦<Self as Keyed>⟧.by self.new }
