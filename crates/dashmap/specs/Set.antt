@@ -1,9 +1,11 @@
 -- A set is a map to unit: what its calls ask and answer, in the words of that map.
-use Rattle.std.specs.Prelude.{◌≡◌, Bool, List, Option, Some, None, Result, Ok, Err, map, if◌then◌else◌}
+use Rattle.std.specs.Prelude.{◌≡◌, Bool, List, Option, Some, None, Result, Ok, Err, map, true, if◌then◌else◌}
 use Rattle.std.specs.Option.{option_map}
 use Rattle.std.specs.Fn.{Once, Mut, FnOnceReturnsAt, CalledAt, TakesAt}
 use denote.Ref.{Bor}
 use Rattle.dash_shard.specs.declared.shard.InsertRefused.{InsertRefused}
+use Rattle.dash_map.specs.Alone.{AloneState}
+use Rattle.dash_map.specs.Copies.{copy_rules, CopiesAlone}
 
 -- the old value of a key that an `insert` said to be new, or not to be
 abbrev pub stood : Bool → Option (Unit {0})
@@ -26,6 +28,10 @@ module _ {K : Type 0} where
   -- the keys of pairs
   abbrev pub keys_of : List (K × Unit {0}) → List K
   keys_of ps = map (λ p. p.0) ps
+
+-- a set has copies of the keys of another
+abbrev pub CopiesKeys : {K S : Type 0} → (K → K → Bool) → (K → K → Bool) → (S → S → Type 0) → AloneState K (Unit {0}) S → AloneState K (Unit {0}) S → Type 0
+CopiesKeys eq alike clone = CopiesAlone (copy_rules eq alike (λ _ _. true) clone)
 
 module _ {F K : Type 0} where
   -- f may be called at the key

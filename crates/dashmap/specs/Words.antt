@@ -22,4 +22,4 @@ pub use Rattle.dash_map.specs.WalkingMut.{StepsTo, StepsToEnd}
 pub use Rattle.dash_map.specs.Copies.{copy_rules, CopiesShard, CopiesAlone}
 pub use Rattle.dash_map.specs.Extend.{Extends, Gains, Gave, HasNoRoom, IsRefusedAmong, InsertsEach, MadeOf, MatchFrom, Overfills, first_with_last}
 pub use Rattle.dash_map.specs.Pairs.{CopiesPairs}
-pub use Rattle.dashmap.specs.Set.{stood, member, inserted, keys_of, of_members}
+pub use Rattle.dashmap.specs.Set.{stood, member, inserted, keys_of, of_members, CopiesKeys}

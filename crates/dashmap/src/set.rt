@@ -14,12 +14,13 @@ ghost use Rattle.dash_map.specs.Amounts.{IsDefault, IsParallelism, OverflowsDefa
 ghost use Rattle.dash_map.specs.Behind.{CallableOnPairs, LeavesBy, LeavesShard, LeavesShards, SawShard, SawShards, StandsAt};
 ghost use Rattle.dash_map.specs.Locks.{IsMap};
 ghost use Rattle.dash_map.specs.Walking.{at_start};
-ghost use Rattle.dashmap.specs.Set.{AnsweredKey, CalledAtKey, MayAskKey, TakesKey, inserted, keys_of, member};
+ghost use Rattle.dashmap.specs.Set.{AnsweredKey, CalledAtKey, CopiesKeys, MayAskKey, TakesKey, inserted, keys_of, member};
 
 use crate::iter_set::{Iter, OwningIter};
 use crate::setref::one::Ref;
 pub use alone::AloneSet;
 use crossbeam_utils::CachePadded;
+use dash_history::kept::KeptKey;
 use dash_map::map::DashMap;
 use dash_map::waiting::Waiting;
 use dash_shard::error::ConstructError;
@@ -27,7 +28,7 @@ use dash_shard::hash::FixedState;
 use dash_shard::keyed::Keyed;
 use dash_shard::lock::RwLock;
 use dash_shard::shard::Shard;
-use std::alloc::Global;
+use std::alloc::{AllocError, Global};
 use std::hash::{BuildHasher, Hash};
 use std::marker::Model;
 use std::rt::Clock;
@@ -315,6 +316,20 @@ impl<K: Eq + Hash, S: BuildHasher> DashSet<K, S> {
         ensures { result.map.now ≡ self.now }
     {
         self.inner.waiting(rt)
+    }
+}
+
+impl<K: KeptKey + Drop, S: BuildHasher + Clone + Drop> DashSet<K, S> {
+    /// A set with copies of the keys, each alike its source, and a clone of the hasher.
+    ///
+    /// It waits, takes memory and is refused (4) as the map's `clone`.
+    pub fn clone<R: Wait + Clock>(&self, rt: &R) -> Result<Self, AllocError>
+        requires { (s t : S) → S.is_clone s t → HashAlike ⟦<Self as Keyed>⟧.by s t }
+        ensures { IfOk result (λ copy. SawShards ⟦<Self as Keyed>⟧.by self.now
+            (λ a. SawShards ⟦<Self as Keyed>⟧.by copy (CopiesKeys K.eq K.alike S.is_clone a))) }
+    {
+        let inner = self.inner.clone(rt)?;
+        Ok(DashSet { inner })
     }
 }
 
