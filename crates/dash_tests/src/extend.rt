@@ -25,6 +25,11 @@ fn equal_keys_of_a_list(rt: HostRuntime) -> Result<(), Fail> {
     are_two(&rt, &map.pairs(&rt)?);
     let map = Map::from_iter(rt.alloc(), three_pairs(rt.alloc())?, 1)?;
     are_two(&rt, &map.alone().pairs()?);
+    let map = Map::from_iter(rt.alloc(), three_pairs(rt.alloc())?, 1)?;
+    let copy = map.into_read_only().clone()?;
+    is(&rt, copy.len(), 2);
+    is(&rt, copy.get(&1), Some(&11));
+    is(&rt, copy.get(&5), Some(&50));
     let mut map = Map::new(rt.alloc(), 1)?;
     map.insert(&rt, 5, 40)?;
     map.extend(three_pairs(rt.alloc())?)?;

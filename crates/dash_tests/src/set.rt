@@ -33,6 +33,7 @@ fn a_set_of_a_list(rt: HostRuntime) -> Result<(), Fail> {
     set.extend(9..10)?;
     is(&rt, set.len(&rt), 3);
     walks_over_three(&rt, &set)?;
+    walks_over_three(&rt, &set.clone(&rt)?)?;
     set.clear(&rt);
     assert!(rt; set.is_empty(&rt));
     Ok(())
