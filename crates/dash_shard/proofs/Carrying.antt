@@ -50,10 +50,10 @@ module _ {K V : Type 0} where
     behind = c.is ∙ ap (λ xs. xs ++ c.rest) ends ∙ append_assoc then (n ∷ []) c.rest
 
     -- its hash stands beside its pair
-    pub carrying-hash : (hash : K → ℕ) → IsHashed hash (pairs_of old) (hashes_of old) → (p : K × V) → n.pair ≡ Some p → n.hash.value ≡ hash p.0
+    pub carrying-hash : (hash : K → ℕ) → IsHashed hash (pairs_of old) (hashes_of old) → (p : K × V) → n.pair ≡ Some p → n.hash ≡ hash p.0
     carrying-hash hash hashed p some =
         let stored = ap (λ ns. get_or (pairs_of ns) (length then) None) behind ∙ at-seam (λ x. x.pair) then n c.rest None in
-        let beside = ap (λ ns. get_or (hashes_of ns) (length then) 0) behind ∙ at-seam (λ x. x.hash.value) then n c.rest 0 in
+        let beside = ap (λ ns. get_or (hashes_of ns) (length then) 0) behind ∙ at-seam (λ x. x.hash) then n c.rest 0 in
         sym beside ∙ hashed (length then) p (stored ∙ some)
 
     pub carrying-over : n.pair ≡ None → Carrying old then t
@@ -79,14 +79,14 @@ module _ {K V : Type 0} where
           ap (λ xs. length (taken (pairs_of xs))) behind ∙ ap (λ xs. length (taken xs)) (map-append (λ x. x.pair) then (n ∷ c.rest)) ∙ length-taken-append (pairs_of then) (pairs_of (n ∷ c.rest)) in
           omega (arith, fits, whole, c.len, ap length same)
 
-      module _ (new : Table K V) (hash i : ℕ) (is : hash ≡ n.hash.value) (free : i < length t.nodes.items) (empty : slot (pairs_of t.nodes.items) i ≡ None)
+      module _ (new : Table K V) (hash i : ℕ) (is : hash ≡ n.hash) (free : i < length t.nodes.items) (empty : slot (pairs_of t.nodes.items) i ≡ None)
           (slots : pairs_of new.nodes.items ≡ set (pairs_of t.nodes.items) i (Some (k, v)))
           (hashes : hashes_of new.nodes.items ≡ set (hashes_of t.nodes.items) i hash) (longer : new.len ≡ t.len + 1) (lawful : IsTable new) where
         within : i < length (pairs_of t.nodes.items)
         within = omega (arith, free, length-map t.nodes.items (λ x. x.pair))
 
         within-hashes : i < length (hashes_of t.nodes.items)
-        within-hashes = omega (arith, free, length-map t.nodes.items (λ x. x.hash.value))
+        within-hashes = omega (arith, free, length-map t.nodes.items (λ x. x.hash))
 
         module _ (w : Keys K) (laws : IsEquivalence w.eq) (d : Distinct w.eq ((k, v) ∷ taken (pairs_of c.rest))) where
           before : EachOnce w.eq (taken (pairs_of c.rest)) (taken (pairs_of t.nodes.items))

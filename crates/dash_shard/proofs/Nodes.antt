@@ -42,7 +42,7 @@ module _ {K V : Type 0} where
     pairs-put o = map-set (λ x. x.pair) nodes i _
 
     pub hashes-put : (o : Option (K × V)) → hashes_of (set nodes i (record n { pair = o })) ≡ hashes_of nodes
-    hashes-put o = map-set_same (λ x. x.hash.value) nodes i _ blank (ap (λ x. x.hash.value) (sym node-here))
+    hashes-put o = map-set_same (λ x. x.hash) nodes i _ blank (ap (λ x. x.hash) (sym node-here))
 
   -- another pair in a taken slot
   module _ (nodes : List (Node K V)) (i : ℕ) (n : Node K V) (p q : K × V) (within : i < length nodes) (read : n ≡ get_or nodes i n) (stored : n.pair ≡ Some p) where

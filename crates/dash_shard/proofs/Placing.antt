@@ -87,7 +87,7 @@ module _ {K V : Type 0} where
       let tags-len = ap length tags ∙ length-replicate slots 128 in
       let counts-len = ap length counts ∙ length-replicate count 0 in
       let pairs-len = ap length none ∙ length-replicate slots None in
-      let hashes-len = length-map t.nodes.items (λ n. n.hash.value) in
+      let hashes-len = length-map t.nodes.items (λ n. n.hash) in
       let nodes-len = fresh-slots t.nodes.items slots none in
       record {
         marked = subst (λ n. IsMarked n t.tags.items t.counts.items (pairs_in t) (hashes_in t)) (sym counts-len) (marked-fresh count t.tags.items t.counts.items (pairs_in t) (hashes_in t) power

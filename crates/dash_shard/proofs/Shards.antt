@@ -64,7 +64,7 @@ holds-key {K} {V} eq nodes k i has = from (slot (pairs_of nodes) i) refl has
 
 -- as many hashes as slots
 columns : {K V : Type 0} (nodes : List (Node K V)) → length (hashes_of nodes) ≡ length (pairs_of nodes)
-columns nodes = length-map nodes (λ n. n.hash.value) ∙ sym (length-map nodes (λ n. n.pair))
+columns nodes = length-map nodes (λ n. n.hash) ∙ sym (length-map nodes (λ n. n.pair))
 
 -- the hash by the hasher of a state is that by the hasher of the same state
 pub hash-same : {K V S : Type 0} {h : KeyHash K S} → IsLawful h → (k : K) (s t : ShardState K V S) → s ≡ t → (hash : ℕ) → hash ≡ h.hash t.hasher k → hash ≡ h.hash s.hasher k

@@ -17,7 +17,7 @@ limit n = n / 8 * 7
 
 module _ {K V : Type 0} where
   abbrev pub blank : Node K V
-  blank = record { hash = record { marker = record {}; value = 0 }; pair = None }
+  blank = record { hash = 0; pair = None }
 
   -- the node of a slot, blank past the end
   abbrev pub node : List (Node K V) → ℕ → Node K V
@@ -27,7 +27,7 @@ module _ {K V : Type 0} where
   pairs_of nodes = map (λ n. n.pair) nodes
 
   abbrev pub hashes_of : List (Node K V) → List ℕ
-  hashes_of nodes = map (λ n. n.hash.value) nodes
+  hashes_of nodes = map (λ n. n.hash) nodes
 
   -- the same of a table
   abbrev pub pairs_in : Table K V → List (Option (K × V))

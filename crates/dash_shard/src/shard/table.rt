@@ -13,7 +13,6 @@ use marks::{group_of, home, lowest, next_group, without};
 use std::alloc::Global;
 use std::hash::{BuildHasher, Hash};
 use std::mem;
-use std::snapshot::Snapshot;
 
 mod growth;
 mod marks;
@@ -22,10 +21,10 @@ mod sweep;
 mod values;
 pub mod walk;
 
-// A slot: a pair, or none, and what clauses know of the pair's hash, which has no bytes.
+// A slot: a pair with its hash, or none.
 #[derive(Drop)]
 pub struct Node<K, V> {
-    hash: Snapshot<u64>,
+    hash: u64,
     pair: Option<(K, V)>,
 }
 

@@ -10,7 +10,6 @@ use super::{Node, Table};
 use std::alloc::{AllocError, Global};
 use std::hash::{BuildHasher, Hash};
 use std::mem;
-use std::snapshot::Snapshot;
 
 // Slots with no pair.
 fn blanks<K, V>(alloc: Global, count: usize) -> Result<Vec<Node<K, V>>, AllocError>
@@ -19,7 +18,7 @@ fn blanks<K, V>(alloc: Global, count: usize) -> Result<Vec<Node<K, V>>, AllocErr
     let mut nodes = Vec::with_capacity(alloc, count)?;
     for _ in 0..count {
         nodes.push_reserved(Node {
-            hash: Snapshot::of(&0),
+            hash: 0,
             pair: None,
         });
     }

@@ -9,7 +9,6 @@ use super::marks::{
 use super::{Node, Table, find_in};
 use crate::shard::group::probe;
 use crate::shard::lanes::free_lanes;
-use std::snapshot::Snapshot;
 
 // Where a key's pair stands, or else a place for it where there is room.
 #[derive(Clone, Copy)]
@@ -55,7 +54,7 @@ fn put<K, V>(nodes: &mut [Node<K, V>], position: usize, hash: u64, key: K, value
     ensures hashes { hashes_of nodes.new ≡ slice_set (hashes_of nodes.old) position hash }
 {
     let node = &mut nodes[position];
-    node.hash = Snapshot::of(&hash);
+    node.hash = hash;
     match node.pair.replace((key, value)) {
         None => {}
         Some(_) => unreachable!(),

@@ -7,4 +7,4 @@ pub returns-clause-pairs : goal.returns-clause-pairs
 returns-clause-pairs g c = map-set (λ n. n.pair) c.args.nodes.now c.args.position _ ∙ ap (λ o. set (pairs_of c.args.nodes.now) c.args.position o) c.replace.ensures.after
 
 pub returns-clause-hashes : goal.returns-clause-hashes
-returns-clause-hashes g c = map-set (λ n. n.hash.value) c.args.nodes.now c.args.position _ ∙ ap (λ h. set (hashes_of c.args.nodes.now) c.args.position h) c.of.ensures
+returns-clause-hashes g c = map-set (λ n. n.hash) c.args.nodes.now c.args.position _

@@ -11,4 +11,4 @@ returns-clause-pairs g c = map-set (λ n. n.pair) c.args.nodes.now c.args.positi
 pub returns-clause-hashes : goal.returns-clause-hashes
 returns-clause-hashes g c =
     let within = spot-within c.args.nodes.now c.args.position c.requires in
-    map-set_same (λ n. n.hash.value) c.args.nodes.now c.args.position _ blank (ap (λ n. n.hash.value) (get_or_default c.args.nodes.now c.args.position _ blank within))
+    map-set_same (λ n. n.hash) c.args.nodes.now c.args.position _ blank (ap (λ n. n.hash) (get_or_default c.args.nodes.now c.args.position _ blank within))

@@ -20,7 +20,7 @@ loop-slot-preserved g c =
         | inl same ↦ ap (slot (set (pairs_of nodes) i None)) same ∙ get_or-set_same (pairs_of nodes) i None None (omega (arith, within, length-map nodes (λ n. n.pair)))
         | inr other ↦ get_or-set_other (pairs_of nodes) i j None None other ∙ at.none j (omega (arith, less, other))
       ];
-      hashes = map-set_same (λ n. n.hash.value) nodes i _ blank (ap (λ n. n.hash.value) (get_or_default nodes i _ blank within)) ∙ at.hashes;
+      hashes = map-set_same (λ n. n.hash) nodes i _ blank (ap (λ n. n.hash) (get_or_default nodes i _ blank within)) ∙ at.hashes;
       long = length-set nodes i _ ∙ at.long;
     }
 
