@@ -95,7 +95,8 @@ impl<K: KeptKey + Drop, V: Kept + Drop, S: BuildHasher + Clone + Drop> DashMap<K
     /// hashes each key once. Where there is none it is refused (4), and keeps nothing. Which slots the pairs have is left open.
     pub fn clone<R: Wait + Clock>(&self, rt: &R) -> Result<Self, AllocError>
         requires { (s t : S) → S.is_clone s t → HashAlike ⟦<Self as Keyed>⟧.by s t }
-        ensures { IfOk result (λ copy. SawShards ⟦<Self as Keyed>⟧.by self.now (λ a. SawShards ⟦<Self as Keyed>⟧.by copy (CopiesAlone (copy_rules K.eq K.alike V.alike S.is_clone) a))) }
+        ensures { IfOk result (λ copy. SawShards ⟦<Self as Keyed>⟧.by self.now
+            (λ a. SawShards ⟦<Self as Keyed>⟧.by copy (CopiesAlone (copy_rules K.eq K.alike V.alike S.is_clone) a))) }
     {
         Ok(self.copied(rt)?.end())
     }

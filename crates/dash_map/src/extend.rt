@@ -181,7 +181,8 @@ impl<K: Eq + Hash + Drop, V: Drop, S: BuildHasher + Clone + Default + Drop> Dash
     ) -> Result<Self, FromRefused<K, V>>
         requires alike { (s t : S) → S.is_clone s t → HashAlike ⟦<Self as Keyed>⟧.by s t }
         requires finite { IsFiniteIterable U.into_iter_gives U.IntoIter.can_next U.IntoIter.remaining iter }
-        ensures made { IfOk result (λ m. Gave U.into_iter_gives U.IntoIter.next_gives iter None (λ ps. SawShards ⟦<Self as Keyed>⟧.by m (MadeOf ⟦<Self as Keyed>⟧.by ps))) }
+        ensures made { IfOk result (λ m. Gave U.into_iter_gives U.IntoIter.next_gives iter None
+            (λ ps. SawShards ⟦<Self as Keyed>⟧.by m (MadeOf ⟦<Self as Keyed>⟧.by ps))) }
         ensures hasher { IfOk result (λ m. S.is_default m.hasher) }
         ensures amount { IfOk result (λ m. IsDefault parallelism m.amount) }
         ensures bad_parallelism { IsErrOf result (Construct Parallelism) ↔ (IsParallelism parallelism → ⊥) }
