@@ -99,7 +99,8 @@ fn clean_group(tags: &mut [u8], group: usize)
     requires { 16 * group + 16 ≤ length tags.old }
     ensures len { length tags.new ≡ length tags.old }
     ensures clean { IsClean tags.new group }
-    ensures keeps { (i : ℕ) → (slice_index tags.new i ≡ slice_index tags.old i) ⊎ ((slice_index tags.old i ≡ 129) × (slice_index tags.new i ≡ 128) × (i / 16 ≡ group)) }
+    ensures keeps { (i : ℕ) → (slice_index tags.new i ≡ slice_index tags.old i)
+        ⊎ ((slice_index tags.old i ≡ 129) × (slice_index tags.new i ≡ 128) × (i / 16 ≡ group)) }
 {
     for slot in 16 * group..16 * group + 16 {
         if tags[slot] == REMOVED {
