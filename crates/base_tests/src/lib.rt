@@ -1,4 +1,4 @@
-//! The tests of `dash_shard`, `dash_history` and `dash_ref`, over their public items alone.
+//! The tests of `dash_slots`, `dash_shard`, `dash_history` and `dash_ref`, over their public items alone.
 //!
 //! They stand in a crate of their own, so that each library is proved once, without them. Modules are named as those that they test.
 //! `values` has keys and values that tests of maps use too.
@@ -18,6 +18,8 @@ mod places;
 mod record;
 #[cfg(test)]
 mod shard;
+#[cfg(test)]
+mod slots;
 #[cfg(test)]
 mod step;
 pub mod values;

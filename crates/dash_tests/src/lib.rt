@@ -1,7 +1,7 @@
-//! The tests of maps, over their public items alone.
+//! The tests of maps: their calls, runs, refusals and texts, over public items alone.
 //!
-//! They stand in a crate of their own, so that each library is proved once, without them. Modules are named as those that they test.
-//! `words` is a caller, which the documents show, and `parts` has what the tests of mapped references map to.
+//! Tests of maps stand in crates of their own, so that each library is proved once, without them, and in three of them, which are proved side
+//! by side. Modules are named as those that they test; `words` is a caller, which the documents show.
 #![tactic(auto)]
 
 #[cfg(test)]
@@ -11,31 +11,13 @@ mod calls;
 #[cfg(test)]
 mod checks;
 #[cfg(test)]
-mod entry;
-#[cfg(test)]
 mod error;
 #[cfg(test)]
-mod extend;
-#[cfg(test)]
-mod iter;
-#[cfg(test)]
 mod map;
-#[cfg(test)]
-mod names;
-pub mod parts;
-#[cfg(test)]
-mod projection;
+pub mod maps;
 #[cfg(test)]
 mod run;
 #[cfg(test)]
-mod set;
-#[cfg(test)]
 mod t;
-#[cfg(test)]
-mod tries;
-#[cfg(test)]
-mod view;
-#[cfg(test)]
-mod waiting;
 #[cfg(test)]
 mod words;

@@ -1,5 +1,6 @@
 //! Amounts, capacities and routes of a map, as worked by hand.
 use crate::checks::{is, is_at};
+use crate::maps::map_of_four;
 use dash_map::map::DashMap;
 use dash_map::t::Map as _;
 use dash_shard::error::ConstructError;
@@ -10,13 +11,6 @@ use std::sync::Wait;
 use std::test::Fail;
 
 type Map = DashMap<u64, u64>;
-
-type Places<V> = DashMap<u64, V, PlaceState>;
-
-/// A map of four shards, where the key k goes to shard k modulo 4.
-pub(crate) fn map_of_four<V: Drop>(alloc: Global) -> Result<Places<V>, ConstructError> {
-    Places::with_hasher_and_shard_amount(alloc, PlaceState, 4)
-}
 
 #[test]
 fn amounts_that_are_refused(rt: HostRuntime) {

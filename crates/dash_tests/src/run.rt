@@ -1,6 +1,6 @@
 //! Runs of a few steps, as worked by hand.
 use crate::checks::is;
-use crate::map::map_of_four;
+use crate::maps::map_of_four;
 use base_tests::values::Uncopied;
 use dash_history::action::Action;
 use dash_history::kept::Kept;

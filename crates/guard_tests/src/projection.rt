@@ -1,8 +1,8 @@
 //! References that are mapped to a part of their value.
 use crate::checks::is;
-use crate::map::map_of_four;
 use crate::parts::{Left, Payload, Sides};
 use dash_ref::mapref::one::Compose;
+use dash_tests::maps::map_of_four;
 use std::convert::AsRef;
 use std::test::Fail;
 

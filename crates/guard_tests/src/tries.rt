@@ -1,10 +1,10 @@
 //! References that may be written, and calls that wait for nobody.
 use crate::checks::is;
-use crate::map::map_of_four;
 use dash_map::map::DashMap;
 use dash_ref::try_result::TryResult;
 use dash_ref::util::SharedValue;
 use dash_shard::hash::FixedState;
+use dash_tests::maps::map_of_four;
 use std::test::Fail;
 
 #[test]

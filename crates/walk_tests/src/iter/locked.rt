@@ -1,10 +1,10 @@
 //! A walk over a map that threads share: rising shards, each pair once, and which shard it holds.
 use crate::checks::is;
-use crate::map::map_of_four;
 use dash_map::map::DashMap;
 use dash_map::t::Map;
 use dash_shard::error::ConstructError;
 use dash_shard::hash::PlaceState;
+use dash_tests::maps::map_of_four;
 use std::alloc::Global;
 use std::process::Abort;
 use std::rt::Clock;

@@ -1,10 +1,10 @@
 //! Walks that write: over a map of one owner, and over one that threads share, which show the shard that they hold.
 use crate::checks::is;
-use crate::map::map_of_four;
 use dash_map::alone::Alone;
 use dash_map::map::DashMap;
 use dash_map::t::Map;
 use dash_shard::hash::PlaceState;
+use dash_tests::maps::map_of_four;
 use std::hash::{BuildHasher, Hash};
 use std::rt::Clock;
 use std::sync::Wait;

@@ -1,6 +1,6 @@
 //! The operators of a map, its shards, and what it prints.
 use crate::checks::is;
-use crate::map::map_of_four;
+use dash_tests::maps::map_of_four;
 use dashmap::DashMap;
 use std::test::Fail;
 

@@ -1,10 +1,10 @@
 //! Entries of a map that threads share, as worked by hand.
 use crate::checks::is;
-use crate::map::map_of_four;
 use base_tests::values::Noted;
 use dash_map::map::DashMap;
 use dash_ref::mapref::entry::{Entry, OccupiedEntry, TryEntryRefused, VacantEntry};
 use dash_shard::hash::PlaceState;
+use dash_tests::maps::map_of_four;
 use std::hash::Hash;
 use std::rt::Clock;
 use std::sync::Wait;

@@ -1,6 +1,6 @@
 //! Views of a map that nobody writes any more.
 use crate::checks::is;
-use crate::map::map_of_four;
+use dash_tests::maps::map_of_four;
 use std::test::Fail;
 
 #[test]

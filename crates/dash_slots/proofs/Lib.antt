@@ -1,0 +1,4 @@
+mod Crosses
+mod Places
+mod Rows
+mod Walking

@@ -1,0 +1,4 @@
+pub mod Cells
+pub mod Slots
+pub mod Lends
+pub mod inner

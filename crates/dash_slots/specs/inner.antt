@@ -1,0 +1,2 @@
+-- What only invariants and proofs use.
+pub mod Block

@@ -1,0 +1,149 @@
+//! A row of slots that a caller fills and empties one by one.
+ghost use Rattle.std.specs.Prelude.{◌≡◌, ℕ, ◌<◌, ◌^◌, [], None, Some, Option, length, slice_set, IsOk, IfOk, IsSome};
+ghost use Rattle.std.specs.Borrow.{sem};
+ghost use Rattle.dash_slots.specs.Slots.{value_at, blank, IsBlank};
+ghost use Rattle.dash_slots.specs.Lends.{lends_value};
+
+use crate::cells::{Cells, Deed, Start, allocate, deallocate};
+use std::alloc::{AllocError, Global};
+use std::marker::Model;
+use std_alloc::room::may_hold;
+
+/// The memory of a row. Callers have no use for it.
+pub struct Block<T> {
+    start: Start<T>,
+    cells: Cells<T>,
+    deed: Deed<T, Global>,
+}
+
+/// A row of slots, each empty or with a value. The memory of an empty slot is not written.
+///
+/// Which slots have values a caller knows by marks of its own, and it takes each value out before the row ends.
+pub struct Slots<T> {
+    block: Option<Block<T>>,
+    len: usize,
+    alloc: Global,
+}
+
+impl<T> Model for Slots<T> {
+    ghost use Rattle.dash_slots.specs.Slots.{SlotsState, slots_code};
+    ghost use Rattle.dash_slots.specs.inner.Block.{seen, IsRow};
+
+    ghost Value = { SlotsState T };
+
+    ghost coded = { slots_code T.code };
+
+    ghost view = { λ s. seen s.block };
+
+    ghost invariant = { λ s. IsRow s.block s.len };
+}
+
+impl<T> Slots<T> {
+    /// A row of no slots, which takes no memory.
+    #[inline]
+    pub fn new(alloc: Global) -> Self
+        ensures { result ≡ blank 0 }
+    {
+        Slots {
+            block: None,
+            len: 0,
+            alloc,
+        }
+    }
+
+    /// A row of `len` empty slots, which takes memory, but for a length of 0.
+    pub fn with_len(alloc: Global, len: usize) -> Result<Self, AllocError>
+        ensures row { IfOk result (λ s. s ≡ blank len) }
+        ensures free { len ≡ 0 → IsOk result }
+    {
+        if len == 0 {
+            return Ok(Slots::new(alloc));
+        }
+        if !may_hold::<T>(len) {
+            return Err(AllocError);
+        }
+        let (start, cells, deed) = allocate(&alloc, len)?;
+        Ok(Slots {
+            block: Some(Block { start, cells, deed }),
+            len,
+            alloc,
+        })
+    }
+
+    /// Where the memory is taken from.
+    #[inline]
+    pub fn allocator(&self) -> Global {
+        self.alloc
+    }
+
+    /// How many slots there are.
+    #[inline(always)]
+    pub fn len(&self) -> usize
+        ensures { result ≡ length self.now.values }
+    {
+        self.len
+    }
+
+    /// Puts a value in an empty slot. Proofs know the slot by the label from then on, which costs nothing.
+    #[inline(always)]
+    pub fn put(&mut self, index: usize, label: u64, value: T)
+        requires within { index < length self.old.values }
+        requires empty { value_at self.old index ≡ None }
+        ensures values { self.new.values ≡ slice_set self.old.values index (Some value) }
+        ensures labels { self.new.labels ≡ slice_set self.old.labels index label }
+    {
+        match &mut self.block {
+            Some(block) => block.cells.put(block.start, index, label, value),
+            None => unreachable!(),
+        }
+    }
+
+    /// Takes the value out of a slot.
+    #[inline(always)]
+    pub fn take(&mut self, index: usize) -> T
+        requires { IsSome (value_at self.old index) }
+        ensures value { value_at self.old index ≡ Some result }
+        ensures values { self.new.values ≡ slice_set self.old.values index None }
+        ensures labels { self.new.labels ≡ self.old.labels }
+    {
+        match &mut self.block {
+            Some(block) => block.cells.take(block.start, index),
+            None => unreachable!(),
+        }
+    }
+
+    /// The value of a slot that has one.
+    #[inline(always)]
+    pub fn get(&self, index: usize) -> &T
+        requires { IsSome (value_at self.now index) }
+        ensures { value_at self.now index ≡ Some result.now }
+    {
+        match &self.block {
+            Some(block) => block.cells.get(block.start, index),
+            None => unreachable!(),
+        }
+    }
+
+    /// The value of a slot that has one, to be written.
+    #[inline(always)]
+    pub fn get_mut(&mut self, index: usize) -> &mut T
+        requires { IsSome (value_at self.old index) }
+        ensures* writes_back { sem 𝓛 (lends_value T.row self.entry index result) }
+        ensures value { value_at self.old index ≡ Some result.now }
+    {
+        let block = self.block.as_mut().unwrap();
+        let start = block.start;
+        block.cells.get_mut(start, index)
+    }
+
+    /// Ends a row none of whose slots has a value, and gives its memory back.
+    pub fn end(self)
+        requires { IsBlank self }
+    {
+        let Slots { block, len, alloc } = self;
+        match block {
+            Some(Block { start, cells, deed }) => deallocate(&alloc, start, len, cells, deed),
+            None => {}
+        }
+    }
+}
