@@ -75,7 +75,8 @@ pub(crate) fn allocate<T, A: Allocator>(
     len: usize,
 ) -> Result<(Start<T>, Cells<T>, Deed<T, A>), AllocError>
     requires { FitsInBlock T.row len }
-    ensures { IfOk result (λ r. (r.1.at ≡ r.0.ptr) × (r.1.slots ≡ replicate len None) × (r.1.labels ≡ replicate len 0) × (r.2.at ≡ r.0.ptr) × (r.2.len ≡ len) × (r.2.alloc ≡ alloc.now)) }
+    ensures empty { IfOk result (λ r. (r.1.at ≡ r.0.ptr) × (r.1.slots ≡ replicate len None) × (r.1.labels ≡ replicate len 0)) }
+    ensures deed { IfOk result (λ r. (r.2.at ≡ r.0.ptr) × (r.2.len ≡ len) × (r.2.alloc ≡ alloc.now)) }
 {
     match alloc.allocate(len * size_of::<T>(), align_of::<T>()) {
         Ok(block) => {
@@ -100,7 +101,8 @@ pub(crate) fn deallocate<T, A: Allocator>(
     cells: Cells<T>,
     deed: Deed<T, A>,
 )
-    requires { (cells.at ≡ start.ptr) × (cells.slots ≡ replicate len None) × (deed.at ≡ start.ptr) × (deed.len ≡ len) × (deed.alloc ≡ alloc.now) }
+    requires empty { (cells.at ≡ start.ptr) × (cells.slots ≡ replicate len None) }
+    requires deed { (deed.at ≡ start.ptr) × (deed.len ≡ len) × (deed.alloc ≡ alloc.now) }
 {
     let Cells { mark: _ } = cells;
     let Deed { mark: _ } = deed;

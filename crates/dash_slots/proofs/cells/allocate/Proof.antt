@@ -19,7 +19,7 @@ allocate_spec 𝓤 𝓛 𝓜 𝓡 wired X W LX LW g d dd met md =
     (#self (pair_args E Z)) fn (code.unfolded 𝓤 H 𝓜 𝓡 wired (X, (W, tt)) d dd) (λ κs. (shr_vals, (uint_vals w64, tt))) (λ κs. (shr_Tells (named 0) κs.0 (P E Z), (uint_Tells w64, tt))) (λ κs qs bounds a gh are.
     let κ : Lft = κs.0 in let q : Share = qs.0 in let others : Fml = fsep (flft κs.1.0 qs.1.0) (fsep (flft κs.1.1.0 qs.1.1.0) ftrue) in let hb : ℕ = a.0.ref_ptr.0 in let ho : ℕ = a.0.ref_ptr.1 in let h : W.Denot = a.0.now in let n : ℕ = a.1.0 in
     let asks : Type 0 = FitsInBlock (R E) n in let inside : Type 0 = κs.1.1.0 ⊑ W.lives in
-    let gives : Out.Denot → Type 0 = λ r. IfOk r (λ t. (t.1.at ≡ t.0.ptr) × (t.1.slots ≡ replicate n None) × (t.1.labels ≡ replicate n 0) × (t.2.at ≡ t.0.ptr) × (t.2.len ≡ n) × (t.2.alloc ≡ h)) in
+    let empty : Out.Denot → Type 0 = λ r. IfOk r (λ t. (t.1.at ≡ t.0.ptr) × (t.1.slots ≡ replicate n None) × (t.1.labels ≡ replicate n 0)) in let freed : Out.Denot → Type 0 = λ r. IfOk r (λ t. (t.2.at ≡ t.0.ptr) × (t.2.len ≡ n) × (t.2.alloc ≡ h)) in
     let y : (walk_of 𝓛 En hs c).Ghost = ((κs, qs, bounds, a, (vptr hb ho ∷ [], (vint w64 n ∷ [], tt))), gh) in let Post : Val → SProp 𝓤 = (walk_of 𝓛 En hs c).post y in
     qed 𝓛 (((‵ (flft κ q) ⊛ ‵ others) ⊛ ‵ (owns (types_at En.signature.params κs) a y.0.4)) ∷ raw (fact 𝓤 _) ∷ raw (fact 𝓤 _) ∷ raw (fact 𝓤 asks) ∷ []) ∵
     keep ! (3 ∷ 2 ∷ 0 ∷ []) $ heard ! asks (λ asked. heard ! inside (λ within. split ! $ split ! $ move ! (2 ∷ []) $ fsplit ! $ fsplit ! $ keep ! (1 ∷ 3 ∷ 4 ∷ []) $
@@ -44,7 +44,7 @@ allocate_spec 𝓤 𝓛 𝓜 𝓡 wired X W LX LW g d dd met md =
     move ! (1 ∷ []) $ use0 𝓛 (‵ ((Mark E).own_val (tt, tt) (mark ∷ []))) (mark_made E 𝓛) $ fjoin ! $ move ! (1 ∷ []) $ as_written ! (ty_array (elτ E) n) b o $ use1 𝓛 (‵ (slots (R E) b o cells.slots)) (of_room E 𝓛 b n o) $
     flt_i ! (length cells.slots * s) (2 ^ 63) (subst (λ k. k * s < 2 ^ 63) (sym (length-replicate n None)) asked.0) $ fjoin ! $ use0 𝓛 (‵ ((Mark E).own_val (tt, tt) (mark ∷ []))) (mark_made E 𝓛) $ fjoin ! $ word_made ! p $
     use3 𝓛 (‵ (Three.own_val (start, cells, deed) (made ∷ []))) (three_of 𝓛 (At E) (Row E) (Deeds E Z) start cells deed (word p) mark mark) $ use1 𝓛 (‵ (Out.own_val r (res ∷ []))) (ok_of 𝓛 Three errors.the_row (start, cells, deed) made) $
-    move ! (1 ∷ 2 ∷ []) $ join ! $ use0 𝓛 (raw (fact 𝓤 (gives r))) (fact_i 𝓤 (gives r) (emp 𝓤) (refl, refl, refl, refl, refl, refl)) $ nothing ! $ nothing ! $ fjoin ! $ nothing ! $ fjoin ! $
+    move ! (1 ∷ 2 ∷ []) $ join ! $ use0 𝓛 (raw (fact 𝓤 (freed r))) (fact_i 𝓤 (freed r) (emp 𝓤) (refl, refl, refl)) $ use0 𝓛 (raw (fact 𝓤 (empty r))) (fact_i 𝓤 (empty r) (emp 𝓤) (refl, refl, refl)) $ join ! $ nothing ! $ nothing ! $ fjoin ! $ nothing ! $ fjoin ! $
     -- [the parameters; what is ensured; the tokens; the result]
     returns ! (look_at ! 0 refl) $ free_all ! refl $ keep ! (2 ∷ 0 ∷ 3 ∷ 1 ∷ []) $ by ! (leaves 𝓛 En hs c y res r (tt, (tt, tt)) (tt, (tt, tt))))
     (λ e. let Refusal : RattleType = Struct (Declared.shape errors.the_type) in let r : Out.Denot = Err (record {}) in let res : Val = live 1 (vcons (vstruct vnil) vnil) in let none : Good (layout Out) res = (tt, (record { fits = lit< tt }, (tt, tt))) in
@@ -53,6 +53,6 @@ allocate_spec 𝓤 𝓛 𝓜 𝓡 wired X W LX LW g d dd met md =
     exec ! 𝓣.C 𝓣.Λ Ev (after 3 fn.body) (at_ret Ev Post) $ sets ! (of_opd ! (get ! refl)) refl none $
     -- [κ; the other tokens]
     join ! $ owned ! Refusal (Is Refusal) (Struct-Makes 𝓛 (Declared.shape errors.the_type) tt) tt (vstruct vnil ∷ []) (tt, (refl, tt)) $ use1 𝓛 (‵ (Out.own_val r (res ∷ []))) (err_of 𝓛 Three errors.the_row (record {}) (vstruct vnil)) $
-    use0 𝓛 (raw (fact 𝓤 (gives r))) (fact_i 𝓤 (gives r) (emp 𝓤) tt) $ nothing ! $ nothing ! $ fjoin ! $ nothing ! $ fjoin ! $
+    use0 𝓛 (raw (fact 𝓤 (freed r))) (fact_i 𝓤 (freed r) (emp 𝓤) tt) $ use0 𝓛 (raw (fact 𝓤 (empty r))) (fact_i 𝓤 (empty r) (emp 𝓤) tt) $ join ! $ nothing ! $ nothing ! $ fjoin ! $ nothing ! $ fjoin ! $
     -- [the parameters; what is ensured; the result; the tokens]
     returns ! (look_at ! 0 refl) $ free_all ! refl $ keep ! (3 ∷ 0 ∷ 2 ∷ 1 ∷ []) $ by ! (leaves 𝓛 En hs c y res r (tt, (tt, tt)) (tt, (tt, tt)))))))))
