@@ -10,7 +10,7 @@ use Rattle.dash_shard.specs.Shard.{ShardState, slot, taken, pairs, own_keys, IsS
 use Rattle.dash_shard.specs.Each.{SweepsBy, Clears}
 use Rattle.dash_shard.specs.inner.Walks.{Sweeps, if_kept, altered, SweepsShard}
 use Rattle.dash_shard.specs.declared.shard.table.Table.{Table}
-use Rattle.dash_shard.specs.inner.Table.{pairs_of, hashes_of, limit, IsHashed, IsTable}
+use Rattle.dash_shard.specs.inner.Table.{pairs_in, hashes_in, limit, IsHashed, IsTable, slots_in}
 use Rattle.dash_shard.proofs.Remade.{KeepsKey, remade, fewer-remade, hashed-remade, on_shard-remade, becomes-remade, stays-remade, each-once, Acts, acts, makes}
 use Rattle.dash_shard.proofs.Shards.{state, Inside}
 use Rattle.dash_shard.proofs.Sweeping.{taken-none}
@@ -38,23 +38,23 @@ module _ {K V S : Type 0} (h : KeyHash K S)
   of t = state h law s number amount t
 
   module _ (t new : Table K V) (inside : Inside h law s number amount t) (becomes : K × V → Option (K × V)) (keeps : KeepsKey becomes)
-      (slots : pairs_of new.nodes.items ≡ remade becomes (pairs_of t.nodes.items)) where
+      (slots : pairs_in new ≡ remade becomes (pairs_in t)) where
     abbrev w : Keys K
     w = keys_of h (of t)
 
     remade-shard : IsShard h (of new)
     remade-shard = record {
-      contents = subst (λ xs. IsOnShard w number (taken xs)) (sym slots) (on_shard-remade becomes keeps w law.laws number (pairs_of t.nodes.items) inside.shard.contents);
+      contents = subst (λ xs. IsOnShard w number (taken xs)) (sym slots) (on_shard-remade becomes keeps w law.laws number (pairs_in t) inside.shard.contents);
       number = inside.shard.number;
       amount = inside.shard.amount;
     }
 
-    pub remade-inside : hashes_of new.nodes.items ≡ hashes_of t.nodes.items → IsTable new → Inside h law s number amount new
+    pub remade-inside : hashes_in new ≡ hashes_in t → IsTable new → Inside h law s number amount new
     remade-inside hashes table = record {
       shard = remade-shard;
       table = table;
-      hashed = subst (λ xs. IsHashed (λ j. h.hash s j) xs (hashes_of new.nodes.items)) (sym slots)
-          (subst (λ hs. IsHashed (λ j. h.hash s j) (remade becomes (pairs_of t.nodes.items)) hs) (sym hashes) (hashed-remade becomes keeps (λ j. h.hash s j) _ _ inside.hashed));
+      hashed = subst (λ xs. IsHashed (λ j. h.hash s j) xs (hashes_in new)) (sym slots)
+          (subst (λ hs. IsHashed (λ j. h.hash s j) (remade becomes (pairs_in t)) hs) (sym hashes) (hashed-remade becomes keeps (λ j. h.hash s j) _ _ inside.hashed));
       counted = table.counted;
     }
 
@@ -71,29 +71,29 @@ module _ {K V S : Type 0} (h : KeyHash K S)
       remade-takes = record {
         table = record {
           replies = subst (λ l. LineReplies o l (pairs (of t)) Done) (sym is) (pairs (of t), each-once o law.laws number (pairs (of t)) all-own, refl);
-          becomes = λ j. ap (λ xs. at h.eq (taken xs) j) slots ∙ becomes-remade becomes keeps o law.laws number (pairs_of t.nodes.items) all-own j
+          becomes = λ j. ap (λ xs. at h.eq (taken xs) j) slots ∙ becomes-remade becomes keeps o law.laws number (pairs_in t) all-own j
               ∙ ap (λ l. line_after o l j (at h.eq (pairs (of t)) j)) (sym is);
         };
         stays = record { number = refl; amount = refl; hasher = refl };
       }
 
       pub remade-stays : StaysPut h.eq (of t) (of new) step
-      remade-stays i p e = ap (λ xs. slot xs i) slots ∙ stays-remade becomes keeps o law.laws number (pairs_of t.nodes.items) all-own i p e
+      remade-stays i p e = ap (λ xs. slot xs i) slots ∙ stays-remade becomes keeps o law.laws number (pairs_in t) all-own i p e
           ∙ ap (λ l. line_after o l p.0 (Some p)) (sym is)
 
   module _ (t new : Table K V) (inside : Inside h law s number amount t) {F : Type 0} (T : F → K → V → Bool → V → F → Type 0) (f : F) where
     -- the pairs that were kept
-    module _ (swept : (last : F) × Sweeps T if_kept f (pairs_of t.nodes.items) (pairs_of new.nodes.items) last) where
-      did : Acts T if_kept (keys_of h (of t)) law.laws f (pairs_of t.nodes.items) (pairs_of new.nodes.items) swept.0
+    module _ (swept : (last : F) × Sweeps T if_kept f (pairs_in t) (pairs_in new) last) where
+      did : Acts T if_kept (keys_of h (of t)) law.laws f (pairs_in t) (pairs_in new) swept.0
       did = acts T if_kept (keys_of h (of t)) law.laws f _ _ swept.0 inside.shard.contents.distinct swept.1
 
-      pub retained-inside : hashes_of new.nodes.items ≡ hashes_of t.nodes.items → IsTable new → Inside h law s number amount new
+      pub retained-inside : hashes_in new ≡ hashes_in t → IsTable new → Inside h law s number amount new
       retained-inside = remade-inside t new inside _ (kept-key did.act) did.made
 
       pub retained-shard : IsShard h (of new)
       retained-shard = remade-shard t new inside _ (kept-key did.act) did.made
 
-      pub retains : length new.nodes.items ≡ length t.nodes.items → (z : ShardState K V S) → of t ≡ z → SweepsBy T h.eq f z (of new) (Retain z.number)
+      pub retains : slots_in new ≡ slots_in t → (z : ShardState K V S) → of t ≡ z → SweepsBy T h.eq f z (of new) (Retain z.number)
       retains room z view = subst (λ x. SweepsBy T h.eq f x (of new) (Retain x.number)) view (record {
         act = did.act;
         last = swept.0;
@@ -106,9 +106,9 @@ module _ {K V S : Type 0} (h : KeyHash K S)
       })
 
       pub fewer : (z : ShardState K V S) → of t ≡ z → length (pairs (of new)) ≤ length (pairs z)
-      fewer z view = subst (λ x. length (pairs (of new)) ≤ length (pairs x)) view (subst (λ xs. length (taken xs) ≤ length (taken (pairs_of t.nodes.items))) (sym did.made) (fewer-remade (makes T if_kept (keys_of h (of t)) law.laws did.act) (pairs_of t.nodes.items)))
+      fewer z view = subst (λ x. length (pairs (of new)) ≤ length (pairs x)) view (subst (λ xs. length (taken xs) ≤ length (taken (pairs_in t))) (sym did.made) (fewer-remade (makes T if_kept (keys_of h (of t)) law.laws did.act) (pairs_in t)))
 
-      pub sweeps-kept : length new.nodes.items ≡ length t.nodes.items → (z : ShardState K V S) → of t ≡ z → SweepsShard T if_kept f swept.0 z (of new)
+      pub sweeps-kept : slots_in new ≡ slots_in t → (z : ShardState K V S) → of t ≡ z → SweepsShard T if_kept f swept.0 z (of new)
       sweeps-kept room z view = subst (λ x. SweepsShard T if_kept f swept.0 x (of new)) view (record {
         swept = swept.1;
         room = ap limit room;
@@ -116,20 +116,20 @@ module _ {K V S : Type 0} (h : KeyHash K S)
       })
 
     -- the pairs whose values were altered
-    module _ (swept : (last : F) × Sweeps T altered f (pairs_of t.nodes.items) (pairs_of new.nodes.items) last) where
-      made : Acts T altered (keys_of h (of t)) law.laws f (pairs_of t.nodes.items) (pairs_of new.nodes.items) swept.0
+    module _ (swept : (last : F) × Sweeps T altered f (pairs_in t) (pairs_in new) last) where
+      made : Acts T altered (keys_of h (of t)) law.laws f (pairs_in t) (pairs_in new) swept.0
       made = acts T altered (keys_of h (of t)) law.laws f _ _ swept.0 inside.shard.contents.distinct swept.1
 
-      same-length : length (taken (pairs_of new.nodes.items)) ≡ length (taken (pairs_of t.nodes.items))
-      same-length = ap (λ xs. length (taken xs)) made.made ∙ length-altered made.act (pairs_of t.nodes.items)
+      same-length : length (taken (pairs_in new)) ≡ length (taken (pairs_in t))
+      same-length = ap (λ xs. length (taken xs)) made.made ∙ length-altered made.act (pairs_in t)
 
-      pub altered-inside : hashes_of new.nodes.items ≡ hashes_of t.nodes.items → IsTable new → Inside h law s number amount new
+      pub altered-inside : hashes_in new ≡ hashes_in t → IsTable new → Inside h law s number amount new
       altered-inside hashes table = remade-inside t new inside _ (altered-key made.act) made.made hashes table
 
       pub altered-shard : IsShard h (of new)
       altered-shard = remade-shard t new inside _ (altered-key made.act) made.made
 
-      pub alters : length new.nodes.items ≡ length t.nodes.items → (z : ShardState K V S) → of t ≡ z → SweepsBy T h.eq f z (of new) (AlterAll z.number)
+      pub alters : slots_in new ≡ slots_in t → (z : ShardState K V S) → of t ≡ z → SweepsBy T h.eq f z (of new) (AlterAll z.number)
       alters room z view = subst (λ x. SweepsBy T h.eq f x (of new) (AlterAll x.number)) view (record {
         act = made.act;
         last = swept.0;
@@ -144,7 +144,7 @@ module _ {K V S : Type 0} (h : KeyHash K S)
       pub as-many : (z : ShardState K V S) → of t ≡ z → length (pairs (of new)) ≡ length (pairs z)
       as-many z view = subst (λ x. length (pairs (of new)) ≡ length (pairs x)) view same-length
 
-      pub sweeps-altered : length new.nodes.items ≡ length t.nodes.items → (z : ShardState K V S) → of t ≡ z → SweepsShard T altered f swept.0 z (of new)
+      pub sweeps-altered : slots_in new ≡ slots_in t → (z : ShardState K V S) → of t ≡ z → SweepsShard T altered f swept.0 z (of new)
       sweeps-altered room z view = subst (λ x. SweepsShard T altered f swept.0 x (of new)) view (record {
         swept = swept.1;
         room = ap limit room;
@@ -152,7 +152,7 @@ module _ {K V S : Type 0} (h : KeyHash K S)
       })
 
   -- no pair is left
-  module _ (t new : Table K V) (inside : Inside h law s number amount t) (slots : pairs_of new.nodes.items ≡ map (λ _. None) (pairs_of t.nodes.items)) where
+  module _ (t new : Table K V) (inside : Inside h law s number amount t) (slots : pairs_in new ≡ map (λ _. None) (pairs_in t)) where
     nothing : {A B : Type 0} (o : Option A) → None ≡ option_and_then {T = A} {U = B} (λ _. None) o
     nothing None = refl
     nothing (Some x) = refl
@@ -164,16 +164,16 @@ module _ {K V S : Type 0} (h : KeyHash K S)
     none-key : KeepsKey {K = K} {V = V} (λ _. None)
     none-key p q e = absurd (none-some q e)
 
-    none-left : taken (pairs_of new.nodes.items) ≡ []
-    none-left = ap taken slots ∙ taken-none (pairs_of t.nodes.items)
+    none-left : taken (pairs_in new) ≡ []
+    none-left = ap taken slots ∙ taken-none (pairs_in t)
 
-    pub cleared-inside : hashes_of new.nodes.items ≡ hashes_of t.nodes.items → IsTable new → Inside h law s number amount new
-    cleared-inside hashes table = remade-inside t new inside (λ _. None) none-key (slots ∙ none-made (pairs_of t.nodes.items)) hashes table
+    pub cleared-inside : hashes_in new ≡ hashes_in t → IsTable new → Inside h law s number amount new
+    cleared-inside hashes table = remade-inside t new inside (λ _. None) none-key (slots ∙ none-made (pairs_in t)) hashes table
 
     pub cleared-shard : IsShard h (of new)
-    cleared-shard = remade-shard t new inside (λ _. None) none-key (slots ∙ none-made (pairs_of t.nodes.items))
+    cleared-shard = remade-shard t new inside (λ _. None) none-key (slots ∙ none-made (pairs_in t))
 
-    pub clears : length new.nodes.items ≡ length t.nodes.items → (z : ShardState K V S) → of t ≡ z → Clears z (of new)
+    pub clears : slots_in new ≡ slots_in t → (z : ShardState K V S) → of t ≡ z → Clears z (of new)
     clears room z view = subst (λ x. Clears x (of new)) view (record {
       empty = none-left;
       room = ap limit room;

@@ -9,7 +9,7 @@ use Rattle.dash_shard.specs.Contents.{Keys, at}
 use Rattle.dash_shard.specs.Steps.{Act, Remove, RemoveIfMut, Alter, Pair, Done, changed, if_no, if_yes}
 use Rattle.dash_shard.specs.Shard.{ShardState, slot, pairs, own_keys, Routes, TakesInPlace, TakesBy}
 use Rattle.dash_shard.specs.Held.{Loses, Replaces}
-use Rattle.dash_shard.specs.inner.Table.{Holds, IsTable, IsRewritten, limit, pairs_of, hashes_of}
+use Rattle.dash_shard.specs.inner.Table.{Holds, IsTable, IsRewritten, limit, pairs_in, hashes_in, slots_in}
 use Rattle.dash_shard.proofs.Shards.{state, Inside, at-found, removed, removes, lost}
 use Rattle.dash_shard.proofs.Rewriting.{found-at, rewritten-len, rewritten-inside, rewritten-at, rewritten-becomes, rewritten-stays}
 use Rattle.dash_shard.specs.Hashing.{KeyHash}
@@ -48,8 +48,8 @@ module _ {K V : Type 0} (w : Keys K) (f : Option (K × V) → Option (K × V)) (
   ]
 
 -- what is written and then goes
-written-gone : {K V : Type 0} (t mid new : Table K V) (i : ℕ) (q : K × V) → IsRewritten i q t mid → pairs_of new.nodes.items ≡ set (pairs_of mid.nodes.items) i None → pairs_of new.nodes.items ≡ set (pairs_of t.nodes.items) i None
-written-gone t mid new i q r e = e ∙ ap (λ xs. set xs i None) r.pairs ∙ set-set (pairs_of t.nodes.items) i (Some q) None
+written-gone : {K V : Type 0} (t mid new : Table K V) (i : ℕ) (q : K × V) → IsRewritten i q t mid → pairs_in new ≡ set (pairs_in mid) i None → pairs_in new ≡ set (pairs_in t) i None
+written-gone t mid new i q r e = e ∙ ap (λ xs. set xs i None) r.pairs ∙ set-set (pairs_in t) i (Some q) None
 
 module _ {K V S : Type 0} (eq : K → K → Bool) where
   -- nothing is altered where there is nothing
@@ -103,7 +103,7 @@ module _ {K V S : Type 0} (eq : K → K → Bool) where
 
 module _ {K V S : Type 0} (h : KeyHash K S) where
   module _ (law : IsLawful h) (s : S) (number amount : ℕ)
-      (t new : Table K V) (inside : Inside h law s number amount t) (k : K) (i : ℕ) (found : Holds h.eq t.nodes.items k i) (z : ShardState K V S) (view : state h law s number amount t ≡ z) where
+      (t new : Table K V) (inside : Inside h law s number amount t) (k : K) (i : ℕ) (found : Holds h.eq (pairs_in t) k i) (z : ShardState K V S) (view : state h law s number amount t ≡ z) where
     abbrev pub now : ShardState K V S
     now = state h law s number amount new
 
@@ -152,7 +152,7 @@ module _ {K V S : Type 0} (h : KeyHash K S) where
     stood P holds = subst (λ x. IfSome (at h.eq (pairs x) k) P) view (rw (at-found h law s number amount t inside k i found) holds)
 
     -- where a call gave the pair a value, of which G says what the call says
-    module _ (G : K × V → V → Type 0) (gave : IfSome (slot (pairs_of t.nodes.items) i) (λ p. (v : V) × IsRewritten i (p.0, v) t new × G p v)) where
+    module _ (G : K × V → V → Type 0) (gave : IfSome (slot (pairs_in t) i) (λ p. (v : V) × IsRewritten i (p.0, v) t new × G p v)) where
       given : (v : V) × IsRewritten i (valued v) t new × G found.pair v
       given = subst (λ o. IfSome o (λ p. (v : V) × IsRewritten i (p.0, v) t new × G p v)) found.is gave
 
@@ -166,8 +166,8 @@ module _ {K V S : Type 0} (h : KeyHash K S) where
       given-len = as-many given.0 given.1
 
     -- it stood there with the value v, and then went
-    module _ (here : Routes h z k) (v : V) (mid : Table K V) (r : IsRewritten i (valued v) t mid) (slots : pairs_of new.nodes.items ≡ set (pairs_of mid.nodes.items) i None)
-        (hashes : hashes_of new.nodes.items ≡ hashes_of mid.nodes.items) (len : new.len + 1 ≡ mid.len) (table : IsTable new) where
+    module _ (here : Routes h z k) (v : V) (mid : Table K V) (r : IsRewritten i (valued v) t mid) (slots : pairs_in new ≡ set (pairs_in mid) i None)
+        (hashes : hashes_in new ≡ hashes_in mid) (len : new.len + 1 ≡ mid.len) (table : IsTable new) where
       pub gone-inside : Inside h law s number amount new
       gone-inside = (removed h law s number amount t inside k z view here new i found (written-gone t mid new i (valued v) r slots) (hashes ∙ r.hashes) (len ∙ r.len) table).inside
 
@@ -179,12 +179,12 @@ module _ {K V S : Type 0} (h : KeyHash K S) where
           (removes h law s number amount t inside k z view here new i found (written-gone t mid new i (valued v) r slots) (hashes ∙ r.hashes) (len ∙ r.len) table)
 
     -- a new pair with an equal key stands there
-    pub replaces : (q : K × V) (equal : h.eq q.0 k ≡ true) → IsRewritten i q t new → (old : K × V) → slot (pairs_of t.nodes.items) i ≡ Some old → k ≡ q.0 → Replaces h.eq z now i q.0 q.1 old
+    pub replaces : (q : K × V) (equal : h.eq q.0 k ≡ true) → IsRewritten i q t new → (old : K × V) → slot (pairs_in t) i ≡ Some old → k ≡ q.0 → Replaces h.eq z now i q.0 q.1 old
     replaces q equal r old there same =
         let of : List (Option (K × V)) → ℕ → ShardState K V S = λ ps n. record { slots = ps; number = number; amount = amount; hasher = s; capacity = n } in
         subst (λ x. Replaces h.eq x now i q.0 q.1 old) view (record {
           answers = there;
-          here = ap (λ ps. of ps (limit (length new.nodes.items))) r.pairs ∙ ap (of (slice_set (pairs_of t.nodes.items) i (Some q))) (ap limit r.slots);
+          here = ap (λ ps. of ps (limit (slots_in new))) r.pairs ∙ ap (of (slice_set (pairs_in t) i (Some q))) (ap limit r.slots);
           contents = λ j. rewritten-at h law s number amount t new inside k i found q equal r j ∙ ap (λ x. cond (h.eq x j) (Some q) (at h.eq (pairs (state h law s number amount t)) j)) same;
           len = rewritten-len h law s number amount t new inside k i found q equal r;
         })

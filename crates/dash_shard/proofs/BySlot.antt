@@ -9,9 +9,9 @@ use Rattle.dash_shard.specs.Hashing.{KeyHash}
 use Rattle.dash_shard.specs.Contents.{at}
 use Rattle.dash_shard.specs.Steps.{Insert, Remove, Old, Pair}
 use Rattle.dash_shard.specs.Shard.{ShardState, slot, pairs, own_keys, HasKey, Routes, SameShard, TakesInPlace, TakesAt, with_value_in}
-use Rattle.dash_shard.specs.inner.Table.{Holds, IsTable, limit, pairs_of, hashes_of}
+use Rattle.dash_shard.specs.inner.Table.{Holds, IsTable, limit, pairs_in, hashes_in, slots_in}
 use Rattle.dash_shard.proofs.Equals.{at-equal}
-use Rattle.dash_shard.proofs.Nodes.{spot-within}
+use Rattle.dash_shard.proofs.Written.{spot-within}
 use Rattle.dash_shard.proofs.Shards.{state, Inside, Inserted, Removed, holds-key, at-found, replaced, removed, removes}
 use Rattle.dash_shard.proofs.Slots.{absent-at}
 use Rattle.dash_shard.specs.inner.Steps.{after}
@@ -45,46 +45,46 @@ module _ {K V S : Type 0} (h : KeyHash K S) (law : IsLawful h) where
     same = subst (λ x. SameShard x now) view (record { number = refl; amount = refl; hasher = refl })
 
     -- a look-up of the key that stands there finds it
-    pub own : IsSome (slot z.slots i) → (k : K) × Holds h.eq t.nodes.items k i
-    own some = from (slot (pairs_of t.nodes.items) i) refl (subst (λ x. IsSome (slot x.slots i)) (sym view) some)
+    pub own : IsSome (slot z.slots i) → (k : K) × Holds h.eq (pairs_in t) k i
+    own some = from (slot (pairs_in t) i) refl (subst (λ x. IsSome (slot x.slots i)) (sym view) some)
       where
-        from : (o : Option (K × V)) → slot (pairs_of t.nodes.items) i ≡ o → IsSome o → (k : K) × Holds h.eq t.nodes.items k i
+        from : (o : Option (K × V)) → slot (pairs_in t) i ≡ o → IsSome o → (k : K) × Holds h.eq (pairs_in t) k i
         from None e none = absurd (true≢false (sym none))
-        from (Some p) e _ = (p.0, record { within = spot-within t.nodes.items i (ap is_some e); pair = p; is = e; equal = law.laws.refl p.0 })
+        from (Some p) e _ = (p.0, record { within = spot-within (pairs_in t) i (ap is_some e); pair = p; is = e; equal = law.laws.refl p.0 })
 
-    pub held : (k : K) → HasKey h.eq z k i → Holds h.eq t.nodes.items k i
-    held k has = holds-key h.eq t.nodes.items k i (subst (λ x. HasKey h.eq x k i) (sym view) has)
+    pub held : (k : K) → HasKey h.eq z k i → Holds h.eq (pairs_in t) k i
+    held k has = holds-key h.eq (pairs_in t) k i (subst (λ x. HasKey h.eq x k i) (sym view) has)
 
     -- a key that is there goes there
-    pub route : (k : K) → Holds h.eq t.nodes.items k i → Routes h z k
+    pub route : (k : K) → Holds h.eq (pairs_in t) k i → Routes h z k
     route k found = subst (λ x. Routes h x k) view (elim (cases_eq ((keys_of h (state h law s number amount t)).route k) number) as (λ _. Routes h (state h law s number amount t) k) [
       | inl here ↦ here
       | inr away ↦ absurd (none-some found.pair (sym (inside.shard.contents.routed k away) ∙ at-found h law s number amount t inside k i found))
     ])
 
-    module _ (v : V) (slots : pairs_of new.nodes.items ≡ set (pairs_of t.nodes.items) i (option_map (λ p. (p.0, v)) (slot (pairs_of t.nodes.items) i)))
-        (hashes : hashes_of new.nodes.items ≡ hashes_of t.nodes.items) (len : new.len ≡ t.len) (table : IsTable new) where
-      pub set-there : (k : K) (found : Holds h.eq t.nodes.items k i) → Inserted h law s number amount t new k v (Some found.pair.1)
+    module _ (v : V) (slots : pairs_in new ≡ set (pairs_in t) i (option_map (λ p. (p.0, v)) (slot (pairs_in t) i)))
+        (hashes : hashes_in new ≡ hashes_in t) (len : new.len ≡ t.len) (table : IsTable new) where
+      pub set-there : (k : K) (found : Holds h.eq (pairs_in t) k i) → Inserted h law s number amount t new k v (Some found.pair.1)
       set-there k found = replaced h law s number amount t inside k z view (route k found) v new i found slots hashes len table
 
-      pub set-here : length new.nodes.items ≡ length t.nodes.items → now ≡ with_value_in z i v
+      pub set-here : slots_in new ≡ slots_in t → now ≡ with_value_in z i v
       set-here long =
           let of : List (Option (K × V)) → ℕ → ShardState K V S = λ xs n. record { slots = xs; number = number; amount = amount; hasher = s; capacity = n } in
-          ap (λ xs. of xs (limit (length new.nodes.items))) slots
-          ∙ ap (of (set (pairs_of t.nodes.items) i (option_map (λ p. (p.0, v)) (slot (pairs_of t.nodes.items) i)))) (ap limit long)
+          ap (λ xs. of xs (limit (slots_in new))) slots
+          ∙ ap (of (set (pairs_in t) i (option_map (λ p. (p.0, v)) (slot (pairs_in t) i)))) (ap limit long)
           ∙ ap (λ x. with_value_in x i v) view
 
-      pub sets : length new.nodes.items ≡ length t.nodes.items → (old : V) → Some old ≡ option_map (λ p. p.1) (slot (pairs_of t.nodes.items) i) → TakesAt h.eq z now i (λ k. Insert k v) (Old (Some old))
+      pub sets : slots_in new ≡ slots_in t → (old : V) → Some old ≡ option_map (λ p. p.1) (slot (pairs_in t) i) → TakesAt h.eq z now i (λ k. Insert k v) (Old (Some old))
       sets long old was k has =
           let found = held k has in
           let x = set-there k found in
           rw (was ∙ ap (λ o. option_map (λ p. p.1) o) found.is) (subst (λ y. TakesInPlace h.eq y now (Insert k v) (Old (Some found.pair.1))) view (record { taken = x.takes; slots = x.stays; room = ap limit long }))
 
-    module _ (slots : pairs_of new.nodes.items ≡ set (pairs_of t.nodes.items) i None) (hashes : hashes_of new.nodes.items ≡ hashes_of t.nodes.items) (len : new.len + 1 ≡ t.len) (table : IsTable new) where
-      pub gone-there : (k : K) (found : Holds h.eq t.nodes.items k i) → Removed h law s number amount t new k (Some found.pair)
+    module _ (slots : pairs_in new ≡ set (pairs_in t) i None) (hashes : hashes_in new ≡ hashes_in t) (len : new.len + 1 ≡ t.len) (table : IsTable new) where
+      pub gone-there : (k : K) (found : Holds h.eq (pairs_in t) k i) → Removed h law s number amount t new k (Some found.pair)
       gone-there k found = removed h law s number amount t inside k z view (route k found) new i found slots hashes len table
 
-      pub removes-at : (old : K × V) → slot (pairs_of t.nodes.items) i ≡ Some old → TakesAt h.eq z now i Remove (Pair (Some old))
+      pub removes-at : (old : K × V) → slot (pairs_in t) i ≡ Some old → TakesAt h.eq z now i Remove (Pair (Some old))
       removes-at old was k has =
           let found = held k has in
           rw (sym was ∙ found.is) (removes h law s number amount t inside k z view (route k found) new i found slots hashes len table)

@@ -1,137 +1,144 @@
--- Pairs that go from the end of a row of nodes to another table.
-use Rattle.std.proofs.Common.{◌≡◌, ℕ, suc, ◌+◌, ◌<◌, ◌≤◌, true, cond, List, [], ◌∷◌, ◌++◌, length, map, get_or, set, Option, Some, None, refl, sym, ap, subst, ◌∙◌, inl, inr, arith, append_assoc, append-nil, is_some, get_or-set_same, get_or-set_other}
+-- Pairs that go from the end of a row of slots to another table.
+use Rattle.std.proofs.Common.{◌≡◌, ℕ, zero, suc, ◌+◌, ◌<◌, ◌≤◌, true, cond, List, [], ◌∷◌, length, get_or, set, Option, Some, None, refl, sym, ap, subst, ◌∙◌, inl, inr, arith, is_some, get_or-set_same, get_or-set_other}
 use Rattle.std.specs.Cmp.{IsEquivalence}
-use Rattle.std.proofs.lemmas.Bool.{cases_eq}
-use Rattle.std.proofs.lemmas.List.{length-map, map-append}
+use Rattle.std.proofs.lemmas.Bool.{cases_eq, cases_lt}
+use Rattle.std.proofs.lemmas.List.{get_or_past}
 use Rattle.std.proofs.lemmas.Option.{none-some, same_Some}
+use Rattle.std.proofs.Math.ListN.{drop, length-set}
+use Rattle.std.proofs.Math.Seq.{drop-cons, drop-length}
+use Rattle.dash_slots.specs.Slots.{SlotsState}
 use Rattle.dash_shard.specs.Contents.{Keys, at, Distinct, EachOnce}
-use Rattle.dash_shard.specs.declared.shard.table.Node.{Node}
 use Rattle.dash_shard.specs.declared.shard.table.Table.{Table}
 use Rattle.dash_shard.specs.Shard.{slot, taken}
-use Rattle.dash_shard.specs.inner.Table.{pairs_of, hashes_of, limit, IsTable, IsCarried, IsHashed}
+use Rattle.dash_shard.specs.inner.Table.{pairs_in, hashes_in, limit, slots_in, IsTable, IsCarried, IsHashed}
 use Rattle.dash_shard.proofs.Slots.{Equal, NoOther, absent-at, at-written, distinct-written, length-taken-fill}
 use Rattle.dash_shard.proofs.Sweeping.{taken-some}
 
-length-taken-append : {A : Type 0} (xs ys : List (Option A)) → length (taken (xs ++ ys)) ≡ length (taken xs) + length (taken ys)
-length-taken-append [] ys = omega arith
-length-taken-append (None ∷ xs) ys = length-taken-append xs ys
-length-taken-append (Some x ∷ xs) ys = omega (arith, length-taken-append xs ys)
-
--- what stands behind the front of a row
-at-seam : {A B : Type 0} (f : A → B) (xs : List A) (n : A) (ys : List A) (d : B) → get_or (map f (xs ++ n ∷ ys)) (length xs) d ≡ f n
-at-seam f [] n ys d = refl
-at-seam f (x ∷ xs) n ys d = at-seam f xs n ys d
+taken-drop : {A : Type 0} (xs : List (Option A)) (i : ℕ) → length (taken (drop i xs)) ≤ length (taken xs)
+taken-drop [] zero = omega arith
+taken-drop [] (suc i) = omega arith
+taken-drop (x ∷ xs) zero = omega arith
+taken-drop (None ∷ xs) (suc i) = taken-drop xs i
+taken-drop (Some x ∷ xs) (suc i) = omega (arith, taken-drop xs i)
 
 module _ {K V : Type 0} where
-  -- the nodes from some slot on have gone to the table
-  pub record Carrying (old now : List (Node K V)) (t : Table K V) : Type 0 where
-    pub rest : List (Node K V)
-    pub is : old ≡ now ++ rest
-    pub once : (w : Keys K) → IsEquivalence w.eq → Distinct w.eq (taken (pairs_of rest)) → EachOnce w.eq (taken (pairs_of rest)) (taken (pairs_of t.nodes.items))
-    pub carried : IsCarried rest t.nodes.items
-    pub len : t.len ≡ length (taken (pairs_of rest))
-    pub counted : t.len ≡ length (taken (pairs_of t.nodes.items))
+  -- the pairs of the slots from i on have gone to the table
+  pub record Carrying (old now : SlotsState (K × V)) (i : ℕ) (t : Table K V) : Type 0 where
+    pub long : length now.values ≡ length old.values
+    pub within : i ≤ length old.values
+    pub stays : (j : ℕ) → j < i → slot now.values j ≡ slot old.values j
+    pub gone : (j : ℕ) → i ≤ j → slot now.values j ≡ None
+    pub once : (w : Keys K) → IsEquivalence w.eq → Distinct w.eq (taken (drop i old.values)) → EachOnce w.eq (taken (drop i old.values)) (taken (pairs_in t))
+    pub carried : IsCarried old t.slots
+    pub len : t.len ≡ length (taken (drop i old.values))
     pub table : IsTable t
 
-  pub carrying-first : (old : List (Node K V)) (t : Table K V) → IsTable t → taken (pairs_of t.nodes.items) ≡ [] → Carrying old old t
-  carrying-first old t table empty = record {
-    rest = [];
-    is = sym (append-nil old);
-    once = λ w laws d. record { distinct = subst (Distinct w.eq) (sym empty) tt; same = λ k. ap (λ ps. at w.eq ps k) empty };
-    carried = λ i p e. absurd (let some : 0 < length (taken (pairs_of t.nodes.items)) = taken-some (pairs_of t.nodes.items) i (ap is_some e) in omega (arith, some, ap length empty));
-    len = table.counted ∙ ap length empty;
-    counted = table.counted;
-    table = table;
-  }
+  pub carrying-first : (old : SlotsState (K × V)) (i : ℕ) (t : Table K V) → i ≡ length old.values → IsTable t → taken (pairs_in t) ≡ [] → Carrying old old i t
+  carrying-first old i t all table empty =
+      let none : drop i old.values ≡ [] = ap (λ n. drop n old.values) all ∙ drop-length old.values in
+      record {
+        long = refl;
+        within = omega (arith, all);
+        stays = λ j less. refl;
+        gone = λ j le. get_or_past old.values j None (omega (arith, le, all));
+        once = λ w laws d. record { distinct = subst (Distinct w.eq) (sym empty) tt; same = λ k. ap (λ ps. at w.eq ps k) empty ∙ sym (ap (λ xs. at w.eq (taken xs) k) none) };
+        carried = λ j p e. absurd (let some : 0 < length (taken (pairs_in t)) = taken-some (pairs_in t) j (ap is_some e) in omega (arith, some, ap length empty));
+        len = table.counted ∙ ap length empty ∙ sym (ap (λ xs. length (taken xs)) none);
+        table = table;
+      }
 
-  -- one node less: the row ends with it
-  module _ (old now then : List (Node K V)) (t : Table K V) (n : Node K V) (c : Carrying old now t) (ends : now ≡ then ++ n ∷ []) where
-    behind : old ≡ then ++ n ∷ c.rest
-    behind = c.is ∙ ap (λ xs. xs ++ c.rest) ends ∙ append_assoc then (n ∷ []) c.rest
+  -- one slot less
+  module _ (old now then : SlotsState (K × V)) (i : ℕ) (t : Table K V) (c : Carrying old now (i + 1) t) where
+    begins : drop i old.values ≡ slot old.values i ∷ drop (i + 1) old.values
+    begins = let le = c.within in drop-cons old.values i None (omega (arith, le)) ∙ ap (λ n. slot old.values i ∷ drop n old.values) (let e : suc i ≡ i + 1 = omega arith in e)
 
-    -- its hash stands beside its pair
-    pub carrying-hash : (hash : K → ℕ) → IsHashed hash (pairs_of old) (hashes_of old) → (p : K × V) → n.pair ≡ Some p → n.hash ≡ hash p.0
-    carrying-hash hash hashed p some =
-        let stored = ap (λ ns. get_or (pairs_of ns) (length then) None) behind ∙ at-seam (λ x. x.pair) then n c.rest None in
-        let beside = ap (λ ns. get_or (hashes_of ns) (length then) 0) behind ∙ at-seam (λ x. x.hash) then n c.rest 0 in
-        sym beside ∙ hashed (length then) p (stored ∙ some)
+    here : slot now.values i ≡ slot old.values i
+    here = c.stays i (omega arith)
 
-    pub carrying-over : n.pair ≡ None → Carrying old then t
+    same : (o : Option (K × V)) → slot now.values i ≡ o → taken (drop i old.values) ≡ taken (o ∷ drop (i + 1) old.values)
+    same o is = ap taken begins ∙ ap (λ x. taken (x ∷ drop (i + 1) old.values)) (sym here ∙ is)
+
+    -- its pair's hash stands beside it
+    pub carrying-hash : (hash : K → ℕ) → IsHashed hash old.values old.labels → (p : K × V) → slot now.values i ≡ Some p → get_or old.labels i 0 ≡ hash p.0
+    carrying-hash hash hashed p some = hashed i p (sym here ∙ some)
+
+    pub carrying-over : slot now.values i ≡ None → Carrying old now i t
     carrying-over none =
-        let same : taken (pairs_of (n ∷ c.rest)) ≡ taken (pairs_of c.rest) = ap (λ o. taken (o ∷ pairs_of c.rest)) none in
+        let e = same None none in
         record {
-          rest = n ∷ c.rest;
-          is = behind;
-          once = λ w laws d. subst (λ ps. EachOnce w.eq ps (taken (pairs_of t.nodes.items))) (sym same) (c.once w laws (subst (Distinct w.eq) same d));
-          carried = λ i p e. let at_j = c.carried i p e in (suc at_j.0, at_j.1, at_j.2);
-          len = c.len ∙ ap length (sym same);
-          counted = c.counted;
+          long = c.long;
+          within = let le = c.within in omega (arith, le);
+          stays = λ j less. c.stays j (omega (arith, less));
+          gone = λ j le. elim (cases_eq j i) as (λ _. slot now.values j ≡ None) [
+            | inl is ↦ ap (slot now.values) is ∙ none
+            | inr other ↦ c.gone j (omega (arith, le, other))
+          ];
+          once = λ w laws d. subst (λ ps. EachOnce w.eq ps (taken (pairs_in t))) (sym e) (c.once w laws (subst (Distinct w.eq) e d));
+          carried = c.carried;
+          len = c.len ∙ ap length (sym e);
           table = c.table;
         }
 
-    module _ (k : K) (v : V) (some : n.pair ≡ Some (k, v)) where
-      same : taken (pairs_of (n ∷ c.rest)) ≡ (k, v) ∷ taken (pairs_of c.rest)
-      same = ap (λ o. taken (o ∷ pairs_of c.rest)) some
-
-      pub carrying-room : length (taken (pairs_of old)) ≤ limit (length t.nodes.items) → t.len < limit (length t.nodes.items)
+    module _ (k : K) (v : V) (some : slot now.values i ≡ Some (k, v)) where
+      pub carrying-room : length (taken old.values) ≤ limit (slots_in t) → t.len < limit (slots_in t)
       carrying-room fits =
-          let whole : length (taken (pairs_of old)) ≡ length (taken (pairs_of then)) + length (taken (pairs_of (n ∷ c.rest))) =
-          ap (λ xs. length (taken (pairs_of xs))) behind ∙ ap (λ xs. length (taken xs)) (map-append (λ x. x.pair) then (n ∷ c.rest)) ∙ length-taken-append (pairs_of then) (pairs_of (n ∷ c.rest)) in
-          omega (arith, fits, whole, c.len, ap length same)
+          let more = taken-drop old.values i in
+          let e = ap length (same (Some (k, v)) some) in
+          let len = c.len in
+          omega (arith, fits, more, e, len)
 
-      module _ (new : Table K V) (hash i : ℕ) (is : hash ≡ n.hash) (free : i < length t.nodes.items) (empty : slot (pairs_of t.nodes.items) i ≡ None)
-          (slots : pairs_of new.nodes.items ≡ set (pairs_of t.nodes.items) i (Some (k, v)))
-          (hashes : hashes_of new.nodes.items ≡ set (hashes_of t.nodes.items) i hash) (longer : new.len ≡ t.len + 1) (lawful : IsTable new) where
-        within : i < length (pairs_of t.nodes.items)
-        within = omega (arith, free, length-map t.nodes.items (λ x. x.pair))
+      module _ (new : Table K V) (hash m : ℕ) (is : hash ≡ get_or old.labels i 0) (free : m < slots_in t) (empty : slot (pairs_in t) m ≡ None)
+          (slots : pairs_in new ≡ set (pairs_in t) m (Some (k, v)))
+          (hashes : hashes_in new ≡ set (hashes_in t) m hash) (longer : new.len ≡ t.len + 1) (lawful : IsTable new) (gone : then.values ≡ set now.values i None) where
+        within-hashes : m < length (hashes_in t)
+        within-hashes = let a = c.table.marked.slots_len in let b = c.table.marked.hashes_len in omega (arith, free, a, b)
 
-        within-hashes : i < length (hashes_of t.nodes.items)
-        within-hashes = omega (arith, free, length-map t.nodes.items (λ x. x.hash))
-
-        module _ (w : Keys K) (laws : IsEquivalence w.eq) (d : Distinct w.eq ((k, v) ∷ taken (pairs_of c.rest))) where
-          before : EachOnce w.eq (taken (pairs_of c.rest)) (taken (pairs_of t.nodes.items))
+        module _ (w : Keys K) (laws : IsEquivalence w.eq) (d : Distinct w.eq ((k, v) ∷ taken (drop (i + 1) old.values))) where
+          before : EachOnce w.eq (taken (drop (i + 1) old.values)) (taken (pairs_in t))
           before = c.once w laws d.1
 
-          was-empty : Equal w k (slot (pairs_of t.nodes.items) i)
+          was-empty : Equal w k (slot (pairs_in t) m)
           was-empty p e = absurd (none-some p (sym empty ∙ e))
 
           is-equal : Equal w k (Some (k, v))
           is-equal p e = subst (λ (q : K × V). w.eq q.0 k ≡ true) (same_Some (k, v) p e) (laws.refl k)
 
-          no-other : NoOther w (pairs_of t.nodes.items) k i
-          no-other m q _ e = absent-at w (pairs_of t.nodes.items) k (before.same k ∙ d.0) m q e
+          no-other : NoOther w (pairs_in t) k m
+          no-other j q _ e = absent-at w (pairs_in t) k (before.same k ∙ d.0) j q e
 
-          once-more : EachOnce w.eq ((k, v) ∷ taken (pairs_of c.rest)) (taken (pairs_of new.nodes.items))
+          once-more : EachOnce w.eq ((k, v) ∷ taken (drop (i + 1) old.values)) (taken (pairs_in new))
           once-more = record {
-            distinct = subst (λ xs. Distinct w.eq (taken xs)) (sym slots) (distinct-written w laws (pairs_of t.nodes.items) k i (Some (k, v)) within was-empty is-equal no-other before.distinct);
-            same = λ j. ap (λ xs. at w.eq (taken xs) j) slots ∙ at-written w laws (pairs_of t.nodes.items) k i (Some (k, v)) within was-empty is-equal no-other j
+            distinct = subst (λ xs. Distinct w.eq (taken xs)) (sym slots) (distinct-written w laws (pairs_in t) k m (Some (k, v)) free was-empty is-equal no-other before.distinct);
+            same = λ j. ap (λ xs. at w.eq (taken xs) j) slots ∙ at-written w laws (pairs_in t) k m (Some (k, v)) free was-empty is-equal no-other j
                 ∙ ap (λ o. cond (w.eq k j) (Some (k, v)) o) (before.same j);
           }
 
-        carried-more : IsCarried (n ∷ c.rest) new.nodes.items
-        carried-more j p e = elim (cases_eq j i) [
-          | inl here ↦
-              let new-pair : (k, v) ≡ p = same_Some (k, v) p (sym (get_or-set_same (pairs_of t.nodes.items) i (Some (k, v)) None within) ∙ ap (λ xs. slot xs i) (sym slots) ∙ ap (slot (pairs_of new.nodes.items)) (sym here) ∙ e) in
-              (0, some ∙ ap Some new-pair, sym is ∙ sym (get_or-set_same (hashes_of t.nodes.items) i hash 0 within-hashes) ∙ ap (λ m. get_or (set (hashes_of t.nodes.items) i hash) m 0) (sym here) ∙ ap (λ hs. get_or hs j 0) (sym hashes))
+        carried-more : IsCarried old new.slots
+        carried-more j p e = elim (cases_eq j m) [
+          | inl at_m ↦
+              let new-pair : (k, v) ≡ p = same_Some (k, v) p (sym (get_or-set_same (pairs_in t) m (Some (k, v)) None free) ∙ ap (λ xs. slot xs m) (sym slots) ∙ ap (slot (pairs_in new)) (sym at_m) ∙ e) in
+              (i, sym here ∙ some ∙ ap Some new-pair, sym is ∙ sym (get_or-set_same (hashes_in t) m hash 0 within-hashes) ∙ ap (λ n. get_or (set (hashes_in t) m hash) n 0) (sym at_m) ∙ ap (λ hs. get_or hs j 0) (sym hashes))
           | inr other ↦
-              let at_j = c.carried j p (sym (get_or-set_other (pairs_of t.nodes.items) i j (Some (k, v)) None other) ∙ ap (λ xs. slot xs j) (sym slots) ∙ e) in
-              (suc at_j.0, at_j.1, at_j.2 ∙ sym (get_or-set_other (hashes_of t.nodes.items) i j hash 0 other) ∙ ap (λ hs. get_or hs j 0) (sym hashes))
+              let from = c.carried j p (sym (get_or-set_other (pairs_in t) m j (Some (k, v)) None other) ∙ ap (λ xs. slot xs j) (sym slots) ∙ e) in
+              (from.0, from.1, from.2 ∙ sym (get_or-set_other (hashes_in t) m j hash 0 other) ∙ ap (λ hs. get_or hs j 0) (sym hashes))
         ]
 
-        pub carrying-more : Carrying old then new
-        carrying-more = record {
-          rest = n ∷ c.rest;
-          is = behind;
-          once = λ w laws d. subst (λ ps. EachOnce w.eq ps (taken (pairs_of new.nodes.items))) (sym same) (once-more w laws (subst (Distinct w.eq) same d));
-          carried = carried-more;
-          len = longer ∙ omega (arith, c.len, ap length same);
-          counted = longer ∙ ap (λ m. m + 1) c.counted ∙ sym (ap (λ xs. length (taken xs)) slots ∙ length-taken-fill (pairs_of t.nodes.items) i (k, v) within empty);
-          table = lawful;
-        }
-
-  -- all have
-  pub carried-all : (old now : List (Node K V)) (t : Table K V) (c : Carrying old now t) → now ≡ [] → c.rest ≡ old
-  carried-all old now t c none = sym (c.is ∙ ap (λ xs. xs ++ c.rest) none)
+        pub carrying-more : Carrying old then i new
+        carrying-more =
+            let e = same (Some (k, v)) some in
+            record {
+              long = ap length gone ∙ length-set now.values i None ∙ c.long;
+              within = let le = c.within in omega (arith, le);
+              stays = λ j less. ap (λ xs. slot xs j) gone ∙ get_or-set_other now.values i j None None (omega (arith, less)) ∙ c.stays j (omega (arith, less));
+              gone = λ j le. ap (λ xs. slot xs j) gone ∙ elim (cases_eq j i) as (λ _. slot (set now.values i None) j ≡ None) [
+                | inl at_i ↦ ap (slot (set now.values i None)) at_i ∙ get_or-set_same now.values i None None (let le = c.within in let long = c.long in omega (arith, le, long))
+                | inr other ↦ get_or-set_other now.values i j None None other ∙ c.gone j (omega (arith, le, other))
+              ];
+              once = λ w laws d. subst (λ ps. EachOnce w.eq ps (taken (pairs_in new))) (sym e) (once-more w laws (subst (Distinct w.eq) e d));
+              carried = carried-more;
+              len = longer ∙ omega (arith, c.len, ap length e);
+              table = lawful;
+            }
 
   pub once-self : (ps : List (K × V)) (w : Keys K) → Distinct w.eq ps → EachOnce w.eq ps ps
   once-self ps w d = record { distinct = d; same = λ k. refl }

@@ -8,28 +8,24 @@ use Rattle.std.proofs.lemmas.Option.{same_Some}
 use Rattle.std.proofs.Math.ListN.{length-set}
 use Rattle.dash_shard.specs.declared.shard.table.Table.{Table}
 use Rattle.dash_shard.specs.Shard.{ShardState, slot, HasKey, with_value_in, with_value_of}
-use Rattle.dash_shard.specs.inner.Table.{node, limit, pairs_of, with_value, with_value_at}
+use Rattle.dash_shard.specs.inner.Table.{limit, pairs_in, with_value_at}
 use Rattle.dash_shard.proofs.Rewriting.{holds-pair, valued-rewritten, rewritten-inside}
 use Rattle.dash_shard.proofs.Shards.{state, Inside}
-use Rattle.dash_shard.proofs.Nodes.{slot_node}
 use Rattle.dash_shard.specs.Hashing.{KeyHash}
 use Rattle.dash_shard.specs.inner.Keys.{IsLawful}
 
 module _ {K V S : Type 0} (h : KeyHash K S)
     (law : IsLawful h) (s : S) (number amount : ℕ)
     (t : Table K V) (inside : Inside h law s number amount t) (i : ℕ) where
-  pub lent-inside : (p : K × V) → slot (pairs_of t.nodes.items) i ≡ Some p → (v : V) → Inside h law s number amount (with_value_at t i v)
+  pub lent-inside : (p : K × V) → slot (pairs_in t) i ≡ Some p → (v : V) → Inside h law s number amount (with_value_at t i v)
   lent-inside p there v =
-      rewritten-inside h law s number amount t (with_value_at t i v) inside p.0 i (holds-pair h.eq t.nodes.items p.0 i p there (rw there (law.laws.refl p.0))) (p.0, v) (law.laws.refl p.0)
+      rewritten-inside h law s number amount t (with_value_at t i v) inside p.0 i (holds-pair h.eq (pairs_in t) p.0 i p there (rw there (law.laws.refl p.0))) (p.0, v) (law.laws.refl p.0)
       (valued-rewritten t i p v inside.table there)
 
   pub lent-state : (v : V) → state h law s number amount (with_value_at t i v) ≡ with_value_in (state h law s number amount t) i v
   lent-state v =
-      let nodes = t.nodes.items in
       let of : List (Option (K × V)) → ℕ → ShardState K V S = λ ps n. record { slots = ps; number = number; amount = amount; hasher = s; capacity = n } in
-      let wide = limit (length (set nodes i (with_value (node nodes i) v))) in
-      ap (λ ps. of ps wide) (map-set (λ n. n.pair) nodes i (with_value (node nodes i) v) ∙ ap (λ o. set (pairs_of nodes) i (option_map (λ p. (p.0, v)) o)) (sym (slot_node nodes i)))
-      ∙ ap (of (set (pairs_of nodes) i (option_map (λ p. (p.0, v)) (slot (pairs_of nodes) i)))) (ap limit (length-set nodes i (with_value (node nodes i) v)))
+      ap (of (pairs_in (with_value_at t i v))) (ap limit (length-set (pairs_in t) i (option_map (λ p. (p.0, v)) (slot (pairs_in t) i))))
 
 -- the one slot with a key equal to k has another value just where each such pair has
 module _ {K V : Type 0} (eq : K → K → Bool) (k : K) (v : V) where

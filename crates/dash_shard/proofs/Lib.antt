@@ -17,7 +17,6 @@ mod LockBorrows
 mod LockShown
 mod Marked
 pub mod Moving
-mod Nodes
 mod Slots
 mod Placing
 mod Positions
@@ -31,7 +30,9 @@ mod Searching
 mod Shards
 mod Shrinking
 mod Sweeping
+mod Tells
 pub mod Unions
 mod Walking
 mod Ways
 mod WordSteps
+mod Written

@@ -4,14 +4,14 @@ use Rattle.std.proofs.lemmas.Bool.{false≢true}
 use Rattle.dash_shard.specs.declared.shard.table.Table.{Table}
 use Rattle.dash_shard.specs.declared.shard.held.parts.Loan.{Loan}
 use Rattle.dash_shard.specs.Shard.{ShardState, slot, with_value_in}
-use Rattle.dash_shard.specs.inner.Table.{IsHeld, IsTable, held_state, pairs_of, with_value_at}
+use Rattle.dash_shard.specs.inner.Table.{IsHeld, IsTable, held_state, pairs_in, with_value_at}
 use Rattle.dash_shard.specs.inner.Loans.{joined, AreParts, MayLend, lent_slot, with_lent}
 use Rattle.dash_shard.proofs.Lending.{lent-inside, lent-state}
 use Rattle.dash_shard.specs.Hashing.{KeyHash}
 use Rattle.dash_shard.specs.inner.Keys.{IsLawful}
 
 module _ {K V S : Type 0} (h : KeyHash K S) (law : IsLawful h) (s : ShardState K V S) where
-  lent-held : (t : Table K V) (b : Bool) → b ≡ true → IsHeld h s t b → (i : ℕ) (p : K × V) → slot (pairs_of t.nodes.items) i ≡ Some p → (v : V) → IsHeld h s (with_value_at t i v) b
+  lent-held : (t : Table K V) (b : Bool) → b ≡ true → IsHeld h s t b → (i : ℕ) (p : K × V) → slot (pairs_in t) i ≡ Some p → (v : V) → IsHeld h s (with_value_at t i v) b
   lent-held t false e held i p there v = absurd (false≢true e)
   lent-held t true e held i p there v = (lent-inside h law s.hasher s.number s.amount t held.0 i p there v, held.1)
 
@@ -19,7 +19,7 @@ module _ {K V S : Type 0} (h : KeyHash K S) (law : IsLawful h) (s : ShardState K
   valued-held t false e held i v = absurd (false≢true e)
   valued-held t true e held i v = lent-state h law s.hasher s.number s.amount t held.0 i v
 
-  slot-held : (t : Table K V) (b : Bool) → b ≡ true → (i : ℕ) → slot (held_state s t b).slots i ≡ slot (pairs_of t.nodes.items) i
+  slot-held : (t : Table K V) (b : Bool) → b ≡ true → (i : ℕ) → slot (held_state s t b).slots i ≡ slot (pairs_in t) i
   slot-held t false e i = absurd (false≢true e)
   slot-held t true e i = refl
 

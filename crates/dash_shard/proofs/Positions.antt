@@ -12,7 +12,7 @@ use Rattle.dash_shard.specs.declared.shard.table.Table.{Table}
 use Rattle.dash_shard.specs.Search.{groups, Searches}
 use Rattle.dash_shard.specs.declared.shard.table.Search.{Search}
 use Rattle.dash_shard.specs.inner.Marks.{group_at}
-use Rattle.dash_shard.specs.inner.Table.{Holds, IsAbsent, IsTable, groups_in, pairs_of}
+use Rattle.dash_shard.specs.inner.Table.{Holds, IsAbsent, IsTable, groups_in, pairs_in}
 use Rattle.dash_shard.proofs.Ways.{round_mod}
 use Rattle.dash_shard.proofs.Shards.{state, Inside, at-found, at-missing, others-found, missing}
 
@@ -24,11 +24,11 @@ held (Some p) h = (p, refl, h)
 module _ {K V S : Type 0} (h : KeyHash K S) where
   module _ (law : IsLawful h) (s : S) (number amount : ℕ)
       (t : Table K V) (inside : Inside h law s number amount t) (k : K) (hash : ℕ) (is : hash ≡ h.hash s k) where
-    finds : (m : ℕ) → Holds h.eq t.nodes.items k m → Finds h.eq (state h law s number amount t) k (Some m)
+    finds : (m : ℕ) → Holds h.eq (pairs_in t) k m → Finds h.eq (state h law s number amount t) k (Some m)
     finds m found = record {
       position = λ i. (
         λ e. subst (λ j. HasKey h.eq (state h law s number amount t) k j) (same_Some m i e) (rw found.is found.equal),
-        λ has. let there = held (slot (pairs_of t.nodes.items) i) has in ap Some (elim (cases_eq m i) as (λ _. m ≡ i) [
+        λ has. let there = held (slot (pairs_in t) i) has in ap Some (elim (cases_eq m i) as (λ _. m ≡ i) [
           | inl same ↦ same
           | inr other ↦ absurd (both_ways (h.eq there.0.0 k) (others-found h law s number amount t inside k m found i there.0 (λ e. other (sym e)) there.1) there.2)
         ]),
@@ -37,18 +37,18 @@ module _ {K V S : Type 0} (h : KeyHash K S) where
       absent = (λ none. absurd (true≢false none), λ none. absurd (none-some found.pair (sym none ∙ at-found h law s number amount t inside k m found)));
     }
 
-    misses : IsAbsent h.eq t.nodes.items hash k → Finds h.eq (state h law s number amount t) k None
+    misses : IsAbsent h.eq t hash k → Finds h.eq (state h law s number amount t) k None
     misses absent = record {
       position = λ i. (
         λ e. absurd (none-some i e),
-        λ has. let there = held (slot (pairs_of t.nodes.items) i) has in
+        λ has. let there = held (slot (pairs_in t) i) has in
             absurd (both_ways (h.eq there.0.0 k) (missing h law s number amount t inside k hash is absent i there.0 there.1) there.2),
       );
       pair = tt;
       absent = (λ _. at-missing h law s number amount t inside k hash is absent, λ _. refl);
     }
 
-    pub located : (z : ShardState K V S) → state h law s number amount t ≡ z → (r : Option ℕ) → IfSome r (Holds h.eq t.nodes.items k) → IfNone r (IsAbsent h.eq t.nodes.items hash k) → Finds h.eq z k r
+    pub located : (z : ShardState K V S) → state h law s number amount t ≡ z → (r : Option ℕ) → IfSome r (Holds h.eq (pairs_in t) k) → IfNone r (IsAbsent h.eq t hash k) → Finds h.eq z k r
     located z view None some none = subst (λ x. Finds h.eq x k None) view (misses none)
     located z view (Some m) some none = subst (λ x. Finds h.eq x k (Some m)) view (finds m some)
 
@@ -58,7 +58,7 @@ module _ {K V S : Type 0} (h : KeyHash K S) where
 
   -- what a search says, by the shard's slots
   pub searched : (law : IsLawful h) (s : S) (number amount : ℕ) (t : Table K V) (inside : Inside h law s number amount t) (k : K) (hash : ℕ) (is : hash ≡ h.hash s k) (z : ShardState K V S)
-      → state h law s number amount t ≡ z → (r : Search) → IfSome r.position (Holds h.eq t.nodes.items k) → IfNone r.position (IsAbsent h.eq t.nodes.items hash k) → (r.visits ≤ groups_in t) × (0 < groups_in t → 0 < r.visits)
+      → state h law s number amount t ≡ z → (r : Search) → IfSome r.position (Holds h.eq (pairs_in t) k) → IfNone r.position (IsAbsent h.eq t hash k) → (r.visits ≤ groups_in t) × (0 < groups_in t → 0 < r.visits)
       → IfSome r.position (λ i. i / 16 ≡ group_at (groups_in t) hash (r.visits - 1)) → Searches h z k r
   searched law s number amount t inside k hash is z view r some none visits last = subst (λ x. Searches h x k r) view (record {
     finds = located law s number amount t inside k hash is (state h law s number amount t) refl r.position some none;
@@ -70,12 +70,12 @@ module _ {K V S : Type 0} (h : KeyHash K S) where
       whole : groups (state h law s number amount t) ≡ groups_in t
       whole = groups-of s number amount law t inside.table
 
-      from : (o : Option ℕ) → IfSome o (Holds h.eq t.nodes.items k) → IfSome o (λ i. i / 16 ≡ group_at (groups_in t) hash (r.visits - 1)) → IfSome o (λ i. i / 16 ≡ (h.hash s k + (r.visits - 1)) % groups (state h law s number amount t))
+      from : (o : Option ℕ) → IfSome o (Holds h.eq (pairs_in t) k) → IfSome o (λ i. i / 16 ≡ group_at (groups_in t) hash (r.visits - 1)) → IfSome o (λ i. i / 16 ≡ (h.hash s k + (r.visits - 1)) % groups (state h law s number amount t))
       from None found e = tt
       from (Some i) found e = e ∙ round_mod (groups_in t) hash (r.visits - 1) pos within ∙ ap (λ x. (x + (r.visits - 1)) % groups_in t) is ∙ ap (λ n. (h.hash s k + (r.visits - 1)) % n) (sym whole)
         where
           pos : 0 < groups_in t
-          pos = let slots = inside.table.marked.slots_len in let lt = found.within in omega (arith, slots, lt, length-map t.nodes.items (λ n. n.pair))
+          pos = let slots = inside.table.marked.slots_len in let lt = found.within in omega (arith, slots, lt)
 
           within : r.visits - 1 < groups_in t
           within = let most = visits.0 in let some = visits.1 pos in omega (arith, most, some, pos)

@@ -2,76 +2,52 @@
 use Rattle.std.proofs.Common.{◌≡◌, ℕ, ◌<◌, ◌==◌, Bool, true, List, length, set, get_or, Option, Some, None, is_some, IsSome, IsTrue, refl, sym, ap, subst, ◌∙◌, inl, inr, arith, eq-eqb, get_or-set_same, get_or-set_other}
 use Rattle.std.specs.Prelude.{IfSome, if◌then◌else◌}
 use Rattle.std.specs.Option.{option_map, IsSomeAnd}
-use Rattle.std.specs.Vec.{with_item}
 use Rattle.std.proofs.lemmas.Bool.{true≢false, cases_Bool, cases_eq, ne_eqb}
 use Rattle.std.proofs.lemmas.List.{get_or_default, length-map}
 use Rattle.std.proofs.lemmas.Option.{none-some, same_Some}
 use Rattle.std.proofs.Math.ListN.{length-set}
-use Rattle.dash_shard.specs.declared.shard.table.Node.{Node}
 use Rattle.dash_shard.specs.declared.shard.table.Table.{Table}
 use Rattle.dash_shard.specs.Hashing.{KeyHash}
 use Rattle.dash_shard.specs.inner.Keys.{IsLawful, keys_of}
 use Rattle.dash_shard.specs.Contents.{Keys, at, IsOnShard}
 use Rattle.dash_shard.specs.Shard.{ShardState, slot, taken, pairs, Routes, IsShard}
-use Rattle.dash_shard.specs.inner.Table.{node, blank, Holds, IsTable, IsRewritten, IsHashed, pairs_of, hashes_of, with_value_at}
+use Rattle.dash_shard.specs.inner.Table.{Holds, IsTable, IsRewritten, IsHashed, pairs_in, hashes_in, with_value_at}
 use Rattle.dash_shard.proofs.Equals.{at-equal}
-use Rattle.dash_shard.proofs.Nodes.{spot-within, node-read, slot_node, pairs-revalued, hashes-revalued, table-revalued}
+use Rattle.dash_shard.proofs.Written.{spot-within, table-rewritten}
 use Rattle.dash_shard.proofs.Slots.{NoOther, Equal, at-written, on_shard-written, length-taken-replace, stays-written}
 use Rattle.dash_shard.proofs.Shards.{state, Inside, hashed-replace, routes-equal, equal-found, others-found, at-found}
 
-module _ {K V : Type 0} (t : Table K V) (i : ℕ) (n : Node K V) (p q : K × V) (table : IsTable t) (within : i < length t.nodes.items) (read : n ≡ get_or t.nodes.items i n) (stored : n.pair ≡ Some p) where
-  pub rewritten : (new : Table K V) → new.nodes.items ≡ set t.nodes.items i (record n { pair = Some q }) → new.tags.items ≡ t.tags.items → new.counts.items ≡ t.counts.items → new.len ≡ t.len → IsRewritten i q t new
-  rewritten new nodes tags counts len =
-      let row = ap length nodes ∙ length-set t.nodes.items i _ in
-      record {
-        pairs = ap pairs_of nodes ∙ pairs-revalued t.nodes.items i n p q within read stored;
-        hashes = ap hashes_of nodes ∙ hashes-revalued t.nodes.items i n p q within read stored;
-        len = len;
-        slots = row;
-        table = table-revalued t new i n p q table within read stored nodes tags counts len;
-      }
+-- another pair in a taken slot
+pub rewritten : {K V : Type 0} (t new : Table K V) (i : ℕ) (p q : K × V) → IsTable t → slot (pairs_in t) i ≡ Some p → pairs_in new ≡ set (pairs_in t) i (Some q) → hashes_in new ≡ hashes_in t
+    → new.tags.items ≡ t.tags.items → new.counts.items ≡ t.counts.items → new.len ≡ t.len → IsRewritten i q t new
+rewritten t new i p q table there pairs hashes tags counts len = record {
+  pairs = pairs;
+  hashes = hashes;
+  len = len;
+  slots = ap length pairs ∙ length-set (pairs_in t) i (Some q);
+  table = table-rewritten t new i p q table there pairs hashes tags counts len;
+}
 
 -- what a slot has, if its key is equal
-abbrev pub holds-pair : {K V : Type 0} (eq : K → K → Bool) (nodes : List (Node K V)) (k : K) (i : ℕ) (p : K × V) → slot (pairs_of nodes) i ≡ Some p → IsSomeAnd (slot (pairs_of nodes) i) (λ q. IsTrue (eq q.0 k)) → Holds eq nodes k i
-holds-pair eq nodes k i p there has = record {
-  within = spot-within nodes i (ap is_some there);
+abbrev pub holds-pair : {K V : Type 0} (eq : K → K → Bool) (slots : List (Option (K × V))) (k : K) (i : ℕ) (p : K × V) → slot slots i ≡ Some p → IsSomeAnd (slot slots i) (λ q. IsTrue (eq q.0 k)) → Holds eq slots k i
+holds-pair eq slots k i p there has = record {
+  within = spot-within slots i (ap is_some there);
   pair = p;
   is = there;
   equal = subst (λ o. IsSomeAnd o (λ q. IsTrue (eq q.0 k))) there has;
 }
 
 -- a value that was lent, and written
-module _ {K V : Type 0} (t : Table K V) (i : ℕ) (p : K × V) (v : V) (table : IsTable t) (there : slot (pairs_of t.nodes.items) i ≡ Some p) where
+module _ {K V : Type 0} (t : Table K V) (i : ℕ) (p : K × V) (v : V) (table : IsTable t) (there : slot (pairs_in t) i ≡ Some p) where
   pub valued-rewritten : IsRewritten i (p.0, v) t (with_value_at t i v)
-  valued-rewritten =
-      let nodes = t.nodes.items in
-      let within : i < length nodes = spot-within nodes i (ap is_some there) in
-      let stored : (node nodes i).pair ≡ Some p = sym (slot_node nodes i) ∙ there in
-      rewritten t i (node nodes i) p (p.0, v) table within (sym (get_or_default nodes i (node nodes i) blank within)) stored _
-      (ap (λ o. set nodes i (record (node nodes i) { pair = option_map (λ q. (q.0, v)) o })) stored) refl refl refl
+  valued-rewritten = rewritten t _ i p (p.0, v) table there (ap (λ o. set (pairs_in t) i (option_map (λ q. (q.0, v)) o)) there) refl refl refl refl
 
-  pub valued-slot : slot (pairs_of (with_value_at t i v).nodes.items) i ≡ Some (p.0, v)
-  valued-slot =
-      let within : i < length (pairs_of t.nodes.items) = omega (arith, spot-within t.nodes.items i (ap is_some there), length-map t.nodes.items (λ n. n.pair)) in
-      ap (λ xs. slot xs i) valued-rewritten.pairs ∙ get_or-set_same (pairs_of t.nodes.items) i (Some (p.0, v)) None within
-
--- a pair that a call wrote, where G says of the pair before what the call gave for its value
-module _ {K V : Type 0} (t : Table K V) (i : ℕ) (n : Node K V) (table : IsTable t) (within : i < length t.nodes.items) (read : n ≡ get_or t.nodes.items i n) (now : Option (K × V)) (G : K × V → V → Type 0) where
-  pub altered : IsSome (slot (pairs_of t.nodes.items) i) → IfSome n.pair (λ p. (w : V) × (now ≡ Some (p.0, w)) × G p w)
-      → IfSome (slot (pairs_of t.nodes.items) i) (λ p. (w : V) × IsRewritten i (p.0, w) t (record t { nodes = with_item t.nodes i (record n { pair = now }) }) × G p w)
-  altered some gave = from n.pair refl gave
-    where
-      there : slot (pairs_of t.nodes.items) i ≡ n.pair
-      there = slot_node t.nodes.items i ∙ ap (λ m. m.pair) (sym (node-read t.nodes.items i n within read))
-
-      from : (o : Option (K × V)) → n.pair ≡ o → IfSome o (λ p. (w : V) × (now ≡ Some (p.0, w)) × G p w)
-          → IfSome (slot (pairs_of t.nodes.items) i) (λ p. (w : V) × IsRewritten i (p.0, w) t (record t { nodes = with_item t.nodes i (record n { pair = now }) }) × G p w)
-      from None e h = absurd (true≢false (sym some ∙ ap is_some (there ∙ e)))
-      from (Some p) e h = rw (there ∙ e) (h.0, rewritten t i n p (p.0, h.0) table within read e _ (ap (λ o. set t.nodes.items i (record n { pair = o })) h.1) refl refl refl, h.2)
+  pub valued-slot : slot (pairs_in (with_value_at t i v)) i ≡ Some (p.0, v)
+  valued-slot = ap (λ xs. slot xs i) valued-rewritten.pairs ∙ get_or-set_same (pairs_in t) i (Some (p.0, v)) None (spot-within (pairs_in t) i (ap is_some there))
 
 module _ {K V S : Type 0} (h : KeyHash K S)
     (law : IsLawful h) (s : S) (number amount : ℕ)
-    (t new : Table K V) (inside : Inside h law s number amount t) (k : K) (i : ℕ) (found : Holds h.eq t.nodes.items k i) (q : K × V) (equal : h.eq q.0 k ≡ true) (r : IsRewritten i q t new) where
+    (t new : Table K V) (inside : Inside h law s number amount t) (k : K) (i : ℕ) (found : Holds h.eq (pairs_in t) k i) (q : K × V) (equal : h.eq q.0 k ≡ true) (r : IsRewritten i q t new) where
   abbrev before : ShardState K V S
   before = state h law s number amount t
 
@@ -85,10 +61,10 @@ module _ {K V S : Type 0} (h : KeyHash K S)
   hash j = h.hash s j
 
   abbrev spots : List (Option (K × V))
-  spots = pairs_of t.nodes.items
+  spots = pairs_in t
 
   within : i < length spots
-  within = omega (arith, found.within, length-map t.nodes.items (λ n. n.pair))
+  within = found.within
 
   pub found-at : at w.eq (pairs before) k ≡ Some found.pair
   found-at = at-found h law s number amount t inside k i found
@@ -124,13 +100,13 @@ module _ {K V S : Type 0} (h : KeyHash K S)
   rewritten-inside = record {
     shard = shard;
     table = r.table;
-    hashed = subst (λ xs. IsHashed hash xs (hashes_of new.nodes.items)) (sym r.pairs)
+    hashed = subst (λ xs. IsHashed hash xs (hashes_in new)) (sym r.pairs)
         (subst (λ hs. IsHashed hash (set spots i (Some q)) hs) (sym r.hashes)
         (hashed-replace hash spots _ i found.pair q within found.is ((law.respects s found.pair.0 k found.equal ∙ sym (law.respects s q.0 k equal))) inside.hashed));
     counted = r.len ∙ inside.counted ∙ sym rewritten-len;
   }
 
-  pub rewritten-slot : (j : ℕ) → slot (pairs_of new.nodes.items) j ≡ (if j == i then Some q else slot spots j)
+  pub rewritten-slot : (j : ℕ) → slot (pairs_in new) j ≡ (if j == i then Some q else slot spots j)
   rewritten-slot j = ap (λ xs. slot xs j) r.pairs ∙ elim (cases_eq j i) as (λ _. slot (set spots i (Some q)) j ≡ (if j == i then Some q else slot spots j)) [
     | inl same ↦ rw (eq-eqb j i same) (subst (λ m. slot (set spots i (Some q)) m ≡ Some q) (sym same) (get_or-set_same spots i (Some q) None within))
     | inr other ↦ rw (ne_eqb j i other) (get_or-set_other spots i j (Some q) None other)
@@ -147,6 +123,6 @@ module _ {K V S : Type 0} (h : KeyHash K S)
       | inr other ↦ rw other refl
     ]
 
-    pub rewritten-stays : (j : ℕ) (p : K × V) → slot spots j ≡ Some p → slot (pairs_of new.nodes.items) j ≡ (if h.eq k p.0 then f (Some p) else Some p)
+    pub rewritten-stays : (j : ℕ) (p : K × V) → slot spots j ≡ Some p → slot (pairs_in new) j ≡ (if h.eq k p.0 then f (Some p) else Some p)
     rewritten-stays j p e = ap (λ xs. slot xs j) r.pairs
         ∙ stays-written w law.laws spots k i (Some q) f within was-equal alone (λ x there. sym makes ∙ ap f (sym found.is ∙ there)) j p e

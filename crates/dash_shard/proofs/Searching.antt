@@ -10,8 +10,9 @@ use Rattle.dash_shard.specs.Search.{IsMask}
 use Rattle.dash_shard.specs.Shard.{slot, taken}
 use Rattle.dash_shard.specs.declared.shard.table.Table.{Table}
 use Rattle.dash_shard.specs.inner.Marks.{tag_of, group_at, step_to, lane, IsFull, IsAllTaken}
-use Rattle.dash_shard.specs.inner.Table.{IsTable, IsSpot, IsAbsent, MissesLanes, limit, groups_in, pairs_in, hashes_in}
+use Rattle.dash_shard.specs.inner.Table.{IsTable, IsSpot, IsAbsent, AreTaken, MissesLanes, limit, slots_in, groups_in, pairs_in, hashes_in}
 use Rattle.dash_shard.proofs.Marked.{marked-reached, marked-empty}
+use Rattle.dash_shard.proofs.Placing.{table-tells}
 use Rattle.dash_shard.proofs.Ways.{mod_below, round-low, round_step, step_round, step_below}
 
 -- a mask that is not 0 has a bit, and 0 has none
@@ -65,9 +66,18 @@ module _ {K V : Type 0} where
         }
 
     -- what a look at the tags of a group tells
-    pub misses-seen : IsTable t → (g tag : ℕ) (row : List ℕ) (m : ℕ) → IsRow t.tags.items g row → tag ≡ tag_of hash → IsMask row tag m → MissesLanes eq t.nodes.items k (16 * g) m → MissesGroup eq t hash k g
+    pub misses-seen : IsTable t → (g tag : ℕ) (row : List ℕ) (m : ℕ) → IsRow t.tags.items g row → tag ≡ tag_of hash → IsMask row tag m → MissesLanes eq (pairs_in t) k (16 * g) m → MissesGroup eq t hash k g
     misses-seen table g tag row m same is bits none j p lt e whose =
         none j p lt ((bits j).1 (lt, same j lt ∙ table.marked.tagged (16 * g + j) p e ∙ ap tag_of whose ∙ sym is)) e
+
+    -- the lanes with the hash's tag are taken
+    pub taken-seen : IsTable t → (g tag : ℕ) (row : List ℕ) (m : ℕ) → g < groups_in t → IsRow t.tags.items g row → tag < 128 → IsMask row tag m → AreTaken (pairs_in t) (16 * g) m
+    taken-seen table g tag row m below same low bits j lt one =
+        let tells = table-tells t table in
+        let wide = table.marked.slots_len in
+        let has = ((bits j).0 one).1 in
+        let s = same j lt in
+        tells.some (16 * g + j) (omega arith) (omega (arith, below, lt, wide)) (omega (arith, has, s, low))
 
     module _ (step group : ℕ) (s : Searching eq t hash k step group) where
       last : (P : ℕ → Type 0) → step < groups_in t → P group → ((u : ℕ) → u < step → P (group_at (groups_in t) hash u)) → (u : ℕ) → u < step + 1 → P (group_at (groups_in t) hash u)
@@ -85,7 +95,7 @@ module _ {K V : Type 0} where
         missed = last (MissesGroup eq t hash k) within missing s.missed;
       }
 
-      module _ (table : IsTable t) (i : ℕ) (p : K × V) (e : slot (pairs_in t) i ≡ Some p) (whose : slice_index (hashes_in t) i ≡ hash) (inside : i < length t.nodes.items) where
+      module _ (table : IsTable t) (i : ℕ) (p : K × V) (e : slot (pairs_in t) i ≡ Some p) (whose : slice_index (hashes_in t) i ≡ hash) (inside : i < slots_in t) where
         in-group : (g : ℕ) → g ≡ i / 16 → MissesGroup eq t hash k g → eq p.0 k ≡ false
         in-group g is missing =
             let at : 16 * g + i % 16 ≡ i = omega (arith, is) in
@@ -95,7 +105,7 @@ module _ {K V : Type 0} where
         n = groups_in t
 
         group-of : i / 16 < groups_in t
-        group-of = let slots = table.marked.slots_len in omega (arith, inside, slots, length-map t.nodes.items (λ x. x.pair))
+        group-of = let slots = table.marked.slots_len in omega (arith, inside, slots)
 
         home-of : hash % groups_in t < groups_in t
         home-of = mod_below (groups_in t) hash (omega (arith, group-of))
@@ -122,9 +132,9 @@ module _ {K V : Type 0} where
         absent-after : groups_in t ≤ step → eq p.0 k ≡ false
         absent-after all = absent-before (let b = step_below (groups_in t) (hash % groups_in t) (i / 16) home-of group-of in omega (arith, b, all))
 
-      slot-in : (i : ℕ) (p : K × V) → slot (pairs_in t) i ≡ Some p → i < length t.nodes.items
-      slot-in i p e = elim (cases_lt i (length (pairs_in t))) as (λ _. i < length t.nodes.items) [
-        | inl lt ↦ omega (arith, lt, length-map t.nodes.items (λ x. x.pair))
+      slot-in : (i : ℕ) (p : K × V) → slot (pairs_in t) i ≡ Some p → i < slots_in t
+      slot-in i p e = elim (cases_lt i (length (pairs_in t))) as (λ _. i < slots_in t) [
+        | inl lt ↦ lt
         | inr ge ↦ absurd (none-some p (sym (past (pairs_in t) i ge) ∙ e))
       ]
         where
@@ -134,11 +144,11 @@ module _ {K V : Type 0} where
           past (x ∷ xs) (suc i) le = past xs i (omega (arith, le))
 
       -- a group with an empty slot: the key is nowhere
-      pub absent-here : IsTable t → step < groups_in t → MissesGroup eq t hash k group → (e : (j : ℕ) × (j < 16) × (lane t.tags.items group j ≡ 128)) → IsAbsent eq t.nodes.items hash k
+      pub absent-here : IsTable t → step < groups_in t → MissesGroup eq t hash k group → (e : (j : ℕ) × (j < 16) × (lane t.tags.items group j ≡ 128)) → IsAbsent eq t hash k
       absent-here table within missing empty i p e whose = absent-at-step table i p e whose (slot-in i p e) within missing empty.0 empty.1 empty.2
 
       -- all groups were looked at
-      pub absent-round : IsTable t → groups_in t ≤ step → IsAbsent eq t.nodes.items hash k
+      pub absent-round : IsTable t → groups_in t ≤ step → IsAbsent eq t hash k
       absent-round table all i p e whose = absent-after table i p e whose (slot-in i p e) all
 
   module _ (t : Table K V) (hash : ℕ) where
@@ -210,11 +220,10 @@ module _ {K V : Type 0} where
           omega (arith, low, x)
 
     -- where there is room, one of the groups has a free slot
-    pub placing-round : IsTable t → (step group : ℕ) (free : Option ℕ) → groups_in t ≤ step → t.len < limit (length t.nodes.items) → Placing t hash free step group → free ≡ None → ⊥
+    pub placing-round : IsTable t → (step group : ℕ) (free : Option ℕ) → groups_in t ≤ step → t.len < limit (slots_in t) → Placing t hash free step group → free ≡ None → ⊥
     placing-round table step group free all room p none =
         let n = groups_in t in
         let slots = table.marked.slots_len in
-        let wide = length-map t.nodes.items (λ x. x.pair) in
         let count = table.counted in
         let full = all-taken (pairs_in t) (λ i lt e.
         let home = mod_below n hash (omega (arith, lt, slots)) in
@@ -225,7 +234,7 @@ module _ {K V : Type 0} where
         let here = subst (λ m. slice_index t.tags.items m < 128) at low in
         let high = table.marked.free i (omega (arith, lt, slots)) e in
         omega (arith, here, high)) in
-        omega (arith, full, room, count, wide)
+        omega (arith, full, room, count)
       where
         all-taken : {A : Type 0} (xs : List (Option A)) → ((i : ℕ) → i < length xs → slot xs i ≡ None → ⊥) → length (taken xs) ≡ length xs
         all-taken [] h = refl

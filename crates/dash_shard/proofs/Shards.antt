@@ -13,9 +13,8 @@ use Rattle.dash_shard.specs.Steps.{Insert, Remove, Old, Pair}
 use Rattle.dash_shard.specs.inner.Steps.{key_or, after}
 use Rattle.dash_shard.specs.Shard.{ShardState, slot, taken, pairs, shard_len, own_keys, Routes, IsShard, TakesStep, TakesInPlace, StaysPut}
 use Rattle.dash_shard.specs.Held.{Inserts, Loses}
-use Rattle.dash_shard.specs.declared.shard.table.Node.{Node}
 use Rattle.dash_shard.specs.declared.shard.table.Table.{Table}
-use Rattle.dash_shard.specs.inner.Table.{pairs_of, hashes_of, limit, Holds, IsAbsent, IsHashed, IsTable, IsInside}
+use Rattle.dash_shard.specs.inner.Table.{pairs_in, hashes_in, limit, Holds, IsAbsent, IsHashed, IsTable, IsInside, slots_in}
 use Rattle.dash_shard.proofs.Equals.{at-equal}
 use Rattle.dash_shard.proofs.Slots.{NoOther, Equal, at-absent, absent-at, at-sole, at-written, others-fail, on_shard-written, length-taken-fill, length-taken-replace, length-taken-clear, stays-written}
 
@@ -55,16 +54,12 @@ module _ {K V : Type 0} (hash : K → ℕ) where
   ]
 
 -- the pair that stands at a slot with an equal key
-pub holds-key : {K V : Type 0} (eq : K → K → Bool) (nodes : List (Node K V)) (k : K) (i : ℕ) → IsSomeAnd (slot (pairs_of nodes) i) (λ p. IsTrue (eq p.0 k)) → Holds eq nodes k i
-holds-key {K} {V} eq nodes k i has = from (slot (pairs_of nodes) i) refl has
+pub holds-key : {K V : Type 0} (eq : K → K → Bool) (slots : List (Option (K × V))) (k : K) (i : ℕ) → IsSomeAnd (slot slots i) (λ p. IsTrue (eq p.0 k)) → Holds eq slots k i
+holds-key {K} {V} eq slots k i has = from (slot slots i) refl has
   where
-    from : (o : Option (K × V)) → slot (pairs_of nodes) i ≡ o → IsSomeAnd o (λ p. IsTrue (eq p.0 k)) → Holds eq nodes k i
+    from : (o : Option (K × V)) → slot slots i ≡ o → IsSomeAnd o (λ p. IsTrue (eq p.0 k)) → Holds eq slots k i
     from None e h = absurd h
-    from (Some p) e h = record { within = omega (arith, slot-within (pairs_of nodes) i p e, length-map nodes (λ n. n.pair)); pair = p; is = e; equal = h }
-
--- as many hashes as slots
-columns : {K V : Type 0} (nodes : List (Node K V)) → length (hashes_of nodes) ≡ length (pairs_of nodes)
-columns nodes = length-map nodes (λ n. n.hash) ∙ sym (length-map nodes (λ n. n.pair))
+    from (Some p) e h = record { within = slot-within slots i p e; pair = p; is = e; equal = h }
 
 -- the hash by the hasher of a state is that by the hasher of the same state
 pub hash-same : {K V S : Type 0} {h : KeyHash K S} → IsLawful h → (k : K) (s t : ShardState K V S) → s ≡ t → (hash : ℕ) → hash ≡ h.hash t.hasher k → hash ≡ h.hash s.hasher k
@@ -82,7 +77,7 @@ module _ {K V S : Type 0} (h : KeyHash K S)
     (law : IsLawful h) (s : S) (number amount : ℕ) where
   -- the state of the shard that has this table
   abbrev pub state : Table K V → ShardState K V S
-  state t = record { slots = pairs_of t.nodes.items; number = number; amount = amount; hasher = s; capacity = limit (length t.nodes.items) }
+  state t = record { slots = pairs_in t; number = number; amount = amount; hasher = s; capacity = limit (slots_in t) }
 
   abbrev pub Inside : Table K V → Type 0
   Inside t = IsInside h t (state t)
@@ -103,7 +98,7 @@ module _ {K V S : Type 0} (h : KeyHash K S)
 
   -- the same as contracts see it, where the state before is written z
   module _ (old new : Table K V) (k : K) (v : V) (o : Option V) (z : ShardState K V S) (view : state old ≡ z) (i : Inserted old new k v o) where
-    pub inserts : (shard_len z < z.capacity → limit (length new.nodes.items) ≡ z.capacity) → Inserts h.eq z (state new) k v (Ok o)
+    pub inserts : (shard_len z < z.capacity → limit (slots_in new) ≡ z.capacity) → Inserts h.eq z (state new) k v (Ok o)
     inserts room = record {
       taken = subst (λ x. TakesStep h.eq x (state new) (Insert k v) (Old o)) view i.takes;
       len = subst (λ x. shard_len (state new) ≡ shard_len x + cond (is_some o) 0 1) view i.len;
@@ -115,7 +110,7 @@ module _ {K V S : Type 0} (h : KeyHash K S)
     }
 
   -- what an insert that finds no memory leaves
-  pub refuses : (old new : Table K V) (k : K) (v : V) (z : ShardState K V S) → state old ≡ z → Inside old → new ≡ old → (old.len < limit (length old.nodes.items) → ⊥) → at h.eq (pairs (state old)) k ≡ None
+  pub refuses : (old new : Table K V) (k : K) (v : V) (z : ShardState K V S) → state old ≡ z → Inside old → new ≡ old → (old.len < limit (slots_in old) → ⊥) → at h.eq (pairs (state old)) k ≡ None
       → Inserts h.eq z (state new) k v (Err (record { key = k; value = v }))
   refuses old new k v z view inside same full none =
       let back : state new ≡ z = ap state same ∙ view in
@@ -139,38 +134,38 @@ module _ {K V S : Type 0} (h : KeyHash K S)
     routes-equal routes j same = ap (route_of_hash amount) (sym (law.respects s k j same)) ∙ routes
 
     -- what a look-up found is the pair at the key, and no other pair is
-    pub equal-found : (i : ℕ) (found : Holds h.eq t.nodes.items k i) → Equal w k (slot (pairs_of t.nodes.items) i)
+    pub equal-found : (i : ℕ) (found : Holds h.eq (pairs_in t) k i) → Equal w k (slot (pairs_in t) i)
     equal-found i found p e = subst (λ q. h.eq q.0 k ≡ true) (same_Some found.pair p (sym found.is ∙ e)) found.equal
 
-    pub others-found : (i : ℕ) → Holds h.eq t.nodes.items k i → NoOther w (pairs_of t.nodes.items) k i
-    others-found i found = others-fail w law.laws (pairs_of t.nodes.items) k i found.pair inside.shard.contents.distinct found.is found.equal
+    pub others-found : (i : ℕ) → Holds h.eq (pairs_in t) k i → NoOther w (pairs_in t) k i
+    others-found i found = others-fail w law.laws (pairs_in t) k i found.pair inside.shard.contents.distinct found.is found.equal
 
-    pub at-found : (i : ℕ) (found : Holds h.eq t.nodes.items k i) → at w.eq (pairs (state t)) k ≡ Some found.pair
-    at-found i found = at-sole w (pairs_of t.nodes.items) k i (equal-found i found) (others-found i found) ∙ found.is
+    pub at-found : (i : ℕ) (found : Holds h.eq (pairs_in t) k i) → at w.eq (pairs (state t)) k ≡ Some found.pair
+    at-found i found = at-sole w (pairs_in t) k i (equal-found i found) (others-found i found) ∙ found.is
 
     -- what a look-up didn't find isn't there
-    pub missing : (hash : ℕ) → hash ≡ h.hash s k → IsAbsent h.eq t.nodes.items hash k → (i : ℕ) (p : K × V) → slot (pairs_of t.nodes.items) i ≡ Some p → h.eq p.0 k ≡ false
+    pub missing : (hash : ℕ) → hash ≡ h.hash s k → IsAbsent h.eq t hash k → (i : ℕ) (p : K × V) → slot (pairs_in t) i ≡ Some p → h.eq p.0 k ≡ false
     missing hash is absent i p e = elim (cases_Bool (h.eq p.0 k)) as (λ _. h.eq p.0 k ≡ false) [
       | inl equal ↦ absent i p e (inside.hashed i p e ∙ (law.respects s p.0 k equal) ∙ sym is)
       | inr fails ↦ fails
     ]
 
-    pub at-missing : (hash : ℕ) → hash ≡ h.hash s k → IsAbsent h.eq t.nodes.items hash k → at w.eq (pairs (state t)) k ≡ None
-    at-missing hash is absent = at-absent w (pairs_of t.nodes.items) k (missing hash is absent)
+    pub at-missing : (hash : ℕ) → hash ≡ h.hash s k → IsAbsent h.eq t hash k → at w.eq (pairs (state t)) k ≡ None
+    at-missing hash is absent = at-absent w (pairs_in t) k (missing hash is absent)
 
     module _ (z : ShardState K V S) (view : state t ≡ z) (here : Routes h z k) (v : V) (new : Table K V) where
       routes : Routes h (state t) k
       routes = subst (λ x. Routes h x k) (sym view) here
 
       -- another value under the stored key
-      module _ (i : ℕ) (found : Holds h.eq t.nodes.items k i)
-          (slots : pairs_of new.nodes.items ≡ set (pairs_of t.nodes.items) i (option_map (λ p. (p.0, v)) (slot (pairs_of t.nodes.items) i)))
-          (hashes : hashes_of new.nodes.items ≡ hashes_of t.nodes.items) (len : new.len ≡ t.len) (table : IsTable new) where
-        within : i < length (pairs_of t.nodes.items)
-        within = omega (arith, found.within, length-map t.nodes.items (λ n. n.pair))
+      module _ (i : ℕ) (found : Holds h.eq (pairs_in t) k i)
+          (slots : pairs_in new ≡ set (pairs_in t) i (option_map (λ p. (p.0, v)) (slot (pairs_in t) i)))
+          (hashes : hashes_in new ≡ hashes_in t) (len : new.len ≡ t.len) (table : IsTable new) where
+        within : i < length (pairs_in t)
+        within = found.within
 
-        now : pairs_of new.nodes.items ≡ set (pairs_of t.nodes.items) i (Some (found.pair.0, v))
-        now = slots ∙ ap (λ o. set (pairs_of t.nodes.items) i (option_map (λ p. (p.0, v)) o)) found.is
+        now : pairs_in new ≡ set (pairs_in t) i (Some (found.pair.0, v))
+        now = slots ∙ ap (λ o. set (pairs_in t) i (option_map (λ p. (p.0, v)) o)) found.is
 
         equal-now : Equal w k (Some (found.pair.0, v))
         equal-now p e = subst (λ q. h.eq q.0 k ≡ true) (same_Some (found.pair.0, v) p e) found.equal
@@ -178,7 +173,7 @@ module _ {K V S : Type 0} (h : KeyHash K S)
         replaced-shard : IsShard h (state new)
         replaced-shard = record {
           contents = subst (λ xs. IsOnShard w number (taken xs)) (sym now)
-              (on_shard-written w law.laws number (pairs_of t.nodes.items) k i _ (routes-equal routes) within (equal-found i found) equal-now (others-found i found) inside.shard.contents);
+              (on_shard-written w law.laws number (pairs_in t) k i _ (routes-equal routes) within (equal-found i found) equal-now (others-found i found) inside.shard.contents);
           number = inside.shard.number;
           amount = inside.shard.amount;
         }
@@ -187,8 +182,8 @@ module _ {K V S : Type 0} (h : KeyHash K S)
         replaced-inside = record {
           shard = replaced-shard;
           table = table;
-          hashed = subst (λ xs. IsHashed (λ j. h.hash s j) xs (hashes_of new.nodes.items)) (sym now)
-              (subst (λ hs. IsHashed (λ j. h.hash s j) (set (pairs_of t.nodes.items) i (Some (found.pair.0, v))) hs) (sym hashes)
+          hashed = subst (λ xs. IsHashed (λ j. h.hash s j) xs (hashes_in new)) (sym now)
+              (subst (λ hs. IsHashed (λ j. h.hash s j) (set (pairs_in t) i (Some (found.pair.0, v))) hs) (sym hashes)
               (hashed-replace (λ j. h.hash s j) _ _ i found.pair (found.pair.0, v) within found.is refl inside.hashed));
           counted = len ∙ inside.counted ∙ sym (ap (λ xs. length (taken xs)) now ∙ length-taken-replace _ i _ found.pair found.is);
         }
@@ -198,7 +193,7 @@ module _ {K V S : Type 0} (h : KeyHash K S)
           table = record {
             replies = ap (λ o. Old (option_map (λ p. p.1) o)) (sym (at-found i found));
             becomes = λ j. ap (λ xs. at w.eq (taken xs) j) now
-                ∙ at-written w law.laws (pairs_of t.nodes.items) k i _ within (equal-found i found) equal-now (others-found i found) j
+                ∙ at-written w law.laws (pairs_in t) k i _ within (equal-found i found) equal-now (others-found i found) j
                 ∙ stored j (cases_Bool (h.eq k j));
           };
           stays = record { number = refl; amount = refl; hasher = refl };
@@ -214,45 +209,45 @@ module _ {K V S : Type 0} (h : KeyHash K S)
           takes = replaced-takes;
           len = ap (λ xs. length (taken xs)) now ∙ length-taken-replace _ i _ found.pair found.is ∙ sym (add-zero _);
           stays = λ j p e. ap (λ xs. slot xs j) now
-              ∙ stays-written w law.laws (pairs_of t.nodes.items) k i _ (λ o. Some (key_or k o, v)) within (equal-found i found) (others-found i found)
+              ∙ stays-written w law.laws (pairs_in t) k i _ (λ o. Some (key_or k o, v)) within (equal-found i found) (others-found i found)
               (λ q there. ap (λ r. Some (r.0, v)) (same_Some found.pair q (sym found.is ∙ there))) j p e;
         }
 
       -- a new pair on a free slot
-      module _ (i hash : ℕ) (free : i < length t.nodes.items) (empty : slot (pairs_of t.nodes.items) i ≡ None)
+      module _ (i hash : ℕ) (free : i < slots_in t) (empty : slot (pairs_in t) i ≡ None)
           (is : hash ≡ h.hash s k) (none : at w.eq (pairs (state t)) k ≡ None)
-          (slots : pairs_of new.nodes.items ≡ set (pairs_of t.nodes.items) i (Some (k, v)))
-          (hashes : hashes_of new.nodes.items ≡ set (hashes_of t.nodes.items) i hash) (len : new.len ≡ t.len + 1) (table : IsTable new) where
-        room : i < length (pairs_of t.nodes.items)
-        room = omega (arith, free, length-map t.nodes.items (λ n. n.pair))
+          (slots : pairs_in new ≡ set (pairs_in t) i (Some (k, v)))
+          (hashes : hashes_in new ≡ set (hashes_in t) i hash) (len : new.len ≡ t.len + 1) (table : IsTable new) where
+        room : i < length (pairs_in t)
+        room = free
 
-        equal-before : Equal w k (slot (pairs_of t.nodes.items) i)
+        equal-before : Equal w k (slot (pairs_in t) i)
         equal-before p e = absurd (none-some p (sym empty ∙ e))
 
         equal-filled : Equal w k (Some (k, v))
         equal-filled p e = subst (λ q. h.eq q.0 k ≡ true) (same_Some (k, v) p e) (law.laws.refl k)
 
-        no-other : NoOther w (pairs_of t.nodes.items) k i
-        no-other j p _ e = absent-at w (pairs_of t.nodes.items) k none j p e
+        no-other : NoOther w (pairs_in t) k i
+        no-other j p _ e = absent-at w (pairs_in t) k none j p e
 
         filled-shard : IsShard h (state new)
         filled-shard = record {
           contents = subst (λ xs. IsOnShard w number (taken xs)) (sym slots)
-              (on_shard-written w law.laws number (pairs_of t.nodes.items) k i _ (routes-equal routes) room equal-before equal-filled no-other inside.shard.contents);
+              (on_shard-written w law.laws number (pairs_in t) k i _ (routes-equal routes) room equal-before equal-filled no-other inside.shard.contents);
           number = inside.shard.number;
           amount = inside.shard.amount;
         }
 
         filled-len : length (pairs (state new)) ≡ length (pairs (state t)) + 1
-        filled-len = ap (λ xs. length (taken xs)) slots ∙ length-taken-fill (pairs_of t.nodes.items) i (k, v) room empty
+        filled-len = ap (λ xs. length (taken xs)) slots ∙ length-taken-fill (pairs_in t) i (k, v) room empty
 
         filled-inside : Inside new
         filled-inside = record {
           shard = filled-shard;
           table = table;
-          hashed = subst (λ xs. IsHashed (λ j. h.hash s j) xs (hashes_of new.nodes.items)) (sym slots)
-              (subst (λ hs. IsHashed (λ j. h.hash s j) (set (pairs_of t.nodes.items) i (Some (k, v))) hs) (sym hashes)
-              (hashed-fill (λ j. h.hash s j) _ _ i k v hash room (columns t.nodes.items) is inside.hashed));
+          hashed = subst (λ xs. IsHashed (λ j. h.hash s j) xs (hashes_in new)) (sym slots)
+              (subst (λ hs. IsHashed (λ j. h.hash s j) (set (pairs_in t) i (Some (k, v))) hs) (sym hashes)
+              (hashed-fill (λ j. h.hash s j) _ _ i k v hash room (inside.table.marked.hashes_len ∙ sym inside.table.marked.slots_len) is inside.hashed));
           counted = len ∙ ap (λ n. n + 1) inside.counted ∙ sym filled-len;
         }
 
@@ -261,7 +256,7 @@ module _ {K V S : Type 0} (h : KeyHash K S)
           table = record {
             replies = ap (λ o. Old (option_map (λ p. p.1) o)) (sym none);
             becomes = λ j. ap (λ xs. at w.eq (taken xs) j) slots
-                ∙ at-written w law.laws (pairs_of t.nodes.items) k i _ room equal-before equal-filled no-other j
+                ∙ at-written w law.laws (pairs_in t) k i _ room equal-before equal-filled no-other j
                 ∙ put j (cases_Bool (h.eq k j));
           };
           stays = record { number = refl; amount = refl; hasher = refl };
@@ -277,19 +272,19 @@ module _ {K V S : Type 0} (h : KeyHash K S)
           takes = filled-takes;
           len = filled-len;
           stays = λ j p e. ap (λ xs. slot xs j) slots
-              ∙ stays-written w law.laws (pairs_of t.nodes.items) k i _ (λ o. Some (key_or k o, v)) room equal-before no-other (λ q there. absurd (none-some q (sym empty ∙ there))) j p e;
+              ∙ stays-written w law.laws (pairs_in t) k i _ (λ o. Some (key_or k o, v)) room equal-before no-other (λ q there. absurd (none-some q (sym empty ∙ there))) j p e;
         }
 
       -- the slot has it
-      pub filled-slot : (i : ℕ) → i < length t.nodes.items → pairs_of new.nodes.items ≡ set (pairs_of t.nodes.items) i (Some (k, v)) → slot (pairs_of new.nodes.items) i ≡ Some (k, v)
-      filled-slot i within slots = ap (λ xs. slot xs i) slots ∙ get_or-set_same (pairs_of t.nodes.items) i (Some (k, v)) None (omega (arith, within, length-map t.nodes.items (λ n. n.pair)))
+      pub filled-slot : (i : ℕ) → i < slots_in t → pairs_in new ≡ set (pairs_in t) i (Some (k, v)) → slot (pairs_in new) i ≡ Some (k, v)
+      filled-slot i within slots = ap (λ xs. slot xs i) slots ∙ get_or-set_same (pairs_in t) i (Some (k, v)) None within
 
     module _ (z : ShardState K V S) (view : state t ≡ z) (here : Routes h z k) where
       -- the pair goes, and its slot is empty
-      module _ (new : Table K V) (i : ℕ) (found : Holds h.eq t.nodes.items k i) (slots : pairs_of new.nodes.items ≡ set (pairs_of t.nodes.items) i None)
-          (hashes : hashes_of new.nodes.items ≡ hashes_of t.nodes.items) (len : new.len + 1 ≡ t.len) (table : IsTable new) where
-        spot : i < length (pairs_of t.nodes.items)
-        spot = omega (arith, found.within, length-map t.nodes.items (λ n. n.pair))
+      module _ (new : Table K V) (i : ℕ) (found : Holds h.eq (pairs_in t) k i) (slots : pairs_in new ≡ set (pairs_in t) i None)
+          (hashes : hashes_in new ≡ hashes_in t) (len : new.len + 1 ≡ t.len) (table : IsTable new) where
+        spot : i < length (pairs_in t)
+        spot = found.within
 
         equal-none : Equal {V = V} w k None
         equal-none p e = absurd (none-some p e)
@@ -297,22 +292,22 @@ module _ {K V S : Type 0} (h : KeyHash K S)
         removed-shard : IsShard h (state new)
         removed-shard = record {
           contents = subst (λ xs. IsOnShard w number (taken xs)) (sym slots)
-              (on_shard-written w law.laws number (pairs_of t.nodes.items) k i None (routes-equal (subst (λ x. Routes h x k) (sym view) here)) spot (equal-found i found) equal-none (others-found i found)
+              (on_shard-written w law.laws number (pairs_in t) k i None (routes-equal (subst (λ x. Routes h x k) (sym view) here)) spot (equal-found i found) equal-none (others-found i found)
               inside.shard.contents);
           number = inside.shard.number;
           amount = inside.shard.amount;
         }
 
         removed-len : length (pairs (state t)) ≡ length (pairs (state new)) + 1
-        removed-len = length-taken-clear (pairs_of t.nodes.items) i found.pair found.is ∙ ap (λ xs. length (taken xs) + 1) (sym slots)
+        removed-len = length-taken-clear (pairs_in t) i found.pair found.is ∙ ap (λ xs. length (taken xs) + 1) (sym slots)
 
         pub removed : Removed t new k (Some found.pair)
         removed = record {
           inside = record {
             shard = removed-shard;
             table = table;
-            hashed = subst (λ xs. IsHashed (λ j. h.hash s j) xs (hashes_of new.nodes.items)) (sym slots)
-                (subst (λ hs. IsHashed (λ j. h.hash s j) (set (pairs_of t.nodes.items) i None) hs) (sym hashes)
+            hashed = subst (λ xs. IsHashed (λ j. h.hash s j) xs (hashes_in new)) (sym slots)
+                (subst (λ hs. IsHashed (λ j. h.hash s j) (set (pairs_in t) i None) hs) (sym hashes)
                 (hashed-clear (λ j. h.hash s j) _ _ i spot inside.hashed));
             counted = omega (arith, len, inside.counted, removed-len);
           };
@@ -320,13 +315,13 @@ module _ {K V S : Type 0} (h : KeyHash K S)
             table = record {
               replies = ap Pair (sym (at-found i found));
               becomes = λ j. ap (λ xs. at w.eq (taken xs) j) slots
-                  ∙ at-written w law.laws (pairs_of t.nodes.items) k i None spot (equal-found i found) equal-none (others-found i found) j;
+                  ∙ at-written w law.laws (pairs_in t) k i None spot (equal-found i found) equal-none (others-found i found) j;
             };
             stays = record { number = refl; amount = refl; hasher = refl };
           };
           len = removed-len;
           stays = λ j p e. ap (λ xs. slot xs j) slots
-              ∙ stays-written w law.laws (pairs_of t.nodes.items) k i None (λ _. None) spot (equal-found i found) (others-found i found) (λ _ _. refl) j p e;
+              ∙ stays-written w law.laws (pairs_in t) k i None (λ _. None) spot (equal-found i found) (others-found i found) (λ _ _. refl) j p e;
         }
 
         pub lost : Loses z (state new) (Some found.pair)
@@ -335,16 +330,16 @@ module _ {K V S : Type 0} (h : KeyHash K S)
         pub removes : TakesInPlace h.eq z (state new) (Remove k) (Pair (Some found.pair))
         removes = subst (λ x. TakesInPlace h.eq x (state new) (Remove k) (Pair (Some found.pair))) view (record {
           taken = removed.takes;
-          room = ap limit (sym (length-map new.nodes.items (λ n. n.pair)) ∙ ap length slots ∙ length-set (pairs_of t.nodes.items) i None ∙ length-map t.nodes.items (λ n. n.pair));
+          room = ap limit (ap length slots ∙ length-set (pairs_in t) i None);
           slots = removed.stays;
         })
 
     -- the hash of a key stands beside the pair that a look-up of it found
-    pub hash-found : (hash : ℕ) → hash ≡ h.hash s k → (i : ℕ) → Holds h.eq t.nodes.items k i → hash ≡ get_or (hashes_of t.nodes.items) i 0
+    pub hash-found : (hash : ℕ) → hash ≡ h.hash s k → (i : ℕ) → Holds h.eq (pairs_in t) k i → hash ≡ get_or (hashes_in t) i 0
     hash-found hash is i found = is ∙ sym (inside.hashed i found.pair found.is ∙ law.respects s found.pair.0 k found.equal)
 
   -- a table with no pairs
-  module _ (t : Table K V) (table : IsTable t) (empty : taken (pairs_of t.nodes.items) ≡ []) where
+  module _ (t : Table K V) (table : IsTable t) (empty : taken (pairs_in t) ≡ []) where
     pub fresh-shard : number < amount → IsAmount amount → IsShard h (state t)
     fresh-shard below lawful = record {
       contents = subst (λ ps. IsOnShard (keys_of h (state t)) number ps) (sym empty) (record { distinct = tt; routed = λ k away. refl });
@@ -356,6 +351,6 @@ module _ {K V S : Type 0} (h : KeyHash K S)
     fresh-inside below lawful = record {
       shard = fresh-shard below lawful;
       table = table;
-      hashed = λ i p e. absurd (none-taken (pairs_of t.nodes.items) i p empty e);
+      hashed = λ i p e. absurd (none-taken (pairs_in t) i p empty e);
       counted = table.counted;
     }

@@ -10,7 +10,7 @@ use Rattle.dash_shard.specs.inner.Keys.{keys_of, IsLawful}
 use Rattle.dash_shard.specs.Each.{Shrinks}
 use Rattle.dash_shard.specs.Held.{Inserts, Reserves}
 use Rattle.dash_shard.specs.declared.shard.table.Table.{Table}
-use Rattle.dash_shard.specs.inner.Table.{pairs_of, hashes_of, limit, IsTable, IsMoved, IsAbsent}
+use Rattle.dash_shard.specs.inner.Table.{pairs_in, hashes_in, limit, IsTable, IsMoved, IsAbsent, slots_in}
 use Rattle.dash_shard.proofs.Shards.{state, Inside, Inserted, filled, at-missing}
 use Rattle.dash_shard.specs.Hashing.{KeyHash}
 
@@ -41,19 +41,19 @@ module _ {K V S : Type 0} (h : KeyHash K S)
   pub moved-len : length (pairs (of new)) ≡ length (pairs (of t))
   moved-len = sym moved.table.counted ∙ moved.len ∙ inside.counted
 
-  pub shrinks : length new.nodes.items ≤ length t.nodes.items → (t.len ≡ 0 → length new.nodes.items ≡ 0) → (z : ShardState K V S) → of t ≡ z → Shrinks h.eq z (of new)
+  pub shrinks : slots_in new ≤ slots_in t → (t.len ≡ 0 → slots_in new ≡ 0) → (z : ShardState K V S) → of t ≡ z → Shrinks h.eq z (of new)
   shrinks room none z view = subst (λ x. Shrinks h.eq x (of new)) view (record {
     pairs = each;
     len = moved-len;
     room = omega (arith, room);
-    none = λ e. let gone : length new.nodes.items ≡ 0 = none (inside.counted ∙ e) in omega (arith, gone);
+    none = λ e. let gone : slots_in new ≡ 0 = none (inside.counted ∙ e) in omega (arith, gone);
     stays = record { number = refl; amount = refl; hasher = refl };
   })
 
   -- a new pair in a table that has grown
-  module _ (last : Table K V) (k : K) (v : V) (hash : ℕ) (i : ℕ) (z : ShardState K V S) (view : of t ≡ z) (here : Routes h z k) (free : i < length new.nodes.items) (empty : slot (pairs_of new.nodes.items) i ≡ None)
-      (is : hash ≡ h.hash s k) (absent : IsAbsent h.eq t.nodes.items hash k) (slots : pairs_of last.nodes.items ≡ set (pairs_of new.nodes.items) i (Some (k, v)))
-      (hashes : hashes_of last.nodes.items ≡ set (hashes_of new.nodes.items) i hash) (longer : last.len ≡ new.len + 1) (lawful : IsTable last) where
+  module _ (last : Table K V) (k : K) (v : V) (hash : ℕ) (i : ℕ) (z : ShardState K V S) (view : of t ≡ z) (here : Routes h z k) (free : i < slots_in new) (empty : slot (pairs_in new) i ≡ None)
+      (is : hash ≡ h.hash s k) (absent : IsAbsent h.eq t hash k) (slots : pairs_in last ≡ set (pairs_in new) i (Some (k, v)))
+      (hashes : hashes_in last ≡ set (hashes_in new) i hash) (longer : last.len ≡ new.len + 1) (lawful : IsTable last) where
     none : at h.eq (pairs (of t)) k ≡ None
     none = at-missing h law s number amount t inside k hash is absent
 
@@ -69,7 +69,7 @@ module _ {K V S : Type 0} (h : KeyHash K S)
       stays = record { number = refl; amount = refl; hasher = refl };
     }
 
-    pub pushed-inserts : (t.len < limit (length t.nodes.items) → ⊥) → Inserts h.eq z (of last) k v (Ok None)
+    pub pushed-inserts : (t.len < limit (slots_in t) → ⊥) → Inserts h.eq z (of last) k v (Ok None)
     pushed-inserts full = subst (λ x. Inserts h.eq x (of last) k v (Ok None)) view (record {
       taken = pushed-takes;
       len = pushed.len ∙ ap (λ n. n + 1) moved-len;
@@ -88,8 +88,8 @@ module _ {K V S : Type 0} (h : KeyHash K S)
 module _ {K V S : Type 0} (h : KeyHash K S)
     (law : IsLawful h) (s : S) (number amount : ℕ)
     (t new : Table K V) (inside : Inside h law s number amount t) where
-  pub reserved : (z : ShardState K V S) → state h law s number amount t ≡ z → {E : Type 0} → (additional : ℕ) (r : Result (Unit {0}) E) → IsMoved t new → OnOk r (new.len + additional ≤ limit (length new.nodes.items))
-      → (t.len + additional ≤ limit (length t.nodes.items) → new ≡ t) → OnErr r ((new ≡ t) × (limit (length t.nodes.items) < t.len + additional)) → Reserves h.eq additional z (state h law s number amount new) r
+  pub reserved : (z : ShardState K V S) → state h law s number amount t ≡ z → {E : Type 0} → (additional : ℕ) (r : Result (Unit {0}) E) → IsMoved t new → OnOk r (new.len + additional ≤ limit (slots_in new))
+      → (t.len + additional ≤ limit (slots_in t) → new ≡ t) → OnErr r ((new ≡ t) × (limit (slots_in t) < t.len + additional)) → Reserves h.eq additional z (state h law s number amount new) r
   reserved z view additional r moved ok kept err = subst (λ x. Reserves h.eq additional x (state h law s number amount new) r) view (record {
     room = on-ok r ok;
     pairs = each h law s number amount t new inside moved;
@@ -100,14 +100,14 @@ module _ {K V S : Type 0} (h : KeyHash K S)
     full = on-full r err;
   })
     where
-      on-ok : {E : Type 0} (q : Result (Unit {0}) E) → OnOk q (new.len + additional ≤ limit (length new.nodes.items)) → OnOk q (length (taken (pairs_of new.nodes.items)) + additional ≤ limit (length new.nodes.items))
+      on-ok : {E : Type 0} (q : Result (Unit {0}) E) → OnOk q (new.len + additional ≤ limit (slots_in new)) → OnOk q (length (taken (pairs_in new)) + additional ≤ limit (slots_in new))
       on-ok (Ok x) fits = omega (arith, fits, moved.table.counted)
       on-ok (Err e) fits = tt
 
-      on-full : {E : Type 0} (q : Result (Unit {0}) E) → OnErr q ((new ≡ t) × (limit (length t.nodes.items) < t.len + additional)) → OnErr q (limit (length t.nodes.items) < length (taken (pairs_of t.nodes.items)) + additional)
+      on-full : {E : Type 0} (q : Result (Unit {0}) E) → OnErr q ((new ≡ t) × (limit (slots_in t) < t.len + additional)) → OnErr q (limit (slots_in t) < length (taken (pairs_in t)) + additional)
       on-full (Ok x) full = tt
       on-full (Err e) full = let lt = full.1 in omega (arith, lt, inside.counted)
 
-      on-err : {E : Type 0} (q : Result (Unit {0}) E) → OnErr q ((new ≡ t) × (limit (length t.nodes.items) < t.len + additional)) → OnErr q (state h law s number amount new ≡ state h law s number amount t)
+      on-err : {E : Type 0} (q : Result (Unit {0}) E) → OnErr q ((new ≡ t) × (limit (slots_in t) < t.len + additional)) → OnErr q (state h law s number amount new ≡ state h law s number amount t)
       on-err (Ok x) same = tt
       on-err (Err e) same = ap (state h law s number amount) same.0

@@ -5,24 +5,11 @@ use Rattle.std.proofs.Math.Seq.{drop-cons, drop-length, take-length}
 use Rattle.std.proofs.lemmas.Bool.{true≢false}
 use Rattle.std.proofs.lemmas.List.{length-map, take_more_set, drop-set-lt, set-set}
 use Rattle.std.specs.Map.Calls.{CallableOnEachPair}
-use Rattle.dash_shard.specs.declared.shard.table.Node.{Node}
 use Rattle.dash_shard.specs.Shard.{slot, taken}
-use Rattle.dash_shard.specs.inner.Table.{pairs_of, IsHashed}
+use Rattle.dash_shard.specs.inner.Table.{pairs_in, IsHashed}
 use Rattle.dash_shard.specs.inner.Walks.{Visits, Sweeps, Asks, if_kept}
 use Rattle.dash_shard.proofs.Shards.{hashed-replace, hashed-clear}
 use Rattle.dash_shard.proofs.Slots.{length-taken-clear}
-use Rattle.dash_shard.proofs.Nodes.{pairs-revalued, slot-here}
-
-module _ {K V : Type 0} (nodes : List (Node K V)) (i : ℕ) (n : Node K V) (k : K) (u v : V) (within : i < length nodes) (read : n ≡ get_or nodes i n) (stored : n.pair ≡ Some (k, u)) where
-  -- what stood at a slot whose value was written, and what stands there
-  pub slot-before : slot (pairs_of nodes) i ≡ Some (k, u)
-  slot-before = slot-here nodes i n (k, u) (k, v) within read stored
-
-  pub pairs-valued : pairs_of (set nodes i (record n { pair = Some (k, v) })) ≡ set (pairs_of nodes) i (Some (k, v))
-  pairs-valued = pairs-revalued nodes i n (k, u) (k, v) within read stored
-
-  pub slot-revalued : slot (pairs_of (set nodes i (record n { pair = Some (k, v) }))) i ≡ Some (k, v)
-  slot-revalued = ap (λ xs. slot xs i) pairs-valued ∙ get_or-set_same (pairs_of nodes) i _ None (omega (arith, within, length-map nodes (λ x. x.pair)))
 
 module _ {F K V : Type 0} (T : F → K → V → Bool → V → F → Type 0) (Q : F → K → V → Type 0) (leaves : K → V × Bool → Option (K × V)) where
   -- the slots below i were visited, those from i on are as they were

@@ -32,7 +32,6 @@ mod table;
 /// One shard of a map, as the original's table behind a lock: pairs with distinct keys that all go to the shard's number.
 ///
 /// Calls take amortised constant time where the hasher spreads the keys. A new shard of capacity 0 takes no memory.
-#[derive(Drop)]
 pub struct Shard<K: Eq + Hash, V, S: BuildHasher> {
     hasher: S,
     number: usize,
@@ -41,19 +40,31 @@ pub struct Shard<K: Eq + Hash, V, S: BuildHasher> {
 }
 
 impl<K: Eq + Hash, V, S: BuildHasher> Model for Shard<K, V, S> {
-    ghost use Rattle.std.specs.Prelude.{length};
     ghost use Rattle.dash_shard.specs.Shard.{ShardState};
     ghost use Rattle.dash_shard.specs.inner.Codes.{shard_code};
-    ghost use Rattle.dash_shard.specs.inner.Table.{IsInside, pairs_of, limit};
+    ghost use Rattle.dash_shard.specs.inner.Table.{IsInside, pairs_in, limit, slots_in};
     ghost use Rattle.dash_shard.specs.Hashing.{key_hash};
 
     ghost Value = { ShardState K V S };
 
     ghost coded = { shard_code K.code V.code S.code };
 
-    ghost view = { λ s. record { slots = pairs_of s.table.nodes.items; number = s.number; amount = s.amount; hasher = s.hasher; capacity = limit (length s.table.nodes.items) } };
+    ghost view = { λ s. record { slots = pairs_in s.table; number = s.number; amount = s.amount; hasher = s.hasher; capacity = limit (slots_in s.table) } };
 
-    ghost invariant = { λ s. IsInside (key_hash K.eq K.hash_input S.BuildHasher S.Hasher.Hasher) s.table (record { slots = pairs_of s.table.nodes.items; number = s.number; amount = s.amount; hasher = s.hasher; capacity = limit (length s.table.nodes.items) }) };
+    ghost invariant = { λ s. IsInside (key_hash K.eq K.hash_input S.BuildHasher S.Hasher.Hasher) s.table (record { slots = pairs_in s.table; number = s.number; amount = s.amount; hasher = s.hasher; capacity = limit (slots_in s.table) }) };
+}
+
+impl<K: Eq + Hash + Drop, V: Drop, S: BuildHasher + Drop> Drop for Shard<K, V, S> {
+    fn drop(self) {
+        let Shard {
+            hasher,
+            number: _,
+            amount: _,
+            table,
+        } = self;
+        table.end();
+        drop(hasher);
+    }
 }
 
 impl<K: Eq + Hash, V, S: BuildHasher> Keyed for Shard<K, V, S> {

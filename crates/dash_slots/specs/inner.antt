@@ -1,2 +1,3 @@
 -- What only invariants and proofs use.
 pub mod Block
+pub mod Cells

@@ -112,15 +112,22 @@ pub(crate) fn deallocate<T, A: Allocator>(
 }
 
 impl<T> Cells<T> {
-    ghost use Rattle.dash_slots.specs.Cells.{is_put, is_taken, lends_cell};
+    ghost use Rattle.dash_slots.specs.inner.Cells.{with_slot, with_label, lends_cell};
 
     // Puts a value in an empty slot.
     #[inline(always)]
-    pub(crate) fn put(&mut self, start: Start<T>, index: usize, _label: u64, item: T)
+    pub(crate) fn put(&mut self, start: Start<T>, index: usize, item: T)
         requires { (start.ptr ≡ self.old.at) × (index < length self.old.slots) × (get_or self.old.slots index None ≡ None) }
-        ensures { self.new ≡ is_put self.old index _label item }
+        ensures { self.new ≡ with_slot self.old index (Some item) }
     {
         unsafe { start.ptr.add(index).write(item) }
+    }
+
+    // Gives a slot another label. That is nothing but for proofs.
+    #[inline(always)]
+    pub(crate) fn set_label(&mut self, _index: usize, _label: u64)
+        ensures { self.new ≡ with_label self.old _index _label }
+    {
     }
 
     // Takes the value out of a slot.
@@ -128,7 +135,7 @@ impl<T> Cells<T> {
     pub(crate) fn take(&mut self, start: Start<T>, index: usize) -> T
         requires { (start.ptr ≡ self.old.at) × IsFilled self.old.slots index }
         ensures value { get_or self.old.slots index None ≡ Some result }
-        ensures slots { self.new ≡ is_taken self.old index }
+        ensures slots { self.new ≡ with_slot self.old index None }
     {
         unsafe { start.ptr.add(index).read() }
     }

@@ -93,7 +93,24 @@ impl<T> Slots<T> {
         ensures labels { self.new.labels ≡ slice_set self.old.labels index label }
     {
         match &mut self.block {
-            Some(block) => block.cells.put(block.start, index, label, value),
+            Some(block) => {
+                block.cells.put(block.start, index, value);
+                block.cells.set_label(index, label);
+            }
+            None => unreachable!(),
+        }
+    }
+
+    /// Puts a value in an empty slot, which keeps its label.
+    #[inline(always)]
+    pub fn put_back(&mut self, index: usize, value: T)
+        requires within { index < length self.old.values }
+        requires empty { value_at self.old index ≡ None }
+        ensures values { self.new.values ≡ slice_set self.old.values index (Some value) }
+        ensures labels { self.new.labels ≡ self.old.labels }
+    {
+        match &mut self.block {
+            Some(block) => block.cells.put(block.start, index, value),
             None => unreachable!(),
         }
     }

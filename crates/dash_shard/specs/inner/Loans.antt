@@ -1,8 +1,8 @@
 -- A held shard in two parts: the shard behind the lock, and what was taken out from behind it.
-use Rattle.std.specs.Prelude.{ℕ, ◌≡◌, true, false, Option, length}
+use Rattle.std.specs.Prelude.{ℕ, ◌≡◌, true, false, Option}
 use Rattle.dash_shard.specs.Hashing.{KeyHash}
 use Rattle.dash_shard.specs.Shard.{ShardState, slot}
-use Rattle.dash_shard.specs.inner.Table.{IsTable, IsHeld, held_state, pairs_in, with_value_at}
+use Rattle.dash_shard.specs.inner.Table.{IsTable, IsHeld, held_state, slots_in, pairs_in, with_value_at}
 use Rattle.dash_shard.specs.declared.shard.held.parts.Loan.{Loan}
 
 module _ {K V : Type 0} where
@@ -18,7 +18,7 @@ module _ {K V : Type 0} where
   pub record IsBlank (l : Loan K V) : Type 0 where
     pub lent : l.is_lent ≡ false
     pub table : IsTable l.table
-    pub empty : length l.table.nodes.items ≡ 0
+    pub empty : slots_in l.table ≡ 0
 
   -- the table was taken out
   pub record MayLend (l : Loan K V) : Type 0 where

@@ -1,40 +1,43 @@
 -- An open table of pairs: slots in groups of sixteen, found by their marks.
-use Rattle.std.specs.Prelude.{ℕ, ◌≡◌, ◌+◌, ◌*◌, ◌/◌, ◌<◌, ◌≤◌, true, false, Bool, List, map, length, slice_index_or, slice_index, slice_set, Option, Some, None, if◌then◌else◌}
+use Rattle.std.specs.Prelude.{ℕ, ◌≡◌, ◌+◌, ◌*◌, ◌/◌, ◌<◌, ◌≤◌, true, false, Bool, List, [], length, slice_index, slice_set, Option, Some, None, IsSome, if◌then◌else◌}
+use Rattle.std.specs.Borrow.{Bor}
 use Rattle.std.specs.Cmp.{IsEquivalence}
 use Rattle.std.specs.Int.{bit_at}
 use Rattle.std.specs.Option.{option_map}
-use Rattle.std.specs.Vec.{with_item}
+use Rattle.dash_slots.specs.Slots.{SlotsState}
 use Rattle.dash_shard.specs.Hashing.{KeyHash}
 use Rattle.dash_shard.specs.Contents.{Keys, Distinct, EachOnce}
 use Rattle.dash_shard.specs.Shard.{ShardState, IsShard, shard_len, slot, taken}
 use Rattle.dash_shard.specs.inner.Marks.{IsMarked, IsPlace}
-use Rattle.dash_shard.specs.declared.shard.table.Node.{Node}
 use Rattle.dash_shard.specs.declared.shard.table.Table.{Table}
 
 -- how many pairs there may be in n slots: seven in eight
 abbrev pub limit : ℕ → ℕ
 limit n = n / 8 * 7
 
+-- what the tags say of the slots from one on: a slot is taken where its tag is below 128. The slots before are empty
+pub record TellsTaken {A : Type 0} (from : ℕ) (tags : List ℕ) (slots : List (Option A)) : Type 0 where
+  pub len : length tags ≡ length slots
+  pub behind : (i : ℕ) → i < from → slot slots i ≡ None
+  pub low : (i : ℕ) (p : A) → slot slots i ≡ Some p → slice_index tags i < 128
+  pub some : (i : ℕ) → from ≤ i → i < length slots → slice_index tags i < 128 → IsSome (slot slots i)
+
+-- the values of a row of slots, if there is one
+abbrev pub values_of : {X : Type 0} → Option (Bor (SlotsState X)) → List (Option X)
+values_of None = []
+values_of (Some row) = row.now.values
+
 module _ {K V : Type 0} where
-  abbrev pub blank : Node K V
-  blank = record { hash = 0; pair = None }
-
-  -- the node of a slot, blank past the end
-  abbrev pub node : List (Node K V) → ℕ → Node K V
-  node nodes i = slice_index_or nodes i blank
-
-  abbrev pub pairs_of : List (Node K V) → List (Option (K × V))
-  pairs_of nodes = map (λ n. n.pair) nodes
-
-  abbrev pub hashes_of : List (Node K V) → List ℕ
-  hashes_of nodes = map (λ n. n.hash) nodes
-
-  -- the same of a table
+  -- the pair of each slot of a table, or none, and the hash of the last key there
   abbrev pub pairs_in : Table K V → List (Option (K × V))
-  pairs_in t = pairs_of t.nodes.items
+  pairs_in t = t.slots.values
 
   abbrev pub hashes_in : Table K V → List ℕ
-  hashes_in t = hashes_of t.nodes.items
+  hashes_in t = t.slots.labels
+
+  -- how many slots a table has
+  abbrev pub slots_in : Table K V → ℕ
+  slots_in t = length (pairs_in t)
 
   -- how many groups of slots a table has
   abbrev pub groups_in : Table K V → ℕ
@@ -44,55 +47,55 @@ module _ {K V : Type 0} where
   pub record IsTable (t : Table K V) : Type 0 where
     pub marked : IsMarked (groups_in t) t.tags.items t.counts.items (pairs_in t) (hashes_in t)
     pub counted : t.len ≡ length (taken (pairs_in t))
-    pub fits : t.len ≤ limit (length t.nodes.items)
+    pub fits : t.len ≤ limit (slots_in t)
 
   -- a pair of this hash may be put on the slot i
   abbrev pub IsSpot : Table K V → ℕ → ℕ → Type 0
   IsSpot t hash i = IsPlace (groups_in t) hash t.tags.items (pairs_in t) i
 
-  -- the node with another value in its pair
-  abbrev pub with_value : Node K V → V → Node K V
-  with_value n w = record n { pair = option_map (λ p. (p.0, w)) n.pair }
-
   -- the table with another value in the pair of the slot i
   abbrev pub with_value_at : Table K V → ℕ → V → Table K V
-  with_value_at t i w = record t { nodes = with_item t.nodes i (with_value (node t.nodes.items i) w) }
+  with_value_at t i w = record t { slots = record t.slots { values = slice_set (pairs_in t) i (option_map (λ p. (p.0, w)) (slot (pairs_in t) i)) } }
 
   -- the slot i has a pair whose key is equal
-  pub record Holds (eq : K → K → Bool) (nodes : List (Node K V)) (k : K) (i : ℕ) : Type 0 where
-    pub within : i < length nodes
+  pub record Holds (eq : K → K → Bool) (slots : List (Option (K × V))) (k : K) (i : ℕ) : Type 0 where
+    pub within : i < length slots
     pub pair : K × V
-    pub is : slot (pairs_of nodes) i ≡ Some pair
+    pub is : slot slots i ≡ Some pair
     pub equal : eq pair.0 k ≡ true
 
   -- no pair of this hash has an equal key
-  abbrev pub IsAbsent : (K → K → Bool) → List (Node K V) → ℕ → K → Type 0
-  IsAbsent eq nodes hash k = (i : ℕ) (p : K × V) → slot (pairs_of nodes) i ≡ Some p → slice_index (hashes_of nodes) i ≡ hash → eq p.0 k ≡ false
+  abbrev pub IsAbsent : (K → K → Bool) → Table K V → ℕ → K → Type 0
+  IsAbsent eq t hash k = (i : ℕ) (p : K × V) → slot (pairs_in t) i ≡ Some p → slice_index (hashes_in t) i ≡ hash → eq p.0 k ≡ false
 
-  -- no pair of the lanes that the mask names has an equal key
-  abbrev pub MissesLanes : (K → K → Bool) → List (Node K V) → K → ℕ → ℕ → Type 0
-  MissesLanes eq nodes k start mask = (j : ℕ) (p : K × V) → j < 16 → bit_at mask j ≡ 1 → slot (pairs_of nodes) (start + j) ≡ Some p → eq p.0 k ≡ false
+  -- the lanes that the mask names are taken
+  abbrev pub AreTaken : List (Option (K × V)) → ℕ → ℕ → Type 0
+  AreTaken slots start mask = (j : ℕ) → j < 16 → bit_at mask j ≡ 1 → IsSome (slot slots (start + j))
+
+  -- none of their pairs has an equal key
+  abbrev pub MissesLanes : (K → K → Bool) → List (Option (K × V)) → K → ℕ → ℕ → Type 0
+  MissesLanes eq slots k start mask = (j : ℕ) (p : K × V) → j < 16 → bit_at mask j ≡ 1 → slot slots (start + j) ≡ Some p → eq p.0 k ≡ false
 
   -- the taken slot i has the pair q, whose key has the same hash
   pub record IsRewritten (i : ℕ) (q : K × V) (old new : Table K V) : Type 0 where
-    pub pairs : pairs_of new.nodes.items ≡ slice_set (pairs_of old.nodes.items) i (Some q)
-    pub hashes : hashes_of new.nodes.items ≡ hashes_of old.nodes.items
+    pub pairs : pairs_in new ≡ slice_set (pairs_in old) i (Some q)
+    pub hashes : hashes_in new ≡ hashes_in old
     pub len : new.len ≡ old.len
-    pub slots : length new.nodes.items ≡ length old.nodes.items
+    pub slots : slots_in new ≡ slots_in old
     pub table : IsTable new
 
   -- the new row has each pair of the old one once, whichever keys are equal
-  abbrev pub CarriesOnce : List (Node K V) → List (Node K V) → Type 0
-  CarriesOnce old new = (w : Keys K) → IsEquivalence w.eq → Distinct w.eq (taken (pairs_of old)) → EachOnce w.eq (taken (pairs_of old)) (taken (pairs_of new))
+  abbrev pub CarriesOnce : SlotsState (K × V) → SlotsState (K × V) → Type 0
+  CarriesOnce old new = (w : Keys K) → IsEquivalence w.eq → Distinct w.eq (taken old.values) → EachOnce w.eq (taken old.values) (taken new.values)
 
   -- each pair of the new row is one of the old, with its hash
-  abbrev pub IsCarried : List (Node K V) → List (Node K V) → Type 0
-  IsCarried old new = (i : ℕ) (p : K × V) → slot (pairs_of new) i ≡ Some p → (j : ℕ) × (slot (pairs_of old) j ≡ Some p) × (slice_index (hashes_of old) j ≡ slice_index (hashes_of new) i)
+  abbrev pub IsCarried : SlotsState (K × V) → SlotsState (K × V) → Type 0
+  IsCarried old new = (i : ℕ) (p : K × V) → slot new.values i ≡ Some p → (j : ℕ) × (slot old.values j ≡ Some p) × (slice_index old.labels j ≡ slice_index new.labels i)
 
   -- the pairs may have moved to other slots, with their hashes
   pub record IsMoved (old new : Table K V) : Type 0 where
-    pub once : CarriesOnce old.nodes.items new.nodes.items
-    pub carried : IsCarried old.nodes.items new.nodes.items
+    pub once : CarriesOnce old.slots new.slots
+    pub carried : IsCarried old.slots new.slots
     pub len : new.len ≡ old.len
     pub table : IsTable new
 
@@ -103,18 +106,18 @@ IsHashed {K} {V} hash slots hashes = (i : ℕ) (p : K × V) → slot slots i ≡
 module _ {K V S : Type 0} where
   -- the shard with this table
   abbrev pub with_table : ShardState K V S → Table K V → ShardState K V S
-  with_table s t = record s { slots = pairs_of t.nodes.items; capacity = limit (length t.nodes.items) }
+  with_table s t = record s { slots = pairs_in t; capacity = limit (slots_in t) }
 
   -- a shard behind a lock, with its hold's table once that one was lent from
   abbrev pub held_state : ShardState K V S → Table K V → Bool → ShardState K V S
-  held_state s t is_lent = record s { slots = if is_lent then pairs_of t.nodes.items else s.slots; capacity = if is_lent then limit (length t.nodes.items) else s.capacity }
+  held_state s t is_lent = record s { slots = if is_lent then pairs_in t else s.slots; capacity = if is_lent then limit (slots_in t) else s.capacity }
 
 -- a shard's table and state
 module _ {K V S : Type 0} (h : KeyHash K S) where
   pub record IsInside (t : Table K V) (s : ShardState K V S) : Type 0 where
     pub shard : IsShard h s
     pub table : IsTable t
-    pub hashed : IsHashed (λ k. h.hash s.hasher k) s.slots (hashes_of t.nodes.items)
+    pub hashed : IsHashed (λ k. h.hash s.hasher k) s.slots (hashes_in t)
     pub counted : t.len ≡ shard_len s
 
   -- a lawful shard may have this table
@@ -130,4 +133,4 @@ module _ {K V S : Type 0} (h : KeyHash K S) where
   -- a hold's table, beside the shard behind the lock: one of the two has the pairs, and the other no slots
   abbrev pub IsHeld : ShardState K V S → Table K V → Bool → Type 0
   IsHeld s t true = IsInside t (with_table s t) × (s.capacity ≡ 0)
-  IsHeld s t false = IsTable t × (length t.nodes.items ≡ 0)
+  IsHeld s t false = IsTable t × (slots_in t ≡ 0)

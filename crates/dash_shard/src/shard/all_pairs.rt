@@ -102,7 +102,13 @@ impl<K: Eq + Hash, V, S: BuildHasher> Shard<K, V, S> {
         S: Drop,
         ensures pairs { result ≡ pairs self }
     {
-        let Shard { table, .. } = self;
+        let Shard {
+            hasher,
+            number: _,
+            amount: _,
+            table,
+        } = self;
+        drop(hasher);
         table.into_iter()
     }
 }

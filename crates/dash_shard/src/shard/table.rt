@@ -1,15 +1,17 @@
 //! A table of pairs, found by the tags of their hashes, sixteen at a time.
 ghost use Rattle.std.specs.Prelude.{ℕ, ◌≡◌, ◌+◌, ◌-◌, ◌*◌, ◌/◌, ◌^◌, ◌<◌, ◌≤◌, ◌++◌, IfSome, IfNone, IsOk, IfOk, OnOk, OnErr, IsSome, length, [], vec_len, vec_capacity, slice_set, slice_index, replicate};
-ghost use Rattle.dash_shard.specs.inner.Table.{IsTable, IsHashed, Holds, IsAbsent, MissesLanes, blank, limit, groups_in, pairs_in, hashes_in, CarriesOnce, IsCarried};
+ghost use Rattle.dash_shard.specs.inner.Table.{IsTable, IsHashed, Holds, IsAbsent, AreTaken, MissesLanes, limit, slots_in, groups_in, pairs_in, hashes_in};
 ghost use Rattle.dash_shard.specs.inner.Marks.{group_at};
 ghost use Rattle.dash_shard.specs.Hashing.{hash_of};
-ghost use Rattle.dash_shard.specs.Shard.{slot, taken, IsNextTaken};
+ghost use Rattle.dash_shard.specs.Shard.{slot, IsNextTaken};
+ghost use Rattle.dash_slots.specs.Slots.{IsBlank};
 ghost use Rattle.std.specs.Int.{bit_at, IsPowerOfTwo};
 ghost use Rattle.std.specs.Option.{option_map};
 ghost use Rattle.std.specs.Map.Iter.{deref_pair};
 
 use crate::shard::group::probe;
-use marks::{group_of, home, lowest, next_group, without};
+use dash_slots::Slots;
+use marks::{EMPTY, group_of, home, lowest, next_group, without};
 use std::alloc::Global;
 use std::hash::{BuildHasher, Hash};
 use std::mem;
@@ -21,17 +23,12 @@ mod sweep;
 mod values;
 pub mod walk;
 
-// A slot: a pair with its hash, or none.
-#[derive(Drop)]
-pub struct Node<K, V> {
-    hash: u64,
-    pair: Option<(K, V)>,
-}
-
 /// Pairs in slots that they keep, found by the tags of their hashes. An empty one takes no memory.
-#[derive(Drop)]
+///
+/// It has no `Drop`: `end` lets its pairs go.
 pub struct Table<K, V> {
-    nodes: Vec<Node<K, V>>,
+    // To proofs, the label of a taken slot is the hash of its key.
+    slots: Slots<(K, V)>,
     // A tag for each slot, in groups of sixteen.
     tags: Vec<u8>,
     // For each group, how many pairs stand past it on their ways.
@@ -48,19 +45,18 @@ pub struct Search {
 
 // Of the slots of a group that the mask names, the one whose key is equal.
 #[inline(always)]
-fn find_in<K: Eq, V>(nodes: &[Node<K, V>], start: usize, mask: u16, key: &K) -> Option<usize>
-    requires { start + 16 ≤ length nodes.now }
-    ensures found { IfSome result (Holds K.eq nodes.now key.now) }
+fn find_in<K: Eq, V>(slots: &Slots<(K, V)>, start: usize, mask: u16, key: &K) -> Option<usize>
+    requires fits { start + 16 < 2 ^ 64 }
+    requires taken { AreTaken slots.now.values start mask }
+    ensures found { IfSome result (Holds K.eq slots.now.values key.now) }
     ensures lies { IfSome result (λ i. (start ≤ i) × (i < start + 16)) }
-    ensures absent { IfNone result (MissesLanes K.eq nodes.now key.now start mask) }
+    ensures absent { IfNone result (MissesLanes K.eq slots.now.values key.now start mask) }
 {
     let mut left = mask;
     while left != 0 {
         let lane = lowest(left);
-        if let Some((stored, _)) = &nodes[start + lane].pair {
-            if stored == key {
-                return Some(start + lane);
-            }
+        if &slots.get(start + lane).0 == key {
+            return Some(start + lane);
         }
         left = without(left, lane);
     }
@@ -72,10 +68,10 @@ impl<K, V> Table<K, V> {
     #[inline]
     pub fn new(alloc: Global) -> Self
         ensures table { IsTable result }
-        ensures empty { result.nodes.items ≡ [] }
+        ensures empty { slots_in result ≡ 0 }
     {
         Table {
-            nodes: Vec::new(alloc),
+            slots: Slots::new(alloc),
             tags: Vec::new(alloc),
             counts: Vec::new(alloc),
             len: 0,
@@ -85,24 +81,31 @@ impl<K, V> Table<K, V> {
     /// Where the slots are taken from.
     #[inline]
     pub fn allocator(&self) -> Global {
-        *self.nodes.allocator()
+        self.slots.allocator()
     }
 
-    /// Ends a table with no slots.
+    /// Ends a table with no pairs, and gives its memory back.
     #[inline]
     pub fn end_blank(self)
-        requires { length self.nodes.items ≡ 0 }
+        requires { IsBlank self.slots }
     {
-        let Table { nodes, .. } = self;
-        nodes.destroy_empty();
+        let Table {
+            slots,
+            tags,
+            counts,
+            len: _,
+        } = self;
+        drop(tags);
+        drop(counts);
+        slots.end();
     }
 
     /// How many pairs there may be before the table takes memory: seven of each eight slots.
     #[inline]
     pub fn capacity(&self) -> usize
-        ensures { result ≡ limit (length self.now.nodes.items) }
+        ensures { result ≡ limit (slots_in self.now) }
     {
-        self.nodes.len() / 8 * 7
+        self.slots.len() / 8 * 7
     }
 
     /// How many groups of slots there are.
@@ -119,8 +122,8 @@ impl<K, V> Table<K, V> {
     where
         K: Eq,
         requires { IsTable self.now }
-        ensures found { IfSome result.position (Holds K.eq self.now.nodes.items key.now) }
-        ensures absent { IfNone result.position (IsAbsent K.eq self.now.nodes.items hash key.now) }
+        ensures found { IfSome result.position (Holds K.eq (pairs_in self.now) key.now) }
+        ensures absent { IfNone result.position (IsAbsent K.eq self.now hash key.now) }
         ensures visits { (result.visits ≤ groups_in self.now) × (0 < groups_in self.now → 0 < result.visits) }
         ensures last { IfSome result.position (λ i. i / 16 ≡ group_at (groups_in self.now) hash (result.visits - 1)) }
     {
@@ -136,7 +139,7 @@ impl<K, V> Table<K, V> {
         for step in 0..count {
             let visits = step + 1;
             let seen = probe(group_of(&self.tags, group), tag);
-            if let Some(position) = find_in(&self.nodes, 16 * group, seen.matches, key) {
+            if let Some(position) = find_in(&self.slots, 16 * group, seen.matches, key) {
                 return Search {
                     position: Some(position),
                     visits,
@@ -162,8 +165,8 @@ impl<K, V> Table<K, V> {
     where
         K: Eq,
         requires { IsTable self.now }
-        ensures found { IfSome result (Holds K.eq self.now.nodes.items key.now) }
-        ensures absent { IfNone result (IsAbsent K.eq self.now.nodes.items hash key.now) }
+        ensures found { IfSome result (Holds K.eq (pairs_in self.now) key.now) }
+        ensures absent { IfNone result (IsAbsent K.eq self.now hash key.now) }
     {
         self.search(hash, key).position
     }
@@ -174,10 +177,8 @@ impl<K, V> Table<K, V> {
         requires { IsSome (slot (pairs_in self.now) position) }
         ensures { Some (deref_pair result) ≡ slot (pairs_in self.now) position }
     {
-        match &self.nodes[position].pair {
-            Some((key, value)) => (key, value),
-            None => unreachable!(),
-        }
+        let (key, value) = self.slots.get(position);
+        (key, value)
     }
 
     /// The hash of the key of a taken slot.
@@ -195,30 +196,28 @@ impl<K, V> Table<K, V> {
     /// Puts a value in the slot of the one at a taken slot.
     #[inline(always)]
     pub fn replace(&mut self, position: usize, value: V) -> V
-        requires within { position < length self.old.nodes.items }
         requires taken { IsSome (slot (pairs_in self.old) position) }
         requires table { IsTable self.old }
         ensures old { Some result ≡ option_map (λ p. p.1) (slot (pairs_in self.old) position) }
         ensures pairs { pairs_in self.new ≡ slice_set (pairs_in self.old) position (option_map (λ p. (p.0, value)) (slot (pairs_in self.old) position)) }
         ensures hashes { hashes_in self.new ≡ hashes_in self.old }
         ensures len { self.new.len ≡ self.old.len }
-        ensures slots { length self.new.nodes.items ≡ length self.old.nodes.items }
+        ensures slots { slots_in self.new ≡ slots_in self.old }
         ensures table { IsTable self.new }
     {
-        match &mut self.nodes[position].pair {
-            Some((_, stored)) => mem::replace(stored, value),
-            None => unreachable!(),
-        }
+        let pair = self.slots.get_mut(position);
+        mem::replace(&mut pair.1, value)
     }
 
     /// The lowest taken slot not below `position`.
     #[inline]
     pub fn next_taken(&self, position: usize) -> Option<usize>
+        requires { IsTable self.now }
         ensures next { IsNextTaken (pairs_in self.now) position result }
         ensures below { IfSome result (λ i. i < 2 ^ 64 - 1) }
     {
-        for slot in position..self.nodes.len() {
-            if self.nodes[slot].pair.is_some() {
+        for slot in position..self.tags.len() {
+            if self.tags[slot] < EMPTY {
                 return Some(slot);
             }
         }

@@ -2,28 +2,16 @@
 ghost use Rattle.std.specs.Prelude.{ℕ, ◌≡◌, ◌+◌, ◌*◌, ◌<◌, ◌≤◌, [], None, IsOk, IfOk, OnOk, OnErr, length, replicate};
 ghost use Rattle.std.specs.Int.{IsPowerOfTwo};
 ghost use Rattle.dash_shard.specs.Hashing.{hash_of};
-ghost use Rattle.dash_shard.specs.inner.Table.{IsTable, IsHashed, CarriesOnce, IsCarried, IsMoved, limit, groups_in, pairs_of, pairs_in, hashes_of, hashes_in};
+ghost use Rattle.dash_shard.specs.inner.Table.{IsTable, IsHashed, CarriesOnce, IsCarried, IsMoved, TellsTaken, limit, slots_in, groups_in, pairs_in, hashes_in};
 ghost use Rattle.dash_shard.specs.Shard.{taken};
+ghost use Rattle.dash_slots.specs.Slots.{IsBlank};
 
 use super::marks::EMPTY;
-use super::{Node, Table};
+use super::Table;
+use dash_slots::Slots;
 use std::alloc::{AllocError, Global};
 use std::hash::{BuildHasher, Hash};
 use std::mem;
-
-// Slots with no pair.
-fn blanks<K, V>(alloc: Global, count: usize) -> Result<Vec<Node<K, V>>, AllocError>
-    ensures { IfOk result (λ nodes. pairs_of nodes.items ≡ replicate count None) }
-{
-    let mut nodes = Vec::with_capacity(alloc, count)?;
-    for _ in 0..count {
-        nodes.push_reserved(Node {
-            hash: 0,
-            pair: None,
-        });
-    }
-    Ok(nodes)
-}
 
 // The least power of two of groups that have room for so many pairs.
 fn groups_for(pairs: usize) -> Result<usize, AllocError>
@@ -39,24 +27,28 @@ fn groups_for(pairs: usize) -> Result<usize, AllocError>
 
 // Moves the pairs to a table that has room for them.
 fn move_pairs<K: Eq + Hash, V, S: BuildHasher>(
-    nodes: &mut Vec<Node<K, V>>,
+    slots: &mut Slots<(K, V)>,
+    tags: &[u8],
     table: &mut Table<K, V>,
     hasher: &S,
 )
+    requires tells { TellsTaken 0 tags.now slots.old.values }
     requires table { IsTable table.old }
     requires empty { taken (pairs_in table.old) ≡ [] }
-    requires room { length (taken (pairs_of nodes.old.items)) ≤ limit (length table.old.nodes.items) }
-    requires hashed { IsHashed (λ k. hash_of S.BuildHasher S.Hasher.Hasher hasher.now (K.hash_input k)) (pairs_of nodes.old.items) (hashes_of nodes.old.items) }
-    ensures once { CarriesOnce nodes.old.items table.new.nodes.items }
-    ensures carried { IsCarried nodes.old.items table.new.nodes.items }
-    ensures len { table.new.len ≡ length (taken (pairs_of nodes.old.items)) }
-    ensures slots { length table.new.nodes.items ≡ length table.old.nodes.items }
+    requires room { length (taken slots.old.values) ≤ limit (slots_in table.old) }
+    requires hashed { IsHashed (λ k. hash_of S.BuildHasher S.Hasher.Hasher hasher.now (K.hash_input k)) slots.old.values slots.old.labels }
+    ensures once { CarriesOnce slots.old table.new.slots }
+    ensures carried { IsCarried slots.old table.new.slots }
+    ensures len { table.new.len ≡ length (taken slots.old.values) }
+    ensures slots { slots_in table.new ≡ slots_in table.old }
     ensures table { IsTable table.new }
-    ensures none { nodes.new.items ≡ [] }
+    ensures none { IsBlank slots.new }
 {
-    while let Some(node) = nodes.pop() {
-        let Node { hash: _, pair } = node;
-        if let Some((key, value)) = pair {
+    let mut slot = tags.len();
+    while slot > 0 {
+        slot -= 1;
+        if tags[slot] < EMPTY {
+            let (key, value) = slots.take(slot);
             let hash = hasher.hash_one(&key);
             table.push(hash, key, value);
         }
@@ -69,16 +61,16 @@ impl<K, V> Table<K, V> {
         requires { IsPowerOfTwo count }
         ensures table { IfOk result IsTable }
         ensures empty { IfOk result (λ t. taken (pairs_in t) ≡ []) }
-        ensures slots { IfOk result (λ t. length t.nodes.items ≡ 16 * count) }
+        ensures slots { IfOk result (λ t. slots_in t ≡ 16 * count) }
     {
         let Some(slots) = count.checked_mul(16) else {
             return Err(AllocError);
         };
         let tags = vec![in alloc; EMPTY; slots]?;
         let counts = vec![in alloc; 0; count]?;
-        let nodes = blanks(alloc, slots)?;
+        let slots = Slots::with_len(alloc, slots)?;
         Ok(Table {
-            nodes,
+            slots,
             tags,
             counts,
             len: 0,
@@ -89,7 +81,7 @@ impl<K, V> Table<K, V> {
     pub fn with_capacity(alloc: Global, capacity: usize) -> Result<Self, AllocError>
         ensures table { IfOk result IsTable }
         ensures empty { IfOk result (λ t. taken (pairs_in t) ≡ []) }
-        ensures room { IfOk result (λ t. capacity ≤ limit (length t.nodes.items)) }
+        ensures room { IfOk result (λ t. capacity ≤ limit (slots_in t)) }
         ensures free { capacity ≡ 0 → IsOk result }
     {
         if capacity == 0 {
@@ -107,11 +99,11 @@ impl<K, V> Table<K, V> {
         requires power { IsPowerOfTwo count }
         requires room { self.old.len ≤ limit (16 * count) }
         ensures moved { OnOk result (IsMoved self.old self.new) }
-        ensures slots { OnOk result (length self.new.nodes.items ≡ 16 * count) }
+        ensures slots { OnOk result (slots_in self.new ≡ 16 * count) }
         ensures err { OnErr result (self.new ≡ self.old) }
     {
         let mut table = Table::with_groups(self.allocator(), count)?;
-        move_pairs(&mut self.nodes, &mut table, hasher);
+        move_pairs(&mut self.slots, &self.tags, &mut table, hasher);
         mem::replace(self, table).end_blank();
         Ok(())
     }
@@ -127,10 +119,10 @@ impl<K, V> Table<K, V> {
         requires table { IsTable self.old }
         requires hashed { IsHashed (λ k. hash_of S.BuildHasher S.Hasher.Hasher hasher.now (K.hash_input k)) (pairs_in self.old) (hashes_in self.old) }
         ensures moved { IsMoved self.old self.new }
-        ensures ok { OnOk result (self.new.len + additional ≤ limit (length self.new.nodes.items)) }
-        ensures kept { self.old.len + additional ≤ limit (length self.old.nodes.items) → self.new ≡ self.old }
+        ensures ok { OnOk result (self.new.len + additional ≤ limit (slots_in self.new)) }
+        ensures kept { self.old.len + additional ≤ limit (slots_in self.old) → self.new ≡ self.old }
         ensures err { OnErr result (self.new ≡ self.old) }
-        ensures full { OnErr result (limit (length self.old.nodes.items) < self.old.len + additional) }
+        ensures full { OnErr result (limit (slots_in self.old) < self.old.len + additional) }
     {
         let Some(wanted) = self.len.checked_add(additional) else {
             return Err(AllocError);
@@ -150,7 +142,7 @@ impl<K, V> Table<K, V> {
         requires table { IsTable self.old }
         requires hashed { IsHashed (λ k. hash_of S.BuildHasher S.Hasher.Hasher hasher.now (K.hash_input k)) (pairs_in self.old) (hashes_in self.old) }
         ensures moved { OnOk result (IsMoved self.old self.new) }
-        ensures ok { OnOk result (self.new.len < limit (length self.new.nodes.items)) }
+        ensures ok { OnOk result (self.new.len < limit (slots_in self.new)) }
         ensures err { OnErr result (self.new ≡ self.old) }
     {
         let Some(wanted) = self.len.checked_add(1) else {
@@ -162,16 +154,16 @@ impl<K, V> Table<K, V> {
     /// Moves the pairs to as few groups of slots as hold them, a power of two and none for no pairs, where there is memory for these.
     pub fn shrink<S: BuildHasher>(&mut self, hasher: &S)
     where
-        K: Eq + Hash + Drop,
-        V: Drop,
+        K: Eq + Hash,
         requires table { IsTable self.old }
         requires hashed { IsHashed (λ k. hash_of S.BuildHasher S.Hasher.Hasher hasher.now (K.hash_input k)) (pairs_in self.old) (hashes_in self.old) }
         ensures moved { IsMoved self.old self.new }
-        ensures slots { length self.new.nodes.items ≤ length self.old.nodes.items }
-        ensures none { self.old.len ≡ 0 → length self.new.nodes.items ≡ 0 }
+        ensures slots { slots_in self.new ≤ slots_in self.old }
+        ensures none { self.old.len ≡ 0 → slots_in self.new ≡ 0 }
     {
         if self.len == 0 {
-            *self = Table::new(self.allocator());
+            let blank = Table::new(self.allocator());
+            mem::replace(self, blank).end_blank();
             return;
         }
         let Ok(count) = groups_for(self.len) else {

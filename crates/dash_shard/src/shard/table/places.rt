@@ -1,12 +1,12 @@
 //! The places of a table: which one a pair is put on, and what is left where one goes.
 ghost use Rattle.std.specs.Prelude.{ℕ, ◌≡◌, ◌+◌, ◌*◌, ◌/◌, ◌^◌, ◌<◌, ◌≤◌, Some, None, IfSome, IfNone, IsSome, length, slice_set, slice_index};
-ghost use Rattle.dash_shard.specs.inner.Table.{IsTable, IsSpot, Holds, IsAbsent, limit, pairs_of, hashes_of, pairs_in, hashes_in};
+ghost use Rattle.dash_shard.specs.inner.Table.{IsTable, IsSpot, Holds, IsAbsent, limit, slots_in, pairs_in, hashes_in};
 ghost use Rattle.dash_shard.specs.Shard.{slot};
 
 use super::marks::{
     EMPTY, REMOVED, count_past, group_of, home, lowest, next_group, steps_to, uncount_past,
 };
-use super::{Node, Table, find_in};
+use super::{Table, find_in};
 use crate::shard::group::probe;
 use crate::shard::lanes::free_lanes;
 
@@ -45,36 +45,6 @@ fn left_mark(counts: &[usize], group: usize) -> u8
     if counts[group] == 0 { EMPTY } else { REMOVED }
 }
 
-// Puts a pair on a free slot.
-#[inline(always)]
-fn put<K, V>(nodes: &mut [Node<K, V>], position: usize, hash: u64, key: K, value: V)
-    requires within { position < length nodes.old }
-    requires free { slot (pairs_of nodes.old) position ≡ None }
-    ensures pairs { pairs_of nodes.new ≡ slice_set (pairs_of nodes.old) position (Some (key, value)) }
-    ensures hashes { hashes_of nodes.new ≡ slice_set (hashes_of nodes.old) position hash }
-{
-    let node = &mut nodes[position];
-    node.hash = hash;
-    match node.pair.replace((key, value)) {
-        None => {}
-        Some(_) => unreachable!(),
-    }
-}
-
-// Takes the pair off a slot.
-#[inline(always)]
-fn vacate<K, V>(nodes: &mut [Node<K, V>], position: usize) -> (K, V)
-    requires { IsSome (slot (pairs_of nodes.old) position) }
-    ensures old { slot (pairs_of nodes.old) position ≡ Some result }
-    ensures pairs { pairs_of nodes.new ≡ slice_set (pairs_of nodes.old) position None }
-    ensures hashes { hashes_of nodes.new ≡ hashes_of nodes.old }
-{
-    match nodes[position].pair.take() {
-        Some(pair) => pair,
-        None => unreachable!(),
-    }
-}
-
 impl<K, V> Table<K, V> {
     /// Looks for the pair of this hash whose key is equal, and for the first place on its way where it may be put, in one pass.
     #[inline(always)]
@@ -82,9 +52,9 @@ impl<K, V> Table<K, V> {
     where
         K: Eq,
         requires { IsTable self.now }
-        ensures found { IfSome result.position (Holds K.eq self.now.nodes.items key.now) }
-        ensures absent { IfNone result.position (IsAbsent K.eq self.now.nodes.items hash key.now) }
-        ensures free { IfNone result.position (self.now.len < limit (length self.now.nodes.items) → IsSpot self.now hash result.free) }
+        ensures found { IfSome result.position (Holds K.eq (pairs_in self.now) key.now) }
+        ensures absent { IfNone result.position (IsAbsent K.eq self.now hash key.now) }
+        ensures free { IfNone result.position (self.now.len < limit (slots_in self.now) → IsSpot self.now hash result.free) }
     {
         let count = self.counts.len();
         if count == 0 {
@@ -99,7 +69,7 @@ impl<K, V> Table<K, V> {
         for _step in 0..count {
             let row = group_of(&self.tags, group);
             let seen = probe(row, tag);
-            if let Some(position) = find_in(&self.nodes, 16 * group, seen.matches, key) {
+            if let Some(position) = find_in(&self.slots, 16 * group, seen.matches, key) {
                 return Place {
                     position: Some(position),
                     free: 0,
@@ -121,7 +91,7 @@ impl<K, V> Table<K, V> {
     #[inline]
     fn place_for(&self, hash: u64) -> usize
         requires table { IsTable self.now }
-        requires room { self.now.len < limit (length self.now.nodes.items) }
+        requires room { self.now.len < limit (slots_in self.now) }
         ensures { IsSpot self.now hash result }
     {
         let count = self.counts.len();
@@ -140,12 +110,12 @@ impl<K, V> Table<K, V> {
     #[inline(always)]
     pub fn fill(&mut self, position: usize, hash: u64, key: K, value: V)
         requires table { IsTable self.old }
-        requires room { self.old.len < limit (length self.old.nodes.items) }
+        requires room { self.old.len < limit (slots_in self.old) }
         requires spot { IsSpot self.old hash position }
         ensures pairs { pairs_in self.new ≡ slice_set (pairs_in self.old) position (Some (key, value)) }
         ensures hashes { hashes_in self.new ≡ slice_set (hashes_in self.old) position hash }
         ensures len { self.new.len ≡ self.old.len + 1 }
-        ensures slots { length self.new.nodes.items ≡ length self.old.nodes.items }
+        ensures slots { slots_in self.new ≡ slots_in self.old }
         ensures table { IsTable self.new }
     {
         let count = self.counts.len();
@@ -153,7 +123,7 @@ impl<K, V> Table<K, V> {
         let steps = steps_to(home, position / 16, count);
         count_past(&mut self.counts, home, steps);
         self.tags[position] = (hash >> 57) as u8;
-        put(&mut self.nodes, position, hash, key, value);
+        self.slots.put(position, hash, (key, value));
         self.len += 1;
     }
 
@@ -161,13 +131,13 @@ impl<K, V> Table<K, V> {
     #[inline]
     pub fn push(&mut self, hash: u64, key: K, value: V) -> usize
         requires table { IsTable self.old }
-        requires room { self.old.len < limit (length self.old.nodes.items) }
-        ensures within { result < length self.old.nodes.items }
+        requires room { self.old.len < limit (slots_in self.old) }
+        ensures within { result < slots_in self.old }
         ensures free { slot (pairs_in self.old) result ≡ None }
         ensures pairs { pairs_in self.new ≡ slice_set (pairs_in self.old) result (Some (key, value)) }
         ensures hashes { hashes_in self.new ≡ slice_set (hashes_in self.old) result hash }
         ensures len { self.new.len ≡ self.old.len + 1 }
-        ensures slots { length self.new.nodes.items ≡ length self.old.nodes.items }
+        ensures slots { slots_in self.new ≡ slots_in self.old }
         ensures table { IsTable self.new }
     {
         let position = self.place_for(hash);
@@ -186,7 +156,7 @@ impl<K, V> Table<K, V> {
         ensures pairs { pairs_in self.new ≡ slice_set (pairs_in self.old) position None }
         ensures hashes { hashes_in self.new ≡ hashes_in self.old }
         ensures len { self.new.len + 1 ≡ self.old.len }
-        ensures slots { length self.new.nodes.items ≡ length self.old.nodes.items }
+        ensures slots { slots_in self.new ≡ slots_in self.old }
         ensures table { IsTable self.new }
     {
         let count = self.counts.len();
@@ -196,6 +166,6 @@ impl<K, V> Table<K, V> {
         uncount_past(&mut self.counts, &mut self.tags, home, steps);
         self.tags[position] = left_mark(&self.counts, group);
         self.len -= 1;
-        vacate(&mut self.nodes, position)
+        self.slots.take(position)
     }
 }

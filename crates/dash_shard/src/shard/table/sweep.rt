@@ -1,43 +1,48 @@
 //! What goes over all pairs of a table, in rising order of slots.
 ghost use Rattle.std.specs.Prelude.{ℕ, ◌≡◌, ◌<◌, Option, Some, None, IfSome, true, length, map, slice_set};
 ghost use Rattle.std.specs.Map.Calls.{CalledAtPair, TakesPair, CallableOnEachPair};
-ghost use Rattle.dash_shard.specs.inner.Table.{IsTable, IsHashed, pairs_of, pairs_in, hashes_of, hashes_in};
+ghost use Rattle.dash_shard.specs.inner.Table.{IsTable, IsHashed, TellsTaken, slots_in, pairs_in, hashes_in};
 ghost use Rattle.dash_shard.specs.Hashing.{hash_of};
 ghost use Rattle.dash_shard.specs.Shard.{slot, taken};
 ghost use Rattle.dash_shard.specs.Each.{CalledOnPair, TakesOnPair};
 ghost use Rattle.dash_shard.specs.inner.Walks.{Asks, Visits, Sweeps, if_kept, altered};
 
 use super::marks::EMPTY;
-use super::{Node, Table};
+use super::Table;
+use dash_slots::Slots;
 use std::hash::{BuildHasher, Hash};
 
-// Lets the pair of each slot go.
-fn let_go<K: Drop, V: Drop>(nodes: &mut [Node<K, V>])
-    ensures pairs { pairs_of nodes.new ≡ map (λ _. None) (pairs_of nodes.old) }
-    ensures hashes { hashes_of nodes.new ≡ hashes_of nodes.old }
+// Lets the pair of each taken slot from `from` on go.
+pub(super) fn let_go<K: Drop, V: Drop>(slots: &mut Slots<(K, V)>, tags: &[u8], from: usize)
+    requires { TellsTaken from tags.now slots.old.values }
+    ensures pairs { slots.new.values ≡ map (λ _. None) slots.old.values }
+    ensures hashes { slots.new.labels ≡ slots.old.labels }
 {
-    for slot in 0..nodes.len() {
-        nodes[slot].pair = None;
+    for slot in from..tags.len() {
+        if tags[slot] < EMPTY {
+            drop(slots.take(slot));
+        }
     }
 }
 
 impl<K, V> Table<K, V> {
     // Asks `f` at the pair of a slot, if there is one. An empty slot answers yes.
     fn ask_at<F: FnMut(&K, &mut V) -> bool>(&mut self, position: usize, f: &mut F) -> bool
-        requires within { position < length self.old.nodes.items }
+        requires within { position < slots_in self.old }
         requires table { IsTable self.old }
         requires callable { IfSome (slot (pairs_in self.old) position) (λ p. TakesPair F.FnMut f.old p.0 p.1) }
         ensures asks { Asks (CalledAtPair F.FnMut) f.old (slot (pairs_in self.old) position) result (slot (pairs_in self.new) position) f.new }
         ensures pairs { pairs_in self.new ≡ slice_set (pairs_in self.old) position (slot (pairs_in self.new) position) }
         ensures hashes { hashes_in self.new ≡ hashes_in self.old }
         ensures len { self.new.len ≡ self.old.len }
-        ensures slots { length self.new.nodes.items ≡ length self.old.nodes.items }
+        ensures slots { slots_in self.new ≡ slots_in self.old }
         ensures table { IsTable self.new }
     {
-        match &mut self.nodes[position].pair {
-            Some((key, value)) => f(key, value),
-            None => true,
+        if self.tags[position] >= EMPTY {
+            return true;
         }
+        let pair = self.slots.get_mut(position);
+        f(&pair.0, &mut pair.1)
     }
 
     /// Keeps the pairs on which `f` answers yes, with the values that it leaves.
@@ -50,10 +55,10 @@ impl<K, V> Table<K, V> {
         requires callable { CallableOnEachPair (CalledAtPair F.FnMut) (TakesPair F.FnMut) f.old (taken (pairs_in self.old)) }
         ensures swept { Sweeps (CalledAtPair F.FnMut) if_kept f.old (pairs_in self.old) (pairs_in self.new) f.new }
         ensures hashes { hashes_in self.new ≡ hashes_in self.old }
-        ensures slots { length self.new.nodes.items ≡ length self.old.nodes.items }
+        ensures slots { slots_in self.new ≡ slots_in self.old }
         ensures table { IsTable self.new }
     {
-        for slot in 0..self.nodes.len() {
+        for slot in 0..self.slots.len() {
             if !self.ask_at(slot, f) {
                 let hash = self.hash_at(slot, hasher);
                 drop(self.take(slot, hash));
@@ -63,29 +68,20 @@ impl<K, V> Table<K, V> {
 
     // Puts what `f` makes of the value at a slot there, if there is a pair.
     fn alter_at<F: FnMut(&K, V) -> V>(&mut self, position: usize, f: &mut F)
-        requires within { position < length self.old.nodes.items }
+        requires within { position < slots_in self.old }
         requires table { IsTable self.old }
         requires callable { IfSome (slot (pairs_in self.old) position) (λ p. TakesOnPair F.FnMut f.old p.0 p.1) }
         ensures visits { Visits (CalledOnPair F.FnMut) altered f.old (slot (pairs_in self.old) position) (slot (pairs_in self.new) position) f.new }
         ensures pairs { pairs_in self.new ≡ slice_set (pairs_in self.old) position (slot (pairs_in self.new) position) }
         ensures hashes { hashes_in self.new ≡ hashes_in self.old }
         ensures len { self.new.len ≡ self.old.len }
-        ensures slots { length self.new.nodes.items ≡ length self.old.nodes.items }
+        ensures slots { slots_in self.new ≡ slots_in self.old }
         ensures table { IsTable self.new }
     {
-        if self.nodes[position].pair.is_none() {
-            return;
-        }
-        let pair = &mut self.nodes[position].pair;
-        match pair.take() {
-            Some((key, value)) => {
-                let value = f(&key, value);
-                match pair.replace((key, value)) {
-                    None => {}
-                    Some((_key, _value)) => unreachable!(),
-                }
-            }
-            None => unreachable!(),
+        if self.tags[position] < EMPTY {
+            let (key, value) = self.slots.take(position);
+            let value = f(&key, value);
+            self.slots.put_back(position, (key, value));
         }
     }
 
@@ -96,10 +92,10 @@ impl<K, V> Table<K, V> {
         ensures swept { Sweeps (CalledOnPair F.FnMut) altered f.old (pairs_in self.old) (pairs_in self.new) f.new }
         ensures hashes { hashes_in self.new ≡ hashes_in self.old }
         ensures len { self.new.len ≡ self.old.len }
-        ensures slots { length self.new.nodes.items ≡ length self.old.nodes.items }
+        ensures slots { slots_in self.new ≡ slots_in self.old }
         ensures table { IsTable self.new }
     {
-        for slot in 0..self.nodes.len() {
+        for slot in 0..self.slots.len() {
             self.alter_at(slot, f);
         }
     }
@@ -113,12 +109,23 @@ impl<K, V> Table<K, V> {
         ensures pairs { pairs_in self.new ≡ map (λ _. None) (pairs_in self.old) }
         ensures hashes { hashes_in self.new ≡ hashes_in self.old }
         ensures len { self.new.len ≡ 0 }
-        ensures slots { length self.new.nodes.items ≡ length self.old.nodes.items }
+        ensures slots { slots_in self.new ≡ slots_in self.old }
         ensures table { IsTable self.new }
     {
-        let_go(&mut self.nodes);
+        let_go(&mut self.slots, &self.tags, 0);
         self.tags.fill(EMPTY);
         self.counts.fill(0);
         self.len = 0;
+    }
+
+    /// Lets all pairs go, and the slots.
+    pub fn end(mut self)
+    where
+        K: Drop,
+        V: Drop,
+        requires { IsTable self }
+    {
+        let_go(&mut self.slots, &self.tags, 0);
+        self.end_blank();
     }
 }

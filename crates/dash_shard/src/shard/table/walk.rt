@@ -2,43 +2,51 @@
 ghost use Rattle.std.specs.Prelude.{◌≡◌, [], length, ⊤};
 ghost use Rattle.std.specs.Iterator.{at_most};
 ghost use Rattle.std.specs.Map.Iter.{TakesFirst, deref_pair};
-ghost use Rattle.dash_shard.specs.inner.Table.{pairs_of, pairs_in};
+ghost use Rattle.dash_shard.specs.inner.Table.{IsTable, pairs_in};
 ghost use Rattle.dash_shard.specs.Shard.{taken};
 
-use super::{Node, Table};
+use super::Table;
+use super::marks::EMPTY;
+use super::sweep::let_go;
+use dash_slots::Slots;
 use std::alloc::AllocError;
 use std::iter::FusedIterator;
 use std::marker::Model;
-use std::vec;
 
 /// The pairs of a shard, in rising order of slots. A contract sees it as the list of those that are left.
 #[derive(Drop)]
 pub struct Iter<'a, K, V> {
-    nodes: &'a [Node<K, V>],
+    // None where there are no slots.
+    slots: Option<&'a Slots<(K, V)>>,
+    tags: &'a [u8],
+    position: usize,
     len: usize,
 }
 
 impl<'a, K, V> Model for Iter<'a, K, V> {
     ghost use Rattle.std.specs.Prelude.{List, length, ◌≡◌};
-    ghost use Rattle.dash_shard.specs.inner.Table.{pairs_of};
+    ghost use Rattle.std.specs.Prelude.{drop};
+    ghost use Rattle.dash_shard.specs.inner.Table.{TellsTaken, values_of};
     ghost use Rattle.dash_shard.specs.Shard.{taken};
 
     ghost Value = { List (K × V) };
 
-    ghost view = { λ it. taken (pairs_of it.nodes.now) };
+    ghost view = { λ it. taken (drop it.position (values_of it.slots)) };
 
-    ghost invariant = { λ it. it.len ≡ length (taken (pairs_of it.nodes.now)) };
+    ghost invariant = { λ it. TellsTaken 0 it.tags.now (values_of it.slots) × (it.len ≡ length (taken (drop it.position (values_of it.slots)))) };
 }
 
 impl<K, V> Table<K, V> {
     /// The pairs, in rising order of slots.
     #[inline]
     pub fn iter(&self) -> Iter<'_, K, V>
-        requires { self.now.len ≡ length (taken (pairs_in self.now)) }
+        requires { IsTable self.now }
         ensures { result ≡ taken (pairs_in self.now) }
     {
         Iter {
-            nodes: &self.nodes,
+            slots: Some(&self.slots),
+            tags: &self.tags,
+            position: 0,
             len: self.len,
         }
     }
@@ -53,13 +61,16 @@ impl<'a, K, V> Iterator for Iter<'a, K, V> {
 
     #[inline]
     fn next(&mut self) -> Option<(&'a K, &'a V)> {
-        while let Some((node, rest)) = self.nodes.split_first() {
-            self.nodes = rest;
-            if let Some((key, value)) = &node.pair {
+        let slots = self.slots?;
+        for slot in self.position..self.tags.len() {
+            if self.tags[slot] < EMPTY {
+                self.position = slot + 1;
                 self.len -= 1;
+                let (key, value) = slots.get(slot);
                 return Some((key, value));
             }
         }
+        self.position = self.tags.len();
         None
     }
 
@@ -85,7 +96,9 @@ impl<'a, K, V> Clone for Iter<'a, K, V> {
 
     fn clone(&self) -> Result<Self, AllocError> {
         Ok(Iter {
-            nodes: self.nodes,
+            slots: self.slots,
+            tags: self.tags,
+            position: self.position,
             len: self.len,
         })
     }
@@ -98,37 +111,63 @@ impl<'a, K, V> Default for Iter<'a, K, V> {
     #[inline]
     fn default() -> Self {
         Iter {
-            nodes: Default::default(),
+            slots: None,
+            tags: Default::default(),
+            position: 0,
             len: 0,
         }
     }
 }
 
 /// The pairs of a shard that ended, in rising order of slots. A contract sees it as the list of those that are left.
-#[derive(Drop)]
 pub struct IntoIter<K, V> {
-    nodes: vec::IntoIter<Node<K, V>>,
+    slots: Slots<(K, V)>,
+    tags: Vec<u8>,
+    position: usize,
 }
 
 impl<K, V> Model for IntoIter<K, V> {
     ghost use Rattle.std.specs.Prelude.{List};
-    ghost use Rattle.std.specs.Vec.Iter.{into_iter_items};
-    ghost use Rattle.dash_shard.specs.inner.Table.{pairs_of};
+    ghost use Rattle.dash_shard.specs.inner.Table.{TellsTaken};
     ghost use Rattle.dash_shard.specs.Shard.{taken};
 
     ghost Value = { List (K × V) };
 
-    ghost view = { λ it. taken (pairs_of (into_iter_items it.nodes)) };
+    ghost view = { λ it. taken it.slots.values };
+
+    ghost invariant = { λ it. TellsTaken it.position it.tags.items it.slots.values };
+}
+
+impl<K: Drop, V: Drop> Drop for IntoIter<K, V> {
+    fn drop(self) {
+        let IntoIter {
+            mut slots,
+            tags,
+            position,
+        } = self;
+        let_go(&mut slots, &tags, position);
+        slots.end();
+    }
 }
 
 impl<K, V> Table<K, V> {
     /// The pairs, moved out in rising order of slots.
     #[inline]
     pub fn into_iter(self) -> IntoIter<K, V>
+        requires { IsTable self }
         ensures { result ≡ taken (pairs_in self) }
     {
+        let Table {
+            slots,
+            tags,
+            counts,
+            len: _,
+        } = self;
+        drop(counts);
         IntoIter {
-            nodes: self.nodes.into_iter(),
+            slots,
+            tags,
+            position: 0,
         }
     }
 }
@@ -142,12 +181,13 @@ impl<K: Drop, V: Drop> Iterator for IntoIter<K, V> {
 
     #[inline]
     fn next(&mut self) -> Option<(K, V)> {
-        while let Some(node) = self.nodes.next() {
-            let Node { hash: _, pair } = node;
-            if let Some(pair) = pair {
-                return Some(pair);
+        for slot in self.position..self.tags.len() {
+            if self.tags[slot] < EMPTY {
+                self.position = slot + 1;
+                return Some(self.slots.take(slot));
             }
         }
+        self.position = self.tags.len();
         None
     }
 }

@@ -2,6 +2,7 @@ use Rattle.std.proofs.Common.{true, false, is_some, refl, sym, subst, ap, ◌∙
 use Rattle.std.specs.Prelude.{IfSome}
 use Rattle.dash_shard.specs.Shard.{HasKey}
 use Rattle.dash_shard.specs.Closures.{ChangesOn}
+use Rattle.dash_shard.specs.inner.Table.{pairs_in}
 use Rattle.dash_shard.proofs.Altering.{idle, to, unremoved, altered-inside, gone-inside, gone-changed, stays-changed, stood, gone-len, as-many}
 use Rattle.dash_shard.proofs.Shards.{hash-same, hash-found}
 use Rattle.dash_shard.proofs.Rewriting.{holds-pair, valued-rewritten, valued-slot}
@@ -31,7 +32,7 @@ pub take-requires-clause-hash : goal.take-requires-clause-hash
 take-requires-clause-hash g c =
     let t = c.self.inside.table in
     let there = c.pair_mut-value.ensures.pair in
-    let found = holds-pair g.K.PartialEq.eq t.nodes.items c.args.key.now c.in_ok-slot.slot _ there (subst (λ s. HasKey g.K.PartialEq.eq s c.args.key.now c.in_ok-slot.slot) (sym c.self.view_is) ((c.in_ok-slot.ensures.finds.position c.in_ok-slot.slot).0 refl)) in
+    let found = holds-pair g.K.PartialEq.eq (pairs_in t) c.args.key.now c.in_ok-slot.slot _ there (subst (λ s. HasKey g.K.PartialEq.eq s c.args.key.now c.in_ok-slot.slot) (sym c.self.view_is) ((c.in_ok-slot.ensures.finds.position c.in_ok-slot.slot).0 refl)) in
     let hash = hash-same (lawful-of g.S.BuildHasher g.S.Hasher.Hasher g.met.K.Eq.laws g.met.K.Hash.respects_eq) c.args.key.now _ _ c.self.view_is c.args.hash c.requires.hash in
     hash-found _ (lawful-of g.S.BuildHasher g.S.Hasher.Hasher g.met.K.Eq.laws g.met.K.Hash.respects_eq) _ _ _ t c.self.invariant c.args.key.now c.args.hash hash c.in_ok-slot.slot found
     ∙ ap (λ hs. slice_index hs c.in_ok-slot.slot) (sym (valued-rewritten t c.in_ok-slot.slot _ c.f.new.arg3 c.self.invariant.table there).hashes)
@@ -40,7 +41,7 @@ pub invariant_of-self : goal.invariant_of-self
 invariant_of-self g c =
     let t = c.self.inside.table in
     let there = c.pair_mut-value.ensures.pair in
-    let found = holds-pair g.K.PartialEq.eq t.nodes.items c.args.key.now c.in_ok-slot.slot _ there (subst (λ s. HasKey g.K.PartialEq.eq s c.args.key.now c.in_ok-slot.slot) (sym c.self.view_is) ((c.in_ok-slot.ensures.finds.position c.in_ok-slot.slot).0 refl)) in
+    let found = holds-pair g.K.PartialEq.eq (pairs_in t) c.args.key.now c.in_ok-slot.slot _ there (subst (λ s. HasKey g.K.PartialEq.eq s c.args.key.now c.in_ok-slot.slot) (sym c.self.view_is) ((c.in_ok-slot.ensures.finds.position c.in_ok-slot.slot).0 refl)) in
     let r = c.take.ensures in
     gone-inside _ (lawful-of g.S.BuildHasher g.S.Hasher.Hasher g.met.K.Eq.laws g.met.K.Hash.respects_eq) _ _ _ _ _ c.self.invariant _ c.in_ok-slot.slot found _ c.self.view_is c.requires.route c.f.new.arg3 _ (valued-rewritten t c.in_ok-slot.slot _ c.f.new.arg3 c.self.invariant.table there) r.pairs r.hashes r.len r.table
 
@@ -48,7 +49,7 @@ pub returns-then-f : goal.returns-then-f
 returns-then-f g c =
     let t = c.self.inside.table in
     let there = c.pair_mut-value.ensures.pair in
-    let found = holds-pair g.K.PartialEq.eq t.nodes.items c.args.key.now c.in_ok-slot.slot _ there (subst (λ s. HasKey g.K.PartialEq.eq s c.args.key.now c.in_ok-slot.slot) (sym c.self.view_is) ((c.in_ok-slot.ensures.finds.position c.in_ok-slot.slot).0 refl)) in
+    let found = holds-pair g.K.PartialEq.eq (pairs_in t) c.args.key.now c.in_ok-slot.slot _ there (subst (λ s. HasKey g.K.PartialEq.eq s c.args.key.now c.in_ok-slot.slot) (sym c.self.view_is) ((c.in_ok-slot.ensures.finds.position c.in_ok-slot.slot).0 refl)) in
     let r = c.take.ensures in
     let gone = gone-changed _ (lawful-of g.S.BuildHasher g.S.Hasher.Hasher g.met.K.Eq.laws g.met.K.Hash.respects_eq) _ _ _ _ _ c.self.invariant _ c.in_ok-slot.slot found _ c.self.view_is c.requires.route c.f.new.arg3 _ (valued-rewritten t c.in_ok-slot.slot _ c.f.new.arg3 c.self.invariant.table there) r.pairs r.hashes r.len r.table in
     record {
@@ -66,14 +67,14 @@ pub invariant_of-self-else-f : goal.invariant_of-self-else-f
 invariant_of-self-else-f g c =
     let t = c.self.inside.table in
     let there = c.pair_mut-value.ensures.pair in
-    let found = holds-pair g.K.PartialEq.eq t.nodes.items c.args.key.now c.in_ok-slot.slot _ there (subst (λ s. HasKey g.K.PartialEq.eq s c.args.key.now c.in_ok-slot.slot) (sym c.self.view_is) ((c.in_ok-slot.ensures.finds.position c.in_ok-slot.slot).0 refl)) in
+    let found = holds-pair g.K.PartialEq.eq (pairs_in t) c.args.key.now c.in_ok-slot.slot _ there (subst (λ s. HasKey g.K.PartialEq.eq s c.args.key.now c.in_ok-slot.slot) (sym c.self.view_is) ((c.in_ok-slot.ensures.finds.position c.in_ok-slot.slot).0 refl)) in
     altered-inside _ (lawful-of g.S.BuildHasher g.S.Hasher.Hasher g.met.K.Eq.laws g.met.K.Hash.respects_eq) _ _ _ _ _ c.self.invariant _ c.in_ok-slot.slot found _ c.self.view_is c.f.new.arg3 (valued-rewritten t c.in_ok-slot.slot _ c.f.new.arg3 c.self.invariant.table there)
 
 pub returns : goal.returns
 returns g c =
     let t = c.self.inside.table in
     let there = c.pair_mut-value.ensures.pair in
-    let found = holds-pair g.K.PartialEq.eq t.nodes.items c.args.key.now c.in_ok-slot.slot _ there (subst (λ s. HasKey g.K.PartialEq.eq s c.args.key.now c.in_ok-slot.slot) (sym c.self.view_is) ((c.in_ok-slot.ensures.finds.position c.in_ok-slot.slot).0 refl)) in
+    let found = holds-pair g.K.PartialEq.eq (pairs_in t) c.args.key.now c.in_ok-slot.slot _ there (subst (λ s. HasKey g.K.PartialEq.eq s c.args.key.now c.in_ok-slot.slot) (sym c.self.view_is) ((c.in_ok-slot.ensures.finds.position c.in_ok-slot.slot).0 refl)) in
     let r = valued-rewritten t c.in_ok-slot.slot _ c.f.new.arg3 c.self.invariant.table there in
     record {
       removes = (

@@ -5,11 +5,6 @@ use Rattle.dash_shard.proofs.BySlot.{own, set-there, set-here, sets, same}
 use Rattle.dash_shard.proofs.Lawful.{lawful-of}
 use Rattle.dash_shard.proofs.shard.Shard.set_at.Goals as goal
 
-pub replace-requires-clause-within : goal.replace-requires-clause-within
-replace-requires-clause-within g c =
-    let there = own _ (lawful-of g.S.BuildHasher g.S.Hasher.Hasher g.met.K.Eq.laws g.met.K.Hash.respects_eq) _ _ _ _ c.self.inside.table c.self.invariant _ c.self.view_is c.args.position c.requires in
-    there.1.within
-
 pub invariant_of-self : goal.invariant_of-self
 invariant_of-self g c =
     let r = c.replace.ensures in

@@ -1,15 +1,14 @@
-use Rattle.std.proofs.Common.{◌+◌, ◌<◌, length, sym, ◌∙◌, arith}
-use Rattle.dash_shard.proofs.Nodes.{slot_node, part_read}
+use Rattle.std.proofs.Common.{◌+◌, sym, ◌∙◌, ap, is_some}
+use Rattle.dash_shard.proofs.Written.{spot-within}
 use Rattle.dash_shard.proofs.shard.table.find_in.Goals as goal
 
+pub get-requires : goal.get-requires
+get-requires g c = c.requires.taken c.lowest-lane.result c.lowest-lane.ensures.bound (c.loop-left.invariant.some c.lowest-lane.result c.lowest-lane.ensures.bound c.lowest-lane.ensures.set)
+
 pub returns-then-eq-clause-found : goal.returns-then-eq-clause-found
-returns-then-eq-clause-found g c =
-    let nodes = c.args.nodes.now in
-    let i = c.args.start + c.lowest-lane.result in
-    let within : i < length nodes = omega (arith, c.lowest-lane.ensures.bound, c.requires) in
-    record {
-      within = within;
-      pair = (c.in-Some.stored, c.in-Some.field-0-1);
-      is = slot_node nodes i ∙ sym (part_read (λ n. n.pair) nodes i _ within) ∙ c.in-Some.is;
-      equal = sym c.eq.ensures ∙ c.if-eq.true;
-    }
+returns-then-eq-clause-found g c = record {
+  within = spot-within c.args.slots.now.values (c.args.start + c.lowest-lane.result) (ap is_some c.get.ensures);
+  pair = c.get.result.now;
+  is = c.get.ensures;
+  equal = sym c.eq.ensures ∙ c.if-eq.true;
+}

@@ -1,11 +1,13 @@
 use Rattle.std.proofs.Common.{◌≡◌, ℕ, ◌+◌, ◌<◌, Some, false}
 use Rattle.std.specs.Int.{bit_at}
 use Rattle.dash_shard.specs.Shard.{slot}
-use Rattle.dash_shard.specs.inner.Table.{pairs_of}
 use Rattle.dash_shard.proofs.shard.table.find_in.Given as goal
 
 abbrev pub invariant-loop-left : goal.invariant-loop-left
-invariant-loop-left g l = (j : ℕ) (p : g.row.K.Denot × g.row.V.Denot) → j < 16 → bit_at l.mask j ≡ 1 → bit_at l.left j ≡ 0 → slot (pairs_of l.nodes) (l.start + j) ≡ Some p → g.K.PartialEq.eq p.0 l.key ≡ false
+invariant-loop-left g l = record {
+  missed : (j : ℕ) (p : g.row.K.Denot × g.row.V.Denot) → j < 16 → bit_at l.mask j ≡ 1 → bit_at l.left j ≡ 0 → slot l.slots.values (l.start + j) ≡ Some p → g.K.PartialEq.eq p.0 l.key ≡ false;
+  some : (j : ℕ) → j < 16 → bit_at l.left j ≡ 1 → bit_at l.mask j ≡ 1;
+}
 
 abbrev pub decreases-loop-left : goal.decreases-loop-left
 decreases-loop-left g l = l.left

@@ -1,7 +1,7 @@
 -- `get_mut` lends one value, and the block follows it.
 use Rattle.dash_slots.proofs.Walking.{slot, slots, cells_own, slot_out, slot_in, Besides, filled_within, IsFilled, El, R, args, one_below, times_below, [], List, arith, refl, sym, subst, w64, ℕ, ◌*◌, ◌+◌, ◌<◌, ◌^◌, ◌∙◌, ◌∷◌, ◌≡◌, leaves, proved, None, Option, Some, word, word-Good, after, Fml, GName, Lft, Share, fat, flft, fsep, ftrue, full_share, SProp, ent, emp, sep, id⊢, never, fact, fact_i, tables, usize, no, yes, layout, uint_Tells, uint_vals, owns, Ptr, block_ptr, in_a_block, MutBor, MutRef, mem, part_of, cell_at, mut_Tells, mut_vals, mut_ref_to, plain, types_at, heard, nothing, opens, Goes-dropped, Goes-spent_ref, Stays, stay_dropped, walk_of, get_or, length, length-set, inst_fn, named, Val, vint, vptr, alloc_all, env, free_all, get, get_in, give_at, look_at, pass_all, sets, sets_last, take_at, through, !, at_ret, await, by, done, fjoin, fjoin3, fpack, flt_i, flt_l, fsplit, fsplit3, group, join, keep, later, move, pick, qed, raw, rewrite, some, split, split3, use0, use1, use2, ‵, ◌$◌, ◌∵◌, ◌⊛◌, sub, whole, addr, bin, blocks, enter, exec, first, fld, of_opd, returns, size_lit, stop, Logic, Ura, sem, follows, Part, lends_Part}
 use Rattle.dash_slots.proofs.Places.{Row, At, Mark, sz, start_vals, start_Tells}
-use Rattle.dash_slots.specs.Cells.{with_slot}
+use Rattle.dash_slots.specs.inner.Cells.{with_slot}
 use Rattle.dash_slots.specs.contracts.cells.Cells.get_mut.{ended, clauses}
 use Rattle.dash_slots.specs.contracts.cells.Cells.get_mut.Key.{name as #self}
 use Rattle.dash_slots.proofs.cells.Cells.get_mut.Statement.{statement}

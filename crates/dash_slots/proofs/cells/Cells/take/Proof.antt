@@ -1,7 +1,7 @@
 -- `take` reads a value out of its slot, whose memory is room then.
 use Rattle.dash_slots.proofs.Walking.{slot, slots, cells_own, slot_out, slot_in, value_out, Besides, filled_within, IsFilled, El, R, elτ, args, one_below, times_below, [], List, arith, refl, sym, subst, w64, ℕ, ◌*◌, ◌+◌, ◌<◌, ◌^◌, ◌∙◌, ◌∷◌, ◌≡◌, leaves, proved, None, Option, Some, Good, word, word-Good, after, Fml, Lft, fat, froom, flft, fsep, ftrue, full_share, SProp, emp, id⊢, never, fact, fact_i, tables, usize, no, yes, layout, uint_Tells, uint_vals, owns, Ptr, in_a_block, mut_Tells, mut_vals, plain, types_at, closes, heard, nothing, opens, Goes-dropped, Goes-ref, Stays, stay_dropped, stay_ref, walk_of, get_or, length, length-set, inst_fn, named, Val, vint, vptr, alloc_all, env, free_all, get, get_in, give_at, look_at, pass_all, sets, sets_last, take_at, through, !, at_ret, by, feq_i, fjoin, fjoin3, flt_i, flt_l, fsplit, fsplit3, given, join, keep, learn, move, pick, qed, raw, rewrite, some, split, use0, use1, use2, ‵, ◌$◌, ◌∵◌, ◌⊛◌, sub, whole, load, look, bin, blocks, enter, exec, first, fld, of_opd, returns, size_lit, stop, as_raw}
 use Rattle.dash_slots.proofs.Places.{Row, At, sz, start_vals, start_Tells}
-use Rattle.dash_slots.specs.Cells.{is_taken}
+use Rattle.dash_slots.specs.inner.Cells.{with_slot}
 use Rattle.dash_slots.specs.contracts.cells.Cells.take.{ended, clauses}
 use Rattle.dash_slots.specs.contracts.cells.Cells.take.Key.{name as #self}
 use Rattle.dash_slots.proofs.cells.Cells.take.Statement.{statement}
@@ -15,7 +15,7 @@ take_spec 𝓤 𝓛 𝓜 𝓡 wired X L =
     proved 𝓛 En hs c 𝓜 𝓡 (Goes-ref 𝓛 2 0 tt (plain (λ _. Row E)), (Goes-dropped 𝓛 2 start no (λ κs x f. refl), (Goes-dropped 𝓛 2 number yes (λ κs x f. refl), tt)))
     (#self (args E)) fn (code.unfolded 𝓤 H 𝓜 𝓡 wired (X, tt)) (λ κs. (mut_vals, (start_vals E, (uint_vals w64, tt)))) (λ κs. (mut_Tells (named 0) κs.0 (Row E), (start_Tells E, (uint_Tells w64, tt)))) (λ κs qs bounds a g are.
     let b : ℕ = a.0.ref_ptr.0 in let o : ℕ = a.0.ref_ptr.1 in let d : (Row E).Denot = a.0.now in let p : Ptr = a.1.0.ptr in let i : ℕ = a.1.1.0 in let κ : Lft = κs.0 in let others : Fml = fsep (flft κs.1.0 qs.1.0) ftrue in
-    let asks : Type 0 = (p ≡ d.at) × IsFilled d.slots i in let new : (Row E).Denot = is_taken d i in let found : X.Denot → Type 0 = λ r. get_or d.slots i None ≡ Some r in
+    let asks : Type 0 = (p ≡ d.at) × IsFilled d.slots i in let new : (Row E).Denot = with_slot d i None in let found : X.Denot → Type 0 = λ r. get_or d.slots i None ≡ Some r in
     let y : (walk_of 𝓛 En hs c).Ghost = ((κs, qs, bounds, a, (vptr b o ∷ [], (word p ∷ [], (vint w64 i ∷ [], tt)))), g) in let Post : Val → SProp 𝓤 = (walk_of 𝓛 En hs c).post y in
     qed 𝓛 (((‵ (flft κ qs.0) ⊛ ‵ others) ⊛ ‵ (owns (types_at En.signature.params κs) a y.0.4)) ∷ raw (fact 𝓤 _) ∷ raw (fact 𝓤 asks) ∷ []) ∵
     keep ! (2 ∷ 0 ∷ []) $ heard ! asks (λ asked. let x = asked.1.0 in let within : i < length d.slots = filled_within d.slots i x asked.1.1 in

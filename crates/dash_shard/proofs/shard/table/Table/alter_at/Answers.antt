@@ -1,26 +1,32 @@
-use Rattle.std.proofs.Common.{true, refl, sym, ◌∙◌}
-use Rattle.dash_shard.proofs.Nodes.{hashes-revalued, table-revalued}
-use Rattle.dash_shard.proofs.Sweeping.{slot-before, pairs-valued, slot-revalued}
+use Rattle.std.proofs.Common.{true, None, Some, refl, ◌∙◌, ap, set, get_or-set_same, is_some}
+use Rattle.std.proofs.Math.Seq.{set-set}
+use Rattle.dash_shard.specs.Shard.{slot}
+use Rattle.dash_shard.specs.inner.Table.{pairs_in}
+use Rattle.dash_shard.proofs.Written.{table-rewritten}
 use Rattle.dash_shard.proofs.shard.table.Table.alter_at.Goals as goal
 
-pub returns-clause-visits : goal.returns-clause-visits
-returns-clause-visits g c =
-    let stored = sym c.take.ensures.value ∙ c.in-Some.is in
-    let before = slot-before _ _ _ _ _ c.f-value.result c.requires.within c.index_mut.ensures.value stored in
-    let after = slot-revalued _ _ _ _ _ c.f-value.result c.requires.within c.index_mut.ensures.value stored in
-    rw (c.replace.ensures.after, before, after)
-    (true, c.f-value.result, (_, refl, c.f-value.ensures), refl)
+pub returns-then-index-lt-EMPTY-clause-visits : goal.returns-then-index-lt-EMPTY-clause-visits
+returns-then-index-lt-EMPTY-clause-visits g c =
+    let t = c.args.self.now in
+    let i = c.args.position in
+    let q : g.row.K.Denot × g.row.V.Denot = (c.take-key.result.0, c.f-value.result) in
+    let back = c.put_back.ensures.values ∙ ap (λ xs. set xs i (Some q)) c.take-key.ensures.values ∙ set-set (pairs_in t) i None (Some q) in
+    let after = ap (λ xs. slot xs i) back ∙ get_or-set_same (pairs_in t) i (Some q) None c.requires.within in
+    rw (c.take-key.ensures.value, after) (true, c.f-value.result, (_, refl, c.f-value.ensures), refl)
 
-pub returns-clause-pairs : goal.returns-clause-pairs
-returns-clause-pairs g c =
-    let stored = sym c.take.ensures.value ∙ c.in-Some.is in
-    let after = slot-revalued _ _ _ _ _ c.f-value.result c.requires.within c.index_mut.ensures.value stored in
-    rw (c.replace.ensures.after, after) (pairs-valued _ _ _ _ _ c.f-value.result c.requires.within c.index_mut.ensures.value stored)
+pub returns-then-index-lt-EMPTY-clause-pairs : goal.returns-then-index-lt-EMPTY-clause-pairs
+returns-then-index-lt-EMPTY-clause-pairs g c =
+    let t = c.args.self.now in
+    let i = c.args.position in
+    let q : g.row.K.Denot × g.row.V.Denot = (c.take-key.result.0, c.f-value.result) in
+    let back = c.put_back.ensures.values ∙ ap (λ xs. set xs i (Some q)) c.take-key.ensures.values ∙ set-set (pairs_in t) i None (Some q) in
+    let after = ap (λ xs. slot xs i) back ∙ get_or-set_same (pairs_in t) i (Some q) None c.requires.within in
+    rw after back
 
-pub returns-clause-hashes : goal.returns-clause-hashes
-returns-clause-hashes g c =
-    rw c.replace.ensures.after (hashes-revalued _ _ _ _ _ c.requires.within c.index_mut.ensures.value (sym c.take.ensures.value ∙ c.in-Some.is))
-
-pub returns-clause-table : goal.returns-clause-table
-returns-clause-table g c =
-    rw c.replace.ensures.after (table-revalued c.args.self.now _ _ _ _ _ c.requires.table c.requires.within c.index_mut.ensures.value (sym c.take.ensures.value ∙ c.in-Some.is) refl refl refl refl)
+pub returns-then-index-lt-EMPTY-clause-table : goal.returns-then-index-lt-EMPTY-clause-table
+returns-then-index-lt-EMPTY-clause-table g c =
+    let t = c.args.self.now in
+    let i = c.args.position in
+    let q : g.row.K.Denot × g.row.V.Denot = (c.take-key.result.0, c.f-value.result) in
+    let back = c.put_back.ensures.values ∙ ap (λ xs. set xs i (Some q)) c.take-key.ensures.values ∙ set-set (pairs_in t) i None (Some q) in
+    table-rewritten t _ i _ q c.requires.table c.take-key.ensures.value back (c.put_back.ensures.labels ∙ c.take-key.ensures.labels) refl refl refl

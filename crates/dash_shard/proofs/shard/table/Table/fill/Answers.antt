@@ -1,8 +1,9 @@
 use Rattle.std.proofs.Common.{◌≡◌, ℕ, ◌+◌, ◌-◌, ◌^◌, ◌<◌, List, length, set, Some, refl, sym, ap, subst, ◌∙◌, arith, slice_index}
 use Rattle.dash_shard.specs.inner.Marks.{goes_past}
-use Rattle.dash_shard.specs.inner.Table.{groups_in, pairs_of, hashes_of}
+use Rattle.std.proofs.Math.ListN.{length-set}
+use Rattle.dash_shard.specs.inner.Table.{groups_in, pairs_in}
 use Rattle.dash_shard.proofs.Marked.{counts-room}
-use Rattle.dash_shard.proofs.Nodes.{written}
+use Rattle.dash_shard.proofs.Written.{written}
 use Rattle.dash_shard.proofs.Placing.{by-way, table-filled}
 use Rattle.dash_shard.proofs.shard.table.Table.fill.Goals as goal
 
@@ -19,11 +20,10 @@ returns-clause-table g c =
     let long : c.len-count.result ≡ groups_in t = omega (arith, c.len-count.ensures, t.counts.ok.0) in
     let now = c.count_past.new.counts in
     let counts = written t.counts.len now _ (c.count_past.ensures.len ∙ c.deref_mut.ensures.len) in
-    let nodes = written t.nodes.len c.put.new.nodes _ (c.put.auto.nodes ∙ c.deref_mut-2.ensures.len) in
-    table-filled t _ c.requires.table i now counts (c.count_past.ensures.len ∙ ap length c.deref_mut.ensures.value) (ap length nodes ∙ c.put.auto.nodes ∙ ap length c.deref_mut-2.ensures.value)
+    table-filled t _ c.requires.table i now counts (c.count_past.ensures.len ∙ ap length c.deref_mut.ensures.value) (ap length c.put.ensures.values ∙ length-set (pairs_in t) i _)
     c.args.hash (c.args.key, c.args.value) c.requires.room c.requires.spot c.ranges.hash.fits
     (by-way (λ l a s. (j : ℕ) → j < length l → slice_index now j ≡ slice_index l j + goes_past (length l) a s j) c.args.hash i _ t.counts.items c.len-count.result c.home-home.result c.steps_to-steps.result c.deref_mut.ensures.value long c.home-home.ensures.is c.steps_to-steps.ensures.is c.count_past.ensures.counts)
     refl
-    (ap pairs_of nodes ∙ c.put.ensures.pairs ∙ ap (λ ns. set (pairs_of ns) i (Some (c.args.key, c.args.value))) c.deref_mut-2.ensures.value)
-    (ap hashes_of nodes ∙ c.put.ensures.hashes ∙ ap (λ ns. set (hashes_of ns) i c.args.hash) c.deref_mut-2.ensures.value)
+    c.put.ensures.values
+    c.put.ensures.labels
     refl

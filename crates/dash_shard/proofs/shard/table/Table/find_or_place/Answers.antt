@@ -1,5 +1,4 @@
 use Rattle.std.proofs.Common.{◌≡◌, ℕ, ◌+◌, ◌*◌, ◌%◌, ◌<◌, List, Option, sym, ap, subst, refl, ◌∙◌, arith}
-use Rattle.dash_shard.specs.declared.shard.table.Node.{Node}
 use Rattle.std.specs.Option.{unwrap_or}
 use Rattle.dash_shard.specs.inner.Marks.{round}
 use Rattle.dash_shard.specs.inner.Table.{groups_in, MissesLanes, IsAbsent, IsSpot}
@@ -23,7 +22,7 @@ loop-step-preserved g c =
     let t = c.args.self.now in
     let long : c.len-count.result ≡ groups_in t = omega (arith, c.len-count.ensures, t.counts.ok.0) in
     let row = subst (λ (l : List ℕ). IsRow l c.loop-step.group c.group_of-row.result.now) c.deref.ensures.value c.group_of-row.ensures in
-    let none = subst (λ (l : List (Node g.row.K.Denot g.row.V.Denot)). MissesLanes g.K.PartialEq.eq l c.args.key.now (16 * c.loop-step.group) c.probe-seen.result.matches) c.deref-in-loop-step.ensures.value c.in_default.ensures.absent in
+    let none = c.in_default.ensures.absent in
     let missing = misses-seen g.K.PartialEq.eq t c.args.hash c.args.key.now c.requires c.loop-step.group _ _ _ row refl c.probe-seen.ensures.matches none in
     let less : c.loop-step._step < groups_in t = omega (arith, c.loop-step-test.true, long) in
     let home = mod_below (groups_in t) c.args.hash (omega (arith, less)) in
@@ -39,11 +38,11 @@ loop-step-preserved g c =
 pub returns-clause-absent : goal.returns-clause-absent
 returns-clause-absent g c =
     let t = c.args.self.now in
-    elim c.loop-step-test.branch as (λ _. IsAbsent g.K.PartialEq.eq t.nodes.items c.args.hash c.args.key.now) [
+    elim c.loop-step-test.branch as (λ _. IsAbsent g.K.PartialEq.eq t c.args.hash c.args.key.now) [
       | else-loop-step-test w ↦ absent-round _ _ _ _ c.loop-step._step c.loop-step.group c.loop-step.invariant.searching c.requires (omega (arith, w.loop-step-test.false, c.len-count.ensures, t.counts.ok.0))
       | then-loop-step-test+in_default+then-seen-ne0 w ↦
           let row = subst (λ (l : List ℕ). IsRow l c.loop-step.group w.group_of-row.result.now) w.deref.ensures.value w.group_of-row.ensures in
-          let none = subst (λ (l : List (Node g.row.K.Denot g.row.V.Denot)). MissesLanes g.K.PartialEq.eq l c.args.key.now (16 * c.loop-step.group) w.probe-seen.result.matches) w.deref-in-loop-step.ensures.value w.in_default.ensures.absent in
+          let none = w.in_default.ensures.absent in
           let missing = misses-seen g.K.PartialEq.eq t c.args.hash c.args.key.now c.requires c.loop-step.group _ _ _ row refl w.probe-seen.ensures.matches none in
           absent-here _ _ _ _ c.loop-step._step c.loop-step.group c.loop-step.invariant.searching c.requires (omega (arith, w.loop-step-test.true, c.len-count.ensures, t.counts.ok.0)) missing (empty-seen _ _ _ _ row w.probe-seen.ensures.empty w.if-seen-ne0.true w.probe-seen.ensures.fits.1)
     ]

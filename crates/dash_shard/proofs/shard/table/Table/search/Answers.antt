@@ -1,5 +1,4 @@
 use Rattle.std.proofs.Common.{◌≡◌, ℕ, ◌+◌, ◌-◌, ◌*◌, ◌/◌, ◌%◌, ◌<◌, List, ap, subst, refl, ◌∙◌, arith}
-use Rattle.dash_shard.specs.declared.shard.table.Node.{Node}
 use Rattle.dash_shard.specs.inner.Marks.{group_at, round}
 use Rattle.dash_shard.specs.inner.Table.{groups_in, MissesLanes}
 use Rattle.dash_shard.proofs.Searching.{IsRow, searching-first, searching-more, misses-seen, full-seen, empty-seen, absent-here, absent-round}
@@ -23,7 +22,7 @@ pub returns-then-seen-ne0-clause-absent : goal.returns-then-seen-ne0-clause-abse
 returns-then-seen-ne0-clause-absent g c =
     let t = c.args.self.now in
     let row = subst (λ (l : List ℕ). IsRow l c.loop-step.group c.group_of.result.now) c.deref.ensures.value c.group_of.ensures in
-    let none = subst (λ (l : List (Node g.row.K.Denot g.row.V.Denot)). MissesLanes g.K.PartialEq.eq l c.args.key.now (16 * c.loop-step.group) c.probe-seen.result.matches) c.deref-in-loop-step.ensures.value c.in_default.ensures.absent in
+    let none = c.in_default.ensures.absent in
     let missing = misses-seen g.K.PartialEq.eq t c.args.hash c.args.key.now c.requires c.loop-step.group _ _ _ row refl c.probe-seen.ensures.matches none in
     absent-here _ _ _ _ c.loop-step.step c.loop-step.group c.loop-step.invariant c.requires (omega (arith, c.loop-step-test.true, c.len-count.ensures)) missing (empty-seen _ _ _ _ row c.probe-seen.ensures.empty c.if-seen-ne0.true c.probe-seen.ensures.fits.1)
 
@@ -32,7 +31,7 @@ loop-step-preserved g c =
     let t = c.args.self.now in
     let long : c.len-count.result ≡ groups_in t = omega (arith, c.len-count.ensures, t.counts.ok.0) in
     let row = subst (λ (l : List ℕ). IsRow l c.loop-step.group c.group_of.result.now) c.deref.ensures.value c.group_of.ensures in
-    let none = subst (λ (l : List (Node g.row.K.Denot g.row.V.Denot)). MissesLanes g.K.PartialEq.eq l c.args.key.now (16 * c.loop-step.group) c.probe-seen.result.matches) c.deref-in-loop-step.ensures.value c.in_default.ensures.absent in
+    let none = c.in_default.ensures.absent in
     let missing = misses-seen g.K.PartialEq.eq t c.args.hash c.args.key.now c.requires c.loop-step.group _ _ _ row refl c.probe-seen.ensures.matches none in
     let home = mod_below (groups_in t) c.args.hash (omega (arith, c.loop-step-test.true, c.len-count.ensures)) in
     let less : c.loop-step.step < groups_in t = omega (arith, c.loop-step-test.true, c.len-count.ensures) in

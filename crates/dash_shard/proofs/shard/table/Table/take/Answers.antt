@@ -1,9 +1,10 @@
 use Rattle.std.proofs.Common.{◌≡◌, ℕ, ◌+◌, ◌/◌, ◌%◌, ◌<◌, ◌≤◌, List, length, set, None, ap, subst, ◌∙◌, arith, slice_index}
 use Rattle.dash_shard.specs.inner.Marks.{goes_past, IsClean, KeepsTags}
-use Rattle.dash_shard.specs.inner.Table.{groups_in, pairs_of, hashes_of, pairs_in, hashes_in}
+use Rattle.std.proofs.Math.ListN.{length-set}
+use Rattle.dash_shard.specs.inner.Table.{groups_in, pairs_in, hashes_in}
 use Rattle.dash_shard.specs.Shard.{slot}
 use Rattle.dash_shard.proofs.Marked.{counted-there}
-use Rattle.dash_shard.proofs.Nodes.{written}
+use Rattle.dash_shard.proofs.Written.{written}
 use Rattle.dash_shard.proofs.Placing.{by-way, to-way, some-of, table-some, table-taken}
 use Rattle.dash_shard.proofs.shard.table.Table.take.Goals as goal
 
@@ -35,11 +36,10 @@ returns-clause-table g c =
     let then = c.uncount_past.new.tags in
     let counts = written t.counts.len now _ (u.len ∙ c.deref_mut.ensures.len) in
     let tags = written t.tags.len then _ (u.tags_len ∙ c.deref_mut-2.ensures.len) in
-    let nodes = written t.nodes.len c.vacate.new.nodes _ (c.vacate.auto.nodes ∙ c.deref_mut-3.ensures.len) in
     let seen = c.deref.ensures.value ∙ counts in
     let whose : c.home-home.result ≡ slice_index (hashes_in t) i % c.len-count.result = subst (λ h. c.home-home.result ≡ h % c.len-count.result) c.requires.hash c.home-home.ensures.is in
     let lengths = ap length c.deref_mut.ensures.value in
-    table-taken t _ c.requires.table i now counts (u.len ∙ lengths) (ap length nodes ∙ c.vacate.auto.nodes ∙ ap length c.deref_mut-3.ensures.value)
+    table-taken t _ c.requires.table i now counts (u.len ∙ lengths) (ap length c.take.ensures.values ∙ length-set (pairs_in t) i None)
     p.0 then c.left_mark.result p.1 (u.tags_len ∙ ap length c.deref_mut-2.ensures.value)
     (by-way (λ l a s. (j : ℕ) → j < length l → slice_index now j + goes_past (length l) a s j ≡ slice_index l j) (slice_index (hashes_in t) i) i _ t.counts.items c.len-count.result c.home-home.result c.steps_to-steps.result c.deref_mut.ensures.value long whose c.steps_to-steps.ensures.is u.counts)
     (subst (λ l. KeepsTags now l then) c.deref_mut-2.ensures.value u.keeps)
@@ -47,6 +47,6 @@ returns-clause-table g c =
     (subst (λ (l : List ℕ). slice_index l (i / 16) ≡ 0 → c.left_mark.result ≡ 128) seen c.left_mark.ensures.empty)
     (subst (λ (l : List ℕ). 0 < slice_index l (i / 16) → c.left_mark.result ≡ 129) seen c.left_mark.ensures.removed)
     (ap (λ (l : List ℕ). set l i c.left_mark.result) tags)
-    (ap pairs_of nodes ∙ c.vacate.ensures.pairs ∙ ap (λ ns. set (pairs_of ns) i None) c.deref_mut-3.ensures.value)
-    (ap hashes_of nodes ∙ c.vacate.ensures.hashes ∙ ap hashes_of c.deref_mut-3.ensures.value)
+    c.take.ensures.values
+    c.take.ensures.labels
     (omega (arith, some))

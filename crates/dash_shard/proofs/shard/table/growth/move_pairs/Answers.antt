@@ -1,38 +1,42 @@
-use Rattle.std.proofs.Common.{◌++◌, refl, ap, sym, ◌∙◌}
-use Rattle.std.specs.Option.{option_to_list}
+use Rattle.std.proofs.Common.{◌≡◌, ℕ, ◌+◌, ◌-◌, ◌∙◌, refl, sym, arith, subst}
 use Rattle.dash_shard.specs.Hashing.{hash_of}
-use Rattle.dash_shard.proofs.Carrying.{carrying-first, carrying-over, carrying-room, carrying-hash, carrying-more}
+use Rattle.dash_shard.proofs.Carrying.{Carrying, carrying-first, carrying-over, carrying-room, carrying-hash, carrying-more}
+use Rattle.dash_shard.proofs.Placing.{blank-none}
+use Rattle.dash_shard.proofs.Tells.{tells-none}
 use Rattle.dash_shard.proofs.shard.table.growth.move_pairs.Goals as goal
 
-pub loop-node-init : goal.loop-node-init
-loop-node-init g c = record {
-  carrying = carrying-first _ _ c.requires.table c.requires.empty;
+pub loop-slot-init : goal.loop-slot-init
+loop-slot-init g c = record {
+  carrying = carrying-first _ _ _ c.requires.tells.len c.requires.table c.requires.empty;
   slots = refl;
 }
 
 pub push-requires-clause-room : goal.push-requires-clause-room
 push-requires-clause-room g c =
-    let at = c.loop-node.invariant in
-    let ends = c.pop.ensures.items ∙ ap (λ o. c.pop.new.self.items ++ option_to_list o) c.in-Some.is in
-    carrying-room _ _ _ _ c.in-Some.node at.carrying ends _ _ c.in-Some-pair.is (rw at.slots c.requires.room)
+    let above : c.loop-slot.slot ≡ c.loop-slot.slot - 1 + 1 = omega (arith, c.loop-slot-test.true) in
+    let at = subst (λ (n : ℕ). Carrying c.args.slots.now c.loop-slot.slots n c.loop-slot.table) above c.loop-slot.invariant.carrying in
+    carrying-room _ _ c.loop-slot.slots (c.loop-slot.slot - 1) _ at _ _ c.take-key.ensures.value (rw c.loop-slot.invariant.slots c.requires.room)
 
-pub loop-node-preserved-in-Some-pair : goal.loop-node-preserved-in-Some-pair
+pub loop-slot-preserved-then-tags-slot-lt-EMPTY : goal.loop-slot-preserved-then-tags-slot-lt-EMPTY
 unfolding hash_of
-loop-node-preserved-in-Some-pair g c =
-    let at = c.loop-node.invariant in
+loop-slot-preserved-then-tags-slot-lt-EMPTY g c =
     let p = c.push.ensures in
-    let ends = c.pop.ensures.items ∙ ap (λ o. c.pop.new.self.items ++ option_to_list o) c.in-Some.is in
-    let hash = c.hash_one-hash.ensures ∙ sym (carrying-hash _ _ _ _ c.in-Some.node at.carrying ends (λ k. hash_of g.S.BuildHasher g.S.Hasher.Hasher c.args.hasher.now (g.K.Hash.hash_input k)) c.requires.hashed _ c.in-Some-pair.is) in
+    let above : c.loop-slot.slot ≡ c.loop-slot.slot - 1 + 1 = omega (arith, c.loop-slot-test.true) in
+    let at = subst (λ (n : ℕ). Carrying c.args.slots.now c.loop-slot.slots n c.loop-slot.table) above c.loop-slot.invariant.carrying in
+    let hash = c.hash_one-hash.ensures ∙ sym (carrying-hash _ _ c.loop-slot.slots (c.loop-slot.slot - 1) _ at (λ k. hash_of g.S.BuildHasher g.S.Hasher.Hasher c.args.hasher.now (g.K.Hash.hash_input k)) c.requires.hashed _ c.take-key.ensures.value) in
     record {
-      carrying = carrying-more _ _ _ _ c.in-Some.node at.carrying ends _ _ c.in-Some-pair.is c.push.new.self _ c.push.result hash p.within p.free p.pairs p.hashes p.len p.table;
-      slots = p.slots ∙ at.slots;
+      carrying = carrying-more _ _ c.take-key.new.self (c.loop-slot.slot - 1) _ at _ _ c.take-key.ensures.value c.push.new.self _ c.push.result hash p.within p.free p.pairs p.hashes p.len p.table c.take-key.ensures.values;
+      slots = p.slots ∙ c.loop-slot.invariant.slots;
     }
 
-pub loop-node-preserved : goal.loop-node-preserved
-loop-node-preserved g c =
-    let at = c.loop-node.invariant in
-    let ends = c.pop.ensures.items ∙ ap (λ o. c.pop.new.self.items ++ option_to_list o) c.in-Some.is in
+pub loop-slot-preserved : goal.loop-slot-preserved
+loop-slot-preserved g c =
+    let above : c.loop-slot.slot ≡ c.loop-slot.slot - 1 + 1 = omega (arith, c.loop-slot-test.true) in
+    let at = subst (λ (n : ℕ). Carrying c.args.slots.now c.loop-slot.slots n c.loop-slot.table) above c.loop-slot.invariant.carrying in
     record {
-      carrying = carrying-over _ _ _ _ c.in-Some.node at.carrying ends c.in_default-pair.is;
-      slots = at.slots;
+      carrying = carrying-over _ _ c.loop-slot.slots (c.loop-slot.slot - 1) _ at (c.loop-slot.invariant.carrying.stays _ (omega (arith, c.loop-slot-test.true)) ∙ tells-none 0 _ _ c.requires.tells _ c.if-tags-slot-lt-EMPTY.false);
+      slots = c.loop-slot.invariant.slots;
     }
+
+pub returns-clause-none : goal.returns-clause-none
+returns-clause-none g c = blank-none _ (λ i. c.loop-slot.invariant.carrying.gone i (omega (arith, c.loop-slot-test.false)))

@@ -1,12 +1,13 @@
-use Rattle.std.proofs.Common.{◌≡◌, length}
+use Rattle.std.proofs.Common.{◌≡◌}
+use Rattle.dash_shard.specs.inner.Table.{slots_in}
 use Rattle.dash_shard.proofs.Carrying.{Carrying}
 use Rattle.dash_shard.proofs.shard.table.growth.move_pairs.Given as goal
 
-abbrev pub invariant-loop-node : goal.invariant-loop-node
-invariant-loop-node g l = record {
-  carrying : Carrying l.fn.nodes.items l.nodes.items l.table;
-  slots : length l.table.nodes.items ≡ length l.fn.table.nodes.items;
+abbrev pub invariant-loop-slot : goal.invariant-loop-slot
+invariant-loop-slot g l = record {
+  carrying : Carrying l.fn.slots l.slots l.slot l.table;
+  slots : slots_in l.table ≡ slots_in l.fn.table;
 }
 
-abbrev pub decreases-loop-node : goal.decreases-loop-node
-decreases-loop-node g l = length l.nodes.items
+abbrev pub decreases-loop-slot : goal.decreases-loop-slot
+decreases-loop-slot g l = l.slot

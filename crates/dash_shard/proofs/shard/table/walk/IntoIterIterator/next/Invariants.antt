@@ -1,12 +1,12 @@
-use Rattle.std.proofs.Common.{◌≡◌, length}
-use Rattle.std.specs.Vec.Iter.{into_iter_items}
+use Rattle.std.proofs.Common.{◌≡◌}
 use Rattle.dash_shard.specs.Shard.{taken}
-use Rattle.dash_shard.specs.inner.Table.{pairs_of}
+use Rattle.dash_shard.specs.inner.Table.{TellsTaken}
 use Rattle.dash_shard.proofs.shard.table.walk.IntoIterIterator.next.Given as goal
 
 -- only free slots were passed over
-abbrev pub invariant-loop-node : goal.invariant-loop-node
-invariant-loop-node g l = taken (pairs_of (into_iter_items l.self-inside.nodes)) ≡ l.fn.self
-
-abbrev pub decreases-loop-node : goal.decreases-loop-node
-decreases-loop-node g l = length (into_iter_items l.self-inside.nodes)
+abbrev pub invariant-loop-slot : goal.invariant-loop-slot
+invariant-loop-slot g l = record {
+  tags : l.self-inside.tags ≡ l.initial.self-inside.tags;
+  tells : TellsTaken l.slot l.self-inside.tags.items l.self-inside.slots.values;
+  same : taken l.self-inside.slots.values ≡ l.fn.self;
+}
