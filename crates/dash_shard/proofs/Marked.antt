@@ -6,7 +6,8 @@ use Rattle.std.proofs.lemmas.Option.{none-some}
 use Rattle.std.proofs.Math.ListN.{length-set}
 use Rattle.std.specs.Int.{IsPowerOfTwo}
 use Rattle.dash_shard.specs.Shard.{slot}
-use Rattle.dash_shard.specs.inner.Marks.{tag_of, round, step_to, goes_past, lane, IsFull, IsClean, IsAllTaken, KeepsTags, tally, stands_past, IsMarked, IsPlace}
+use Rattle.dash_shard.specs.inner.Marks.{tag_of, round, step_to, goes_past, lane, IsFull, IsClean, IsAllTaken, KeepsTags, tally, stands_past, IsMarked, IsPlace, IsCount, IsRaised, IsLowered}
+use Rattle.dash_shard.proofs.Counts.{count-raised, count-lowered, count-some, raised-none, raised-some, lowered-some}
 use Rattle.dash_shard.proofs.Ways.{mod_below, round_below, round_step, step_round, step_below, past_yes, past_no}
 
 -- a write to the tags that puts no x
@@ -87,12 +88,6 @@ module _ {A : Type 0} where
   past-one n hs g j None = omega arith
   past-one n hs g j (Some p) = past-most n (slice_index hs j % n) (step_to n (slice_index hs j % n) (j / 16)) g
 
-  -- no group is stood past by more pairs than there are slots
-  pub counts-room : {n : ℕ} {tags counts : List ℕ} {xs : List (Option A)} {hs : List ℕ} → IsMarked n tags counts xs hs → length xs < 2 ^ 64 → (g : ℕ) → g < n → slice_index counts g < 2 ^ 64 - 1
-  counts-room {n} {tags} {counts} {xs} {hs} m fits g lt =
-      let most = tally-most (stands_past n hs g) 0 xs (past-one n hs g) in
-      omega (arith, most, m.counted g lt, m.slots_len, fits)
-
   -- slots that are all empty
   pub marked-fresh : (n : ℕ) (tags counts : List ℕ) (xs : List (Option A)) (hs : List ℕ) → (0 < n → IsPowerOfTwo n) → length tags ≡ 16 * n → length counts ≡ n → length xs ≡ 16 * n → length hs ≡ 16 * n
       → ((i : ℕ) → i < 16 * n → slice_index tags i ≡ 128) → ((g : ℕ) → g < n → slice_index counts g ≡ 0) → ((i : ℕ) → slot xs i ≡ None) → IsMarked n tags counts xs hs
@@ -105,7 +100,7 @@ module _ {A : Type 0} where
     tagged = λ i p e. absurd (none-some p (sym (none i) ∙ e));
     low = λ i p e. absurd (none-some p (sym (none i) ∙ e));
     free = λ i lt e. omega (arith, empty i lt);
-    counted = λ g lt. zeros g lt ∙ sym (tally-none (stands_past n hs g) 0 xs (λ j. refl) none);
+    counted = λ g lt _. zeros g lt ∙ sym (tally-none (stands_past n hs g) 0 xs (λ j. refl) none);
     full = λ g lt some. absurd (omega (arith, some, zeros g lt));
     clean = λ g lt zero j within e. omega (arith, e, empty (16 * g + j) (omega (arith, lt, within)));
   }
@@ -126,7 +121,7 @@ module _ {A : Type 0} where
         let one : stands_past n hs g i (Some p) ≡ 1 = past_yes n a s g (omega (arith, step, less)) in
         let mine : stands_past n hs g i (slot xs i) ≡ 1 = ap (stands_past n hs g i) e ∙ one in
         let most = tally-at (stands_past n hs g) 0 xs i i (omega arith) inside in
-        m.full g within (omega (arith, mine, most, m.counted g within))
+        m.full g within (count-some _ _ (m.counted g within) (omega (arith, mine, most)))
 
     -- a slot whose tag is high has no pair
     pub marked-empty : (i : ℕ) → 128 ≤ slice_index tags i → slot xs i ≡ None
@@ -156,18 +151,18 @@ module _ {A : Type 0} where
             | inl same ↦ absurd (none-some q (sym e ∙ ap (slot (set xs i (Some q))) same ∙ get_or-set_same xs i (Some q) None inside))
             | inr other ↦ m.free j lt (sym (get_or-set_other xs i j (Some q) None other) ∙ e)
           ];
-          counted = λ g lt.
+          counted = λ g lt few.
               let f = stands_past n hs g in
               let w = tally-write f f 0 xs i i (Some q) (omega arith) inside (λ j r _. refl) in
               let was : f i (slot xs i) ≡ f i (Some q) = ap (f i) here in
-              omega (arith, w, was, m.counted g lt);
+              omega (arith, w, was, m.counted g lt few);
           full = m.full;
           clean = m.clean;
         }
 
     -- a pair of the hash h on a place for it
     module _ (h i : ℕ) (p : A) (place : IsPlace n h tags xs i) (now : List ℕ) (low : tag_of h < 128)
-        (long : length now ≡ length counts) (counts-now : (g : ℕ) → g < n → slice_index now g ≡ slice_index counts g + goes_past n (h % n) (step_to n (h % n) (i / 16)) g) where
+        (long : length now ≡ length counts) (counts-now : (g : ℕ) → g < n → IsRaised (slice_index counts g) (goes_past n (h % n) (step_to n (h % n) (i / 16)) g) (slice_index now g)) where
       t : ℕ
       t = tag_of h
 
@@ -197,14 +192,15 @@ module _ {A : Type 0} where
             )
       ]
 
-      filled-counted : (g : ℕ) → g < n → slice_index now g ≡ tally (stands_past n (set hs i h) g) 0 (set xs i (Some p))
+      filled-counted : (g : ℕ) → g < n → IsCount (slice_index now g) (tally (stands_past n (set hs i h) g) 0 (set xs i (Some p)))
       filled-counted g lt =
           let f = stands_past {A = A} n hs g in
           let f' = stands_past {A = A} n (set hs i h) g in
           let w = tally-write f f' 0 xs i i (Some p) (omega arith) place.within (λ j r other. past-same n hs (set hs i h) g j r (get_or-set_other hs i j h 0 other)) in
           let before : f i (slot xs i) ≡ 0 = ap (f i) place.empty in
           let mine : f' i (Some p) ≡ goes_past n (h % n) (step_to n (h % n) (i / 16)) g = ap (λ x. goes_past n (x % n) (step_to n (x % n) (i / 16)) g) filled-hash in
-          omega (arith, w, before, mine, counts-now g lt, m.counted g lt)
+          let more : tally f 0 xs + goes_past n (h % n) (step_to n (h % n) (i / 16)) g ≡ tally f' 0 (set xs i (Some p)) = omega (arith, w, before, mine) in
+          subst (IsCount (slice_index now g)) more (count-raised _ _ _ _ (m.counted g lt) (counts-now g lt))
 
       filled-full : (g : ℕ) → g < n → 0 < slice_index now g → IsFull (set tags i (tag_of h)) g
       filled-full g lt some j within = set-apart tags i (tag_of h) 128 (16 * g + j) tag-spot (λ e. omega (arith, e, low)) (λ _. elim (cases_lt 0 (slice_index counts g)) as (λ _. lane tags g j ≢ 128) [
@@ -212,7 +208,7 @@ module _ {A : Type 0} where
         | inr not ↦
             let pos : 0 < n = omega (arith, lt) in
             let below = mod_below n h pos in
-            let step = past-before n (h % n) (step_to n (h % n) (i / 16)) g (omega (arith, counts-now g lt, not, some, past-most n (h % n) (step_to n (h % n) (i / 16)) g)) in
+            let step = past-before n (h % n) (step_to n (h % n) (i / 16)) g (let one = raised-some _ _ _ (counts-now g lt) some (let none : slice_index counts g ≡ 0 = omega (arith, not) in none) in omega (arith, one, past-most n (h % n) (step_to n (h % n) (i / 16)) g)) in
             let all = subst (IsAllTaken tags) (round_step n (h % n) g below lt) (place.before (step_to n (h % n) g) step) in
             λ e. omega (arith, all j within, e)
       ])
@@ -232,12 +228,12 @@ module _ {A : Type 0} where
         ];
         counted = filled-counted;
         full = filled-full;
-        clean = λ g lt none j within. set-apart tags i (tag_of h) 129 (16 * g + j) tag-spot (λ e. omega (arith, e, low)) (λ _. m.clean g lt (omega (arith, counts-now g lt, none)) j within);
+        clean = λ g lt none j within. set-apart tags i (tag_of h) 129 (16 * g + j) tag-spot (λ e. omega (arith, e, low)) (λ _. m.clean g lt (raised-none _ _ _ (counts-now g lt) none) j within);
       }
 
     -- the pair of a slot goes
     module _ (i : ℕ) (p : A) (here : slot xs i ≡ Some p) (now then : List ℕ) (mark : ℕ) (long : length now ≡ length counts) (tags-long : length then ≡ length tags)
-        (counts-now : (g : ℕ) → g < n → slice_index now g + goes_past n (slice_index hs i % n) (step_to n (slice_index hs i % n) (i / 16)) g ≡ slice_index counts g)
+        (counts-now : (g : ℕ) → g < n → IsLowered (slice_index counts g) (goes_past n (slice_index hs i % n) (step_to n (slice_index hs i % n) (i / 16)) g) (slice_index now g))
         (keeps : KeepsTags now tags then) (clean : (g : ℕ) → g < n → slice_index now g ≡ 0 → IsClean then g)
         (empty : slice_index now (i / 16) ≡ 0 → mark ≡ 128) (removed : 0 < slice_index now (i / 16) → mark ≡ 129) where
       was-inside : i < length xs
@@ -281,12 +277,12 @@ module _ {A : Type 0} where
             ]
       ]
 
-      cleared-counted : (g : ℕ) → g < n → slice_index now g ≡ tally (stands_past n hs g) 0 (set xs i None)
+      cleared-counted : (g : ℕ) → g < n → IsCount (slice_index now g) (tally (stands_past n hs g) 0 (set xs i None))
       cleared-counted g lt =
           let f = stands_past {A = A} n hs g in
           let w = tally-write f f 0 xs i i None (omega arith) was-inside (λ j r _. refl) in
           let mine : f i (slot xs i) ≡ goes_past n (slice_index hs i % n) (step_to n (slice_index hs i % n) (i / 16)) g = ap (f i) here in
-          omega (arith, w, mine, counts-now g lt, m.counted g lt)
+          count-lowered _ _ _ _ _ (m.counted g lt) (omega (arith, w, mine)) (counts-now g lt)
 
       cleared-full : (g : ℕ) → g < n → 0 < slice_index now g → IsFull (set then i mark) g
       cleared-full g lt some j within e = elim (cases_eq (16 * g + j) i) as (λ _. ⊥) [
@@ -297,7 +293,7 @@ module _ {A : Type 0} where
         | inr other ↦
             let kept : slice_index then (16 * g + j) ≡ 128 = sym (get_or-set_other then i (16 * g + j) mark 0 other) ∙ e in
             elim (keeps (16 * g + j)) as (λ _. ⊥) [
-              | inl same ↦ m.full g lt (omega (arith, some, counts-now g lt)) j within (sym same ∙ kept)
+              | inl same ↦ m.full g lt (lowered-some _ _ _ (counts-now g lt) some) j within (sym same ∙ kept)
               | inr gone ↦
                   let whose : (16 * g + j) / 16 ≡ g = omega (arith, within) in
                   let none : slice_index now g ≡ 0 = ap (slice_index now) (sym whose) ∙ gone.2 in
@@ -334,4 +330,7 @@ module _ {A : Type 0} where
     counted-there i p here g lt =
         let mine : stands_past n hs g i (slot xs i) ≡ goes_past n (slice_index hs i % n) (step_to n (slice_index hs i % n) (i / 16)) g = ap (stands_past n hs g i) here in
         let most = tally-at (stands_past n hs g) 0 xs i i (omega arith) (slot-inside xs i p here) in
-        omega (arith, mine, most, m.counted g lt)
+        elim (cases_lt (slice_index counts g) 255) as (λ _. goes_past n (slice_index hs i % n) (step_to n (slice_index hs i % n) (i / 16)) g ≤ slice_index counts g) [
+          | inl few ↦ omega (arith, mine, most, m.counted g lt few)
+          | inr many ↦ omega (arith, many, past-most n (slice_index hs i % n) (step_to n (slice_index hs i % n) (i / 16)) g)
+        ]

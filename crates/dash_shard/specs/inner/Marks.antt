@@ -24,6 +24,17 @@ step_to n a g = if nat_lt g a then n - a + g else g - a
 abbrev pub goes_past : ℕ → ℕ → ℕ → ℕ → ℕ
 goes_past n a s g = if nat_lt (step_to n a g) s then 1 else 0
 
+-- what a byte counts of n pairs: 255 stands for a number that was lost, and stays
+abbrev pub IsCount : ℕ → ℕ → Type 0
+IsCount c n = c < 255 → c ≡ n
+
+-- a count with k more, and one with k less
+abbrev pub IsRaised : ℕ → ℕ → ℕ → Type 0
+IsRaised c k new = (c + k < 255 → new ≡ c + k) × (255 ≤ c + k → new ≡ 255)
+
+abbrev pub IsLowered : ℕ → ℕ → ℕ → Type 0
+IsLowered c k new = (c < 255 → new + k ≡ c) × (255 ≤ c → new ≡ c)
+
 -- the tag of a lane of the group g
 abbrev pub lane : List ℕ → ℕ → ℕ → ℕ
 lane tags g j = slice_index tags (16 * g + j)
@@ -63,7 +74,7 @@ module _ {A : Type 0} where
     pub tagged : (i : ℕ) (p : A) → slot slots i ≡ Some p → slice_index tags i ≡ tag_of (slice_index hashes i)
     pub low : (i : ℕ) (p : A) → slot slots i ≡ Some p → slice_index tags i < 128
     pub free : (i : ℕ) → i < 16 * n → slot slots i ≡ None → 128 ≤ slice_index tags i
-    pub counted : (g : ℕ) → g < n → slice_index counts g ≡ tally (stands_past n hashes g) 0 slots
+    pub counted : (g : ℕ) → g < n → IsCount (slice_index counts g) (tally (stands_past n hashes g) 0 slots)
     pub full : (g : ℕ) → g < n → 0 < slice_index counts g → IsFull tags g
     pub clean : (g : ℕ) → g < n → slice_index counts g ≡ 0 → IsClean tags g
 

@@ -31,8 +31,8 @@ pub struct Table<K, V> {
     slots: Slots<(K, V)>,
     // A tag for each slot, in groups of sixteen.
     tags: Vec<u8>,
-    // For each group, how many pairs stand past it on their ways.
-    counts: Vec<usize>,
+    // For each group, how many pairs stand past it on their ways, up to 255.
+    counts: Vec<u8>,
     len: usize,
 }
 

@@ -1,12 +1,15 @@
 //! The marks of a table: a tag for each slot, in groups of sixteen, and for each group how many pairs stand past it on their ways.
 ghost use Rattle.std.specs.Prelude.{◌≡◌, ◌⊎◌, ℕ, ◌+◌, ◌*◌, ◌/◌, ◌%◌, ◌-◌, ◌^◌, ◌<◌, ◌≤◌, length, slice_index};
 ghost use Rattle.std.specs.Int.{bit_at, IsPowerOfTwo};
-ghost use Rattle.dash_shard.specs.inner.Marks.{round, step_to, goes_past, IsClean, KeepsTags};
+ghost use Rattle.dash_shard.specs.inner.Marks.{round, step_to, goes_past, IsRaised, IsLowered, IsClean, KeepsTags};
 
 // What stands for a tag where a slot is empty, and where its pair was removed from a group that pairs stand past.
 pub(super) const EMPTY: u8 = 128;
 
 pub(super) const REMOVED: u8 = 129;
+
+// The count of a group that so many pairs stand past, or stood, that a byte lost their number. The group takes no empty mark from then on.
+const MANY: u8 = 255;
 
 // The lowest bit of a mask.
 #[inline(always)]
@@ -76,19 +79,35 @@ pub(super) fn steps_to(home: usize, group: usize, count: usize) -> usize
     }
 }
 
+// One more. A count that comes to 255 stays there, since a byte holds no more.
+#[inline(always)]
+fn raised(count: u8) -> u8
+    ensures { IsRaised count 1 result }
+{
+    if count < MANY { count + 1 } else { MANY }
+}
+
+// One less, but for a count of 255.
+#[inline(always)]
+fn lowered(count: u8) -> u8
+    requires { 0 < count }
+    ensures { IsLowered count 1 result }
+{
+    if count < MANY { count - 1 } else { count }
+}
+
 // Counts a pair at each group that its way goes past.
 #[inline]
-pub(super) fn count_past(counts: &mut [usize], home: usize, steps: usize)
+pub(super) fn count_past(counts: &mut [u8], home: usize, steps: usize)
     requires home { home < length counts.old }
     requires steps { steps ≤ length counts.old }
-    requires room { (g : ℕ) → g < length counts.old → slice_index counts.old g < 2 ^ 64 - 1 }
     ensures len { length counts.new ≡ length counts.old }
-    ensures counts { (g : ℕ) → g < length counts.old → slice_index counts.new g ≡ slice_index counts.old g + goes_past (length counts.old) home steps g }
+    ensures counts { (g : ℕ) → g < length counts.old → IsRaised (slice_index counts.old g) (goes_past (length counts.old) home steps g) (slice_index counts.new g) }
 {
     let count = counts.len();
     let mut group = home;
     for _step in 0..steps {
-        counts[group] += 1;
+        counts[group] = raised(counts[group]);
         group = next_group(group, count);
     }
 }
@@ -112,7 +131,7 @@ fn clean_group(tags: &mut [u8], group: usize)
 // Takes a pair off the count of each group that its way goes past. Where no pair is left that stands past a group, its removed marks become
 // empty ones.
 #[inline]
-pub(super) fn uncount_past(counts: &mut [usize], tags: &mut [u8], home: usize, steps: usize)
+pub(super) fn uncount_past(counts: &mut [u8], tags: &mut [u8], home: usize, steps: usize)
     requires home { home < length counts.old }
     requires steps { steps ≤ length counts.old }
     requires tags { length tags.old ≡ 16 * length counts.old }
@@ -120,14 +139,14 @@ pub(super) fn uncount_past(counts: &mut [usize], tags: &mut [u8], home: usize, s
     requires clean { (g : ℕ) → g < length counts.old → slice_index counts.old g ≡ 0 → IsClean tags.old g }
     ensures len { length counts.new ≡ length counts.old }
     ensures tags_len { length tags.new ≡ length tags.old }
-    ensures counts { (g : ℕ) → g < length counts.old → slice_index counts.new g + goes_past (length counts.old) home steps g ≡ slice_index counts.old g }
+    ensures counts { (g : ℕ) → g < length counts.old → IsLowered (slice_index counts.old g) (goes_past (length counts.old) home steps g) (slice_index counts.new g) }
     ensures keeps { KeepsTags counts.new tags.old tags.new }
     ensures clean { (g : ℕ) → g < length counts.old → slice_index counts.new g ≡ 0 → IsClean tags.new g }
 {
     let count = counts.len();
     let mut group = home;
     for _step in 0..steps {
-        counts[group] -= 1;
+        counts[group] = lowered(counts[group]);
         if counts[group] == 0 {
             clean_group(tags, group);
         }

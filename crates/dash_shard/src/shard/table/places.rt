@@ -37,7 +37,7 @@ fn first_free(free: Option<usize>, row: &[u8; 16], start: usize) -> Option<usize
 
 // What marks a slot of a group whose pair goes: it is empty unless pairs stand past the group.
 #[inline(always)]
-fn left_mark(counts: &[usize], group: usize) -> u8
+fn left_mark(counts: &[u8], group: usize) -> u8
     requires { group < length counts.now }
     ensures empty { slice_index counts.now group ≡ 0 → result ≡ 128 }
     ensures removed { 0 < slice_index counts.now group → result ≡ 129 }

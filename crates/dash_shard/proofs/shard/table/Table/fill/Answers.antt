@@ -1,17 +1,10 @@
 use Rattle.std.proofs.Common.{◌≡◌, ℕ, ◌+◌, ◌-◌, ◌^◌, ◌<◌, List, length, set, Some, refl, sym, ap, subst, ◌∙◌, arith, slice_index}
-use Rattle.dash_shard.specs.inner.Marks.{goes_past}
+use Rattle.dash_shard.specs.inner.Marks.{goes_past, IsRaised}
 use Rattle.std.proofs.Math.ListN.{length-set}
 use Rattle.dash_shard.specs.inner.Table.{groups_in, pairs_in}
-use Rattle.dash_shard.proofs.Marked.{counts-room}
 use Rattle.dash_shard.proofs.Written.{written}
 use Rattle.dash_shard.proofs.Placing.{by-way, table-filled}
 use Rattle.dash_shard.proofs.shard.table.Table.fill.Goals as goal
-
-pub count_past-requires-clause-room : goal.count_past-requires-clause-room
-count_past-requires-clause-room g c =
-    let t = c.args.self.now in
-    subst (λ (l : List ℕ). (j : ℕ) → j < length l → slice_index l j < 2 ^ 64 - 1) (sym c.deref_mut.ensures.value)
-    (counts-room c.requires.table.marked (omega (arith, c.requires.table.marked.slots_len, c.requires.table.marked.tags_len, t.tags.ok.0)))
 
 pub returns-clause-table : goal.returns-clause-table
 returns-clause-table g c =
@@ -22,7 +15,7 @@ returns-clause-table g c =
     let counts = written t.counts.len now _ (c.count_past.ensures.len ∙ c.deref_mut.ensures.len) in
     table-filled t _ c.requires.table i now counts (c.count_past.ensures.len ∙ ap length c.deref_mut.ensures.value) (ap length c.put.ensures.values ∙ length-set (pairs_in t) i _)
     c.args.hash (c.args.key, c.args.value) c.requires.room c.requires.spot c.ranges.hash.fits
-    (by-way (λ l a s. (j : ℕ) → j < length l → slice_index now j ≡ slice_index l j + goes_past (length l) a s j) c.args.hash i _ t.counts.items c.len-count.result c.home-home.result c.steps_to-steps.result c.deref_mut.ensures.value long c.home-home.ensures.is c.steps_to-steps.ensures.is c.count_past.ensures.counts)
+    (by-way (λ l a s. (j : ℕ) → j < length l → IsRaised (slice_index l j) (goes_past (length l) a s j) (slice_index now j)) c.args.hash i _ t.counts.items c.len-count.result c.home-home.result c.steps_to-steps.result c.deref_mut.ensures.value long c.home-home.ensures.is c.steps_to-steps.ensures.is c.count_past.ensures.counts)
     refl
     c.put.ensures.values
     c.put.ensures.labels

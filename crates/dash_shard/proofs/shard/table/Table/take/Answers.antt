@@ -1,5 +1,5 @@
 use Rattle.std.proofs.Common.{◌≡◌, ℕ, ◌+◌, ◌/◌, ◌%◌, ◌<◌, ◌≤◌, List, length, set, None, ap, subst, ◌∙◌, arith, slice_index}
-use Rattle.dash_shard.specs.inner.Marks.{goes_past, IsClean, KeepsTags}
+use Rattle.dash_shard.specs.inner.Marks.{goes_past, IsLowered, IsClean, KeepsTags}
 use Rattle.std.proofs.Math.ListN.{length-set}
 use Rattle.dash_shard.specs.inner.Table.{groups_in, pairs_in, hashes_in}
 use Rattle.dash_shard.specs.Shard.{slot}
@@ -41,7 +41,7 @@ returns-clause-table g c =
     let lengths = ap length c.deref_mut.ensures.value in
     table-taken t _ c.requires.table i now counts (u.len ∙ lengths) (ap length c.take.ensures.values ∙ length-set (pairs_in t) i None)
     p.0 then c.left_mark.result p.1 (u.tags_len ∙ ap length c.deref_mut-2.ensures.value)
-    (by-way (λ l a s. (j : ℕ) → j < length l → slice_index now j + goes_past (length l) a s j ≡ slice_index l j) (slice_index (hashes_in t) i) i _ t.counts.items c.len-count.result c.home-home.result c.steps_to-steps.result c.deref_mut.ensures.value long whose c.steps_to-steps.ensures.is u.counts)
+    (by-way (λ l a s. (j : ℕ) → j < length l → IsLowered (slice_index l j) (goes_past (length l) a s j) (slice_index now j)) (slice_index (hashes_in t) i) i _ t.counts.items c.len-count.result c.home-home.result c.steps_to-steps.result c.deref_mut.ensures.value long whose c.steps_to-steps.ensures.is u.counts)
     (subst (λ l. KeepsTags now l then) c.deref_mut-2.ensures.value u.keeps)
     (subst (λ (l : List ℕ). (j : ℕ) → j < length l → slice_index now j ≡ 0 → IsClean then j) c.deref_mut.ensures.value u.clean)
     (subst (λ (l : List ℕ). slice_index l (i / 16) ≡ 0 → c.left_mark.result ≡ 128) seen c.left_mark.ensures.empty)
