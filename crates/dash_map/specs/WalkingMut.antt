@@ -1,11 +1,16 @@
 -- A walk over a map's locks, for writing: it goes as one for reading does, and may rewrite the pair on which it stands.
-use Rattle.std.specs.Prelude.{ℕ, zero, suc, ◌≡◌, ◌<◌, Bool, true, false, Option, Some, None, Ok, option_and_then}
+use Rattle.std.specs.Prelude.{ℕ, zero, suc, ◌≡◌, ◌<◌, Bool, true, false, Option, Some, None, IfSome, IfNone, Ok, option_and_then}
+use Rattle.std.specs.Borrow.{Fml, RattleType, MutBor, LendsSo}
 use Rattle.std.specs.Option.{option_map}
 use Rattle.std.specs.Iterator.{size}
 use Rattle.dash_shard.specs.Hashing.{KeyHash}
 use Rattle.dash_shard.specs.Shard.{ShardState, slot, with_value_in}
 use Rattle.dash_ref.specs.Ref.{RefState}
 use Rattle.dash_map.specs.Walking.{IterState, StepsOn, steps_left}
+
+-- a call on s lent the value v of an item, of which P says what s ends as where w is left, or none, and s ends as P₀ says
+abbrev pub LendsItem : (R T : RattleType) → MutBor R.Denot → Option (MutBor T.Denot) → (T.Denot → R.Denot → T.Denot → Type 0) → (R.Denot → Type 0) → Fml
+LendsItem R T s r P P₀ = LendsSo R T s r (λ n w. IfSome r (λ v. P v.now n w)) (λ n. IfNone r (P₀ n))
 
 module _ {K V S : Type 0} where
   -- the pair in the slot in front of a position of a shard, if it is held

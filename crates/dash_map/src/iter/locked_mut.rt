@@ -1,15 +1,15 @@
 //! The walk over a map that threads share, which holds one shard after the other and writes.
-ghost use Rattle.std.specs.Prelude.{◌≡◌, ◌+◌, ◌<◌, ◌↔◌, [], false, IsTrue, IsSome, Some, IfSome, IfNone};
+ghost use Rattle.std.specs.Prelude.{◌≡◌, ◌+◌, ◌<◌, ◌↔◌, [], false, IsTrue, IsSome, Some, IfSome};
 ghost use Rattle.std.specs.Bool.{OnTrue};
 ghost use Rattle.std.specs.Option.{option_map};
 ghost use Rattle.std.specs.Iterator.{size};
-ghost use Rattle.std.specs.Borrow.{Lends, LendsSo, sem};
+ghost use Rattle.std.specs.Borrow.{Lends, sem};
 ghost use Rattle.std.specs.Map.Iter.{deref_pair_mut};
 ghost use Rattle.dash_shard.specs.Hashing.{by};
 ghost use Rattle.dash_shard.specs.inner.Loans.{MayLend};
 ghost use Rattle.dash_ref.specs.Multi.{lent_pair, lent_value};
 ghost use Rattle.dash_map.specs.Walking.{IterState, IsDone, at_start, steps_left};
-ghost use Rattle.dash_map.specs.WalkingMut.{here, rewritten, Advances, StepsToEnd, Rewrites};
+ghost use Rattle.dash_map.specs.WalkingMut.{here, rewritten, Advances, LendsItem, StepsToEnd, Rewrites};
 ghost use Rattle.dash_map.specs.inner.Walking.{IsWalk};
 ghost use Rattle.dash_map.specs.inner.WalkingMut.{MayHold, GoesHere, joined_if};
 
@@ -232,7 +232,7 @@ impl<'a, K: Eq + Hash, V, S: BuildHasher, R: Wait + Clock> IterMut<'a, K, V, S, 
     /// For the stored key beside the value there are `advance` and `item_mut`.
     #[inline]
     pub fn next_mut(&mut self) -> Option<&mut V>
-        ensures* writes_back { sem 𝓛 (LendsSo ⟦<Self as Lender>⟧.row V.row self.entry result (λ n w. IfSome result (λ v. Rewrites ⟦<Self as Keyed>⟧.by self.old v.now n w)) (λ n. IfNone result (StepsToEnd ⟦<Self as Keyed>⟧.by self.old n))) }
+        ensures* writes_back { sem 𝓛 (LendsItem ⟦<Self as Lender>⟧.row V.row self.entry result (Rewrites ⟦<Self as Keyed>⟧.by self.old) (StepsToEnd ⟦<Self as Keyed>⟧.by self.old)) }
     {
         match self.advance() {
             true => Some(self.pair_mut().1),

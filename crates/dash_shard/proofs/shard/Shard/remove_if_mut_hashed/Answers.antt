@@ -1,9 +1,9 @@
-use Rattle.std.proofs.Common.{true, false, is_some, refl, sym, subst, ap, ◌∙◌, add-zero, slice_index}
+use Rattle.std.proofs.Common.{false, is_some, refl, sym, subst, ap, ◌∙◌, add-zero, slice_index}
 use Rattle.std.specs.Prelude.{IfSome}
 use Rattle.dash_shard.specs.Shard.{HasKey}
 use Rattle.dash_shard.specs.Closures.{ChangesOn}
 use Rattle.dash_shard.specs.inner.Table.{pairs_in}
-use Rattle.dash_shard.proofs.Altering.{idle, to, unremoved, altered-inside, gone-inside, gone-changed, stays-changed, stood, gone-len, as-many}
+use Rattle.dash_shard.proofs.Altering.{idle, unremoved, altered-inside, gone-inside, gone-by, stays-by, gone-len, as-many}
 use Rattle.dash_shard.proofs.Shards.{hash-same, hash-found}
 use Rattle.dash_shard.proofs.Rewriting.{holds-pair, valued-rewritten, valued-slot}
 use Rattle.dash_shard.proofs.shard.Shard.remove_if_mut_hashed.Goals as goal
@@ -22,20 +22,19 @@ returns-in_err-slot g c =
       lawful = c.in_err-slot.ensures.lawful;
     }
 
-pub take-requires-clause-table : goal.take-requires-clause-table
-take-requires-clause-table g c = (valued-rewritten c.self.inside.table c.in_ok-slot.slot _ c.f.new.arg3 c.self.invariant.table c.pair_mut-value.ensures.pair).table
-
-pub take-requires-clause-taken : goal.take-requires-clause-taken
-take-requires-clause-taken g c = ap is_some (valued-slot c.self.inside.table c.in_ok-slot.slot _ c.f.new.arg3 c.self.invariant.table c.pair_mut-value.ensures.pair)
-
-pub take-requires-clause-hash : goal.take-requires-clause-hash
-take-requires-clause-hash g c =
+pub take-requires : goal.take-requires
+take-requires g c =
     let t = c.self.inside.table in
     let there = c.pair_mut-value.ensures.pair in
     let found = holds-pair g.K.PartialEq.eq (pairs_in t) c.args.key.now c.in_ok-slot.slot _ there (subst (λ s. HasKey g.K.PartialEq.eq s c.args.key.now c.in_ok-slot.slot) (sym c.self.view_is) ((c.in_ok-slot.ensures.finds.position c.in_ok-slot.slot).0 refl)) in
     let hash = hash-same (lawful-of g.S.BuildHasher g.S.Hasher.Hasher g.met.K.Eq.laws g.met.K.Hash.respects_eq) c.args.key.now _ _ c.self.view_is c.args.hash c.requires.hash in
-    hash-found _ (lawful-of g.S.BuildHasher g.S.Hasher.Hasher g.met.K.Eq.laws g.met.K.Hash.respects_eq) _ _ _ t c.self.invariant c.args.key.now c.args.hash hash c.in_ok-slot.slot found
-    ∙ ap (λ hs. slice_index hs c.in_ok-slot.slot) (sym (valued-rewritten t c.in_ok-slot.slot _ c.f.new.arg3 c.self.invariant.table there).hashes)
+    let r = valued-rewritten t c.in_ok-slot.slot _ c.f.new.arg3 c.self.invariant.table there in
+    record {
+      table = r.table;
+      taken = ap is_some (valued-slot t c.in_ok-slot.slot _ c.f.new.arg3 c.self.invariant.table there);
+      hash = hash-found _ (lawful-of g.S.BuildHasher g.S.Hasher.Hasher g.met.K.Eq.laws g.met.K.Hash.respects_eq) _ _ _ t c.self.invariant c.args.key.now c.args.hash hash c.in_ok-slot.slot found
+          ∙ ap (λ hs. slice_index hs c.in_ok-slot.slot) (sym r.hashes);
+    }
 
 pub invariant_of-self : goal.invariant_of-self
 invariant_of-self g c =
@@ -51,14 +50,9 @@ returns-then-f g c =
     let there = c.pair_mut-value.ensures.pair in
     let found = holds-pair g.K.PartialEq.eq (pairs_in t) c.args.key.now c.in_ok-slot.slot _ there (subst (λ s. HasKey g.K.PartialEq.eq s c.args.key.now c.in_ok-slot.slot) (sym c.self.view_is) ((c.in_ok-slot.ensures.finds.position c.in_ok-slot.slot).0 refl)) in
     let r = c.take.ensures in
-    let gone = gone-changed _ (lawful-of g.S.BuildHasher g.S.Hasher.Hasher g.met.K.Eq.laws g.met.K.Hash.respects_eq) _ _ _ _ _ c.self.invariant _ c.in_ok-slot.slot found _ c.self.view_is c.requires.route c.f.new.arg3 _ (valued-rewritten t c.in_ok-slot.slot _ c.f.new.arg3 c.self.invariant.table there) r.pairs r.hashes r.len r.table in
+    let gone = gone-by _ (lawful-of g.S.BuildHasher g.S.Hasher.Hasher g.met.K.Eq.laws g.met.K.Hash.respects_eq) _ _ _ _ _ c.self.invariant _ c.in_ok-slot.slot found _ c.self.view_is c.requires.route c.f.new.arg3 _ (valued-rewritten t c.in_ok-slot.slot _ c.f.new.arg3 c.self.invariant.table there) r.pairs r.hashes r.len r.table in
     record {
-      removes = (
-        to c.f.new.arg3 true,
-        rw (sym r.old ∙ valued-slot t c.in_ok-slot.slot _ c.f.new.arg3 c.self.invariant.table there) gone,
-        stood _ (lawful-of g.S.BuildHasher g.S.Hasher.Hasher g.met.K.Eq.laws g.met.K.Hash.respects_eq) _ _ _ _ t c.self.invariant _ c.in_ok-slot.slot found _ c.self.view_is (λ p. ChangesOn g.F.FnOnce c.args.f p (c.f.new.arg3, true))
-            (c.pair_mut-value.result.0, c.pair_mut-value.result.1, _, refl, refl, refl, c.if-f.ensures),
-      );
+      removes = rw (sym r.old ∙ valued-slot t c.in_ok-slot.slot _ c.f.new.arg3 c.self.invariant.table there) (gone (ChangesOn g.F.FnOnce c.args.f) (c.pair_mut-value.result.0, c.pair_mut-value.result.1, _, refl, refl, refl, c.if-f.ensures));
       len = gone-len _ (lawful-of g.S.BuildHasher g.S.Hasher.Hasher g.met.K.Eq.laws g.met.K.Hash.respects_eq) _ _ _ _ _ c.self.invariant _ c.in_ok-slot.slot found _ c.self.view_is c.requires.route c.f.new.arg3 _ (valued-rewritten t c.in_ok-slot.slot _ c.f.new.arg3 c.self.invariant.table there) r.pairs r.hashes r.len r.table;
       lawful = (gone-inside _ (lawful-of g.S.BuildHasher g.S.Hasher.Hasher g.met.K.Eq.laws g.met.K.Hash.respects_eq) _ _ _ _ _ c.self.invariant _ c.in_ok-slot.slot found _ c.self.view_is c.requires.route c.f.new.arg3 _ (valued-rewritten t c.in_ok-slot.slot _ c.f.new.arg3 c.self.invariant.table there) r.pairs r.hashes r.len r.table).shard;
     }
@@ -77,12 +71,8 @@ returns g c =
     let found = holds-pair g.K.PartialEq.eq (pairs_in t) c.args.key.now c.in_ok-slot.slot _ there (subst (λ s. HasKey g.K.PartialEq.eq s c.args.key.now c.in_ok-slot.slot) (sym c.self.view_is) ((c.in_ok-slot.ensures.finds.position c.in_ok-slot.slot).0 refl)) in
     let r = valued-rewritten t c.in_ok-slot.slot _ c.f.new.arg3 c.self.invariant.table there in
     record {
-      removes = (
-        to c.f.new.arg3 false,
-        stays-changed _ (lawful-of g.S.BuildHasher g.S.Hasher.Hasher g.met.K.Eq.laws g.met.K.Hash.respects_eq) _ _ _ _ _ c.self.invariant _ c.in_ok-slot.slot found _ c.self.view_is c.f.new.arg3 r,
-        stood _ (lawful-of g.S.BuildHasher g.S.Hasher.Hasher g.met.K.Eq.laws g.met.K.Hash.respects_eq) _ _ _ _ t c.self.invariant _ c.in_ok-slot.slot found _ c.self.view_is (λ p. ChangesOn g.F.FnOnce c.args.f p (c.f.new.arg3, false))
-            (c.pair_mut-value.result.0, c.pair_mut-value.result.1, _, refl, refl, refl, c.if-f.ensures),
-      );
+      removes = stays-by _ (lawful-of g.S.BuildHasher g.S.Hasher.Hasher g.met.K.Eq.laws g.met.K.Hash.respects_eq) _ _ _ _ _ c.self.invariant _ c.in_ok-slot.slot found _ c.self.view_is c.f.new.arg3 r (ChangesOn g.F.FnOnce c.args.f)
+          (c.pair_mut-value.result.0, c.pair_mut-value.result.1, _, refl, refl, refl, c.if-f.ensures);
       len = sym (as-many _ (lawful-of g.S.BuildHasher g.S.Hasher.Hasher g.met.K.Eq.laws g.met.K.Hash.respects_eq) _ _ _ _ _ c.self.invariant _ c.in_ok-slot.slot found _ c.self.view_is c.f.new.arg3 r) ∙ sym (add-zero _);
       lawful = (altered-inside _ (lawful-of g.S.BuildHasher g.S.Hasher.Hasher g.met.K.Eq.laws g.met.K.Hash.respects_eq) _ _ _ _ _ c.self.invariant _ c.in_ok-slot.slot found _ c.self.view_is c.f.new.arg3 r).shard;
     }
