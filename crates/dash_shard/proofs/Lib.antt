@@ -8,6 +8,7 @@ mod Changing
 mod Counts
 pub mod Equals
 mod Exchanging
+mod Fours
 mod HoldFields
 pub mod Lawful
 mod Lanes

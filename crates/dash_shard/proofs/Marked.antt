@@ -1,12 +1,13 @@
 -- The marks of a table's slots, after each change of a slot.
-use Rattle.std.proofs.Common.{◌≡◌, ◌≢◌, ℕ, zero, suc, ◌+◌, ◌-◌, ◌*◌, ◌/◌, ◌%◌, ◌^◌, ◌<◌, ◌≤◌, List, [], ◌∷◌, length, set, Option, Some, None, refl, sym, ap, subst, ◌∙◌, inl, inr, arith, slice_index, get_or-set_same, get_or-set_other}
-use Rattle.std.proofs.lemmas.Bool.{cases_eq, cases_lt}
+use Rattle.std.proofs.Common.{◌≡◌, ◌≢◌, ℕ, zero, suc, ◌+◌, ◌-◌, ◌*◌, ◌/◌, ◌%◌, ◌^◌, ◌<◌, ◌≤◌, List, [], ◌∷◌, length, set, Option, Some, None, refl, sym, ap, subst, ◌∙◌, inl, inr, arith, slice_index, get_or-set_same, get_or-set_other, eq-eqb, ◌==◌, cond}
+use Rattle.std.proofs.lemmas.Bool.{cases_eq, cases_lt, ne_eqb}
 use Rattle.std.proofs.lemmas.List.{get_or_past}
 use Rattle.std.proofs.lemmas.Option.{none-some}
 use Rattle.std.proofs.Math.ListN.{length-set}
 use Rattle.std.specs.Int.{IsPowerOfTwo}
 use Rattle.dash_shard.specs.Shard.{slot}
-use Rattle.dash_shard.specs.inner.Marks.{tag_of, round, step_to, goes_past, lane, IsFull, IsClean, IsAllTaken, KeepsTags, tally, stands_past, IsMarked, IsPlace, IsCount, IsRaised, IsLowered}
+use Rattle.dash_shard.specs.inner.Marks.{tag_of, round, step_to, goes_past, lane, IsFull, IsClean, IsAllTaken, KeepsTags, tally, stands_past, IsMarked, IsPlace, class_of, count_of, IsCount, IsRaised, IsLowered, CountsPast, UncountsPast}
+use Rattle.dash_shard.proofs.Fours.{class-small, count-word, count-zero}
 use Rattle.dash_shard.proofs.Counts.{count-raised, count-lowered, count-some, raised-none, raised-some, lowered-some}
 use Rattle.dash_shard.proofs.Ways.{mod_below, round_below, round_step, step_round, step_below, past_yes, past_no}
 
@@ -80,13 +81,16 @@ module _ {A : Type 0} where
   ]
 
   -- what stands past a group by other hashes, where the slot's is the same
-  past-same : (n : ℕ) (hs ks : List ℕ) (g j : ℕ) (r : Option A) → slice_index ks j ≡ slice_index hs j → stands_past n ks g j r ≡ stands_past n hs g j r
-  past-same n hs ks g j None same = refl
-  past-same n hs ks g j (Some p) same = ap (λ h. goes_past n (h % n) (step_to n (h % n) (j / 16)) g) same
+  past-same : (n : ℕ) (hs ks : List ℕ) (g c j : ℕ) (r : Option A) → slice_index ks j ≡ slice_index hs j → stands_past n ks g c j r ≡ stands_past n hs g c j r
+  past-same n hs ks g c j None same = refl
+  past-same n hs ks g c j (Some p) same = ap (λ h. cond (class_of h == c) (goes_past n (h % n) (step_to n (h % n) (j / 16)) g) 0) same
 
-  past-one : (n : ℕ) (hs : List ℕ) (g j : ℕ) (r : Option A) → stands_past n hs g j r ≤ 1
-  past-one n hs g j None = omega arith
-  past-one n hs g j (Some p) = past-most n (slice_index hs j % n) (step_to n (slice_index hs j % n) (j / 16)) g
+  -- a pair of the class stands past what its way goes past, and one of another class past nothing
+  past-own : (n : ℕ) (hs : List ℕ) (g c j : ℕ) (p : A) → class_of (slice_index hs j) ≡ c → stands_past n hs g c j (Some p) ≡ goes_past n (slice_index hs j % n) (step_to n (slice_index hs j % n) (j / 16)) g
+  past-own n hs g c j p own = rw (eq-eqb (class_of (slice_index hs j)) c own) refl
+
+  past-other : (n : ℕ) (hs : List ℕ) (g c j : ℕ) (p : A) → class_of (slice_index hs j) ≢ c → stands_past n hs g c j (Some p) ≡ 0
+  past-other n hs g c j p other = rw (ne_eqb (class_of (slice_index hs j)) c other) refl
 
   -- slots that are all empty
   pub marked-fresh : (n : ℕ) (tags counts : List ℕ) (xs : List (Option A)) (hs : List ℕ) → (0 < n → IsPowerOfTwo n) → length tags ≡ 16 * n → length counts ≡ n → length xs ≡ 16 * n → length hs ≡ 16 * n
@@ -100,15 +104,15 @@ module _ {A : Type 0} where
     tagged = λ i p e. absurd (none-some p (sym (none i) ∙ e));
     low = λ i p e. absurd (none-some p (sym (none i) ∙ e));
     free = λ i lt e. omega (arith, empty i lt);
-    counted = λ g lt _. zeros g lt ∙ sym (tally-none (stands_past n hs g) 0 xs (λ j. refl) none);
-    full = λ g lt some. absurd (omega (arith, some, zeros g lt));
+    counted = λ g c lt _ _. count-zero (slice_index counts g) c (zeros g lt) ∙ sym (tally-none (stands_past n hs g c) 0 xs (λ j. refl) none);
+    full = λ g c lt _ some. absurd (omega (arith, some, count-zero (slice_index counts g) c (zeros g lt)));
     clean = λ g lt zero j within e. omega (arith, e, empty (16 * g + j) (omega (arith, lt, within)));
   }
 
   module _ {n : ℕ} {tags counts : List ℕ} {xs : List (Option A)} {hs : List ℕ} (m : IsMarked n tags counts xs hs) where
-    -- a way comes past no empty slot before it comes to its pair
-    pub marked-reached : (i : ℕ) (p : A) → slot xs i ≡ Some p → (u : ℕ) → u < step_to n (slice_index hs i % n) (i / 16) → IsFull tags (round n (slice_index hs i % n + u))
-    marked-reached i p e u less =
+    -- a pair is counted in its class at each group that its way comes past
+    pub marked-passed : (i : ℕ) (p : A) → slot xs i ≡ Some p → (u : ℕ) → u < step_to n (slice_index hs i % n) (i / 16) → 0 < count_of (slice_index counts (round n (slice_index hs i % n + u))) (class_of (slice_index hs i))
+    marked-passed i p e u less =
         let inside = slot-inside xs i p e in
         let pos : 0 < n = omega (arith, inside, m.slots_len) in
         let a = slice_index hs i % n in
@@ -116,12 +120,21 @@ module _ {A : Type 0} where
         let s = step_to n a (i / 16) in
         let all : s < n = step_below n a (i / 16) below (omega (arith, inside, m.slots_len)) in
         let g = round n (a + u) in
+        let c = class_of (slice_index hs i) in
         let within : g < n = round_below n a u below (omega (arith, less, all)) in
         let step : step_to n a g ≡ u = step_round n a u below (omega (arith, less, all)) in
-        let one : stands_past n hs g i (Some p) ≡ 1 = past_yes n a s g (omega (arith, step, less)) in
-        let mine : stands_past n hs g i (slot xs i) ≡ 1 = ap (stands_past n hs g i) e ∙ one in
-        let most = tally-at (stands_past n hs g) 0 xs i i (omega arith) inside in
-        m.full g within (count-some _ _ (m.counted g within) (omega (arith, mine, most)))
+        let one : goes_past n a s g ≡ 1 = past_yes n a s g (omega (arith, step, less)) in
+        let mine : stands_past n hs g c i (slot xs i) ≡ 1 = ap (stands_past n hs g c i) e ∙ past-own n hs g c i p refl ∙ one in
+        let most = tally-at (stands_past n hs g c) 0 xs i i (omega arith) inside in
+        count-some _ _ (m.counted g c within (class-small (slice_index hs i))) (omega (arith, mine, most))
+
+    -- a way comes past no empty slot before it comes to its pair
+    pub marked-reached : (i : ℕ) (p : A) → slot xs i ≡ Some p → (u : ℕ) → u < step_to n (slice_index hs i % n) (i / 16) → IsFull tags (round n (slice_index hs i % n + u))
+    marked-reached i p e u less =
+        let inside = slot-inside xs i p e in
+        let below = mod_below n (slice_index hs i) (omega (arith, inside, m.slots_len)) in
+        let all = step_below n (slice_index hs i % n) (i / 16) below (omega (arith, inside, m.slots_len)) in
+        m.full (round n (slice_index hs i % n + u)) (class_of (slice_index hs i)) (round_below n (slice_index hs i % n) u below (omega (arith, less, all))) (class-small (slice_index hs i)) (marked-passed i p e u less)
 
     -- a slot whose tag is high has no pair
     pub marked-empty : (i : ℕ) → 128 ≤ slice_index tags i → slot xs i ≡ None
@@ -151,18 +164,18 @@ module _ {A : Type 0} where
             | inl same ↦ absurd (none-some q (sym e ∙ ap (slot (set xs i (Some q))) same ∙ get_or-set_same xs i (Some q) None inside))
             | inr other ↦ m.free j lt (sym (get_or-set_other xs i j (Some q) None other) ∙ e)
           ];
-          counted = λ g lt few.
-              let f = stands_past n hs g in
+          counted = λ g c lt class few.
+              let f = stands_past n hs g c in
               let w = tally-write f f 0 xs i i (Some q) (omega arith) inside (λ j r _. refl) in
               let was : f i (slot xs i) ≡ f i (Some q) = ap (f i) here in
-              omega (arith, w, was, m.counted g lt few);
+              omega (arith, w, was, m.counted g c lt class few);
           full = m.full;
           clean = m.clean;
         }
 
     -- a pair of the hash h on a place for it
     module _ (h i : ℕ) (p : A) (place : IsPlace n h tags xs i) (now : List ℕ) (low : tag_of h < 128)
-        (long : length now ≡ length counts) (counts-now : (g : ℕ) → g < n → IsRaised (slice_index counts g) (goes_past n (h % n) (step_to n (h % n) (i / 16)) g) (slice_index now g)) where
+        (long : length now ≡ length counts) (counts-now : CountsPast n (h % n) (step_to n (h % n) (i / 16)) (class_of h) counts now) where
       t : ℕ
       t = tag_of h
 
@@ -192,25 +205,44 @@ module _ {A : Type 0} where
             )
       ]
 
-      filled-counted : (g : ℕ) → g < n → IsCount (slice_index now g) (tally (stands_past n (set hs i h) g) 0 (set xs i (Some p)))
-      filled-counted g lt =
-          let f = stands_past {A = A} n hs g in
-          let f' = stands_past {A = A} n (set hs i h) g in
-          let w = tally-write f f' 0 xs i i (Some p) (omega arith) place.within (λ j r other. past-same n hs (set hs i h) g j r (get_or-set_other hs i j h 0 other)) in
-          let before : f i (slot xs i) ≡ 0 = ap (f i) place.empty in
-          let mine : f' i (Some p) ≡ goes_past n (h % n) (step_to n (h % n) (i / 16)) g = ap (λ x. goes_past n (x % n) (step_to n (x % n) (i / 16)) g) filled-hash in
-          let more : tally f 0 xs + goes_past n (h % n) (step_to n (h % n) (i / 16)) g ≡ tally f' 0 (set xs i (Some p)) = omega (arith, w, before, mine) in
-          subst (IsCount (slice_index now g)) more (count-raised _ _ _ _ (m.counted g lt) (counts-now g lt))
+      -- its class is that of its hash, which stands there then
+      filled-class : class_of (slice_index (set hs i h) i) ≡ class_of h
+      filled-class = ap class_of filled-hash
 
-      filled-full : (g : ℕ) → g < n → 0 < slice_index now g → IsFull (set tags i (tag_of h)) g
-      filled-full g lt some j within = set-apart tags i (tag_of h) 128 (16 * g + j) tag-spot (λ e. omega (arith, e, low)) (λ _. elim (cases_lt 0 (slice_index counts g)) as (λ _. lane tags g j ≢ 128) [
-        | inl was ↦ m.full g lt was j within
+      filled-counted : (g c : ℕ) → g < n → c < 16 → IsCount (count_of (slice_index now g) c) (tally (stands_past n (set hs i h) g c) 0 (set xs i (Some p)))
+      filled-counted g c lt class =
+          let f = stands_past {A = A} n hs g c in
+          let f' = stands_past {A = A} n (set hs i h) g c in
+          let w = tally-write f f' 0 xs i i (Some p) (omega arith) place.within (λ j r other. past-same n hs (set hs i h) g c j r (get_or-set_other hs i j h 0 other)) in
+          let before : f i (slot xs i) ≡ 0 = ap (f i) place.empty in
+          elim (cases_eq (class_of h) c) as (λ _. IsCount (count_of (slice_index now g) c) (tally f' 0 (set xs i (Some p)))) [
+            | inl own ↦
+                let mine : f' i (Some p) ≡ goes_past n (h % n) (step_to n (h % n) (i / 16)) g = past-own n (set hs i h) g c i p (filled-class ∙ own) ∙ ap (λ x. goes_past n (x % n) (step_to n (x % n) (i / 16)) g) filled-hash in
+                let more : tally f 0 xs + goes_past n (h % n) (step_to n (h % n) (i / 16)) g ≡ tally f' 0 (set xs i (Some p)) = omega (arith, w, before, mine) in
+                subst (IsCount (count_of (slice_index now g) c)) more (count-raised _ _ _ _ (m.counted g c lt class)
+                (subst (λ d. IsRaised (count_of (slice_index counts g) d) (goes_past n (h % n) (step_to n (h % n) (i / 16)) g) (count_of (slice_index now g) d)) own (counts-now.own g lt)))
+            | inr other ↦
+                let mine : f' i (Some p) ≡ 0 = past-other n (set hs i h) g c i p (λ e. other (sym filled-class ∙ e)) in
+                let same : tally f 0 xs ≡ tally f' 0 (set xs i (Some p)) = omega (arith, w, before, mine) in
+                subst (IsCount (count_of (slice_index now g) c)) same (subst (λ x. IsCount x (tally f 0 xs)) (sym (counts-now.others g lt c class (λ e. other (sym e)))) (m.counted g c lt class))
+          ]
+
+      filled-full : (g c : ℕ) → g < n → c < 16 → 0 < count_of (slice_index now g) c → IsFull (set tags i (tag_of h)) g
+      filled-full g c lt class some j within = set-apart tags i (tag_of h) 128 (16 * g + j) tag-spot (λ e. omega (arith, e, low)) (λ _. elim (cases_lt 0 (count_of (slice_index counts g) c)) as (λ _. lane tags g j ≢ 128) [
+        | inl was ↦ m.full g c lt class was j within
         | inr not ↦
-            let pos : 0 < n = omega (arith, lt) in
-            let below = mod_below n h pos in
-            let step = past-before n (h % n) (step_to n (h % n) (i / 16)) g (let one = raised-some _ _ _ (counts-now g lt) some (let none : slice_index counts g ≡ 0 = omega (arith, not) in none) in omega (arith, one, past-most n (h % n) (step_to n (h % n) (i / 16)) g)) in
-            let all = subst (IsAllTaken tags) (round_step n (h % n) g below lt) (place.before (step_to n (h % n) g) step) in
-            λ e. omega (arith, all j within, e)
+            let none : count_of (slice_index counts g) c ≡ 0 = omega (arith, not) in
+            elim (cases_eq (class_of h) c) as (λ _. lane tags g j ≢ 128) [
+              | inl own ↦
+                  let pos : 0 < n = omega (arith, lt) in
+                  let below = mod_below n h pos in
+                  let raise = subst (λ d. IsRaised (count_of (slice_index counts g) d) (goes_past n (h % n) (step_to n (h % n) (i / 16)) g) (count_of (slice_index now g) d)) own (counts-now.own g lt) in
+                  let one = raised-some _ _ _ raise some none in
+                  let step = past-before n (h % n) (step_to n (h % n) (i / 16)) g (omega (arith, one, past-most n (h % n) (step_to n (h % n) (i / 16)) g)) in
+                  let all = subst (IsAllTaken tags) (round_step n (h % n) g below lt) (place.before (step_to n (h % n) g) step) in
+                  λ e. omega (arith, all j within, e)
+              | inr other ↦ absurd (let same = counts-now.others g lt c class (λ e. other (sym e)) in omega (arith, same, none, some))
+            ]
       ])
 
       pub marked-fill : IsMarked n (set tags i (tag_of h)) now (set xs i (Some p)) (set hs i h)
@@ -228,12 +260,12 @@ module _ {A : Type 0} where
         ];
         counted = filled-counted;
         full = filled-full;
-        clean = λ g lt none j within. set-apart tags i (tag_of h) 129 (16 * g + j) tag-spot (λ e. omega (arith, e, low)) (λ _. m.clean g lt (raised-none _ _ _ (counts-now g lt) none) j within);
+        clean = λ g lt none j within. set-apart tags i (tag_of h) 129 (16 * g + j) tag-spot (λ e. omega (arith, e, low)) (λ _. m.clean g lt (let was = counts-now.more g lt in omega (arith, was, none)) j within);
       }
 
     -- the pair of a slot goes
     module _ (i : ℕ) (p : A) (here : slot xs i ≡ Some p) (now then : List ℕ) (mark : ℕ) (long : length now ≡ length counts) (tags-long : length then ≡ length tags)
-        (counts-now : (g : ℕ) → g < n → IsLowered (slice_index counts g) (goes_past n (slice_index hs i % n) (step_to n (slice_index hs i % n) (i / 16)) g) (slice_index now g))
+        (counts-now : UncountsPast n (slice_index hs i % n) (step_to n (slice_index hs i % n) (i / 16)) (class_of (slice_index hs i)) counts now)
         (keeps : KeepsTags now tags then) (clean : (g : ℕ) → g < n → slice_index now g ≡ 0 → IsClean then g)
         (empty : slice_index now (i / 16) ≡ 0 → mark ≡ 128) (removed : 0 < slice_index now (i / 16) → mark ≡ 129) where
       was-inside : i < length xs
@@ -277,29 +309,46 @@ module _ {A : Type 0} where
             ]
       ]
 
-      cleared-counted : (g : ℕ) → g < n → IsCount (slice_index now g) (tally (stands_past n hs g) 0 (set xs i None))
-      cleared-counted g lt =
-          let f = stands_past {A = A} n hs g in
+      cleared-counted : (g c : ℕ) → g < n → c < 16 → IsCount (count_of (slice_index now g) c) (tally (stands_past n hs g c) 0 (set xs i None))
+      cleared-counted g c lt class =
+          let f = stands_past {A = A} n hs g c in
           let w = tally-write f f 0 xs i i None (omega arith) was-inside (λ j r _. refl) in
-          let mine : f i (slot xs i) ≡ goes_past n (slice_index hs i % n) (step_to n (slice_index hs i % n) (i / 16)) g = ap (f i) here in
-          count-lowered _ _ _ _ _ (m.counted g lt) (omega (arith, w, mine)) (counts-now g lt)
+          elim (cases_eq (class_of (slice_index hs i)) c) as (λ _. IsCount (count_of (slice_index now g) c) (tally f 0 (set xs i None))) [
+            | inl own ↦
+                let mine : f i (slot xs i) ≡ goes_past n (slice_index hs i % n) (step_to n (slice_index hs i % n) (i / 16)) g = ap (f i) here ∙ past-own n hs g c i p own in
+                count-lowered _ _ _ _ _ (m.counted g c lt class) (omega (arith, w, mine))
+                (subst (λ d. IsLowered (count_of (slice_index counts g) d) (goes_past n (slice_index hs i % n) (step_to n (slice_index hs i % n) (i / 16)) g) (count_of (slice_index now g) d)) own (counts-now.own g lt))
+            | inr other ↦
+                let mine : f i (slot xs i) ≡ 0 = ap (f i) here ∙ past-other n hs g c i p other in
+                let same : tally f 0 xs ≡ tally f 0 (set xs i None) = omega (arith, w, mine) in
+                subst (IsCount (count_of (slice_index now g) c)) same (subst (λ x. IsCount x (tally f 0 xs)) (sym (counts-now.others g lt c class (λ e. other (sym e)))) (m.counted g c lt class))
+          ]
 
-      cleared-full : (g : ℕ) → g < n → 0 < slice_index now g → IsFull (set then i mark) g
-      cleared-full g lt some j within e = elim (cases_eq (16 * g + j) i) as (λ _. ⊥) [
-        | inl same ↦
-            let whose : i / 16 ≡ g = omega (arith, same, within) in
-            let m129 : mark ≡ 129 = removed (subst (λ x. 0 < slice_index now x) (sym whose) some) in
-            omega (arith, sym (ap (slice_index (set then i mark)) same ∙ cleared-tag) ∙ e, m129)
-        | inr other ↦
-            let kept : slice_index then (16 * g + j) ≡ 128 = sym (get_or-set_other then i (16 * g + j) mark 0 other) ∙ e in
-            elim (keeps (16 * g + j)) as (λ _. ⊥) [
-              | inl same ↦ m.full g lt (lowered-some _ _ _ (counts-now g lt) some) j within (sym same ∙ kept)
-              | inr gone ↦
-                  let whose : (16 * g + j) / 16 ≡ g = omega (arith, within) in
-                  let none : slice_index now g ≡ 0 = ap (slice_index now) (sym whose) ∙ gone.2 in
-                  omega (arith, none, some)
-            ]
+      -- a class that is counted was
+      was-counted : (g c : ℕ) → g < n → c < 16 → 0 < count_of (slice_index now g) c → 0 < count_of (slice_index counts g) c
+      was-counted g c lt class some = elim (cases_eq (class_of (slice_index hs i)) c) as (λ _. 0 < count_of (slice_index counts g) c) [
+        | inl own ↦ lowered-some _ _ _ (subst (λ d. IsLowered (count_of (slice_index counts g) d) (goes_past n (slice_index hs i % n) (step_to n (slice_index hs i % n) (i / 16)) g) (count_of (slice_index now g) d)) own (counts-now.own g lt)) some
+        | inr other ↦ let same = counts-now.others g lt c class (λ e. other (sym e)) in omega (arith, same, some)
       ]
+
+      cleared-full : (g c : ℕ) → g < n → c < 16 → 0 < count_of (slice_index now g) c → IsFull (set then i mark) g
+      cleared-full g c lt class some j within e =
+          let any : 0 < slice_index now g = count-word (slice_index now g) c some in
+          elim (cases_eq (16 * g + j) i) as (λ _. ⊥) [
+            | inl same ↦
+                let whose : i / 16 ≡ g = omega (arith, same, within) in
+                let m129 : mark ≡ 129 = removed (subst (λ x. 0 < slice_index now x) (sym whose) any) in
+                omega (arith, sym (ap (slice_index (set then i mark)) same ∙ cleared-tag) ∙ e, m129)
+            | inr other ↦
+                let kept : slice_index then (16 * g + j) ≡ 128 = sym (get_or-set_other then i (16 * g + j) mark 0 other) ∙ e in
+                elim (keeps (16 * g + j)) as (λ _. ⊥) [
+                  | inl same ↦ m.full g c lt class (was-counted g c lt class some) j within (sym same ∙ kept)
+                  | inr gone ↦
+                      let whose : (16 * g + j) / 16 ≡ g = omega (arith, within) in
+                      let none : slice_index now g ≡ 0 = ap (slice_index now) (sym whose) ∙ gone.2 in
+                      omega (arith, none, any)
+                ]
+          ]
 
       cleared-clean : (g : ℕ) → g < n → slice_index now g ≡ 0 → IsClean (set then i mark) g
       cleared-clean g lt none j within e = elim (cases_eq (16 * g + j) i) as (λ _. ⊥) [
@@ -326,11 +375,13 @@ module _ {A : Type 0} where
       }
 
     -- a pair that goes was counted at each group that its way goes past
-    pub counted-there : (i : ℕ) (p : A) → slot xs i ≡ Some p → (g : ℕ) → g < n → goes_past n (slice_index hs i % n) (step_to n (slice_index hs i % n) (i / 16)) g ≤ slice_index counts g
+    pub counted-there : (i : ℕ) (p : A) → slot xs i ≡ Some p → (g : ℕ) → g < n → goes_past n (slice_index hs i % n) (step_to n (slice_index hs i % n) (i / 16)) g ≤ count_of (slice_index counts g) (class_of (slice_index hs i))
     counted-there i p here g lt =
-        let mine : stands_past n hs g i (slot xs i) ≡ goes_past n (slice_index hs i % n) (step_to n (slice_index hs i % n) (i / 16)) g = ap (stands_past n hs g i) here in
-        let most = tally-at (stands_past n hs g) 0 xs i i (omega arith) (slot-inside xs i p here) in
-        elim (cases_lt (slice_index counts g) 255) as (λ _. goes_past n (slice_index hs i % n) (step_to n (slice_index hs i % n) (i / 16)) g ≤ slice_index counts g) [
-          | inl few ↦ omega (arith, mine, most, m.counted g lt few)
+        let c = class_of (slice_index hs i) in
+        let class : c < 16 = class-small (slice_index hs i) in
+        let mine : stands_past n hs g c i (slot xs i) ≡ goes_past n (slice_index hs i % n) (step_to n (slice_index hs i % n) (i / 16)) g = ap (stands_past n hs g c i) here ∙ past-own n hs g c i p refl in
+        let most = tally-at (stands_past n hs g c) 0 xs i i (omega arith) (slot-inside xs i p here) in
+        elim (cases_lt (count_of (slice_index counts g) c) 15) as (λ _. goes_past n (slice_index hs i % n) (step_to n (slice_index hs i % n) (i / 16)) g ≤ count_of (slice_index counts g) c) [
+          | inl few ↦ omega (arith, mine, most, m.counted g c lt class few)
           | inr many ↦ omega (arith, many, past-most n (slice_index hs i % n) (step_to n (slice_index hs i % n) (i / 16)) g)
         ]

@@ -5,7 +5,7 @@ use Rattle.std.proofs.lemmas.Option.{none-some, same_Some}
 use Rattle.dash_shard.specs.Contents.{at, Distinct}
 use Rattle.dash_shard.specs.Shard.{slot, taken}
 use Rattle.dash_shard.specs.declared.shard.table.Table.{Table}
-use Rattle.dash_shard.specs.inner.Marks.{tag_of, step_to, goes_past, IsRaised, IsLowered, IsClean, KeepsTags, IsMarked}
+use Rattle.dash_shard.specs.inner.Marks.{tag_of, class_of, step_to, CountsPast, UncountsPast, IsClean, KeepsTags, IsMarked}
 use Rattle.dash_shard.specs.inner.Table.{IsTable, IsSpot, TellsTaken, limit, slots_in, groups_in, pairs_in, hashes_in, IsMoved}
 use Rattle.std.specs.Int.{IsPowerOfTwo}
 use Rattle.std.proofs.lemmas.List.{length-map, get_or-replicate}
@@ -36,7 +36,7 @@ some-of (Some x) h = (x, refl)
 
 module _ {K V : Type 0} (t new : Table K V) (table : IsTable t) (i : ℕ) (now : List ℕ) (counts : new.counts.items ≡ now) (long : length now ≡ length t.counts.items) (slots : slots_in new ≡ slots_in t) where
   pub table-filled : (hash : ℕ) (p : K × V) → t.len < limit (slots_in t) → IsSpot t hash i → hash < 2 ^ 64
-      → ((g : ℕ) → g < groups_in t → IsRaised (slice_index t.counts.items g) (goes_past (groups_in t) (hash % groups_in t) (step_to (groups_in t) (hash % groups_in t) (i / 16)) g) (slice_index now g))
+      → CountsPast (groups_in t) (hash % groups_in t) (step_to (groups_in t) (hash % groups_in t) (i / 16)) (class_of hash) t.counts.items now
       → new.tags.items ≡ set t.tags.items i (tag_of hash) → pairs_in new ≡ set (pairs_in t) i (Some p) → hashes_in new ≡ set (hashes_in t) i hash → new.len ≡ t.len + 1 → IsTable new
   table-filled hash p room spot fits counts-now tags pairs hashes len = record {
     marked = marked-as (ap length counts ∙ long) tags counts pairs hashes (marked-fill table.marked hash i p spot now (omega (arith, fits)) long counts-now);
@@ -45,7 +45,7 @@ module _ {K V : Type 0} (t new : Table K V) (table : IsTable t) (i : ℕ) (now :
   }
 
   pub table-taken : (p : K × V) (then : List ℕ) (mark : ℕ) → slot (pairs_in t) i ≡ Some p → length then ≡ length t.tags.items
-      → ((g : ℕ) → g < groups_in t → IsLowered (slice_index t.counts.items g) (goes_past (groups_in t) (slice_index (hashes_in t) i % groups_in t) (step_to (groups_in t) (slice_index (hashes_in t) i % groups_in t) (i / 16)) g) (slice_index now g))
+      → UncountsPast (groups_in t) (slice_index (hashes_in t) i % groups_in t) (step_to (groups_in t) (slice_index (hashes_in t) i % groups_in t) (i / 16)) (class_of (slice_index (hashes_in t) i)) t.counts.items now
       → KeepsTags now t.tags.items then → ((g : ℕ) → g < groups_in t → slice_index now g ≡ 0 → IsClean then g) → (slice_index now (i / 16) ≡ 0 → mark ≡ 128) → (0 < slice_index now (i / 16) → mark ≡ 129)
       → new.tags.items ≡ set then i mark → pairs_in new ≡ set (pairs_in t) i None → hashes_in new ≡ hashes_in t → new.len + 1 ≡ t.len → IsTable new
   table-taken p then mark here tags-long counts-now keeps clean empty removed tags pairs hashes len = record {

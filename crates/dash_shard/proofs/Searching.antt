@@ -9,9 +9,9 @@ use Rattle.std.specs.Option.{unwrap_or}
 use Rattle.dash_shard.specs.Search.{IsMask}
 use Rattle.dash_shard.specs.Shard.{slot, taken}
 use Rattle.dash_shard.specs.declared.shard.table.Table.{Table}
-use Rattle.dash_shard.specs.inner.Marks.{tag_of, group_at, step_to, lane, IsFull, IsAllTaken}
+use Rattle.dash_shard.specs.inner.Marks.{tag_of, class_of, count_of, group_at, step_to, lane, IsFull, IsAllTaken}
 use Rattle.dash_shard.specs.inner.Table.{IsTable, IsSpot, IsAbsent, AreTaken, MissesLanes, limit, slots_in, groups_in, pairs_in, hashes_in}
-use Rattle.dash_shard.proofs.Marked.{marked-reached, marked-empty}
+use Rattle.dash_shard.proofs.Marked.{marked-passed, marked-reached, marked-empty}
 use Rattle.dash_shard.proofs.Placing.{table-tells}
 use Rattle.dash_shard.proofs.Ways.{mod_below, round-low, round_step, step_round, step_below}
 
@@ -146,6 +146,34 @@ module _ {K V : Type 0} where
       -- a group with an empty slot: the key is nowhere
       pub absent-here : IsTable t → step < groups_in t → MissesGroup eq t hash k group → (e : (j : ℕ) × (j < 16) × (lane t.tags.items group j ≡ 128)) → IsAbsent eq t hash k
       absent-here table within missing empty i p e whose = absent-at-step table i p e whose (slot-in i p e) within missing empty.0 empty.1 empty.2
+
+      -- no pair of the hash's class stands past the group: the key is nowhere
+      pub absent-passed : IsTable t → step < groups_in t → MissesGroup eq t hash k group → count_of (slice_index t.counts.items group) (class_of hash) ≡ 0 → IsAbsent eq t hash k
+      absent-passed table within missing none i p e whose =
+          let inside = slot-in i p e in
+          elim (cases_lt (step_to (groups_in t) (hash % groups_in t) (i / 16)) step) as (λ _. eq p.0 k ≡ false) [
+            | inl before ↦ absent-before table i p e whose inside before
+            | inr not ↦ elim (cases_eq (step_to (groups_in t) (hash % groups_in t) (i / 16)) step) as (λ _. eq p.0 k ≡ false) [
+              | inl same ↦ in-group table i p e whose inside group (s.here within ∙ ap (λ v. group_at (groups_in t) hash v) (sym same) ∙ its-step table i p e whose inside) missing
+              | inr later ↦ absurd (
+                  let past = subst (λ h. step < step_to (groups_in t) (h % groups_in t) (i / 16)) (sym whose) (omega (arith, not, later)) in
+                  let some = subst (λ h. 0 < count_of (slice_index t.counts.items (group_at (groups_in t) h step)) (class_of h)) whose (marked-passed table.marked i p e step past) in
+                  let here = ap (λ g. count_of (slice_index t.counts.items g) (class_of hash)) (s.here within) in
+                  omega (arith, some, here, none))
+            ]
+          ]
+
+      -- a way that does not go on
+      pub absent-ends : IsTable t → step < groups_in t → MissesGroup eq t hash k group → (row : List ℕ) (m c : ℕ) → IsRow t.tags.items group row → IsMask row 128 m → m < 2 ^ 16 → c ≡ class_of hash
+          → ((m ≡ 0) × (0 < count_of (slice_index t.counts.items group) c) → ⊥) → IsAbsent eq t hash k
+      absent-ends table within missing row m c same bits fits class ends = elim (cases_eq m 0) as (λ _. IsAbsent eq t hash k) [
+        | inl none ↦ absent-passed table within missing (subst (λ d. count_of (slice_index t.counts.items group) d ≡ 0) class
+            (elim (cases_lt 0 (count_of (slice_index t.counts.items group) c)) as (λ _. count_of (slice_index t.counts.items group) c ≡ 0) [
+              | inl some ↦ absurd (ends (none, some))
+              | inr not ↦ omega (arith, not)
+            ]))
+        | inr some ↦ absent-here table within missing (empty-seen t.tags.items group row m same bits some fits)
+      ]
 
       -- all groups were looked at
       pub absent-round : IsTable t → groups_in t ≤ step → IsAbsent eq t hash k

@@ -1,6 +1,6 @@
--- The marks of an open table: a tag for each slot, in groups of sixteen, and for each group how many pairs stand past it. The tag 128 marks
+-- The marks of an open table: a tag for each slot, in groups of sixteen, and for each group how many pairs of each class stand past it. The tag 128 marks
 -- an empty slot, 129 one whose pair was removed, and a lower one is the top seven bits of a stored pair's hash.
-use Rattle.std.specs.Prelude.{◌≡◌, ◌≢◌, ◌⊎◌, ℕ, suc, ◌+◌, ◌-◌, ◌*◌, ◌/◌, ◌%◌, ◌^◌, ◌<◌, ◌≤◌, List, [], ◌∷◌, length, Option, Some, None, slice_index, nat_lt, if◌then◌else◌}
+use Rattle.std.specs.Prelude.{◌≡◌, ◌≢◌, ◌⊎◌, ℕ, suc, ◌+◌, ◌-◌, ◌*◌, ◌/◌, ◌%◌, ◌^◌, ◌<◌, ◌≤◌, List, [], ◌∷◌, length, Option, Some, None, slice_index, nat_lt, ◌==◌, if◌then◌else◌}
 use Rattle.std.specs.Int.{IsPowerOfTwo}
 use Rattle.dash_shard.specs.Shard.{slot}
 
@@ -24,16 +24,39 @@ step_to n a g = if nat_lt g a then n - a + g else g - a
 abbrev pub goes_past : ℕ → ℕ → ℕ → ℕ → ℕ
 goes_past n a s g = if nat_lt (step_to n a g) s then 1 else 0
 
--- what a byte counts of n pairs: 255 stands for a number that was lost, and stays
+-- the class of a hash, one of sixteen
+abbrev pub class_of : ℕ → ℕ
+class_of hash = hash / 2 ^ 32 % 16
+
+-- of the sixteen counts in a word, four bits each, the one of a class
+unfoldable pub count_of : ℕ → ℕ → ℕ
+count_of word c = word / 2 ^ (4 * c) % 16
+
+-- what four bits count of n pairs: 15 stands for a number that was lost, and stays
 abbrev pub IsCount : ℕ → ℕ → Type 0
-IsCount c n = c < 255 → c ≡ n
+IsCount c n = c < 15 → c ≡ n
 
 -- a count with k more, and one with k less
 abbrev pub IsRaised : ℕ → ℕ → ℕ → Type 0
-IsRaised c k new = (c + k < 255 → new ≡ c + k) × (255 ≤ c + k → new ≡ 255)
+IsRaised c k new = (c + k < 15 → new ≡ c + k) × (15 ≤ c + k → new ≡ 15)
 
 abbrev pub IsLowered : ℕ → ℕ → ℕ → Type 0
-IsLowered c k new = (c < 255 → new + k ≡ c) × (255 ≤ c → new ≡ c)
+IsLowered c k new = (c < 15 → new + k ≡ c) × (15 ≤ c → new ≡ c)
+
+-- the other counts of a word are as they were
+abbrev pub OthersStay : ℕ → ℕ → ℕ → Type 0
+OthersStay class old new = (c : ℕ) → c < 16 → c ≢ class → count_of new c ≡ count_of old c
+
+-- a pair of the class was counted at each group that its way of s steps from the group a goes past
+pub record CountsPast (n a s class : ℕ) (old new : List ℕ) : Type 0 where
+  pub own : (g : ℕ) → g < n → IsRaised (count_of (slice_index old g) class) (goes_past n a s g) (count_of (slice_index new g) class)
+  pub more : (g : ℕ) → g < n → slice_index old g ≤ slice_index new g
+  pub others : (g : ℕ) → g < n → OthersStay class (slice_index old g) (slice_index new g)
+
+-- it was taken off their counts
+pub record UncountsPast (n a s class : ℕ) (old new : List ℕ) : Type 0 where
+  pub own : (g : ℕ) → g < n → IsLowered (count_of (slice_index old g) class) (goes_past n a s g) (count_of (slice_index new g) class)
+  pub others : (g : ℕ) → g < n → OthersStay class (slice_index old g) (slice_index new g)
 
 -- the tag of a lane of the group g
 abbrev pub lane : List ℕ → ℕ → ℕ → ℕ
@@ -59,10 +82,10 @@ module _ {A : Type 0} where
   tally f i [] = 0
   tally f i (o ∷ slots) = f i o + tally f (suc i) slots
 
-  -- 1 where the pair of the slot i stands past the group g on its way
-  abbrev pub stands_past : ℕ → List ℕ → ℕ → ℕ → Option A → ℕ
-  stands_past n hashes g i None = 0
-  stands_past n hashes g i (Some p) = goes_past n (slice_index hashes i % n) (step_to n (slice_index hashes i % n) (i / 16)) g
+  -- 1 where the pair of the slot i is of the class c and stands past the group g on its way
+  abbrev pub stands_past : ℕ → List ℕ → ℕ → ℕ → ℕ → Option A → ℕ
+  stands_past n hashes g c i None = 0
+  stands_past n hashes g c i (Some p) = if class_of (slice_index hashes i) == c then goes_past n (slice_index hashes i % n) (step_to n (slice_index hashes i % n) (i / 16)) g else 0
 
   -- the marks of n groups of slots, whose pairs have these hashes
   pub record IsMarked (n : ℕ) (tags counts : List ℕ) (slots : List (Option A)) (hashes : List ℕ) : Type 0 where
@@ -74,8 +97,8 @@ module _ {A : Type 0} where
     pub tagged : (i : ℕ) (p : A) → slot slots i ≡ Some p → slice_index tags i ≡ tag_of (slice_index hashes i)
     pub low : (i : ℕ) (p : A) → slot slots i ≡ Some p → slice_index tags i < 128
     pub free : (i : ℕ) → i < 16 * n → slot slots i ≡ None → 128 ≤ slice_index tags i
-    pub counted : (g : ℕ) → g < n → IsCount (slice_index counts g) (tally (stands_past n hashes g) 0 slots)
-    pub full : (g : ℕ) → g < n → 0 < slice_index counts g → IsFull tags g
+    pub counted : (g c : ℕ) → g < n → c < 16 → IsCount (count_of (slice_index counts g) c) (tally (stands_past n hashes g c) 0 slots)
+    pub full : (g c : ℕ) → g < n → c < 16 → 0 < count_of (slice_index counts g) c → IsFull tags g
     pub clean : (g : ℕ) → g < n → slice_index counts g ≡ 0 → IsClean tags g
 
   -- a pair of this hash may be put on the slot i: it is the first on the hash's way, but for slots of its own group

@@ -11,7 +11,7 @@ ghost use Rattle.std.specs.Map.Iter.{deref_pair};
 
 use crate::shard::group::probe;
 use dash_slots::Slots;
-use marks::{EMPTY, group_of, home, lowest, next_group, without};
+use marks::{EMPTY, class, goes_on, group_of, home, lowest, next_group, without};
 use std::alloc::Global;
 use std::hash::{BuildHasher, Hash};
 use std::mem;
@@ -31,8 +31,8 @@ pub struct Table<K, V> {
     slots: Slots<(K, V)>,
     // A tag for each slot, in groups of sixteen.
     tags: Vec<u8>,
-    // For each group, how many pairs stand past it on their ways, up to 255.
-    counts: Vec<u8>,
+    // For each group, how many pairs of each class stand past it on their ways: sixteen counts of four bits.
+    counts: Vec<u64>,
     len: usize,
 }
 
@@ -135,6 +135,7 @@ impl<K, V> Table<K, V> {
             };
         }
         let tag = (hash >> 57) as u8;
+        let class = class(hash);
         let mut group = home(hash, count);
         for step in 0..count {
             let visits = step + 1;
@@ -145,7 +146,7 @@ impl<K, V> Table<K, V> {
                     visits,
                 };
             }
-            if seen.empty != 0 {
+            if !goes_on(seen, self.counts[group], class) {
                 return Search {
                     position: None,
                     visits,

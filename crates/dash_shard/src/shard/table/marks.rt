@@ -1,15 +1,17 @@
-//! The marks of a table: a tag for each slot, in groups of sixteen, and for each group how many pairs stand past it on their ways.
-ghost use Rattle.std.specs.Prelude.{◌≡◌, ◌⊎◌, ℕ, ◌+◌, ◌*◌, ◌/◌, ◌%◌, ◌-◌, ◌^◌, ◌<◌, ◌≤◌, length, slice_index};
+//! The marks of a table: a tag for each slot, in groups of sixteen, and for each group how many pairs of each class stand past it on their ways.
+ghost use Rattle.std.specs.Prelude.{◌≡◌, ◌⊎◌, ℕ, ◌+◌, ◌*◌, ◌/◌, ◌%◌, ◌-◌, ◌^◌, ◌<◌, ◌≤◌, ◌↔◌, IsTrue, length, slice_index};
 ghost use Rattle.std.specs.Int.{bit_at, IsPowerOfTwo};
-ghost use Rattle.dash_shard.specs.inner.Marks.{round, step_to, goes_past, IsRaised, IsLowered, IsClean, KeepsTags};
+ghost use Rattle.dash_shard.specs.inner.Marks.{round, step_to, goes_past, class_of, count_of, IsRaised, IsLowered, OthersStay, CountsPast, UncountsPast, IsClean, KeepsTags};
+
+use crate::shard::lanes::Probe;
 
 // What stands for a tag where a slot is empty, and where its pair was removed from a group that pairs stand past.
 pub(super) const EMPTY: u8 = 128;
 
 pub(super) const REMOVED: u8 = 129;
 
-// The count of a group that so many pairs stand past, or stood, that a byte lost their number. The group takes no empty mark from then on.
-const MANY: u8 = 255;
+// A count stays at this once it comes to it, since four bits hold no more.
+const MANY: u64 = 15;
 
 // The lowest bit of a mask.
 #[inline(always)]
@@ -79,35 +81,76 @@ pub(super) fn steps_to(home: usize, group: usize, count: usize) -> usize
     }
 }
 
-// One more. A count that comes to 255 stays there, since a byte holds no more.
+// The class of a hash, by bits that are not the tag's, and seldom the shard's or the home group's.
 #[inline(always)]
-fn raised(count: u8) -> u8
-    ensures { IsRaised count 1 result }
+pub(super) fn class(hash: u64) -> usize
+    ensures is { result ≡ class_of hash }
+    ensures below { result < 16 }
 {
-    if count < MANY { count + 1 } else { MANY }
+    (hash >> 32) as usize % 16
 }
 
-// One less, but for a count of 255.
+// Of the counts of a group, the one of a class.
 #[inline(always)]
-fn lowered(count: u8) -> u8
-    requires { 0 < count }
-    ensures { IsLowered count 1 result }
+fn count_at(counts: u64, class: usize) -> u64
+    requires { class < 16 }
+    ensures { result ≡ count_of counts class }
 {
-    if count < MANY { count - 1 } else { count }
+    (counts >> (4 * class)) % 16
 }
 
-// Counts a pair at each group that its way goes past.
+// The counts of a group, with one more of a class.
+#[inline(always)]
+fn raised(counts: u64, class: usize) -> u64
+    requires { class < 16 }
+    ensures own { IsRaised (count_of counts class) 1 (count_of result class) }
+    ensures more { counts ≤ result }
+    ensures others { OthersStay class counts result }
+{
+    if count_at(counts, class) < MANY {
+        counts + (1 << (4 * class))
+    } else {
+        counts
+    }
+}
+
+// The counts of a group, with one less of a class.
+#[inline(always)]
+fn lowered(counts: u64, class: usize) -> u64
+    requires class { class < 16 }
+    requires some { 0 < count_of counts class }
+    ensures own { IsLowered (count_of counts class) 1 (count_of result class) }
+    ensures others { OthersStay class counts result }
+{
+    if count_at(counts, class) < MANY {
+        counts - (1 << (4 * class))
+    } else {
+        counts
+    }
+}
+
+// Whether a way of the class goes on past a group: no slot there is empty, and a pair of the class stands past it.
+#[inline(always)]
+pub(super) fn goes_on(seen: Probe, counts: u64, class: usize) -> bool
+    requires { class < 16 }
+    ensures { IsTrue result ↔ ((seen.empty ≡ 0) × (0 < count_of counts class)) }
+{
+    seen.empty == 0 && count_at(counts, class) != 0
+}
+
+// Counts a pair of a class at each group that its way goes past.
 #[inline]
-pub(super) fn count_past(counts: &mut [u8], home: usize, steps: usize)
+pub(super) fn count_past(counts: &mut [u64], home: usize, steps: usize, class: usize)
     requires home { home < length counts.old }
     requires steps { steps ≤ length counts.old }
+    requires class { class < 16 }
     ensures len { length counts.new ≡ length counts.old }
-    ensures counts { (g : ℕ) → g < length counts.old → IsRaised (slice_index counts.old g) (goes_past (length counts.old) home steps g) (slice_index counts.new g) }
+    ensures counts { CountsPast (length counts.old) home steps class counts.old counts.new }
 {
     let count = counts.len();
     let mut group = home;
     for _step in 0..steps {
-        counts[group] = raised(counts[group]);
+        counts[group] = raised(counts[group], class);
         group = next_group(group, count);
     }
 }
@@ -128,25 +171,32 @@ fn clean_group(tags: &mut [u8], group: usize)
     }
 }
 
-// Takes a pair off the count of each group that its way goes past. Where no pair is left that stands past a group, its removed marks become
-// empty ones.
+// Takes a pair of a class off the counts of each group that its way goes past. Where no pair is left that stands past a group, its removed
+// marks become empty ones.
 #[inline]
-pub(super) fn uncount_past(counts: &mut [u8], tags: &mut [u8], home: usize, steps: usize)
+pub(super) fn uncount_past(
+    counts: &mut [u64],
+    tags: &mut [u8],
+    home: usize,
+    steps: usize,
+    class: usize,
+)
     requires home { home < length counts.old }
     requires steps { steps ≤ length counts.old }
+    requires class { class < 16 }
     requires tags { length tags.old ≡ 16 * length counts.old }
-    requires some { (g : ℕ) → g < length counts.old → goes_past (length counts.old) home steps g ≤ slice_index counts.old g }
+    requires some { (g : ℕ) → g < length counts.old → goes_past (length counts.old) home steps g ≤ count_of (slice_index counts.old g) class }
     requires clean { (g : ℕ) → g < length counts.old → slice_index counts.old g ≡ 0 → IsClean tags.old g }
     ensures len { length counts.new ≡ length counts.old }
     ensures tags_len { length tags.new ≡ length tags.old }
-    ensures counts { (g : ℕ) → g < length counts.old → IsLowered (slice_index counts.old g) (goes_past (length counts.old) home steps g) (slice_index counts.new g) }
+    ensures counts { UncountsPast (length counts.old) home steps class counts.old counts.new }
     ensures keeps { KeepsTags counts.new tags.old tags.new }
     ensures clean { (g : ℕ) → g < length counts.old → slice_index counts.new g ≡ 0 → IsClean tags.new g }
 {
     let count = counts.len();
     let mut group = home;
     for _step in 0..steps {
-        counts[group] = lowered(counts[group]);
+        counts[group] = lowered(counts[group], class);
         if counts[group] == 0 {
             clean_group(tags, group);
         }

@@ -4,7 +4,7 @@ ghost use Rattle.dash_shard.specs.inner.Table.{IsTable, IsSpot, Holds, IsAbsent,
 ghost use Rattle.dash_shard.specs.Shard.{slot};
 
 use super::marks::{
-    EMPTY, REMOVED, count_past, group_of, home, lowest, next_group, steps_to, uncount_past,
+    EMPTY, REMOVED, class, count_past, group_of, home, lowest, next_group, steps_to, uncount_past,
 };
 use super::{Table, find_in};
 use crate::shard::group::probe;
@@ -37,7 +37,7 @@ fn first_free(free: Option<usize>, row: &[u8; 16], start: usize) -> Option<usize
 
 // What marks a slot of a group whose pair goes: it is empty unless pairs stand past the group.
 #[inline(always)]
-fn left_mark(counts: &[u8], group: usize) -> u8
+fn left_mark(counts: &[u64], group: usize) -> u8
     requires { group < length counts.now }
     ensures empty { slice_index counts.now group ≡ 0 → result ≡ 128 }
     ensures removed { 0 < slice_index counts.now group → result ≡ 129 }
@@ -121,7 +121,7 @@ impl<K, V> Table<K, V> {
         let count = self.counts.len();
         let home = home(hash, count);
         let steps = steps_to(home, position / 16, count);
-        count_past(&mut self.counts, home, steps);
+        count_past(&mut self.counts, home, steps, class(hash));
         self.tags[position] = (hash >> 57) as u8;
         self.slots.put(position, hash, (key, value));
         self.len += 1;
@@ -163,7 +163,7 @@ impl<K, V> Table<K, V> {
         let home = home(hash, count);
         let group = position / 16;
         let steps = steps_to(home, group, count);
-        uncount_past(&mut self.counts, &mut self.tags, home, steps);
+        uncount_past(&mut self.counts, &mut self.tags, home, steps, class(hash));
         self.tags[position] = left_mark(&self.counts, group);
         self.len -= 1;
         self.slots.take(position)

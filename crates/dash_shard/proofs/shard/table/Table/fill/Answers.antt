@@ -1,5 +1,5 @@
 use Rattle.std.proofs.Common.{◌≡◌, ℕ, ◌+◌, ◌-◌, ◌^◌, ◌<◌, List, length, set, Some, refl, sym, ap, subst, ◌∙◌, arith, slice_index}
-use Rattle.dash_shard.specs.inner.Marks.{goes_past, IsRaised}
+use Rattle.dash_shard.specs.inner.Marks.{class_of, CountsPast}
 use Rattle.std.proofs.Math.ListN.{length-set}
 use Rattle.dash_shard.specs.inner.Table.{groups_in, pairs_in}
 use Rattle.dash_shard.proofs.Written.{written}
@@ -15,7 +15,7 @@ returns-clause-table g c =
     let counts = written t.counts.len now _ (c.count_past.ensures.len ∙ c.deref_mut.ensures.len) in
     table-filled t _ c.requires.table i now counts (c.count_past.ensures.len ∙ ap length c.deref_mut.ensures.value) (ap length c.put.ensures.values ∙ length-set (pairs_in t) i _)
     c.args.hash (c.args.key, c.args.value) c.requires.room c.requires.spot c.ranges.hash.fits
-    (by-way (λ l a s. (j : ℕ) → j < length l → IsRaised (slice_index l j) (goes_past (length l) a s j) (slice_index now j)) c.args.hash i _ t.counts.items c.len-count.result c.home-home.result c.steps_to-steps.result c.deref_mut.ensures.value long c.home-home.ensures.is c.steps_to-steps.ensures.is c.count_past.ensures.counts)
+    (by-way (λ l a s. CountsPast (length l) a s (class_of c.args.hash) l now) c.args.hash i _ t.counts.items c.len-count.result c.home-home.result c.steps_to-steps.result c.deref_mut.ensures.value long c.home-home.ensures.is c.steps_to-steps.ensures.is (subst (λ d. CountsPast (length c.deref_mut.result.now) c.home-home.result c.steps_to-steps.result d c.deref_mut.result.now now) c.class.ensures.is c.count_past.ensures.counts))
     refl
     c.put.ensures.values
     c.put.ensures.labels

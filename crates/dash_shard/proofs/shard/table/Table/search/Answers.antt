@@ -1,7 +1,9 @@
-use Rattle.std.proofs.Common.{◌≡◌, ℕ, ◌+◌, ◌-◌, ◌*◌, ◌/◌, ◌%◌, ◌<◌, List, ap, subst, refl, ◌∙◌, arith}
-use Rattle.dash_shard.specs.inner.Marks.{group_at, round}
+use Rattle.std.proofs.Common.{◌≡◌, ℕ, ◌+◌, ◌-◌, ◌*◌, ◌/◌, ◌%◌, ◌<◌, List, ap, sym, subst, refl, ◌∙◌, arith, slice_index}
+use Rattle.std.proofs.lemmas.Bool.{false≢true}
+use Rattle.std.proofs.lemmas.List.{get_or_default}
+use Rattle.dash_shard.specs.inner.Marks.{count_of, group_at, round}
 use Rattle.dash_shard.specs.inner.Table.{groups_in, MissesLanes}
-use Rattle.dash_shard.proofs.Searching.{IsRow, searching-first, searching-more, misses-seen, full-seen, empty-seen, absent-here, absent-round}
+use Rattle.dash_shard.proofs.Searching.{IsRow, searching-first, searching-more, misses-seen, full-seen, absent-ends, absent-round}
 use Rattle.dash_shard.proofs.Ways.{mod_below}
 use Rattle.dash_shard.proofs.shard.table.Table.search.Goals as goal
 
@@ -18,13 +20,14 @@ returns-in-Some-clause-last g c =
     let before : s ≡ s + 1 - 1 = omega arith in
     here ∙ c.loop-step.invariant.here (omega (arith, c.loop-step-test.true, c.len-count.ensures)) ∙ ap (λ v. group_at (groups_in c.args.self.now) c.args.hash v) before
 
-pub returns-then-seen-ne0-clause-absent : goal.returns-then-seen-ne0-clause-absent
-returns-then-seen-ne0-clause-absent g c =
+pub returns-then-not-goes_on-clause-absent : goal.returns-then-not-goes_on-clause-absent
+returns-then-not-goes_on-clause-absent g c =
     let t = c.args.self.now in
     let row = subst (λ (l : List ℕ). IsRow l c.loop-step.group c.group_of.result.now) c.deref.ensures.value c.group_of.ensures in
-    let none = c.in_default.ensures.absent in
-    let missing = misses-seen g.K.PartialEq.eq t c.args.hash c.args.key.now c.requires c.loop-step.group _ _ _ row refl c.probe-seen.ensures.matches none in
-    absent-here _ _ _ _ c.loop-step.step c.loop-step.group c.loop-step.invariant c.requires (omega (arith, c.loop-step-test.true, c.len-count.ensures)) missing (empty-seen _ _ _ _ row c.probe-seen.ensures.empty c.if-seen-ne0.true c.probe-seen.ensures.fits.1)
+    let missing = misses-seen g.K.PartialEq.eq t c.args.hash c.args.key.now c.requires c.loop-step.group _ _ _ row refl c.probe-seen.ensures.matches c.in_default.ensures.absent in
+    let here : c.index.result.now ≡ slice_index t.counts.items c.loop-step.group = c.index.ensures ∙ get_or_default t.counts.items c.loop-step.group c.index.result.now 0 c.loop-step.invariant.below in
+    absent-ends _ _ _ _ c.loop-step.step c.loop-step.group c.loop-step.invariant c.requires (omega (arith, c.loop-step-test.true, c.len-count.ensures)) missing _ _ c.class-class.result row c.probe-seen.ensures.empty c.probe-seen.ensures.fits.1 c.class-class.ensures.is
+    (λ on. false≢true (sym c.if-not-goes_on.true ∙ c.goes_on.ensures.1 (on.0, subst (λ x. 0 < count_of x c.class-class.result) (sym here) on.1)))
 
 pub loop-step-preserved : goal.loop-step-preserved
 loop-step-preserved g c =
@@ -35,7 +38,7 @@ loop-step-preserved g c =
     let missing = misses-seen g.K.PartialEq.eq t c.args.hash c.args.key.now c.requires c.loop-step.group _ _ _ row refl c.probe-seen.ensures.matches none in
     let home = mod_below (groups_in t) c.args.hash (omega (arith, c.loop-step-test.true, c.len-count.ensures)) in
     let less : c.loop-step.step < groups_in t = omega (arith, c.loop-step-test.true, c.len-count.ensures) in
-    searching-more _ _ _ _ c.loop-step.step c.loop-step.group c.loop-step.invariant c.next_group-group.result less missing (full-seen _ _ _ _ row c.probe-seen.ensures.empty c.if-seen-ne0.false)
+    searching-more _ _ _ _ c.loop-step.step c.loop-step.group c.loop-step.invariant c.next_group-group.result less missing (full-seen _ _ _ _ row c.probe-seen.ensures.empty (c.goes_on.ensures.0 c.if-not-goes_on.false).0)
     (omega (arith, c.next_group-group.ensures.below, c.len-count.ensures))
     (subst (λ (n : ℕ). c.loop-step.group ≡ round n (c.args.hash % groups_in t + c.loop-step.step) → c.next_group-group.result ≡ round n (c.args.hash % groups_in t + (c.loop-step.step + 1))) long
     (c.next_group-group.ensures.next (c.args.hash % groups_in t) c.loop-step.step (omega (arith, home, c.len-count.ensures)) c.loop-step-test.true))

@@ -1,5 +1,5 @@
-use Rattle.std.proofs.Common.{◌≡◌, ℕ, ◌+◌, ◌/◌, ◌%◌, ◌<◌, ◌≤◌, List, length, set, None, ap, subst, ◌∙◌, arith, slice_index}
-use Rattle.dash_shard.specs.inner.Marks.{goes_past, IsLowered, IsClean, KeepsTags}
+use Rattle.std.proofs.Common.{◌≡◌, ℕ, ◌+◌, ◌/◌, ◌%◌, ◌<◌, ◌≤◌, List, length, set, None, sym, ap, subst, ◌∙◌, arith, slice_index}
+use Rattle.dash_shard.specs.inner.Marks.{class_of, count_of, goes_past, UncountsPast, IsClean, KeepsTags}
 use Rattle.std.proofs.Math.ListN.{length-set}
 use Rattle.dash_shard.specs.inner.Table.{groups_in, pairs_in, hashes_in}
 use Rattle.dash_shard.specs.Shard.{slot}
@@ -11,12 +11,14 @@ use Rattle.dash_shard.proofs.shard.table.Table.take.Goals as goal
 pub uncount_past-requires-clause-some : goal.uncount_past-requires-clause-some
 uncount_past-requires-clause-some g c =
     let t = c.args.self.now in
+    let mine : c.class.result ≡ class_of (slice_index (hashes_in t) c.args.position) = c.class.ensures.is ∙ ap (λ h. class_of h) c.requires.hash in
     let i = c.args.position in
     let p = some-of (slot (pairs_in t) i) c.requires.taken in
     let long : c.len-count.result ≡ groups_in t = omega (arith, c.len-count.ensures, t.counts.ok.0) in
-    to-way (λ l a s. (j : ℕ) → j < length l → goes_past (length l) a s j ≤ slice_index l j) (slice_index (hashes_in t) i) i _ t.counts.items c.len-count.result c.home-home.result c.steps_to-steps.result c.deref_mut.ensures.value long
+    subst (λ d. (j : ℕ) → j < length c.deref_mut.result.now → goes_past (length c.deref_mut.result.now) c.home-home.result c.steps_to-steps.result j ≤ count_of (slice_index c.deref_mut.result.now j) d) (sym mine)
+    (to-way (λ l a s. (j : ℕ) → j < length l → goes_past (length l) a s j ≤ count_of (slice_index l j) (class_of (slice_index (hashes_in t) i))) (slice_index (hashes_in t) i) i _ t.counts.items c.len-count.result c.home-home.result c.steps_to-steps.result c.deref_mut.ensures.value long
     (subst (λ h. c.home-home.result ≡ h % c.len-count.result) c.requires.hash c.home-home.ensures.is) c.steps_to-steps.ensures.is
-    (counted-there c.requires.table.marked i p.0 p.1)
+    (counted-there c.requires.table.marked i p.0 p.1))
 
 pub overflow_sub-self : goal.overflow_sub-self
 overflow_sub-self g c = table-some c.args.self.now c.requires.table c.args.position c.requires.taken
@@ -38,10 +40,11 @@ returns-clause-table g c =
     let tags = written t.tags.len then _ (u.tags_len ∙ c.deref_mut-2.ensures.len) in
     let seen = c.deref.ensures.value ∙ counts in
     let whose : c.home-home.result ≡ slice_index (hashes_in t) i % c.len-count.result = subst (λ h. c.home-home.result ≡ h % c.len-count.result) c.requires.hash c.home-home.ensures.is in
+    let mine : c.class.result ≡ class_of (slice_index (hashes_in t) i) = c.class.ensures.is ∙ ap (λ h. class_of h) c.requires.hash in
     let lengths = ap length c.deref_mut.ensures.value in
     table-taken t _ c.requires.table i now counts (u.len ∙ lengths) (ap length c.take.ensures.values ∙ length-set (pairs_in t) i None)
     p.0 then c.left_mark.result p.1 (u.tags_len ∙ ap length c.deref_mut-2.ensures.value)
-    (by-way (λ l a s. (j : ℕ) → j < length l → IsLowered (slice_index l j) (goes_past (length l) a s j) (slice_index now j)) (slice_index (hashes_in t) i) i _ t.counts.items c.len-count.result c.home-home.result c.steps_to-steps.result c.deref_mut.ensures.value long whose c.steps_to-steps.ensures.is u.counts)
+    (by-way (λ l a s. UncountsPast (length l) a s (class_of (slice_index (hashes_in t) i)) l now) (slice_index (hashes_in t) i) i _ t.counts.items c.len-count.result c.home-home.result c.steps_to-steps.result c.deref_mut.ensures.value long whose c.steps_to-steps.ensures.is (subst (λ d. UncountsPast (length c.deref_mut.result.now) c.home-home.result c.steps_to-steps.result d c.deref_mut.result.now now) mine u.counts))
     (subst (λ l. KeepsTags now l then) c.deref_mut-2.ensures.value u.keeps)
     (subst (λ (l : List ℕ). (j : ℕ) → j < length l → slice_index now j ≡ 0 → IsClean then j) c.deref_mut.ensures.value u.clean)
     (subst (λ (l : List ℕ). slice_index l (i / 16) ≡ 0 → c.left_mark.result ≡ 128) seen c.left_mark.ensures.empty)
