@@ -1,5 +1,5 @@
 -- The calls on a taken slot, as the step table says them.
-use Rattle.std.proofs.Common.{◌≡◌, ℕ, ◌+◌, List, length, set, Option, Some, None, is_some, IsSome, refl, sym, ap, subst, ◌∙◌, inl, inr}
+use Rattle.std.proofs.Common.{◌≡◌, ℕ, ◌+◌, List, set, Option, Some, None, is_some, IsSome, refl, sym, ap, subst, ◌∙◌, inl, inr}
 use Rattle.std.specs.Option.{option_map}
 use Rattle.std.proofs.lemmas.Bool.{true≢false, cases_Bool, cases_eq}
 use Rattle.std.proofs.lemmas.Option.{none-some}

@@ -1,7 +1,7 @@
 -- Pairs that go from the end of a row of slots to another table.
 use Rattle.std.proofs.Common.{◌≡◌, ℕ, zero, suc, ◌+◌, ◌<◌, ◌≤◌, true, cond, List, [], ◌∷◌, length, get_or, set, Option, Some, None, refl, sym, ap, subst, ◌∙◌, inl, inr, arith, is_some, get_or-set_same, get_or-set_other}
 use Rattle.std.specs.Cmp.{IsEquivalence}
-use Rattle.std.proofs.lemmas.Bool.{cases_eq, cases_lt}
+use Rattle.std.proofs.lemmas.Bool.{cases_eq}
 use Rattle.std.proofs.lemmas.List.{get_or_past}
 use Rattle.std.proofs.lemmas.Option.{none-some, same_Some}
 use Rattle.std.proofs.Math.ListN.{drop, length-set}
@@ -11,7 +11,7 @@ use Rattle.dash_shard.specs.Contents.{Keys, at, Distinct, EachOnce}
 use Rattle.dash_shard.specs.declared.shard.table.Table.{Table}
 use Rattle.dash_shard.specs.Shard.{slot, taken}
 use Rattle.dash_shard.specs.inner.Table.{pairs_in, hashes_in, limit, slots_in, IsTable, IsCarried, IsHashed}
-use Rattle.dash_shard.proofs.Slots.{Equal, NoOther, absent-at, at-written, distinct-written, length-taken-fill}
+use Rattle.dash_shard.proofs.Slots.{Equal, NoOther, absent-at, at-written, distinct-written}
 use Rattle.dash_shard.proofs.Sweeping.{taken-some}
 
 taken-drop : {A : Type 0} (xs : List (Option A)) (i : ℕ) → length (taken (drop i xs)) ≤ length (taken xs)

@@ -1,5 +1,5 @@
 -- Counting a pair at the groups that its way goes past, and taking it off their counts.
-use Rattle.std.proofs.Common.{◌≡◌, ◌⊎◌, ℕ, ◌+◌, ◌-◌, ◌*◌, ◌/◌, ◌<◌, ◌≤◌, List, length, set, refl, sym, ap, subst, ◌∙◌, inl, inr, arith, slice_index, get_or-set_same, get_or-set_other}
+use Rattle.std.proofs.Common.{◌≡◌, ◌⊎◌, ℕ, ◌+◌, ◌*◌, ◌/◌, ◌<◌, ◌≤◌, List, length, set, refl, sym, ap, subst, ◌∙◌, inl, inr, arith, slice_index, get_or-set_same, get_or-set_other}
 use Rattle.std.proofs.lemmas.Bool.{cases_eq, cases_lt}
 use Rattle.std.proofs.Math.ListN.{length-set}
 use Rattle.dash_shard.specs.inner.Marks.{round, step_to, goes_past, count_of, IsCount, IsRaised, IsLowered, OthersStay, CountsPast, UncountsPast, IsClean, KeepsTags}

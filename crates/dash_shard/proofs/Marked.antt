@@ -1,5 +1,5 @@
 -- The marks of a table's slots, after each change of a slot.
-use Rattle.std.proofs.Common.{◌≡◌, ◌≢◌, ℕ, zero, suc, ◌+◌, ◌-◌, ◌*◌, ◌/◌, ◌%◌, ◌^◌, ◌<◌, ◌≤◌, List, [], ◌∷◌, length, set, Option, Some, None, refl, sym, ap, subst, ◌∙◌, inl, inr, arith, slice_index, get_or-set_same, get_or-set_other, eq-eqb, ◌==◌, cond}
+use Rattle.std.proofs.Common.{◌≡◌, ◌≢◌, ℕ, zero, suc, ◌+◌, ◌*◌, ◌/◌, ◌%◌, ◌<◌, ◌≤◌, List, [], ◌∷◌, length, set, Option, Some, None, refl, sym, ap, subst, ◌∙◌, inl, inr, arith, slice_index, get_or-set_same, get_or-set_other, eq-eqb, ◌==◌, cond}
 use Rattle.std.proofs.lemmas.Bool.{cases_eq, cases_lt, ne_eqb}
 use Rattle.std.proofs.lemmas.List.{get_or_past}
 use Rattle.std.proofs.lemmas.Option.{none-some}
@@ -8,7 +8,7 @@ use Rattle.std.specs.Int.{IsPowerOfTwo}
 use Rattle.dash_shard.specs.Shard.{slot}
 use Rattle.dash_shard.specs.inner.Marks.{tag_of, round, step_to, goes_past, lane, IsFull, IsClean, IsAllTaken, KeepsTags, tally, stands_past, IsMarked, IsPlace, class_of, count_of, IsCount, IsRaised, IsLowered, CountsPast, UncountsPast}
 use Rattle.dash_shard.proofs.Fours.{class-small, count-word, count-zero}
-use Rattle.dash_shard.proofs.Counts.{count-raised, count-lowered, count-some, raised-none, raised-some, lowered-some}
+use Rattle.dash_shard.proofs.Counts.{count-raised, count-lowered, count-some, raised-some, lowered-some}
 use Rattle.dash_shard.proofs.Ways.{mod_below, round_below, round_step, step_round, step_below, past_yes, past_no}
 
 -- a write to the tags that puts no x

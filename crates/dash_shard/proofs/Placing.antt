@@ -8,7 +8,7 @@ use Rattle.dash_shard.specs.declared.shard.table.Table.{Table}
 use Rattle.dash_shard.specs.inner.Marks.{tag_of, class_of, step_to, CountsPast, UncountsPast, IsClean, KeepsTags, IsMarked}
 use Rattle.dash_shard.specs.inner.Table.{IsTable, IsSpot, TellsTaken, limit, slots_in, groups_in, pairs_in, hashes_in, IsMoved}
 use Rattle.std.specs.Int.{IsPowerOfTwo}
-use Rattle.std.proofs.lemmas.List.{length-map, get_or-replicate}
+use Rattle.std.proofs.lemmas.List.{get_or-replicate}
 use Rattle.std.proofs.Math.ListN.{replicate, length-replicate}
 use Rattle.dash_shard.proofs.Marked.{marked-fresh, marked-fill, marked-clear}
 use Rattle.dash_shard.proofs.Written.{marked-as}

@@ -1,12 +1,12 @@
 -- A walk over all slots of a table, which calls a closure at the pair of each.
-use Rattle.std.proofs.Common.{◌≡◌, ℕ, suc, ◌+◌, ◌<◌, Bool, true, false, List, map, [], ◌∷◌, ◌++◌, length, get_or, set, Option, Some, None, IfSome, IsSome, is_some, refl, sym, ap, subst, ◌∙◌, arith, append_assoc, append-nil, get_or-set_same}
+use Rattle.std.proofs.Common.{◌≡◌, ℕ, suc, ◌+◌, ◌<◌, Bool, true, false, List, map, [], ◌∷◌, ◌++◌, length, set, Option, Some, None, IfSome, IsSome, is_some, refl, sym, ap, subst, ◌∙◌, arith, append_assoc, append-nil}
 use Rattle.std.proofs.Math.ListN.{take, drop}
 use Rattle.std.proofs.Math.Seq.{drop-cons, drop-length, take-length}
 use Rattle.std.proofs.lemmas.Bool.{true≢false}
-use Rattle.std.proofs.lemmas.List.{length-map, take_more_set, drop-set-lt, set-set}
+use Rattle.std.proofs.lemmas.List.{take_more_set, drop-set-lt, set-set}
 use Rattle.std.specs.Map.Calls.{CallableOnEachPair}
 use Rattle.dash_shard.specs.Shard.{slot, taken}
-use Rattle.dash_shard.specs.inner.Table.{pairs_in, IsHashed}
+use Rattle.dash_shard.specs.inner.Table.{IsHashed}
 use Rattle.dash_shard.specs.inner.Walks.{Visits, Sweeps, Asks, if_kept}
 use Rattle.dash_shard.proofs.Shards.{hashed-replace, hashed-clear}
 use Rattle.dash_shard.proofs.Slots.{length-taken-clear}

@@ -1,13 +1,12 @@
 -- A walk along the slots of a row, by what its tags tell.
-use Rattle.std.proofs.Common.{◌≡◌, ℕ, zero, suc, ◌+◌, ◌<◌, ◌≤◌, List, [], ◌∷◌, map, length, set, slice_index, Option, Some, None, IsSome, is_some, refl, sym, ap, subst, ◌∙◌, inl, inr, arith, get_or-set_same, get_or-set_other}
-use Rattle.std.proofs.lemmas.Bool.{cases_eq, cases_lt, true≢false}
+use Rattle.std.proofs.Common.{◌≡◌, ℕ, zero, suc, ◌+◌, ◌<◌, ◌≤◌, List, [], ◌∷◌, length, set, slice_index, Option, Some, None, IsSome, is_some, refl, sym, ap, ◌∙◌, inl, inr, arith, get_or-set_same, get_or-set_other}
+use Rattle.std.proofs.lemmas.Bool.{cases_eq, cases_lt}
 use Rattle.std.proofs.lemmas.List.{get_or_past}
 use Rattle.std.proofs.lemmas.Option.{none-some}
 use Rattle.std.proofs.Math.ListN.{drop, length-set}
-use Rattle.std.proofs.Math.Seq.{drop-cons, drop-length}
+use Rattle.std.proofs.Math.Seq.{drop-cons}
 use Rattle.dash_shard.specs.Shard.{slot, taken}
 use Rattle.dash_shard.specs.inner.Table.{TellsTaken}
-use Rattle.dash_shard.proofs.Placing.{some-of, all-none}
 
 module _ {A : Type 0} where
   -- the slots from i on are a slot and those behind it

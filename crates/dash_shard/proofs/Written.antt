@@ -7,7 +7,7 @@ use Rattle.std.proofs.Math.Seq.{take-append_seam}
 use Rattle.dash_shard.specs.declared.shard.table.Table.{Table}
 use Rattle.dash_shard.specs.Shard.{slot, taken}
 use Rattle.dash_shard.specs.inner.Marks.{IsMarked}
-use Rattle.dash_shard.specs.inner.Table.{slots_in, pairs_in, hashes_in, IsTable}
+use Rattle.dash_shard.specs.inner.Table.{pairs_in, hashes_in, IsTable}
 use Rattle.dash_shard.proofs.Marked.{marked-rewrite}
 use Rattle.dash_shard.proofs.Slots.{length-taken-replace}
 

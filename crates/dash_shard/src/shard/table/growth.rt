@@ -6,8 +6,8 @@ ghost use Rattle.dash_shard.specs.inner.Table.{IsTable, IsHashed, CarriesOnce, I
 ghost use Rattle.dash_shard.specs.Shard.{taken};
 ghost use Rattle.dash_slots.specs.Slots.{IsBlank};
 
-use super::marks::EMPTY;
 use super::Table;
+use super::marks::EMPTY;
 use dash_slots::Slots;
 use std::alloc::{AllocError, Global};
 use std::hash::{BuildHasher, Hash};

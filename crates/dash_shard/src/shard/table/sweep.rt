@@ -7,8 +7,8 @@ ghost use Rattle.dash_shard.specs.Shard.{slot, taken};
 ghost use Rattle.dash_shard.specs.Each.{CalledOnPair, TakesOnPair};
 ghost use Rattle.dash_shard.specs.inner.Walks.{Asks, Visits, Sweeps, if_kept, altered};
 
-use super::marks::EMPTY;
 use super::Table;
+use super::marks::EMPTY;
 use dash_slots::Slots;
 use std::hash::{BuildHasher, Hash};
 

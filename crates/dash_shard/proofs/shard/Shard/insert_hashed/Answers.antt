@@ -1,6 +1,5 @@
-use Rattle.std.proofs.Common.{◌<◌, ap, length, arith, ◌∙◌}
+use Rattle.std.proofs.Common.{◌<◌, ap, arith, ◌∙◌}
 use Rattle.std.specs.Option.{option_map}
-use Rattle.std.proofs.lemmas.List.{length-map}
 use Rattle.dash_shard.specs.inner.Table.{Holds, IsAbsent, IsSpot, limit, slots_in, pairs_in}
 use Rattle.dash_shard.proofs.Placing.{if-some, if-none}
 use Rattle.dash_shard.proofs.Shards.{hash-same, at-missing, replaced, filled, inserts, refuses}

@@ -1,5 +1,4 @@
-use Rattle.std.proofs.Common.{◌≡◌, ◌∙◌, arith}
-use Rattle.dash_shard.specs.inner.Table.{slots_in}
+use Rattle.std.proofs.Common.{◌∙◌, arith}
 use Rattle.dash_shard.proofs.Sweeping.{sweeping-ready, sweeping-next, sweeping-last}
 use Rattle.dash_shard.proofs.shard.table.Table.alter_all.Goals as goal
 

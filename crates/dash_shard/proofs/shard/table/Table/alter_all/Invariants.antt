@@ -1,4 +1,4 @@
-use Rattle.std.proofs.Common.{◌≡◌, length}
+use Rattle.std.proofs.Common.{◌≡◌}
 use Rattle.dash_shard.specs.inner.Table.{IsTable, pairs_in, hashes_in, slots_in}
 use Rattle.dash_shard.specs.Each.{CalledOnPair, TakesOnPair}
 use Rattle.dash_shard.specs.inner.Walks.{altered}

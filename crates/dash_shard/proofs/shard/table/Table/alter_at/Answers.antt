@@ -1,4 +1,4 @@
-use Rattle.std.proofs.Common.{true, None, Some, refl, ◌∙◌, ap, set, get_or-set_same, is_some}
+use Rattle.std.proofs.Common.{true, None, Some, refl, ◌∙◌, ap, set, get_or-set_same}
 use Rattle.std.proofs.Math.Seq.{set-set}
 use Rattle.dash_shard.specs.Shard.{slot}
 use Rattle.dash_shard.specs.inner.Table.{pairs_in}

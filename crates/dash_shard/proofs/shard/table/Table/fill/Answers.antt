@@ -1,4 +1,4 @@
-use Rattle.std.proofs.Common.{◌≡◌, ℕ, ◌+◌, ◌-◌, ◌^◌, ◌<◌, List, length, set, Some, refl, sym, ap, subst, ◌∙◌, arith, slice_index}
+use Rattle.std.proofs.Common.{◌≡◌, length, refl, ap, subst, ◌∙◌, arith}
 use Rattle.dash_shard.specs.inner.Marks.{class_of, CountsPast}
 use Rattle.std.proofs.Math.ListN.{length-set}
 use Rattle.dash_shard.specs.inner.Table.{groups_in, pairs_in}

@@ -1,7 +1,7 @@
-use Rattle.std.proofs.Common.{◌≡◌, ℕ, ◌+◌, ◌*◌, ◌%◌, ◌<◌, List, Option, sym, ap, subst, refl, ◌∙◌, arith}
+use Rattle.std.proofs.Common.{◌≡◌, ℕ, ◌+◌, ◌%◌, ◌<◌, List, Option, sym, ap, subst, refl, ◌∙◌, arith}
 use Rattle.std.specs.Option.{unwrap_or}
 use Rattle.dash_shard.specs.inner.Marks.{round}
-use Rattle.dash_shard.specs.inner.Table.{groups_in, MissesLanes, IsAbsent, IsSpot}
+use Rattle.dash_shard.specs.inner.Table.{groups_in, IsAbsent, IsSpot}
 use Rattle.dash_shard.proofs.Searching.{IsRow, searching-first, searching-more, misses-seen, full-seen, empty-seen, absent-here, absent-round, placing-first, placing-now, placing-more, placing-empty, placing-round, placed}
 use Rattle.dash_shard.proofs.Ways.{mod_below}
 use Rattle.dash_shard.proofs.shard.table.Table.find_or_place.Goals.{else-loop-step-test, then-loop-step-test+in_default+then-seen-ne0}

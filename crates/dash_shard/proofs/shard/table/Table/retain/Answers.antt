@@ -1,4 +1,4 @@
-use Rattle.std.proofs.Common.{◌<◌, length, ◌∙◌, arith}
+use Rattle.std.proofs.Common.{◌<◌, ◌∙◌, arith}
 use Rattle.std.specs.Map.Calls.{CalledAtPair}
 use Rattle.dash_shard.specs.Hashing.{hash_of}
 use Rattle.dash_shard.specs.inner.Table.{pairs_in, hashes_in, slots_in}

@@ -1,4 +1,4 @@
-use Rattle.std.proofs.Common.{◌≡◌, length}
+use Rattle.std.proofs.Common.{◌≡◌}
 use Rattle.std.specs.Map.Calls.{CalledAtPair, TakesPair}
 use Rattle.dash_shard.specs.Hashing.{hash_of}
 use Rattle.dash_shard.specs.inner.Table.{IsTable, IsHashed, pairs_in, hashes_in, slots_in}

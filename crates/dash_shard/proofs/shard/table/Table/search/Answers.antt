@@ -1,8 +1,8 @@
-use Rattle.std.proofs.Common.{◌≡◌, ℕ, ◌+◌, ◌-◌, ◌*◌, ◌/◌, ◌%◌, ◌<◌, List, ap, sym, subst, refl, ◌∙◌, arith, slice_index}
+use Rattle.std.proofs.Common.{◌≡◌, ℕ, ◌+◌, ◌-◌, ◌/◌, ◌%◌, ◌<◌, List, ap, sym, subst, refl, ◌∙◌, arith, slice_index}
 use Rattle.std.proofs.lemmas.Bool.{false≢true}
 use Rattle.std.proofs.lemmas.List.{get_or_default}
 use Rattle.dash_shard.specs.inner.Marks.{count_of, group_at, round}
-use Rattle.dash_shard.specs.inner.Table.{groups_in, MissesLanes}
+use Rattle.dash_shard.specs.inner.Table.{groups_in}
 use Rattle.dash_shard.proofs.Searching.{IsRow, searching-first, searching-more, misses-seen, full-seen, absent-ends, absent-round}
 use Rattle.dash_shard.proofs.Ways.{mod_below}
 use Rattle.dash_shard.proofs.shard.table.Table.search.Goals as goal

@@ -1,6 +1,6 @@
-use Rattle.std.proofs.Common.{◌≡◌, ◌+◌, ◌-◌, ◌<◌, ◌∙◌, sym, ap, subst, arith}
+use Rattle.std.proofs.Common.{◌+◌, ◌-◌, ◌∙◌, sym, ap, subst, arith}
 use Rattle.dash_shard.specs.inner.Marks.{count_of, OthersStay}
-use Rattle.dash_shard.proofs.Fours.{one, one-fits, one-less, others-less, worth}
+use Rattle.dash_shard.proofs.Fours.{one-fits, one-less, others-less, worth}
 use Rattle.dash_shard.proofs.shard.table.marks.lowered.Goals as goal
 
 pub overflow_sub-result : goal.overflow_sub-result

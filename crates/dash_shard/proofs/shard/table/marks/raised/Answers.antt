@@ -1,6 +1,6 @@
-use Rattle.std.proofs.Common.{◌≡◌, ◌+◌, ◌^◌, ◌<◌, ◌∙◌, sym, ap, subst, arith}
-use Rattle.dash_shard.specs.inner.Marks.{count_of, OthersStay, IsRaised}
-use Rattle.dash_shard.proofs.Fours.{one, one-fits, one-more, others-more, count-small, room}
+use Rattle.std.proofs.Common.{◌+◌, ◌<◌, ◌∙◌, sym, ap, subst, arith}
+use Rattle.dash_shard.specs.inner.Marks.{count_of, OthersStay}
+use Rattle.dash_shard.proofs.Fours.{one-fits, one-more, others-more, count-small, room}
 use Rattle.dash_shard.proofs.shard.table.marks.raised.Goals as goal
 
 pub overflow_add-result : goal.overflow_add-result

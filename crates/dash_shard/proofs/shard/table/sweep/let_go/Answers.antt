@@ -1,4 +1,4 @@
-use Rattle.std.proofs.Common.{◌∙◌, sym, arith}
+use Rattle.std.proofs.Common.{arith}
 use Rattle.dash_shard.proofs.Placing.{all-none}
 use Rattle.dash_shard.proofs.Tells.{tells-all}
 use Rattle.dash_shard.proofs.shard.table.sweep.let_go.Goals as goal

@@ -1,5 +1,4 @@
-use Rattle.std.proofs.Common.{◌≡◌, ◌∷◌, List, length, sym, ◌∙◌, ap, arith}
-use Rattle.std.specs.Iterator.{at_most}
+use Rattle.std.proofs.Common.{◌∷◌, length, sym, ◌∙◌, ap, arith}
 use Rattle.dash_shard.specs.Shard.{taken}
 use Rattle.dash_shard.proofs.Tells.{first-taken, tells-all, none-taken}
 use Rattle.dash_shard.proofs.shard.table.walk.IntoIterIterator.next.Goals as goal

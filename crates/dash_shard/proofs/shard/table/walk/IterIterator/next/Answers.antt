@@ -1,4 +1,4 @@
-use Rattle.std.proofs.Common.{◌≡◌, ap, length, sym, ◌∙◌, arith}
+use Rattle.std.proofs.Common.{ap, length, sym, ◌∙◌, arith}
 use Rattle.dash_shard.specs.inner.Table.{values_of}
 use Rattle.dash_shard.proofs.Tells.{passes-free, tells-none}
 use Rattle.dash_shard.proofs.shard.table.walk.IterIterator.next.Goals as goal
