@@ -8,9 +8,9 @@ use Rattle.dash_shard.specs.Shard.{ShardState, slot, with_value_in}
 use Rattle.dash_ref.specs.Ref.{RefState}
 use Rattle.dash_map.specs.Walking.{IterState, StepsOn, steps_left}
 
--- a call on s lent the value v of an item, of which P says what s ends as where w is left, or none, and s ends as P₀ says
-abbrev pub LendsItem : (R T : RattleType) → MutBor R.Denot → Option (MutBor T.Denot) → (T.Denot → R.Denot → T.Denot → Type 0) → (R.Denot → Type 0) → Fml
-LendsItem R T s r P P₀ = LendsSo R T s r (λ n w. IfSome r (λ v. P v.now n w)) (λ n. IfNone r (P₀ n))
+-- what s ends as, where a call on it lent the value v of an item: P (Some (v, w)) says so of the value w that is left, and P None where it lent none
+abbrev pub LendsItem : (R T : RattleType) → MutBor R.Denot → Option (MutBor T.Denot) → (Option (T.Denot × T.Denot) → R.Denot → Type 0) → Fml
+LendsItem R T s r P = LendsSo R T s r (λ n w. IfSome r (λ v. P (Some (v.now, w)) n)) (λ n. IfNone r (P None n))
 
 module _ {K V S : Type 0} where
   -- the pair in the slot in front of a position of a shard, if it is held
@@ -53,3 +53,8 @@ module _ {K V S : Type 0} where
       pub steps : StepsTo old item found
       pub value : item.value ≡ v
       pub left : new ≡ rewritten found w
+
+    -- a step that lent the value v of its pair, where w was left, or found the end
+    abbrev pub StepsLending : IterState K V S → Option (V × V) → IterState K V S → Type 0
+    StepsLending old (Some (v , w)) new = Rewrites old v new w
+    StepsLending old None new = StepsToEnd old new

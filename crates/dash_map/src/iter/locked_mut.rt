@@ -9,7 +9,7 @@ ghost use Rattle.dash_shard.specs.Hashing.{by};
 ghost use Rattle.dash_shard.specs.inner.Loans.{MayLend};
 ghost use Rattle.dash_ref.specs.Multi.{lent_pair, lent_value};
 ghost use Rattle.dash_map.specs.Walking.{IterState, IsDone, at_start, steps_left};
-ghost use Rattle.dash_map.specs.WalkingMut.{here, rewritten, Advances, LendsItem, StepsToEnd, Rewrites};
+ghost use Rattle.dash_map.specs.WalkingMut.{here, rewritten, Advances, LendsItem, StepsLending};
 ghost use Rattle.dash_map.specs.inner.Walking.{IsWalk};
 ghost use Rattle.dash_map.specs.inner.WalkingMut.{MayHold, GoesHere, joined_if};
 
@@ -232,7 +232,7 @@ impl<'a, K: Eq + Hash, V, S: BuildHasher, R: Wait + Clock> IterMut<'a, K, V, S, 
     /// For the stored key beside the value there are `advance` and `item_mut`.
     #[inline]
     pub fn next_mut(&mut self) -> Option<&mut V>
-        ensures* writes_back { sem 𝓛 (LendsItem ⟦<Self as Lender>⟧.row V.row self.entry result (Rewrites ⟦<Self as Keyed>⟧.by self.old) (StepsToEnd ⟦<Self as Keyed>⟧.by self.old)) }
+        ensures* writes_back { sem 𝓛 (LendsItem ⟦<Self as Lender>⟧.row V.row self.entry result (StepsLending ⟦<Self as Keyed>⟧.by self.old)) }
     {
         match self.advance() {
             true => Some(self.pair_mut().1),
