@@ -56,5 +56,5 @@ module _ {K V S : Type 0} where
 
     -- a step that lent the value v of its pair, where w was left, or found the end
     abbrev pub StepsLending : IterState K V S → Option (V × V) → IterState K V S → Type 0
-    StepsLending old (Some (v , w)) new = Rewrites old v new w
+    StepsLending old (Some (v, w)) new = Rewrites old v new w
     StepsLending old None new = StepsToEnd old new

@@ -127,8 +127,7 @@ impl<T> Cells<T> {
     #[inline(always)]
     pub(crate) fn set_label(&mut self, _index: usize, _label: u64)
         ensures { self.new ≡ with_label self.old _index _label }
-    {
-    }
+    {}
 
     // Takes the value out of a slot.
     #[inline(always)]
