@@ -267,7 +267,7 @@ module _ {A : Type 0} where
     module _ (i : ℕ) (p : A) (here : slot xs i ≡ Some p) (now then : List ℕ) (mark : ℕ) (long : length now ≡ length counts) (tags-long : length then ≡ length tags)
         (counts-now : UncountsPast n (slice_index hs i % n) (step_to n (slice_index hs i % n) (i / 16)) (class_of (slice_index hs i)) counts now)
         (keeps : KeepsTags now tags then) (clean : (g : ℕ) → g < n → slice_index now g ≡ 0 → IsClean then g)
-        (empty : slice_index now (i / 16) ≡ 0 → mark ≡ 128) (removed : 0 < slice_index now (i / 16) → mark ≡ 129) where
+        (empty : slice_index now (i / 16) ≡ 0 → mark ≡ 128) (removed : IsFull then (i / 16) → 0 < slice_index now (i / 16) → mark ≡ 129) (high : 128 ≤ mark) where
       was-inside : i < length xs
       was-inside = slot-inside xs i p here
 
@@ -276,12 +276,6 @@ module _ {A : Type 0} where
 
       cleared-tag : slice_index (set then i mark) i ≡ mark
       cleared-tag = get_or-set_same then i mark 0 cleared-spot
-
-      high-mark : 128 ≤ mark
-      high-mark = elim (cases_lt 0 (slice_index now (i / 16))) as (λ _. 128 ≤ mark) [
-        | inl some ↦ omega (arith, removed some)
-        | inr none ↦ omega (arith, empty (omega (arith, none)))
-      ]
 
       -- a pair that stays, and its tag
       stayed : (j : ℕ) (r : A) → slot (set xs i None) j ≡ Some r → (slot xs j ≡ Some r) × (slice_index (set then i mark) j ≡ slice_index tags j)
@@ -299,7 +293,7 @@ module _ {A : Type 0} where
 
       cleared-free : (j : ℕ) → j < 16 * n → slot (set xs i None) j ≡ None → 128 ≤ slice_index (set then i mark) j
       cleared-free j lt e = elim (cases_eq j i) as (λ _. 128 ≤ slice_index (set then i mark) j) [
-        | inl same ↦ omega (arith, ap (slice_index (set then i mark)) same, cleared-tag, high-mark)
+        | inl same ↦ omega (arith, ap (slice_index (set then i mark)) same, cleared-tag, high)
         | inr other ↦
             let old = m.free j lt (sym (get_or-set_other xs i j None None other) ∙ e) in
             let kept = get_or-set_other then i j mark 0 other in
@@ -331,23 +325,25 @@ module _ {A : Type 0} where
         | inr other ↦ let same = counts-now.others g lt c class (λ e. other (sym e)) in omega (arith, same, some)
       ]
 
+      -- where a class is counted no slot was empty, and none is
+      then-full : (g c : ℕ) → g < n → c < 16 → 0 < count_of (slice_index now g) c → IsFull then g
+      then-full g c lt class some j within e = elim (keeps (16 * g + j)) as (λ _. ⊥) [
+        | inl same ↦ m.full g c lt class (was-counted g c lt class some) j within (sym same ∙ e)
+        | inr gone ↦
+            let whose : (16 * g + j) / 16 ≡ g = omega (arith, within) in
+            let none : slice_index now g ≡ 0 = ap (slice_index now) (sym whose) ∙ gone.2 in
+            omega (arith, none, count-word (slice_index now g) c some)
+      ]
+
       cleared-full : (g c : ℕ) → g < n → c < 16 → 0 < count_of (slice_index now g) c → IsFull (set then i mark) g
       cleared-full g c lt class some j within e =
-          let any : 0 < slice_index now g = count-word (slice_index now g) c some in
+          let full = then-full g c lt class some in
           elim (cases_eq (16 * g + j) i) as (λ _. ⊥) [
             | inl same ↦
-                let whose : i / 16 ≡ g = omega (arith, same, within) in
-                let m129 : mark ≡ 129 = removed (subst (λ x. 0 < slice_index now x) (sym whose) any) in
+                let whose : g ≡ i / 16 = omega (arith, same, within) in
+                let m129 : mark ≡ 129 = removed (subst (IsFull then) whose full) (subst (λ x. 0 < slice_index now x) whose (count-word (slice_index now g) c some)) in
                 omega (arith, sym (ap (slice_index (set then i mark)) same ∙ cleared-tag) ∙ e, m129)
-            | inr other ↦
-                let kept : slice_index then (16 * g + j) ≡ 128 = sym (get_or-set_other then i (16 * g + j) mark 0 other) ∙ e in
-                elim (keeps (16 * g + j)) as (λ _. ⊥) [
-                  | inl same ↦ m.full g c lt class (was-counted g c lt class some) j within (sym same ∙ kept)
-                  | inr gone ↦
-                      let whose : (16 * g + j) / 16 ≡ g = omega (arith, within) in
-                      let none : slice_index now g ≡ 0 = ap (slice_index now) (sym whose) ∙ gone.2 in
-                      omega (arith, none, any)
-                ]
+            | inr other ↦ full j within (sym (get_or-set_other then i (16 * g + j) mark 0 other) ∙ e)
           ]
 
       cleared-clean : (g : ℕ) → g < n → slice_index now g ≡ 0 → IsClean (set then i mark) g

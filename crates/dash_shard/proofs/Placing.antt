@@ -5,7 +5,7 @@ use Rattle.std.proofs.lemmas.Option.{none-some, same_Some}
 use Rattle.dash_shard.specs.Contents.{at, Distinct}
 use Rattle.dash_shard.specs.Shard.{slot, taken}
 use Rattle.dash_shard.specs.declared.shard.table.Table.{Table}
-use Rattle.dash_shard.specs.inner.Marks.{tag_of, class_of, step_to, CountsPast, UncountsPast, IsClean, KeepsTags, IsMarked}
+use Rattle.dash_shard.specs.inner.Marks.{tag_of, class_of, step_to, CountsPast, UncountsPast, IsFull, IsClean, KeepsTags, IsMarked}
 use Rattle.dash_shard.specs.inner.Table.{IsTable, IsSpot, TellsTaken, limit, slots_in, groups_in, pairs_in, hashes_in, IsMoved}
 use Rattle.std.specs.Int.{IsPowerOfTwo}
 use Rattle.std.proofs.lemmas.List.{get_or-replicate}
@@ -46,10 +46,11 @@ module _ {K V : Type 0} (t new : Table K V) (table : IsTable t) (i : ℕ) (now :
 
   pub table-taken : (p : K × V) (then : List ℕ) (mark : ℕ) → slot (pairs_in t) i ≡ Some p → length then ≡ length t.tags.items
       → UncountsPast (groups_in t) (slice_index (hashes_in t) i % groups_in t) (step_to (groups_in t) (slice_index (hashes_in t) i % groups_in t) (i / 16)) (class_of (slice_index (hashes_in t) i)) t.counts.items now
-      → KeepsTags now t.tags.items then → ((g : ℕ) → g < groups_in t → slice_index now g ≡ 0 → IsClean then g) → (slice_index now (i / 16) ≡ 0 → mark ≡ 128) → (0 < slice_index now (i / 16) → mark ≡ 129)
+      → KeepsTags now t.tags.items then → ((g : ℕ) → g < groups_in t → slice_index now g ≡ 0 → IsClean then g) → (slice_index now (i / 16) ≡ 0 → mark ≡ 128)
+      → (IsFull then (i / 16) → 0 < slice_index now (i / 16) → mark ≡ 129) → 128 ≤ mark
       → new.tags.items ≡ set then i mark → pairs_in new ≡ set (pairs_in t) i None → hashes_in new ≡ hashes_in t → new.len + 1 ≡ t.len → IsTable new
-  table-taken p then mark here tags-long counts-now keeps clean empty removed tags pairs hashes len = record {
-    marked = marked-as (ap length counts ∙ long) tags counts pairs hashes (marked-clear table.marked i p here now then mark long tags-long counts-now keeps clean empty removed);
+  table-taken p then mark here tags-long counts-now keeps clean empty removed high tags pairs hashes len = record {
+    marked = marked-as (ap length counts ∙ long) tags counts pairs hashes (marked-clear table.marked i p here now then mark long tags-long counts-now keeps clean empty removed high);
     counted = let count = table.counted in let gone = length-taken-clear (pairs_in t) i p here in let left = ap (λ xs. length (taken xs)) pairs in omega (arith, len, count, gone, left);
     fits = let fits = table.fits in omega (arith, len, fits, slots);
   }

@@ -1,5 +1,6 @@
 //! The places of a table: which one a pair is put on, and what is left where one goes.
 ghost use Rattle.std.specs.Prelude.{ℕ, ◌≡◌, ◌+◌, ◌*◌, ◌/◌, ◌^◌, ◌<◌, ◌≤◌, Some, None, IfSome, IfNone, IsSome, length, slice_set, slice_index};
+ghost use Rattle.dash_shard.specs.inner.Marks.{IsFull};
 ghost use Rattle.dash_shard.specs.inner.Table.{IsTable, IsSpot, Holds, IsAbsent, limit, slots_in, pairs_in, hashes_in};
 ghost use Rattle.dash_shard.specs.Shard.{slot};
 
@@ -35,13 +36,19 @@ fn first_free(free: Option<usize>, row: &[u8; 16], start: usize) -> Option<usize
     Some(start + lowest(mask))
 }
 
-// What marks a slot of a group whose pair goes: it is empty unless pairs stand past the group.
+// What marks a slot of a group whose pair goes: it is empty unless pairs stand past the group. None does where a slot is empty, and then the
+// counts needn't be read.
 #[inline(always)]
-fn left_mark(counts: &[u64], group: usize) -> u8
-    requires { group < length counts.now }
+fn left_mark(tags: &[u8], counts: &[u64], group: usize) -> u8
+    requires group { group < length counts.now }
+    requires tags { 16 * group + 16 ≤ length tags.now }
+    ensures free { 128 ≤ result }
     ensures empty { slice_index counts.now group ≡ 0 → result ≡ 128 }
-    ensures removed { 0 < slice_index counts.now group → result ≡ 129 }
+    ensures removed { IsFull tags.now group → 0 < slice_index counts.now group → result ≡ 129 }
 {
+    if probe(group_of(tags, group), EMPTY).empty != 0 {
+        return EMPTY;
+    }
     if counts[group] == 0 { EMPTY } else { REMOVED }
 }
 
@@ -164,7 +171,7 @@ impl<K, V> Table<K, V> {
         let group = position / 16;
         let steps = steps_to(home, group, count);
         uncount_past(&mut self.counts, &mut self.tags, home, steps, class(hash));
-        self.tags[position] = left_mark(&self.counts, group);
+        self.tags[position] = left_mark(&self.tags, &self.counts, group);
         self.len -= 1;
         self.slots.take(position)
     }

@@ -1,5 +1,5 @@
 use Rattle.std.proofs.Common.{◌≡◌, ℕ, ◌/◌, ◌%◌, ◌<◌, ◌≤◌, List, length, set, None, sym, ap, subst, ◌∙◌, arith, slice_index}
-use Rattle.dash_shard.specs.inner.Marks.{class_of, count_of, goes_past, UncountsPast, IsClean, KeepsTags}
+use Rattle.dash_shard.specs.inner.Marks.{class_of, count_of, goes_past, UncountsPast, IsFull, IsClean, KeepsTags}
 use Rattle.std.proofs.Math.ListN.{length-set}
 use Rattle.dash_shard.specs.inner.Table.{groups_in, pairs_in, hashes_in}
 use Rattle.dash_shard.specs.Shard.{slot}
@@ -38,7 +38,8 @@ returns-clause-table g c =
     let then = c.uncount_past.new.tags in
     let counts = written t.counts.len now _ (u.len ∙ c.deref_mut.ensures.len) in
     let tags = written t.tags.len then _ (u.tags_len ∙ c.deref_mut-2.ensures.len) in
-    let seen = c.deref.ensures.value ∙ counts in
+    let seen = c.deref-2.ensures.value ∙ counts in
+    let marks = c.deref.ensures.value ∙ tags in
     let whose : c.home-home.result ≡ slice_index (hashes_in t) i % c.len-count.result = subst (λ h. c.home-home.result ≡ h % c.len-count.result) c.requires.hash c.home-home.ensures.is in
     let mine : c.class.result ≡ class_of (slice_index (hashes_in t) i) = c.class.ensures.is ∙ ap (λ h. class_of h) c.requires.hash in
     let lengths = ap length c.deref_mut.ensures.value in
@@ -48,7 +49,8 @@ returns-clause-table g c =
     (subst (λ l. KeepsTags now l then) c.deref_mut-2.ensures.value u.keeps)
     (subst (λ (l : List ℕ). (j : ℕ) → j < length l → slice_index now j ≡ 0 → IsClean then j) c.deref_mut.ensures.value u.clean)
     (subst (λ (l : List ℕ). slice_index l (i / 16) ≡ 0 → c.left_mark.result ≡ 128) seen c.left_mark.ensures.empty)
-    (subst (λ (l : List ℕ). 0 < slice_index l (i / 16) → c.left_mark.result ≡ 129) seen c.left_mark.ensures.removed)
+    (subst (λ (l : List ℕ). IsFull l (i / 16) → 0 < slice_index now (i / 16) → c.left_mark.result ≡ 129) marks (subst (λ (l : List ℕ). IsFull c.deref.result.now (i / 16) → 0 < slice_index l (i / 16) → c.left_mark.result ≡ 129) seen c.left_mark.ensures.removed))
+    c.left_mark.ensures.free
     (ap (λ (l : List ℕ). set l i c.left_mark.result) tags)
     c.take.ensures.values
     c.take.ensures.labels
