@@ -1,8 +1,10 @@
 //! `dash_bench WORK THREADS` takes the time of one kind of work on a map of a million pairs.
 //!
-//! It prints a line: nanoseconds, operations, and a checksum that any right map gives for the same work.
+//! It prints a line: nanoseconds, operations, and a checksum that any right map gives for the same work. `dash_bench churn` searches a full
+//! shard for absent keys, and again after a million of its pairs were exchanged.
 #![tactic(auto)]
 
+mod churn;
 mod keys;
 mod memory;
 mod run;
@@ -11,12 +13,13 @@ mod worker;
 
 use dashmap::error::ConstructError;
 use std::alloc::AllocError;
+use std::io::Eprint;
 use std::process::ExitCode;
-use std::{env, io};
+use std::{env, fmt, io};
 use thiserror::Error;
 use work::Work;
 
-const USAGE: &str = "usage: dash_bench WORK THREADS";
+const USAGE: &str = "usage: dash_bench WORK THREADS | dash_bench churn";
 
 /// The most threads that a command line may ask for.
 const MOST_THREADS: usize = 64;
@@ -53,11 +56,22 @@ fn main(rt: HostRuntime) -> io::Result<ExitCode> {
     for word in env::args(&rt)?.skip(1) {
         words.push(word)?;
     }
+    if words.len() == 1 && words[0].as_str() == "churn" {
+        return tell(&rt, churn::measure(&rt, rt.alloc()));
+    }
     let Some((work, threads)) = asked(words.as_slice()) else {
         eprintln!(rt; "{USAGE}")?;
         return Ok(ExitCode::from(2));
     };
-    match run::measure(&rt, rt.alloc(), work, threads) {
+    tell(&rt, run::measure(&rt, rt.alloc(), work, threads))
+}
+
+// Prints what was measured, or why nothing was.
+fn tell<T: fmt::Display + Drop>(
+    rt: &(impl Print + Eprint),
+    measured: Result<T, Refused>,
+) -> io::Result<ExitCode> {
+    match measured {
         Ok(measured) => {
             println!(rt; "{measured}")?;
             Ok(ExitCode::from(0))
