@@ -7,7 +7,6 @@ use dash_shard::hash::{FixedState, PlaceState, ZeroState, determine_shard, is_sh
 use std::alloc::{AllocError, Global};
 use std::hash::{BuildHasher, Hash, Hasher, RandomState};
 use std::process::Abort;
-use std::test::Fail;
 
 // FNV-1a's published vectors.
 #[test]
@@ -57,41 +56,62 @@ fn hash_by_clone<K: Eq + Hash, S: BuildHasher + Clone + Drop>(
 }
 
 #[test]
-fn clones(rt: HostRuntime) -> Result<(), Fail> {
+fn clones(rt: HostRuntime) {
     is(
         &rt,
-        hash_by_clone(&FixedState, &1u64)?,
+        hash_by_clone(&FixedState, &1u64).expect(&rt, "refused"),
         0x89cd_3129_1d2a_efa4,
     );
-    is(&rt, hash_by_clone(&ZeroState, &1u64)?, 0);
-    is(&rt, hash_by_clone(&PlaceState, &1u64)?, 1 << 55);
-    let state = RandomState::new(&rt)?;
-    is(&rt, hash_by_clone(&state, &1u64)?, state.hash_one(&1u64));
-    Ok(())
+    is(
+        &rt,
+        hash_by_clone(&ZeroState, &1u64).expect(&rt, "refused"),
+        0,
+    );
+    is(
+        &rt,
+        hash_by_clone(&PlaceState, &1u64).expect(&rt, "refused"),
+        1 << 55,
+    );
+    let state = RandomState::new(&rt).expect(&rt, "refused");
+    is(
+        &rt,
+        hash_by_clone(&state, &1u64).expect(&rt, "refused"),
+        state.hash_one(&1u64),
+    );
 }
 
 // Puts into the first of two shards what goes there of some keys, and answers how many that are.
-fn fill<S: BuildHasher + Drop>(rt: &impl Abort, alloc: Global, state: S) -> Result<usize, Fail> {
-    let mut shard = new_shard(rt, alloc, state, 0, 2, 0)?;
+fn fill<S: BuildHasher + Drop>(rt: &impl Abort, alloc: Global, state: S) -> usize {
+    let mut shard = new_shard(rt, alloc, state, 0, 2, 0).expect(rt, "refused");
     for key in 0..64u64 {
         if shard.routes(&key) {
-            is_at(rt, put(rt, &mut shard, key, !key)?, None, key);
+            is_at(
+                rt,
+                put(rt, &mut shard, key, !key).expect(rt, "refused"),
+                None,
+                key,
+            );
         }
     }
     for key in 0..64u64 {
         let is_here = shard.routes(&key);
         is_at(rt, shard.contains_key(&key), is_here, key);
     }
-    Ok(shard.len())
+    shard.len()
 }
 
 #[test]
-fn shards(rt: HostRuntime) -> Result<(), Fail> {
-    is(&rt, fill(&rt, rt.alloc(), ZeroState)?, 64);
-    is(&rt, fill(&rt, rt.alloc(), PlaceState)?, 32);
-    is(&rt, fill(&rt, rt.alloc(), FixedState)?, 33);
-    assert!(rt; fill(&rt, rt.alloc(), RandomState::new(&rt)?)? <= 64);
-    Ok(())
+fn shards(rt: HostRuntime) {
+    is(&rt, fill(&rt, rt.alloc(), ZeroState), 64);
+    is(&rt, fill(&rt, rt.alloc(), PlaceState), 32);
+    is(&rt, fill(&rt, rt.alloc(), FixedState), 33);
+    assert!(rt;
+        fill(
+            &rt,
+            rt.alloc(),
+            RandomState::new(&rt).expect(&rt, "refused")
+        ) <= 64
+    );
 }
 
 // The shard of a hash among a lawful amount.

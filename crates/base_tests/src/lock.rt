@@ -7,7 +7,6 @@ use dash_shard::lock::{RwLock, Tagged};
 use std::alloc::{AllocError, Global};
 use std::mem;
 use std::sync::Arc;
-use std::test::Fail;
 
 /// A number below the bound that its lock is made for.
 #[derive(Drop)]
@@ -29,7 +28,7 @@ fn locked(number: u64) -> RwLock<Bounded>
 }
 
 #[test]
-fn readers_share_and_keep_writers_out(rt: HostRuntime) -> Result<(), Fail> {
+fn readers_share_and_keep_writers_out(rt: HostRuntime) {
     let lock = locked(7);
     let first = lock.read(&rt);
     let second = lock.read(&rt);
@@ -40,35 +39,32 @@ fn readers_share_and_keep_writers_out(rt: HostRuntime) -> Result<(), Fail> {
     assert!(rt; lock.try_write().is_none(), "a reader has the lock");
     drop(second);
     assert!(rt; lock.try_write().is_some(), "nobody has the lock");
-    Ok(())
 }
 
 #[test]
-fn a_writer_keeps_others_out(rt: HostRuntime) -> Result<(), Fail> {
+fn a_writer_keeps_others_out(rt: HostRuntime) {
     let lock = locked(7);
     let guard = lock.write(&rt);
     assert!(rt; lock.try_read().is_none(), "a writer has the lock");
     assert!(rt; lock.try_write().is_none(), "a writer has the lock");
     drop(guard);
     assert!(rt; lock.try_read().is_some(), "nobody has the lock");
-    Ok(())
 }
 
 #[test]
-fn the_lock_is_free_once_a_writer_has_gone(rt: HostRuntime) -> Result<(), Fail> {
+fn the_lock_is_free_once_a_writer_has_gone(rt: HostRuntime) {
     let lock = locked(7);
     drop(lock.write(&rt));
-    let mut guard = lock.try_write().ok_or("a writer after a writer")?;
+    let mut guard = lock.try_write().expect(&rt, "a writer after a writer");
     is(&rt, guard.replace(Bounded { number: 8 }).number, 7);
     assert!(rt; lock.try_read().is_none(), "a writer has the lock");
     drop(guard);
-    let guard = lock.try_read().ok_or("a reader after a writer")?;
+    let guard = lock.try_read().expect(&rt, "a reader after a writer");
     is(&rt, guard.number, 8);
-    Ok(())
 }
 
 #[test]
-fn what_is_replaced_is_read_back(rt: HostRuntime) -> Result<(), Fail> {
+fn what_is_replaced_is_read_back(rt: HostRuntime) {
     let mut lock = locked(7);
     let mut guard = lock.write(&rt);
     is(&rt, guard.replace(Bounded { number: 8 }).number, 7);
@@ -77,24 +73,22 @@ fn what_is_replaced_is_read_back(rt: HostRuntime) -> Result<(), Fail> {
     is(&rt, lock.read(&rt).number, 8);
     is(&rt, lock.get().number, 8);
     is(&rt, lock.into_inner().number, 8);
-    Ok(())
 }
 
 #[test]
-fn ten_thousand_readers_hold_it_at_once(rt: HostRuntime) -> Result<(), Fail> {
+fn ten_thousand_readers_hold_it_at_once(rt: HostRuntime) {
     let lock = locked(7);
     let mut guards = Vec::new(rt.alloc());
     for _ in 0..10_000 {
-        guards.push(lock.read(&rt))?;
+        guards.push(lock.read(&rt)).expect(&rt, "refused");
     }
     assert!(rt; lock.try_write().is_none(), "readers have the lock");
     drop(guards);
     assert!(rt; lock.try_write().is_some(), "the readers are gone");
-    Ok(())
 }
 
 #[test]
-fn leaked_guards_leave_a_lock_that_can_be_dropped(rt: HostRuntime) -> Result<(), Fail> {
+fn leaked_guards_leave_a_lock_that_can_be_dropped(rt: HostRuntime) {
     let lock = locked(7);
     mem::forget(lock.write(&rt));
     assert!(rt; lock.try_read().is_none(), "the writer is never gone");
@@ -103,7 +97,6 @@ fn leaked_guards_leave_a_lock_that_can_be_dropped(rt: HostRuntime) -> Result<(),
     mem::forget(lock.read(&rt));
     assert!(rt; lock.try_write().is_none(), "the reader is never gone");
     is(&rt, lock.into_inner().number, 8);
-    Ok(())
 }
 
 /// What threads may share.
@@ -114,11 +107,10 @@ fn share<T: Send + Sync>(lock: &Arc<T, Global>) -> Result<Arc<T, Global>, AllocE
 }
 
 #[test]
-fn threads_may_share_a_lock(rt: HostRuntime) -> Result<(), Fail> {
-    let lock = Arc::new(rt.alloc(), locked(7))?;
-    let other = share(&lock)?;
+fn threads_may_share_a_lock(rt: HostRuntime) {
+    let lock = Arc::new(rt.alloc(), locked(7)).expect(&rt, "refused");
+    let other = share(&lock).expect(&rt, "refused");
     let guard = other.read(&rt);
     assert!(rt; lock.try_read().is_some(), "readers share the lock");
     assert!(rt; lock.try_write().is_none(), "a reader has the lock");
-    Ok(())
 }

@@ -7,7 +7,6 @@ use dash_shard::shard::Shard;
 use std::hash::BuildHasher;
 use std::rt::Clock;
 use std::sync::Wait;
-use std::test::Fail;
 
 type Locked<V> = RwLock<Shard<u64, V, PlaceState>>;
 
@@ -22,10 +21,10 @@ fn find<'a, V, R: Wait + Clock>(
 }
 
 #[test]
-fn lends_the_pair_of_a_key(rt: HostRuntime) -> Result<(), Fail> {
-    let lock = lock_of_one(&rt, rt.alloc(), [(1, 10), (5, 50), (9, 90)])?;
+fn lends_the_pair_of_a_key(rt: HostRuntime) {
+    let lock = lock_of_one(&rt, rt.alloc(), [(1, 10), (5, 50), (9, 90)]);
     for (key, value) in [(1, 10), (5, 50), (9, 90)] {
-        let found = find(&rt, &lock, key).ok_or("no pair")?;
+        let found = find(&rt, &lock, key).expect(&rt, "no pair");
         is(&rt, found.key(), &key);
         is_at(&rt, found.value(), &value, key);
         is(&rt, found.pair(), (&key, &value));
@@ -36,16 +35,15 @@ fn lends_the_pair_of_a_key(rt: HostRuntime) -> Result<(), Fail> {
         assert!(rt; find(&rt, &lock, absent).is_none(), "{absent}");
     }
     assert!(rt; lock.try_write().is_some(), "all holds are ended");
-    Ok(())
 }
 
 #[test]
-fn holds_the_shard_for_reading(rt: HostRuntime) -> Result<(), Fail> {
-    let lock = lock_of_one(&rt, rt.alloc(), [(1, 10), (5, 50)])?;
+fn holds_the_shard_for_reading(rt: HostRuntime) {
+    let lock = lock_of_one(&rt, rt.alloc(), [(1, 10), (5, 50)]);
     let guard = lock.read(&rt);
-    let position = guard.position_of(&5).ok_or("no place")?;
+    let position = guard.position_of(&5).expect(&rt, "no place");
     let five = Ref::new(guard, position);
-    let one = find(&rt, &lock, 1).ok_or("no pair")?;
+    let one = find(&rt, &lock, 1).expect(&rt, "no pair");
     is(&rt, five.pair(), (&5, &50));
     is(&rt, one.pair(), (&1, &10));
     assert!(rt; lock.try_write().is_none(), "two have it");
@@ -54,22 +52,20 @@ fn holds_the_shard_for_reading(rt: HostRuntime) -> Result<(), Fail> {
     is(&rt, *one, 10);
     drop(one);
     assert!(rt; lock.try_write().is_some(), "nobody has it");
-    Ok(())
 }
 
 #[test]
-fn prints_key_and_value(rt: HostRuntime) -> Result<(), Fail> {
-    let lock = lock_of_one(&rt, rt.alloc(), [(1, 2)])?;
-    let found = find(&rt, &lock, 1).ok_or("no pair")?;
-    let text = format!(in rt.alloc(); "{found:?}")?;
+fn prints_key_and_value(rt: HostRuntime) {
+    let lock = lock_of_one(&rt, rt.alloc(), [(1, 2)]);
+    let found = find(&rt, &lock, 1).expect(&rt, "no pair");
+    let text = format!(in rt.alloc(); "{found:?}").expect(&rt, "refused");
     is(&rt, text.as_str(), "Ref { k: 1, v: 2 }");
     drop(found);
 
-    let name = String::from_str(rt.alloc(), "five")?;
-    let lock = lock_of_one(&rt, rt.alloc(), [(5, name)])?;
-    let found = find(&rt, &lock, 5).ok_or("no pair")?;
+    let name = String::from_str(rt.alloc(), "five").expect(&rt, "refused");
+    let lock = lock_of_one(&rt, rt.alloc(), [(5, name)]);
+    let found = find(&rt, &lock, 5).expect(&rt, "no pair");
     is(&rt, found.as_str(), "five");
-    let text = format!(in rt.alloc(); "{found:?}")?;
+    let text = format!(in rt.alloc(); "{found:?}").expect(&rt, "refused");
     is(&rt, text.as_str(), "Ref { k: 5, v: \"five\" }");
-    Ok(())
 }

@@ -12,7 +12,6 @@ use std::alloc::Global;
 use std::fmt;
 use std::hash::{BuildHasher, Hash};
 use std::process::Abort;
-use std::test::Fail;
 
 /// A shard of a lawful amount, with no pairs.
 pub(crate) fn new_shard<K: Eq + Hash + Drop, V: Drop, S: BuildHasher + Drop>(
@@ -34,12 +33,17 @@ pub(crate) fn shard_one<V: fmt::Debug + Drop, const N: usize>(
     rt: &impl Abort,
     alloc: Global,
     pairs: [(u64, V); N],
-) -> Result<Shard<u64, V, PlaceState>, Fail> {
-    let mut shard = new_shard(rt, alloc, PlaceState, 1, 4, 0)?;
-    for (key, value) in Vec::from_array(alloc, pairs)? {
-        assert!(rt; put(rt, &mut shard, key, value)?.is_none(), "{key}");
+) -> Shard<u64, V, PlaceState> {
+    let mut shard = new_shard(rt, alloc, PlaceState, 1, 4, 0).expect(rt, "refused");
+    for (key, value) in Vec::from_array(alloc, pairs).expect(rt, "refused") {
+        assert!(rt;
+            put(rt, &mut shard, key, value)
+                .expect(rt, "refused")
+                .is_none(),
+            "{key}"
+        );
     }
-    Ok(shard)
+    shard
 }
 
 /// Shard 1 of four behind its lock, with these pairs.
@@ -47,10 +51,10 @@ pub(crate) fn lock_of_one<V: fmt::Debug + Drop, const N: usize>(
     rt: &impl Abort,
     alloc: Global,
     pairs: [(u64, V); N],
-) -> Result<RwLock<Shard<u64, V, PlaceState>>, Fail> {
-    let shard = shard_one(rt, alloc, pairs)?;
+) -> RwLock<Shard<u64, V, PlaceState>> {
+    let shard = shard_one(rt, alloc, pairs);
     let tag = ShardTag::of(&shard);
-    Ok(RwLock::new(shard, &tag))
+    RwLock::new(shard, &tag)
 }
 
 /// The key, which has to go to the shard.

@@ -2,11 +2,11 @@
 use crate::places::{here, is, is_at, new_shard, put, shard_one};
 use crate::values::Noted;
 use dash_shard::hash::PlaceState;
-use dash_shard::shard::{Shard, probe};
+use dash_shard::shard::Shard;
 use std::process::Abort;
-use std::test::Fail;
 
 mod held;
+mod table;
 
 type Numbers = Shard<u64, u64, PlaceState>;
 
@@ -18,12 +18,17 @@ fn put_new(rt: &impl Abort, shard: &mut Numbers, key: u64) -> usize {
 }
 
 #[test]
-fn grows(rt: HostRuntime) -> Result<(), Fail> {
-    let mut shard = shard_one(&rt, rt.alloc(), [])?;
+fn grows(rt: HostRuntime) {
+    let mut shard = shard_one(&rt, rt.alloc(), []);
     is(&rt, shard.capacity(), 0);
     for i in 0..1000u64 {
         let key = 4 * i + 1;
-        is_at(&rt, put(&rt, &mut shard, key, i)?, None, key);
+        is_at(
+            &rt,
+            put(&rt, &mut shard, key, i).expect(&rt, "refused"),
+            None,
+            key,
+        );
         assert!(rt; shard.capacity() >= shard.len(), "{key}");
     }
     is(&rt, shard.len(), 1000);
@@ -31,46 +36,50 @@ fn grows(rt: HostRuntime) -> Result<(), Fail> {
         let key = 4 * i + 1;
         is(&rt, shard.get(&key), Some((&key, &i)));
     }
-    Ok(())
 }
 
 #[test]
-fn makes_room_ahead(rt: HostRuntime) -> Result<(), Fail> {
-    let shard: Shard<u64, u64, _> = new_shard(&rt, rt.alloc(), PlaceState, 0, 2, 100)?;
+fn makes_room_ahead(rt: HostRuntime) {
+    let shard: Shard<u64, u64, _> = new_shard(&rt, rt.alloc(), PlaceState, 0, 2, 100).expect(
+        &rt, "refused",
+    );
     assert!(rt; shard.capacity() >= 100);
     is(&rt, shard.len(), 0);
 
-    let mut shard = shard_one(&rt, rt.alloc(), [(1, 10u64)])?;
-    shard.try_reserve(10)?;
+    let mut shard = shard_one(&rt, rt.alloc(), [(1, 10u64)]);
+    shard.try_reserve(10).expect(&rt, "refused");
     assert!(rt; shard.capacity() >= 11);
     is(&rt, shard.get(&1), Some((&1, &10)));
     assert!(rt; shard.try_reserve(usize::MAX).is_err());
     is(&rt, shard.len(), 1);
-    Ok(())
 }
 
 #[test]
-fn the_stored_key_stays(rt: HostRuntime) -> Result<(), Fail> {
-    let mut shard = new_shard(&rt, rt.alloc(), PlaceState, 1, 4, 0)?;
+fn the_stored_key_stays(rt: HostRuntime) {
+    let mut shard = new_shard(&rt, rt.alloc(), PlaceState, 1, 4, 0).expect(&rt, "refused");
     for (note, value, old) in [(1, 100, None), (2, 200, Some(100))] {
         let key = Noted { name: 5, note };
-        is_at(&rt, put(&rt, &mut shard, key, value)?, old, note);
+        is_at(
+            &rt,
+            put(&rt, &mut shard, key, value).expect(&rt, "refused"),
+            old,
+            note,
+        );
     }
     let key = Noted { name: 5, note: 3 };
-    let (key, value) = shard.get(&key).ok_or("no pair")?;
+    let (key, value) = shard.get(&key).expect(&rt, "no pair");
     is(&rt, (key.note, *value), (1, 200));
     is(&rt, shard.len(), 1);
-    Ok(())
 }
 
 #[test]
-fn shrink_to_fit_gives_places_back(rt: HostRuntime) -> Result<(), Fail> {
+fn shrink_to_fit_gives_places_back(rt: HostRuntime) {
     let mut shard = shard_one(
         &rt,
         rt.alloc(),
         [(1, 15u64), (5, 22), (9, 27), (13, 30), (17, 36)],
-    )?;
-    shard.try_reserve(10)?;
+    );
+    shard.try_reserve(10).expect(&rt, "refused");
     is(&rt, shard.capacity(), 28);
     shard.retain(|_, value| *value % 3 == 0);
     shard.shrink_to_fit();
@@ -83,28 +92,22 @@ fn shrink_to_fit_gives_places_back(rt: HostRuntime) -> Result<(), Fail> {
     shard.clear();
     shard.shrink_to_fit();
     is(&rt, shard.capacity(), 0);
-    Ok(())
-}
-
-#[test]
-fn looks_at_sixteen_tags(rt: HostRuntime) {
-    let mut group = [128u8; 16];
-    group[3] = 129;
-    group[15] = 7;
-    let seen = probe(&group, 7);
-    is(&rt, seen.matches, 0b1000_0000_0000_0000);
-    is(&rt, seen.empty, 0b0111_1111_1111_0111);
 }
 
 // All these keys begin in the first of two groups, and the last four stand past it.
 #[test]
-fn removed_marks_go(rt: HostRuntime) -> Result<(), Fail> {
-    let mut shard = shard_one(&rt, rt.alloc(), [])?;
+fn removed_marks_go(rt: HostRuntime) {
+    let mut shard = shard_one(&rt, rt.alloc(), []);
     is(&rt, shard.search(&81).visits, 0);
-    shard.try_reserve(20)?;
+    shard.try_reserve(20).expect(&rt, "refused");
     is(&rt, shard.groups(), 2);
     for i in 0..20u64 {
-        is_at(&rt, put(&rt, &mut shard, 4 * i + 1, i)?, None, i);
+        is_at(
+            &rt,
+            put(&rt, &mut shard, 4 * i + 1, i).expect(&rt, "refused"),
+            None,
+            i,
+        );
     }
     is(&rt, shard.search(&81).visits, 2);
     is(&rt, shard.search(&77).position, shard.position_of(&77));
@@ -118,5 +121,4 @@ fn removed_marks_go(rt: HostRuntime) -> Result<(), Fail> {
     }
     is(&rt, shard.search(&81).visits, 1);
     is(&rt, shard.search(&5).visits, 1);
-    Ok(())
 }

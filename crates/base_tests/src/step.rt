@@ -2,19 +2,24 @@
 use crate::places::is;
 use dash_history::step::{Reply, ShardStep};
 use dash_shard::hash::{PlaceState, is_shard_amount};
-use std::test::Fail;
 
 type Step = ShardStep<u64, u64>;
 
 #[test]
-fn copies(rt: HostRuntime) -> Result<(), Fail> {
+fn copies(rt: HostRuntime) {
     for (step, text) in [
         (Step::Get(1), "Get(1)"),
         (Step::Insert(1, 10), "Insert(1, 10)"),
         (Step::Remove(1), "Remove(1)"),
     ] {
-        let copy = step.copy()?;
-        is(&rt, format!(in rt.alloc(); "{copy:?}")?.as_str(), text);
+        let copy = step.copy().expect(&rt, "refused");
+        is(
+            &rt,
+            format!(in rt.alloc(); "{copy:?}")
+                .expect(&rt, "refused")
+                .as_str(),
+            text,
+        );
     }
     for (reply, text) in [
         (Reply::Pair(None), "Pair(None)"),
@@ -22,10 +27,15 @@ fn copies(rt: HostRuntime) -> Result<(), Fail> {
         (Reply::Old(None), "Old(None)"),
         (Reply::Old(Some(10)), "Old(Some(10))"),
     ] {
-        let copy = reply.copy()?;
-        is(&rt, format!(in rt.alloc(); "{copy:?}")?.as_str(), text);
+        let copy = reply.copy().expect(&rt, "refused");
+        is(
+            &rt,
+            format!(in rt.alloc(); "{copy:?}")
+                .expect(&rt, "refused")
+                .as_str(),
+            text,
+        );
     }
-    Ok(())
 }
 
 #[test]

@@ -1,6 +1,6 @@
 //! The calls of a map that threads share: what is put is found, taken once, and changed in its place.
 use crate::checks::{is, is_at};
-use crate::maps::map_of_four;
+use crate::maps::{map_of_four, put};
 use dash_map::map::DashMap;
 use dash_shard::error::TryReserveError;
 use dash_shard::hash::{FixedState, PlaceState, ZeroState};
@@ -9,7 +9,6 @@ use std::hash::{BuildHasher, RandomState};
 use std::process::Abort;
 use std::rt::Clock;
 use std::sync::{Arc, Wait};
-use std::test::Fail;
 use std::thread;
 
 // The value at a key.
@@ -24,11 +23,11 @@ fn value_at<R: Abort + Wait + Clock, S: BuildHasher>(
 }
 
 #[test]
-fn a_hundred_keys(rt: HostRuntime) -> Result<(), Fail> {
-    let map = DashMap::<u64, u64, FixedState>::new(rt.alloc(), 1)?;
+fn a_hundred_keys(rt: HostRuntime) {
+    let map = DashMap::<u64, u64, FixedState>::new(rt.alloc(), 1).expect(&rt, "refused");
     for i in 0..100 {
-        map.insert(&rt, 0, i)?;
-        map.insert(&rt, i, i)?;
+        put(&rt, &map, 0, i);
+        put(&rt, &map, i, i);
     }
     is(&rt, value_at(&rt, &map, 0), Some(99));
     for i in 1..100 {
@@ -40,14 +39,13 @@ fn a_hundred_keys(rt: HostRuntime) -> Result<(), Fail> {
     let alone = map.alone();
     is(&rt, alone.get(&8), Some((&8, &8)));
     assert!(rt; !alone.contains_key(&7));
-    Ok(())
 }
 
 #[test]
-fn views(rt: HostRuntime) -> Result<(), Fail> {
-    let map = map_of_four(rt.alloc())?;
+fn views(rt: HostRuntime) {
+    let map = map_of_four(&rt, rt.alloc());
     for (number, name) in [(0, "Banana"), (4, "Pear"), (9, "Potato"), (12, "Chicken")] {
-        map.insert(&rt, number, name)?;
+        put(&rt, &map, number, name);
     }
     let is_eaten_warm = |_: &u64, name: &&str| matches!(
         *name,
@@ -61,48 +59,47 @@ fn views(rt: HostRuntime) -> Result<(), Fail> {
     is(&rt, map.len(&rt), 4);
     assert!(rt; map.capacity(&rt) >= 4);
     assert!(rt; !map.is_empty(&rt));
-    Ok(())
 }
 
 #[test]
-fn a_removal_asks_first(rt: HostRuntime) -> Result<(), Fail> {
-    let map = DashMap::<&str, &str, FixedState>::with_shard_amount(rt.alloc(), 4)?;
-    map.insert(&rt, "Sam", "Forward")?;
+fn a_removal_asks_first(rt: HostRuntime) {
+    let map = DashMap::<&str, &str, FixedState>::with_shard_amount(rt.alloc(), 4).expect(
+        &rt, "refused",
+    );
+    put(&rt, &map, "Sam", "Forward");
     let gone = map.remove_if(&rt, &"Sam", |_, role| *role == "Goalie");
     is(&rt, gone, None);
     assert!(rt; map.contains_key(&rt, &"Sam"));
     let gone = map.remove_if(&rt, &"Sam", |_, role| *role == "Forward");
     is(&rt, gone, Some(("Sam", "Forward")));
     assert!(rt; !map.contains_key(&rt, &"Sam"));
-    Ok(())
 }
 
 #[test]
-fn room_is_made(rt: HostRuntime) -> Result<(), Fail> {
-    let mut map = map_of_four::<u64>(rt.alloc())?;
+fn room_is_made(rt: HostRuntime) {
+    let mut map = map_of_four::<u64>(&rt, rt.alloc());
     is(&rt, map.capacity(&rt), 0);
     assert!(rt; map.is_empty(&rt));
     assert!(rt; map.try_reserve(10).is_ok());
     assert!(rt; map.capacity(&rt) >= 10);
-    map.insert(&rt, 1, 1)?;
+    put(&rt, &map, 1, 1);
     let refused = map.try_reserve(usize::MAX).err();
     is(&rt, refused, Some(TryReserveError {}));
     is(&rt, map.len(&rt), 1);
     is(&rt, value_at(&rt, &map, 1), Some(1));
     assert!(rt; map.alone().capacity() >= 10);
-    Ok(())
 }
 
 #[test]
-fn one_shard_may_have_all_keys(rt: HostRuntime) -> Result<(), Fail> {
+fn one_shard_may_have_all_keys(rt: HostRuntime) {
     let map = DashMap::<u64, u64, ZeroState>::with_hasher_and_shard_amount(
         rt.alloc(),
         ZeroState,
         4,
-    )?;
+    ).expect(&rt, "refused");
     for key in 0..200u64 {
         is_at(&rt, map.determine_map(&key), 0, key);
-        is_at(&rt, map.insert(&rt, key, key)?, None, key);
+        is_at(&rt, put(&rt, &map, key, key), None, key);
     }
     for key in 0..200u64 {
         is_at(&rt, value_at(&rt, &map, key), Some(key), key);
@@ -118,15 +115,13 @@ fn one_shard_may_have_all_keys(rt: HostRuntime) -> Result<(), Fail> {
         is_at(&rt, value_at(&rt, &map, key + 1), Some(key + 1), key);
     }
     is(&rt, map.len(&rt), 100);
-    Ok(())
 }
 
 #[test]
-fn zero_is_a_key_and_a_value(rt: HostRuntime) -> Result<(), Fail> {
-    let map = DashMap::<u64, u64, FixedState>::new(rt.alloc(), 1)?;
-    is(&rt, map.insert(&rt, 0, 0)?, None);
+fn zero_is_a_key_and_a_value(rt: HostRuntime) {
+    let map = DashMap::<u64, u64, FixedState>::new(rt.alloc(), 1).expect(&rt, "refused");
+    is(&rt, put(&rt, &map, 0, 0), None);
     is(&rt, value_at(&rt, &map, 0), Some(0));
-    Ok(())
 }
 
 // A value that has memory of its own.
@@ -142,29 +137,32 @@ fn note_of(alloc: Global, number: u64) -> Result<Note, AllocError> {
 }
 
 #[test]
-fn structs_are_found_as_they_were_put(rt: HostRuntime) -> Result<(), Fail> {
-    let map = DashMap::<u64, Note, FixedState>::new(rt.alloc(), 1)?;
+fn structs_are_found_as_they_were_put(rt: HostRuntime) {
+    let map = DashMap::<u64, Note, FixedState>::new(rt.alloc(), 1).expect(&rt, "refused");
     for i in 0..10 {
-        map.insert(&rt, i, note_of(rt.alloc(), i)?)?;
+        put(&rt, &map, i, note_of(rt.alloc(), i).expect(&rt, "refused"));
     }
     for i in 0..10 {
-        let found = map.get(&rt, &i).ok_or("no pair")?;
-        assert_eq!(rt; *found.value(), note_of(rt.alloc(), i)?);
+        let found = map.get(&rt, &i).expect(&rt, "no pair");
+        assert_eq!(rt;
+            *found.value(),
+            note_of(rt.alloc(), i).expect(&rt, "refused")
+        );
     }
-    Ok(())
 }
 
 #[test]
-fn a_random_hasher_finds_each_key(rt: HostRuntime) -> Result<(), Fail> {
-    let hasher = RandomState::new(&rt)?;
-    let map = DashMap::<u64, u64, RandomState>::with_hasher(rt.alloc(), hasher, 1)?;
+fn a_random_hasher_finds_each_key(rt: HostRuntime) {
+    let hasher = RandomState::new(&rt).expect(&rt, "refused");
+    let map = DashMap::<u64, u64, RandomState>::with_hasher(rt.alloc(), hasher, 1).expect(
+        &rt, "refused",
+    );
     for i in 0..10 {
-        map.insert(&rt, i, i)?;
+        put(&rt, &map, i, i);
     }
     for i in 0..10 {
         is_at(&rt, value_at(&rt, &map, i), Some(i), i);
     }
-    Ok(())
 }
 
 // Sixteen keys of its own for each thread.
@@ -184,9 +182,9 @@ fn insert_all<R: Wait + Clock>(
 }
 
 #[test]
-fn four_threads_share_a_map(rt: HostRuntime) -> Result<(), Fail> {
-    let map = map_of_four::<u64>(rt.alloc())?;
-    let map = Arc::new(rt.alloc(), map)?;
+fn four_threads_share_a_map(rt: HostRuntime) {
+    let map = map_of_four::<u64>(&rt, rt.alloc());
+    let map = Arc::new(rt.alloc(), map).expect(&rt, "refused");
     let mut threads = [0, 1, 2, 3];
     thread::for_each_mut(
         &rt,
@@ -200,26 +198,24 @@ fn four_threads_share_a_map(rt: HostRuntime) -> Result<(), Fail> {
     is(&rt, value_at(&rt, &map, 37), Some(2));
     is(&rt, value_at(&rt, &map, 64), None);
     is(&rt, map.len(&rt), 64);
-    Ok(())
 }
 
 #[test]
-fn a_held_shard_leaves_the_others_free(rt: HostRuntime) -> Result<(), Fail> {
-    let map = map_of_four::<u64>(rt.alloc())?;
-    map.insert(&rt, 0, 5)?;
-    let held = map.get(&rt, &0).ok_or("no pair")?;
-    is(&rt, map.insert(&rt, 1, 10)?, None);
+fn a_held_shard_leaves_the_others_free(rt: HostRuntime) {
+    let map = map_of_four::<u64>(&rt, rt.alloc());
+    put(&rt, &map, 0, 5);
+    let held = map.get(&rt, &0).expect(&rt, "no pair");
+    is(&rt, put(&rt, &map, 1, 10), None);
     is(&rt, value_at(&rt, &map, 1), Some(10));
     is(&rt, value_at(&rt, &map, 0), Some(5));
     is(&rt, *held.value(), 5);
-    Ok(())
 }
 
 #[test]
-fn the_list_for_shared_calls(rt: HostRuntime) -> Result<(), Fail> {
-    let map = map_of_four(rt.alloc())?;
+fn the_list_for_shared_calls(rt: HostRuntime) {
+    let map = map_of_four(&rt, rt.alloc());
     for (key, value) in [(0, 5u64), (4, 9), (1, 2)] {
-        map.insert(&rt, key, value)?;
+        put(&rt, &map, key, value);
     }
     map.alter(&rt, &4, |_, value| value.wrapping_add(1));
     map.alter(&rt, &8, |_, value| value.wrapping_add(1));
@@ -243,44 +239,40 @@ fn the_list_for_shared_calls(rt: HostRuntime) -> Result<(), Fail> {
     is(&rt, map.capacity(&rt), 14);
     map.shrink_to_fit(&rt);
     is(&rt, map.capacity(&rt), 0);
-    Ok(())
 }
 
 #[test]
-fn each_value_is_altered(rt: HostRuntime) -> Result<(), Fail> {
-    let map = DashMap::<&str, u64, FixedState>::new(rt.alloc(), 1)?;
-    map.insert(&rt, "Wins", 4)?;
-    map.insert(&rt, "Losses", 2)?;
+fn each_value_is_altered(rt: HostRuntime) {
+    let map = DashMap::<&str, u64, FixedState>::new(rt.alloc(), 1).expect(&rt, "refused");
+    put(&rt, &map, "Wins", 4);
+    put(&rt, &map, "Losses", 2);
     map.alter_all(&rt, |_, value| value.wrapping_add(1));
-    map.insert(&rt, "Goals", 4)?;
+    put(&rt, &map, "Goals", 4);
     map.alter(&rt, &"Goals", |_, goals| goals.wrapping_mul(2));
     for (key, value) in [("Wins", 5), ("Losses", 3), ("Goals", 8)] {
-        let found = map.get(&rt, &key).ok_or("no pair")?;
+        let found = map.get(&rt, &key).expect(&rt, "no pair");
         is(&rt, *found.value(), value);
     }
-    Ok(())
 }
 
 #[test]
-fn who_is_young_is_not_kept(rt: HostRuntime) -> Result<(), Fail> {
-    let map = DashMap::<&str, u64, FixedState>::new(rt.alloc(), 1)?;
-    map.insert(&rt, "Albin", 15)?;
-    map.insert(&rt, "Jones", 22)?;
-    map.insert(&rt, "Charlie", 27)?;
+fn who_is_young_is_not_kept(rt: HostRuntime) {
+    let map = DashMap::<&str, u64, FixedState>::new(rt.alloc(), 1).expect(&rt, "refused");
+    put(&rt, &map, "Albin", 15);
+    put(&rt, &map, "Jones", 22);
+    put(&rt, &map, "Charlie", 27);
     map.retain(&rt, |_, age| *age > 20);
     is(&rt, map.len(&rt), 2);
     assert!(rt; !map.contains_key(&rt, &"Albin"));
-    Ok(())
 }
 
 #[test]
-fn an_empty_map_gives_its_room_back(rt: HostRuntime) -> Result<(), Fail> {
-    let map = DashMap::<&str, u64, FixedState>::new(rt.alloc(), 1)?;
-    map.insert(&rt, "Johnny", 21)?;
+fn an_empty_map_gives_its_room_back(rt: HostRuntime) {
+    let map = DashMap::<&str, u64, FixedState>::new(rt.alloc(), 1).expect(&rt, "refused");
+    put(&rt, &map, "Johnny", 21);
     assert!(rt; map.capacity(&rt) >= 1);
     is(&rt, map.remove(&rt, &"Johnny"), Some(("Johnny", 21)));
     map.shrink_to_fit(&rt);
     is(&rt, map.len(&rt), 0);
     is(&rt, map.capacity(&rt), 0);
-    Ok(())
 }

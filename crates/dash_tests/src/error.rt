@@ -7,20 +7,17 @@ use dash_shard::error::{ConstructError, TryReserveError};
 use std::alloc::Global;
 use std::fmt;
 use std::process::Abort;
-use std::test::Fail;
 
-fn assert_text(
-    rt: &impl Abort,
-    alloc: Global,
-    error: &impl fmt::Display,
-    text: &str,
-) -> Result<(), Fail> {
-    is(rt, format!(in alloc; "{error}")?.as_str(), text);
-    Ok(())
+fn assert_text(rt: &impl Abort, alloc: Global, error: &impl fmt::Display, text: &str) {
+    is(
+        rt,
+        format!(in alloc; "{error}").expect(rt, "refused").as_str(),
+        text,
+    );
 }
 
 #[test]
-fn texts(rt: HostRuntime) -> Result<(), Fail> {
+fn texts(rt: HostRuntime) {
     for (error, text) in [
         (ConstructError::ShardAmount, "shard amount (5)"),
         (ConstructError::Parallelism, "parallelism (6)"),
@@ -28,14 +25,14 @@ fn texts(rt: HostRuntime) -> Result<(), Fail> {
         (ConstructError::Memory, "no memory (8)"),
         (ConstructError::Callers, "callers (17)"),
     ] {
-        assert_text(&rt, rt.alloc(), &error, text)?;
+        assert_text(&rt, rt.alloc(), &error, text);
     }
-    assert_text(&rt, rt.alloc(), &TryReserveError {}, "no memory (11)")?;
+    assert_text(&rt, rt.alloc(), &TryReserveError {}, "no memory (11)");
     for (fault, text) in [
         (Fault::NoSuchShard, "no such shard (13)"),
         (Fault::Memory, "no memory (14)"),
     ] {
-        assert_text(&rt, rt.alloc(), &fault, text)?;
+        assert_text(&rt, rt.alloc(), &fault, text);
     }
     for (fault, text) in [
         (RecordFault::LastStamp, "last stamp (18)"),
@@ -43,13 +40,12 @@ fn texts(rt: HostRuntime) -> Result<(), Fail> {
         (RecordFault::NoSuchShard, "no such shard (20)"),
         (RecordFault::Locked, "locked (21)"),
     ] {
-        assert_text(&rt, rt.alloc(), &fault, text)?;
+        assert_text(&rt, rt.alloc(), &fault, text);
     }
     for (error, text) in [
         (GatherError::Mismatch, "mismatch (22)"),
         (GatherError::Memory, "no memory (23)"),
     ] {
-        assert_text(&rt, rt.alloc(), &error, text)?;
+        assert_text(&rt, rt.alloc(), &error, text);
     }
-    Ok(())
 }

@@ -1,7 +1,7 @@
-//! The tests of maps: their calls, runs, refusals and texts, over public items alone.
+//! The tests of maps: their calls, references and entries, walks, views, sets, lists, runs, refusals and texts, over public items alone.
 //!
-//! Tests of maps stand in crates of their own, so that each library is proved once, without them, and in three of them, which are proved side
-//! by side. Modules are named as those that they test; `words` is a caller, which the documents show.
+//! Tests of maps stand in a crate of their own, so that each library is proved once, without them. Modules are named as those that they test;
+//! `words` is a caller, which the documents show, and `parts` has what tests map references to.
 #![tactic(auto)]
 
 #[cfg(test)]
@@ -11,13 +11,33 @@ mod calls;
 #[cfg(test)]
 mod checks;
 #[cfg(test)]
+mod entry;
+#[cfg(test)]
 mod error;
 #[cfg(test)]
+mod extend;
+#[cfg(test)]
+mod iter;
+#[cfg(test)]
 mod map;
-pub mod maps;
+#[cfg(test)]
+mod maps;
+#[cfg(test)]
+mod names;
+pub mod parts;
+#[cfg(test)]
+mod projection;
 #[cfg(test)]
 mod run;
 #[cfg(test)]
+mod set;
+#[cfg(test)]
 mod t;
+#[cfg(test)]
+mod tries;
+#[cfg(test)]
+mod view;
+#[cfg(test)]
+mod waiting;
 #[cfg(test)]
 mod words;

@@ -4,11 +4,8 @@ use crate::maps::map_of_four;
 use dash_map::map::DashMap;
 use dash_map::t::Map as _;
 use dash_shard::error::ConstructError;
-use dash_shard::hash::PlaceState;
-use std::alloc::Global;
 use std::rt::Clock;
 use std::sync::Wait;
-use std::test::Fail;
 
 type Map = DashMap<u64, u64>;
 
@@ -33,24 +30,23 @@ fn amounts_that_are_refused(rt: HostRuntime) {
 }
 
 #[test]
-fn amounts_that_are_taken(rt: HostRuntime) -> Result<(), Fail> {
-    let map = Map::with_shard_amount(rt.alloc(), 2)?;
+fn amounts_that_are_taken(rt: HostRuntime) {
+    let map = Map::with_shard_amount(rt.alloc(), 2).expect(&rt, "refused");
     is(&rt, map.alone().shard_count(), 2);
     for (parallelism, amount) in [(1, 4), (3, 16)] {
-        let map = Map::new(rt.alloc(), parallelism)?;
+        let map = Map::new(rt.alloc(), parallelism).expect(&rt, "refused");
         assert_eq!(rt;
             map.alone().shard_count(),
             amount,
             "{parallelism} processors"
         );
-        let map = Map::default(rt.alloc(), parallelism)?;
+        let map = Map::default(rt.alloc(), parallelism).expect(&rt, "refused");
         assert_eq!(rt;
             map.alone().shard_count(),
             amount,
             "{parallelism} processors"
         );
     }
-    Ok(())
 }
 
 // The least room of a shard.
@@ -63,32 +59,30 @@ fn least_room<R: Wait + Clock>(rt: &R, map: &Map) -> usize {
 }
 
 #[test]
-fn capacities(rt: HostRuntime) -> Result<(), Fail> {
-    let map = Map::with_capacity_and_shard_amount(rt.alloc(), 5, 4)?;
+fn capacities(rt: HostRuntime) {
+    let map = Map::with_capacity_and_shard_amount(rt.alloc(), 5, 4).expect(&rt, "refused");
     assert!(rt; least_room(&rt, &map) >= 2);
-    let map = Map::with_capacity(rt.alloc(), 5, 1)?;
+    let map = Map::with_capacity(rt.alloc(), 5, 1).expect(&rt, "refused");
     assert!(rt; least_room(&rt, &map) >= 2);
     let most = usize::MAX;
     let refused = Map::with_capacity_and_shard_amount(rt.alloc(), most, 4).err();
     is(&rt, refused, Some(ConstructError::CapacityOverflow));
     let refused = Map::with_capacity_and_shard_amount(rt.alloc(), most - 3, 4).err();
     is(&rt, refused, Some(ConstructError::Memory));
-    Ok(())
 }
 
 #[test]
-fn routes(rt: HostRuntime) -> Result<(), Fail> {
-    let four = Map::with_shard_amount(rt.alloc(), 4)?;
+fn routes(rt: HostRuntime) {
+    let four = Map::with_shard_amount(rt.alloc(), 4).expect(&rt, "refused");
     for (hash, shard) in [(1 << 55, 1), (1 << 56, 2), (1 << 57, 0), (usize::MAX, 3)] {
         is_at(&rt, four.determine_shard(hash), shard, hash);
     }
-    let two = Map::with_shard_amount(rt.alloc(), 2)?;
+    let two = Map::with_shard_amount(rt.alloc(), 2).expect(&rt, "refused");
     is(&rt, two.determine_shard((1 << 56) - 1), 0);
     is(&rt, two.determine_shard(1 << 56), 1);
 
-    let places = map_of_four::<u64>(rt.alloc())?;
+    let places = map_of_four::<u64>(&rt, rt.alloc());
     for key in 0..16u64 {
         is_at(&rt, places.determine_map(&key) as u64, key % 4, key);
     }
-    Ok(())
 }

@@ -1,6 +1,6 @@
 //! Runs of a few steps, as worked by hand.
 use crate::checks::is;
-use crate::maps::map_of_four;
+use crate::maps::{map_of_four, put};
 use base_tests::values::Uncopied;
 use dash_history::action::Action;
 use dash_history::kept::Kept;
@@ -10,17 +10,17 @@ use dash_map::run::{Fault, RunOutcome};
 use dash_shard::hash::PlaceState;
 use std::alloc::{AllocError, Global};
 use std::process::Abort;
-use std::test::Fail;
 
-fn six_steps(alloc: Global) -> Result<Vec<ShardStep<u64, u64>>, Fail> {
-    Ok(vec![in alloc;
+fn six_steps(rt: &impl Abort, alloc: Global) -> Vec<ShardStep<u64, u64>> {
+    vec![in alloc;
         ShardStep::Insert(1, 10),
         ShardStep::Insert(5, 50),
         ShardStep::Get(1),
         ShardStep::Remove(1),
         ShardStep::Get(1),
         ShardStep::Remove(1),
-    ]?)
+    ]
+    .expect(rt, "refused")
 }
 
 // The replies to the six steps on an empty map, all of them.
@@ -42,43 +42,42 @@ fn assert_replies<R: Abort>(rt: &R, outcome: &RunOutcome<u64, u64>) {
 }
 
 #[test]
-fn six_steps_on_a_map(rt: HostRuntime) -> Result<(), Fail> {
-    let mut map = map_of_four(rt.alloc())?;
-    let outcome = map.run(six_steps(rt.alloc())?);
+fn six_steps_on_a_map(rt: HostRuntime) {
+    let mut map = map_of_four(&rt, rt.alloc());
+    let outcome = map.run(six_steps(&rt, rt.alloc()));
     assert_replies(&rt, &outcome);
-    let found = map.get(&rt, &5).ok_or("no pair")?;
+    let found = map.get(&rt, &5).expect(&rt, "no pair");
     is(&rt, found.pair(), (&5, &50));
     assert!(rt; map.get(&rt, &1).is_none());
-    Ok(())
 }
 
 #[test]
-fn six_steps_of_one_owner(rt: HostRuntime) -> Result<(), Fail> {
-    let mut alone = map_of_four(rt.alloc())?.alone();
-    let outcome = alone.run(six_steps(rt.alloc())?);
+fn six_steps_of_one_owner(rt: HostRuntime) {
+    let mut alone = map_of_four(&rt, rt.alloc()).alone();
+    let outcome = alone.run(six_steps(&rt, rt.alloc()));
     assert_replies(&rt, &outcome);
     is(&rt, alone.get(&5), Some((&5, &50)));
     is(&rt, alone.get(&1), None);
     is(&rt, alone.len(), 1);
-    Ok(())
 }
 
 #[test]
-fn a_refused_step_comes_back(rt: HostRuntime) -> Result<(), Fail> {
-    let mut alone: Alone<u64, Uncopied, PlaceState> = map_of_four(rt.alloc())?.alone();
+fn a_refused_step_comes_back(rt: HostRuntime) {
+    let mut alone: Alone<u64, Uncopied, PlaceState> = map_of_four(&rt, rt.alloc()).alone();
     let outcome = alone.run::<()>(vec![in rt.alloc();
         ShardStep::Insert(1, Uncopied(10)),
         ShardStep::Get(2),
         ShardStep::Get(1),
         ShardStep::Insert(5, Uncopied(50)),
-    ]?);
+    ]
+    .expect(&rt, "refused"));
     assert!(rt;
         matches!(
             outcome.replies.as_slice(),
             [Reply::Old(None), Reply::Pair(None)]
         )
     );
-    let (rest, fault) = outcome.stopped.ok_or("no stop")?;
+    let (rest, fault) = outcome.stopped.expect(&rt, "no stop");
     is(&rt, fault, Fault::Memory);
     assert!(rt;
         matches!(
@@ -87,7 +86,6 @@ fn a_refused_step_comes_back(rt: HostRuntime) -> Result<(), Fail> {
         )
     );
     is(&rt, alone.len(), 1);
-    Ok(())
 }
 
 // The replies as text.
@@ -96,9 +94,9 @@ fn replies(alloc: Global, outcome: &RunOutcome<u64, u64>) -> Result<String, Allo
 }
 
 #[test]
-fn counts_may_miss_every_pair(rt: HostRuntime) -> Result<(), Fail> {
-    let mut map = map_of_four(rt.alloc())?;
-    map.insert(&rt, 3, 30)?;
+fn counts_may_miss_every_pair(rt: HostRuntime) {
+    let mut map = map_of_four(&rt, rt.alloc());
+    put(&rt, &map, 3, 30);
     let outcome = map.run(vec![in rt.alloc();
         ShardStep::Count(0),
         ShardStep::Count(1),
@@ -106,18 +104,20 @@ fn counts_may_miss_every_pair(rt: HostRuntime) -> Result<(), Fail> {
         ShardStep::Insert(0, 5),
         ShardStep::Remove(3),
         ShardStep::Count(3),
-    ]?);
+    ]
+    .expect(&rt, "refused"));
     assert_eq!(rt;
-        replies(rt.alloc(), &outcome)?.as_str(),
+        replies(rt.alloc(), &outcome)
+            .expect(&rt, "refused")
+            .as_str(),
         "[Number(0), Number(0), Number(0), Old(None), Pair(Some((3, 30))), Number(0)]"
     );
-    Ok(())
 }
 
 #[test]
-fn counts_may_see_pairs_that_never_met(rt: HostRuntime) -> Result<(), Fail> {
-    let mut map = map_of_four(rt.alloc())?;
-    map.insert(&rt, 0, 5)?;
+fn counts_may_see_pairs_that_never_met(rt: HostRuntime) {
+    let mut map = map_of_four(&rt, rt.alloc());
+    put(&rt, &map, 0, 5);
     let outcome = map.run(vec![in rt.alloc();
         ShardStep::Count(0),
         ShardStep::Count(1),
@@ -125,31 +125,39 @@ fn counts_may_see_pairs_that_never_met(rt: HostRuntime) -> Result<(), Fail> {
         ShardStep::Remove(0),
         ShardStep::Insert(3, 30),
         ShardStep::Count(3),
-    ]?);
+    ]
+    .expect(&rt, "refused"));
     assert_eq!(rt;
-        replies(rt.alloc(), &outcome)?.as_str(),
+        replies(rt.alloc(), &outcome)
+            .expect(&rt, "refused")
+            .as_str(),
         "[Number(1), Number(0), Number(0), Pair(Some((0, 5))), Old(None), Number(1)]"
     );
-    Ok(())
 }
 
 #[test]
-fn a_shard_that_is_not_there(rt: HostRuntime) -> Result<(), Fail> {
-    let mut map = map_of_four(rt.alloc())?;
+fn a_shard_that_is_not_there(rt: HostRuntime) {
+    let mut map = map_of_four(&rt, rt.alloc());
     let outcome = map.run(vec![in rt.alloc();
         ShardStep::Insert(1, 10),
         ShardStep::Count(4),
         ShardStep::Insert(2, 20),
-    ]?);
-    is(&rt, replies(rt.alloc(), &outcome)?.as_str(), "[Old(None)]");
-    let (rest, fault) = outcome.stopped.ok_or("no stop")?;
+    ]
+    .expect(&rt, "refused"));
+    is(
+        &rt,
+        replies(rt.alloc(), &outcome)
+            .expect(&rt, "refused")
+            .as_str(),
+        "[Old(None)]",
+    );
+    let (rest, fault) = outcome.stopped.expect(&rt, "no stop");
     is(&rt, fault, Fault::NoSuchShard);
-    let rest = format!(in rt.alloc(); "{rest:?}")?;
+    let rest = format!(in rt.alloc(); "{rest:?}").expect(&rt, "refused");
     is(&rt, rest.as_str(), "[Count(4), Insert(2, 20)]");
     let alone = map.alone();
     is(&rt, alone.get(&1), Some((&1, &10)));
     is(&rt, alone.len(), 1);
-    Ok(())
 }
 
 // Adds the number, wrapped, and answers yes where the new value is even.
@@ -172,8 +180,8 @@ impl Action<u64, u64> for Adds {
 }
 
 #[test]
-fn steps_on_each_pair_of_a_shard(rt: HostRuntime) -> Result<(), Fail> {
-    let mut map = map_of_four(rt.alloc())?;
+fn steps_on_each_pair_of_a_shard(rt: HostRuntime) {
+    let mut map = map_of_four(&rt, rt.alloc());
     let outcome = map.run(vec![in rt.alloc();
         ShardStep::Insert(1, 10),
         ShardStep::Insert(5, 51),
@@ -188,25 +196,26 @@ fn steps_on_each_pair_of_a_shard(rt: HostRuntime) -> Result<(), Fail> {
         ShardStep::Count(1),
         ShardStep::Read(4),
         ShardStep::Retain(4, Adds(1)),
-    ]?);
+    ]
+    .expect(&rt, "refused"));
     assert_eq!(rt;
-        format!(in rt.alloc(); "{:?}", outcome.replies)?.as_str(),
+        format!(in rt.alloc(); "{:?}", outcome.replies)
+            .expect(&rt, "refused")
+            .as_str(),
         "[Old(None), Old(None), Old(None), Done, Pairs([(2, 20)]), Pair(Some((1, 11))), Pair(Some((5, 52))), Done, Pairs([(5, 54)]), Pairs([]), Number(1)]"
     );
-    let (rest, fault) = outcome.stopped.ok_or("no stop")?;
+    let (rest, fault) = outcome.stopped.expect(&rt, "no stop");
     is(&rt, fault, Fault::NoSuchShard);
-    let rest = format!(in rt.alloc(); "{rest:?}")?;
+    let rest = format!(in rt.alloc(); "{rest:?}").expect(&rt, "refused");
     is(&rt, rest.as_str(), "[Read(4), Retain(4, Adds(1))]");
-    Ok(())
 }
 
 #[test]
-fn no_steps(rt: HostRuntime) -> Result<(), Fail> {
-    let mut map = map_of_four(rt.alloc())?;
-    map.insert(&rt, 7, 70)?;
+fn no_steps(rt: HostRuntime) {
+    let mut map = map_of_four(&rt, rt.alloc());
+    put(&rt, &map, 7, 70);
     let outcome = map.run::<()>(Vec::new(rt.alloc()));
     assert!(rt; outcome.stopped.is_none());
     assert!(rt; outcome.replies.is_empty());
     is(&rt, map.alone().get(&7), Some((&7, &70)));
-    Ok(())
 }

@@ -1,13 +1,12 @@
 //! A page whose words two threads count.
 use crate::checks::{is, is_at};
 use dashmap::DashMap;
-use std::test::Fail;
 use std::thread;
 use uses::words::{count, count_words, start_anew};
 
 #[test]
-fn two_threads_count_the_words_of_a_page(rt: HostRuntime) -> Result<(), Fail> {
-    let counts = DashMap::new(rt.alloc(), 1)?;
+fn two_threads_count_the_words_of_a_page(rt: HostRuntime) {
+    let counts = DashMap::new(rt.alloc(), 1).expect(&rt, "refused");
     let mut pages = ["the fox and the dog", "the dog\nsleeps"];
     thread::for_each_mut(
         &rt,
@@ -29,7 +28,6 @@ fn two_threads_count_the_words_of_a_page(rt: HostRuntime) -> Result<(), Fail> {
     }
     is(&rt, start_anew(&rt, &counts, &"the"), Some(3));
     is(&rt, start_anew(&rt, &counts, &"cat"), None);
-    is(&rt, count(&rt, &counts, "the")?, 1);
+    is(&rt, count(&rt, &counts, "the").expect(&rt, "refused"), 1);
     is(&rt, counts.len(&rt), 5);
-    Ok(())
 }

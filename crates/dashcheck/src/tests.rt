@@ -5,7 +5,6 @@ use std::io::{self, Read, Write};
 use std::process::Abort;
 use std::rt::Clock;
 use std::sync::Wait;
-use std::test::Fail;
 use std::thread::Threads;
 
 const USAGE: &str = "usage: dashcheck script | dashcheck threads C N\n";
@@ -88,9 +87,9 @@ fn check<T: Abort + Threads + Wait + Clock + Sync>(
     script: &[u8],
     output: &str,
     errors: &str,
-) -> Result<(), Fail> {
+) {
     let mut input = script;
-    let ran = run(rt, alloc, "script", &mut input)?;
+    let ran = run(rt, alloc, "script", &mut input).expect(rt, "refused");
     let code = if errors.is_empty() { 0 } else { 1 };
     assert_eq!(rt;
         ran.output.as_slice(),
@@ -103,34 +102,33 @@ fn check<T: Abort + Threads + Wait + Clock + Sync>(
         "errors of {script:?}"
     );
     assert_eq!(rt; ran.code, code, "status of {script:?}");
-    Ok(())
 }
 
 #[test]
-fn prints_replies(rt: HostRuntime) -> Result<(), Fail> {
-    check(&rt, rt.alloc(), b"", "", "")?;
+fn prints_replies(rt: HostRuntime) {
+    check(&rt, rt.alloc(), b"", "", "");
     check(
         &rt,
         rt.alloc(),
         b"insert 1 10\ninsert 1 11\nget 1\n",
         "old none\nold 10\npair 1 11\n",
         "",
-    )?;
+    );
     check(
         &rt,
         rt.alloc(),
         b"insert 5 50\nremove 5\nremove 5\nget 5\n",
         "old none\npair 5 50\npair none\npair none\n",
         "",
-    )?;
-    check(&rt, rt.alloc(), b"get 1", "pair none\n", "")?;
+    );
+    check(&rt, rt.alloc(), b"get 1", "pair none\n", "");
     check(
         &rt,
         rt.alloc(),
         b"insert 18446744073709551615 0\n",
         "old none\n",
         "",
-    )?;
+    );
     check(
         &rt,
         rt.alloc(),
@@ -141,35 +139,35 @@ fn prints_replies(rt: HostRuntime) -> Result<(), Fail> {
 }
 
 #[test]
-fn takes_changes(rt: HostRuntime) -> Result<(), Fail> {
+fn takes_changes(rt: HostRuntime) {
     check(
         &rt,
         rt.alloc(),
         b"insert 1 10\ninsert 5 50\ninsert 1 11\nget 1\ncount 1\nremove 5\ncontains 5\ncontains 1\n",
         "old none\nold none\nold 10\npair 1 11\nnumber 2\npair 5 50\nfound no\nfound yes\n",
         "",
-    )?;
+    );
     check(
         &rt,
         rt.alloc(),
         b"insert 0 6\nremoveif 0 below 6\nremoveifmut 0 addbelow 1 7\nremoveifmut 0 addbelow 0 8\ncount 0\n",
         "old none\npair none\npair none\npair 0 7\nnumber 0\n",
         "",
-    )?;
+    );
     check(
         &rt,
         rt.alloc(),
         b"alter 4 add 1\ninsert 4 18446744073709551615\nalter 4 add 2\nget 4\nremoveif 4 add 9\nget 4\n",
         "done\nold none\ndone\npair 4 1\npair 4 1\npair none\n",
         "",
-    )?;
+    );
     check(
         &rt,
         rt.alloc(),
         b"insert 18446744073709551615 0\ncount 3\n",
         "old none\nnumber 1\n",
         "",
-    )?;
+    );
     check(
         &rt,
         rt.alloc(),
@@ -180,21 +178,21 @@ fn takes_changes(rt: HostRuntime) -> Result<(), Fail> {
 }
 
 #[test]
-fn takes_steps_on_shards(rt: HostRuntime) -> Result<(), Fail> {
+fn takes_steps_on_shards(rt: HostRuntime) {
     check(
         &rt,
         rt.alloc(),
         b"insert 1 10\ninsert 5 50\ninsert 1 11\nget 1\ncount 1\nread 1\nremove 5\ncontains 5\n",
         "old none\nold none\nold 10\npair 1 11\nnumber 2\npairs 1:11 5:50\npair 5 50\nfound no\n",
         "",
-    )?;
+    );
     check(
         &rt,
         rt.alloc(),
         b"insert 0 5\ninsert 4 9\nretain 0 addbelow 1 10\nread 0\nremoveif 0 below 6\nremoveifmut 0 addbelow 1 7\nremoveifmut 0 addbelow 0 8\ncount 0\n",
         "old none\nold none\ndone\npairs 0:6\npair none\npair none\npair 0 7\nnumber 0\n",
         "",
-    )?;
+    );
     check(
         &rt,
         rt.alloc(),
@@ -205,21 +203,21 @@ fn takes_steps_on_shards(rt: HostRuntime) -> Result<(), Fail> {
 }
 
 #[test]
-fn refuses_steps_on_missing_shards(rt: HostRuntime) -> Result<(), Fail> {
+fn refuses_steps_on_missing_shards(rt: HostRuntime) {
     check(
         &rt,
         rt.alloc(),
         b"get 1\nread 4\n",
         "pair none\n",
         "refused line 2: no such shard (20)\n",
-    )?;
+    );
     check(
         &rt,
         rt.alloc(),
         b"alterall 18446744073709551615 add 1\n",
         "",
         "refused line 1: no such shard (20)\n",
-    )?;
+    );
     check(
         &rt,
         rt.alloc(),
@@ -230,7 +228,7 @@ fn refuses_steps_on_missing_shards(rt: HostRuntime) -> Result<(), Fail> {
 }
 
 #[test]
-fn refuses_bad_steps(rt: HostRuntime) -> Result<(), Fail> {
+fn refuses_bad_steps(rt: HostRuntime) {
     let bad: [&[u8]; 48] = [
         b"\n",
         b" get 1\n",
@@ -282,7 +280,7 @@ fn refuses_bad_steps(rt: HostRuntime) -> Result<(), Fail> {
         b"retain 1 below\n",
     ];
     for line in bad {
-        check(&rt, rt.alloc(), line, "", "refused line 1: bad step\n")?;
+        check(&rt, rt.alloc(), line, "", "refused line 1: bad step\n");
     }
     check(
         &rt,
@@ -290,14 +288,14 @@ fn refuses_bad_steps(rt: HostRuntime) -> Result<(), Fail> {
         &[b'1'; 9000],
         "",
         "refused line 1: bad step\n",
-    )?;
+    );
     check(
         &rt,
         rt.alloc(),
         b"insert 1 10\nget 1\n\nget 1\n",
         "old none\npair 1 10\n",
         "refused line 3: bad step\n",
-    )?;
+    );
     check(
         &rt,
         rt.alloc(),
@@ -308,7 +306,7 @@ fn refuses_bad_steps(rt: HostRuntime) -> Result<(), Fail> {
 }
 
 #[test]
-fn refuses_failed_reads(rt: HostRuntime) -> Result<(), Fail> {
+fn refuses_failed_reads(rt: HostRuntime) {
     for (bytes, output) in [
         ("", ""),
         ("insert 1 10\nget", "old none\n"),
@@ -317,17 +315,16 @@ fn refuses_failed_reads(rt: HostRuntime) -> Result<(), Fail> {
         let mut input = Failing {
             bytes: bytes.as_bytes(),
         };
-        let ran = run(&rt, rt.alloc(), "script", &mut input)?;
+        let ran = run(&rt, rt.alloc(), "script", &mut input).expect(&rt, "refused");
         assert_eq!(rt; ran.output.as_slice(), output.as_bytes());
         assert_eq!(rt; ran.errors.as_slice(), b"refused: read failed\n".as_slice());
         assert_eq!(rt; ran.code, 1);
     }
-    Ok(())
 }
 
 #[test]
-fn stops_where_a_write_fails(rt: HostRuntime) -> Result<(), Fail> {
-    let words = words(rt.alloc(), "script")?;
+fn stops_where_a_write_fails(rt: HostRuntime) {
+    let words = words(rt.alloc(), "script").expect(&rt, "refused");
     for room in [0, 4, 9, 12] {
         let mut input = b"insert 1 10\nget 1\nbad\n".as_slice();
         let mut errors = Vec::new(rt.alloc());
@@ -343,11 +340,10 @@ fn stops_where_a_write_fails(rt: HostRuntime) -> Result<(), Fail> {
         assert_eq!(rt; errors.len(), 0);
         assert_eq!(rt; exit_code(words.as_slice(), ran), 1);
     }
-    Ok(())
 }
 
 #[test]
-fn checks_the_command_line_first(rt: HostRuntime) -> Result<(), Fail> {
+fn checks_the_command_line_first(rt: HostRuntime) {
     for line in [
         "",
         "Script",
@@ -370,19 +366,18 @@ fn checks_the_command_line_first(rt: HostRuntime) -> Result<(), Fail> {
         "--help",
     ] {
         let mut input = Failing { bytes: b"get 1\n" };
-        let ran = run(&rt, rt.alloc(), line, &mut input)?;
+        let ran = run(&rt, rt.alloc(), line, &mut input).expect(&rt, "refused");
         assert_eq!(rt; input.bytes.len(), 6);
         assert_eq!(rt; ran.output.len(), 0);
         assert_eq!(rt; ran.errors.as_slice(), USAGE.as_bytes());
         assert_eq!(rt; ran.code, 2, "status of {line:?}");
     }
-    Ok(())
 }
 
 #[test]
-fn fails_where_the_errors_cannot_be_written(rt: HostRuntime) -> Result<(), Fail> {
+fn fails_where_the_errors_cannot_be_written(rt: HostRuntime) {
     for (line, code) in [("threads 4", 2), ("script", 1)] {
-        let words = words(rt.alloc(), line)?;
+        let words = words(rt.alloc(), line).expect(&rt, "refused");
         let mut input = b"bad\n".as_slice();
         let mut output = Vec::new(rt.alloc());
         let ran = run_words(
@@ -398,13 +393,10 @@ fn fails_where_the_errors_cannot_be_written(rt: HostRuntime) -> Result<(), Fail>
         assert_eq!(rt; exit_code(words.as_slice(), ran), code);
     }
     assert_eq!(rt; refuse_memory(&mut Full { room: 0 }), 1);
-    Ok(())
 }
 
 #[test]
-fn threads_print_how_many_entries_they_logged_and_that_they_are_legal(
-    rt: HostRuntime,
-) -> Result<(), Fail> {
+fn threads_print_how_many_entries_they_logged_and_that_they_are_legal(rt: HostRuntime) {
     for (line, output) in [
         ("threads 4 100", "entries 400\nlegal\n"),
         ("threads 1 0", "entries 0\nlegal\n"),
@@ -412,7 +404,7 @@ fn threads_print_how_many_entries_they_logged_and_that_they_are_legal(
         ("threads 64 1", "entries 64\nlegal\n"),
     ] {
         let mut input = Failing { bytes: b"get 1\n" };
-        let ran = run(&rt, rt.alloc(), line, &mut input)?;
+        let ran = run(&rt, rt.alloc(), line, &mut input).expect(&rt, "refused");
         assert_eq!(rt;
             ran.output.as_slice(),
             output.as_bytes(),
@@ -422,5 +414,4 @@ fn threads_print_how_many_entries_they_logged_and_that_they_are_legal(
         assert_eq!(rt; input.bytes.len(), 6);
         assert_eq!(rt; ran.code, 0);
     }
-    Ok(())
 }

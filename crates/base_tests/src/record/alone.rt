@@ -8,7 +8,6 @@ use dash_shard::error::ConstructError;
 use dash_shard::hash::{PlaceState, is_shard_amount};
 use std::alloc::Global;
 use std::process::Abort;
-use std::test::Fail;
 
 type Alone = RecAlone<u64, u64, PlaceState>;
 
@@ -17,21 +16,16 @@ type Log = CallerLog<u64, u64>;
 type Step = ShardStep<u64, u64>;
 
 // A map of four shards and one caller, with the caller's log.
-fn alone_of_one(alloc: Global) -> Result<(Alone, Log), Fail> {
-    let (alone, mut logs) = Alone::new(alloc, PlaceState, 4, 1)?;
-    let log = logs.pop().ok_or("no log")?;
-    Ok((alone, log))
+fn alone_of_one(rt: &impl Abort, alloc: Global) -> (Alone, Log) {
+    let (alone, mut logs) = Alone::new(alloc, PlaceState, 4, 1).expect(rt, "refused");
+    let log = logs.pop().expect(rt, "no log");
+    (alone, log)
 }
 
 // Takes a step, by the caller of this log.
-fn apply(
-    rt: &impl Abort,
-    alone: &mut Alone,
-    log: &mut Log,
-    step: Step,
-) -> Result<Reply<u64, u64>, Fail> {
+fn apply(rt: &impl Abort, alone: &mut Alone, log: &mut Log, step: Step) -> Reply<u64, u64> {
     assert!(rt; log.caller() < alone.callers());
-    Ok(alone.apply(log, step)?)
+    alone.apply(log, step).expect(rt, "refused")
 }
 
 // The stamp of the last step of a shard.
@@ -58,8 +52,8 @@ fn refuses_amounts_and_then_callers(rt: HostRuntime) {
 }
 
 #[test]
-fn first_steps(rt: HostRuntime) -> Result<(), Fail> {
-    let (mut alone, mut log) = alone_of_one(rt.alloc())?;
+fn first_steps(rt: HostRuntime) {
+    let (mut alone, mut log) = alone_of_one(&rt, rt.alloc());
     is(&rt, alone.shard_count(), 4);
     is(&rt, alone.callers(), 1);
     is(&rt, log.caller(), 0);
@@ -68,8 +62,14 @@ fn first_steps(rt: HostRuntime) -> Result<(), Fail> {
         (Step::Insert(1, 11), "Old(Some(10))"),
         (Step::Get(1), "Pair(Some((1, 11)))"),
     ] {
-        let reply = apply(&rt, &mut alone, &mut log, step)?;
-        is(&rt, format!(in rt.alloc(); "{reply:?}")?.as_str(), text);
+        let reply = apply(&rt, &mut alone, &mut log, step);
+        is(
+            &rt,
+            format!(in rt.alloc(); "{reply:?}")
+                .expect(&rt, "refused")
+                .as_str(),
+            text,
+        );
     }
     is(&rt, log.last_stamp(), 3);
     is(&rt, last_of(&rt, &alone, 1), 3);
@@ -80,35 +80,33 @@ fn first_steps(rt: HostRuntime) -> Result<(), Fail> {
         is_at(&rt, record.caller, 0, stamp);
         is_at(&rt, record.shard, 1, stamp);
     }
-    Ok(())
 }
 
 #[test]
-fn stamps_follow_shard_and_caller(rt: HostRuntime) -> Result<(), Fail> {
-    let (mut alone, mut logs) = Alone::new(rt.alloc(), PlaceState, 4, 2)?;
-    let mut second = logs.pop().ok_or("no log")?;
-    let mut first = logs.pop().ok_or("no log")?;
+fn stamps_follow_shard_and_caller(rt: HostRuntime) {
+    let (mut alone, mut logs) = Alone::new(rt.alloc(), PlaceState, 4, 2).expect(&rt, "refused");
+    let mut second = logs.pop().expect(&rt, "no log");
+    let mut first = logs.pop().expect(&rt, "no log");
     is(&rt, first.caller(), 0);
     is(&rt, second.caller(), 1);
     for i in 0..7 {
-        apply(&rt, &mut alone, &mut first, Step::Insert(4 * i, i))?;
+        apply(&rt, &mut alone, &mut first, Step::Insert(4 * i, i));
     }
     is(&rt, first.last_stamp(), 7);
     for i in 0..4 {
-        apply(&rt, &mut alone, &mut second, Step::Insert(4 * i + 1, i))?;
+        apply(&rt, &mut alone, &mut second, Step::Insert(4 * i + 1, i));
     }
     is(&rt, second.last_stamp(), 4);
     is(&rt, last_of(&rt, &alone, 1), 4);
 
-    apply(&rt, &mut alone, &mut first, Step::Get(1))?;
+    apply(&rt, &mut alone, &mut first, Step::Get(1));
     is(&rt, first.last_stamp(), 8);
     is(&rt, last_of(&rt, &alone, 1), 8);
-    Ok(())
 }
 
 #[test]
-fn reads_and_sweeps_a_shard(rt: HostRuntime) -> Result<(), Fail> {
-    let (mut alone, mut log) = alone_of_one(rt.alloc())?;
+fn reads_and_sweeps_a_shard(rt: HostRuntime) {
+    let (mut alone, mut log) = alone_of_one(&rt, rt.alloc());
     for (step, text) in [
         (Step::Insert(1, 10), "Old(None)"),
         (Step::Insert(6, 60), "Old(None)"),
@@ -118,8 +116,14 @@ fn reads_and_sweeps_a_shard(rt: HostRuntime) -> Result<(), Fail> {
         (Step::Retain(2, ()), "Done"),
         (Step::Read(2), "Pairs([(6, 60)])"),
     ] {
-        let reply = apply(&rt, &mut alone, &mut log, step)?;
-        is(&rt, format!(in rt.alloc(); "{reply:?}")?.as_str(), text);
+        let reply = apply(&rt, &mut alone, &mut log, step);
+        is(
+            &rt,
+            format!(in rt.alloc(); "{reply:?}")
+                .expect(&rt, "refused")
+                .as_str(),
+            text,
+        );
     }
     is(&rt, log.entries().len(), 7);
     assert!(rt; log.caller() < alone.callers());
@@ -127,7 +131,6 @@ fn reads_and_sweeps_a_shard(rt: HostRuntime) -> Result<(), Fail> {
         Ok(reply) => assert!(rt; false, "{reply:?}"),
         Err(refused) => is(&rt, refused.1, RecordFault::NoSuchShard),
     }
-    Ok(())
 }
 
 // The next of a fixed row of numbers.
@@ -139,8 +142,8 @@ fn next(state: &mut u64) -> u64 {
 }
 
 #[test]
-fn replies_as_the_plain_map(rt: HostRuntime) -> Result<(), Fail> {
-    let (mut alone, mut log) = alone_of_one(rt.alloc())?;
+fn replies_as_the_plain_map(rt: HostRuntime) {
+    let (mut alone, mut log) = alone_of_one(&rt, rt.alloc());
     assert!(rt; is_shard_amount(4));
     let mut plain = Plain::new(rt.alloc(), PlaceState, 4);
     let mut state = 1;
@@ -152,11 +155,12 @@ fn replies_as_the_plain_map(rt: HostRuntime) -> Result<(), Fail> {
             1 => Step::Remove(key),
             _ => Step::Insert(key, i),
         };
-        let want = plain.take(step.copy()?)?;
-        let want = format!(in rt.alloc(); "{want:?}")?;
-        let reply = apply(&rt, &mut alone, &mut log, step)?;
-        let reply = format!(in rt.alloc(); "{reply:?}")?;
+        let want = plain
+            .take(step.copy().expect(&rt, "refused"))
+            .expect(&rt, "refused");
+        let want = format!(in rt.alloc(); "{want:?}").expect(&rt, "refused");
+        let reply = apply(&rt, &mut alone, &mut log, step);
+        let reply = format!(in rt.alloc(); "{reply:?}").expect(&rt, "refused");
         is_at(&rt, reply.as_str(), want.as_str(), i);
     }
-    Ok(())
 }

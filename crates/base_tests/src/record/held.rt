@@ -6,7 +6,6 @@ use dash_history::record::map::RecordedMap;
 use dash_history::step::{Reply, ShardStep};
 use dash_shard::hash::PlaceState;
 use std::process::Abort;
-use std::test::Fail;
 
 // Takes an insert, by the caller of this log.
 fn insert(
@@ -15,16 +14,17 @@ fn insert(
     log: &mut CallerLog<u64, u64>,
     key: u64,
     value: u64,
-) -> Result<Reply<u64, u64>, Fail> {
+) -> Reply<u64, u64> {
     assert!(rt; held.routes(&key), "{key}");
     assert!(rt; log.caller() < held.callers());
-    Ok(held.record(log, ShardStep::Insert(key, value))?)
+    held.record(log, ShardStep::Insert(key, value))
+        .expect(rt, "refused")
 }
 
 #[test]
-fn records_in_place(rt: HostRuntime) -> Result<(), Fail> {
-    let (map, mut logs) = RecordedMap::new(rt.alloc(), PlaceState, 4, 2)?;
-    let mut log = logs.pop().ok_or("no log")?;
+fn records_in_place(rt: HostRuntime) {
+    let (map, mut logs) = RecordedMap::new(rt.alloc(), PlaceState, 4, 2).expect(&rt, "refused");
+    let mut log = logs.pop().expect(&rt, "no log");
     is(&rt, log.caller(), 1);
     let mut held = map.held(&rt, 1);
     is(&rt, held.number(), 1);
@@ -32,14 +32,13 @@ fn records_in_place(rt: HostRuntime) -> Result<(), Fail> {
     is(&rt, held.callers(), 2);
     is(&rt, held.last_stamp(), 0);
     for (key, value) in [(1, 10), (5, 50), (1, 11)] {
-        insert(&rt, &mut held, &mut log, key, value)?;
+        insert(&rt, &mut held, &mut log, key, value);
     }
-    let reply = insert(&rt, &mut held, &mut log, 1, 12)?;
+    let reply = insert(&rt, &mut held, &mut log, 1, 12);
     assert!(rt; matches!(reply, Reply::Old(Some(11))));
     is(&rt, held.last_stamp(), 4);
     is(&rt, log.last_stamp(), 4);
     is(&rt, log.entries().len(), 4);
     drop(held);
     is(&rt, map.held(&rt, 1).last_stamp(), 4);
-    Ok(())
 }

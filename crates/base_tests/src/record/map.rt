@@ -11,7 +11,6 @@ use std::alloc::Global;
 use std::process::Abort;
 use std::rt::Clock;
 use std::sync::Wait;
-use std::test::Fail;
 use std::{mem, thread};
 
 /// A recorded map of numbers, where of four shards the key k goes to shard k modulo 4.
@@ -29,9 +28,9 @@ pub(crate) fn apply<R: Abort + Wait + Clock>(
     map: &Map,
     log: &mut Log,
     step: ShardStep<u64, u64>,
-) -> Result<Reply<u64, u64>, Fail> {
+) -> Reply<u64, u64> {
     assert!(rt; log.caller() < map.callers());
-    Ok(map.apply(rt, log, step)?)
+    map.apply(rt, log, step).expect(rt, "refused")
 }
 
 // The same without locks.
@@ -40,9 +39,9 @@ fn apply_alone(
     alone: &mut Alone,
     log: &mut Log,
     step: ShardStep<u64, u64>,
-) -> Result<Reply<u64, u64>, Fail> {
+) -> Reply<u64, u64> {
     assert!(rt; log.caller() < alone.callers());
-    Ok(alone.apply(log, step)?)
+    alone.apply(log, step).expect(rt, "refused")
 }
 
 /// The stamp of the last step of a shard.
@@ -52,31 +51,29 @@ pub(crate) fn last_of(rt: &impl Abort, alone: &Alone, shard: usize) -> u64 {
 }
 
 #[test]
-fn first_steps(rt: HostRuntime) -> Result<(), Fail> {
-    let (map, mut logs) = Map::new(rt.alloc(), PlaceState, 4, 1)?;
+fn first_steps(rt: HostRuntime) {
+    let (map, mut logs) = Map::new(rt.alloc(), PlaceState, 4, 1).expect(&rt, "refused");
     is(&rt, map.shard_count(), 4);
     is(&rt, map.callers(), 1);
-    let mut log = logs.pop().ok_or("no log")?;
-    let reply = apply(&rt, &map, &mut log, ShardStep::Insert(1, 10))?;
+    let mut log = logs.pop().expect(&rt, "no log");
+    let reply = apply(&rt, &map, &mut log, ShardStep::Insert(1, 10));
     assert!(rt; matches!(reply, Reply::Old(None)));
-    let reply = apply(&rt, &map, &mut log, ShardStep::Insert(1, 11))?;
+    let reply = apply(&rt, &map, &mut log, ShardStep::Insert(1, 11));
     assert!(rt; matches!(reply, Reply::Old(Some(10))));
-    let reply = apply(&rt, &map, &mut log, ShardStep::Get(1))?;
+    let reply = apply(&rt, &map, &mut log, ShardStep::Get(1));
     assert!(rt; matches!(reply, Reply::Pair(Some((1, 11)))));
     is(&rt, log.last_stamp(), 3);
     is(&rt, map.alone().last_of(1), 3);
-    Ok(())
 }
 
 #[test]
-fn a_held_shard_leaves_the_others_free(rt: HostRuntime) -> Result<(), Fail> {
-    let (map, mut logs) = Map::new(rt.alloc(), PlaceState, 4, 1)?;
-    let mut log = logs.pop().ok_or("no log")?;
+fn a_held_shard_leaves_the_others_free(rt: HostRuntime) {
+    let (map, mut logs) = Map::new(rt.alloc(), PlaceState, 4, 1).expect(&rt, "refused");
+    let mut log = logs.pop().expect(&rt, "no log");
     let held = map.held(&rt, 0);
-    let reply = apply(&rt, &map, &mut log, ShardStep::Insert(1, 10))?;
+    let reply = apply(&rt, &map, &mut log, ShardStep::Insert(1, 10));
     assert!(rt; matches!(reply, Reply::Old(None)));
     is(&rt, held.last_stamp(), 0);
-    Ok(())
 }
 
 /// So many steps of one caller over sixteen keys, or as many as it could take.
@@ -96,22 +93,22 @@ pub(crate) fn record_steps<R: Wait + Clock>(rt: &R, map: &Map, log: &mut Log, co
 }
 
 // The stamps of a shard's steps in all logs.
-fn stamps_of(alloc: Global, logs: &[Log], shard: usize) -> Result<Vec<u64>, Fail> {
+fn stamps_of(rt: &impl Abort, alloc: Global, logs: &[Log], shard: usize) -> Vec<u64> {
     let mut stamps = Vec::new(alloc);
     for log in logs {
         for record in log.entries() {
             if record.shard == shard {
-                stamps.push(record.stamp)?;
+                stamps.push(record.stamp).expect(rt, "refused");
             }
         }
     }
     stamps.sort_unstable();
-    Ok(stamps)
+    stamps
 }
 
 #[test]
-fn four_threads_record_on_one_map(rt: HostRuntime) -> Result<(), Fail> {
-    let (map, mut logs) = Map::new(rt.alloc(), PlaceState, 4, 4)?;
+fn four_threads_record_on_one_map(rt: HostRuntime) {
+    let (map, mut logs) = Map::new(rt.alloc(), PlaceState, 4, 4).expect(&rt, "refused");
     thread::for_each_mut(
         &rt,
         logs.as_mut_slice(),
@@ -123,7 +120,7 @@ fn four_threads_record_on_one_map(rt: HostRuntime) -> Result<(), Fail> {
     }
     let mut alone = map.alone();
     for shard in 0..4 {
-        let mut stamps = stamps_of(rt.alloc(), &logs, shard)?;
+        let mut stamps = stamps_of(&rt, rt.alloc(), &logs, shard);
         is_at(&rt, stamps.len(), 10_000, shard);
         assert_eq!(rt;
             stamps.last(),
@@ -137,19 +134,18 @@ fn four_threads_record_on_one_map(rt: HostRuntime) -> Result<(), Fail> {
             "no stamp of shard {shard} comes twice"
         );
     }
-    let mut log = logs.pop().ok_or("no log")?;
+    let mut log = logs.pop().expect(&rt, "no log");
     for shard in 0..4 {
-        let count = apply_alone(&rt, &mut alone, &mut log, ShardStep::Count(shard))?;
+        let count = apply_alone(&rt, &mut alone, &mut log, ShardStep::Count(shard));
         assert!(rt;
             matches!(count, Reply::Number(4)),
             "{count:?} of shard {shard}"
         );
     }
-    Ok(())
 }
 
 // The seven pairs that thirty rounds of inserts leave.
-fn assert_pairs(rt: &impl Abort, alone: &mut Alone, log: &mut Log) -> Result<(), Fail> {
+fn assert_pairs(rt: &impl Abort, alone: &mut Alone, log: &mut Log) {
     for (key, value) in [
         (0, 28),
         (1, 29),
@@ -159,13 +155,12 @@ fn assert_pairs(rt: &impl Abort, alone: &mut Alone, log: &mut Log) -> Result<(),
         (5, 26),
         (6, 27),
     ] {
-        let reply = apply_alone(rt, alone, log, ShardStep::Get(key))?;
+        let reply = apply_alone(rt, alone, log, ShardStep::Get(key));
         let Reply::Pair(pair) = reply else {
-            return Err(Fail::from("no pair"));
+            panic!(rt; "no pair");
         };
         is(rt, pair, Some((key, value)));
     }
-    Ok(())
 }
 
 // The stamps of the last steps of all shards.
@@ -179,16 +174,16 @@ fn lasts_of(rt: &impl Abort, alone: &Alone) -> [u64; 4] {
 }
 
 #[test]
-fn alone_and_end_carry_all_over(rt: HostRuntime) -> Result<(), Fail> {
-    let (map, mut logs) = Map::new(rt.alloc(), PlaceState, 4, 2)?;
+fn alone_and_end_carry_all_over(rt: HostRuntime) {
+    let (map, mut logs) = Map::new(rt.alloc(), PlaceState, 4, 2).expect(&rt, "refused");
     for i in 0..30 {
         for log in &mut logs {
-            apply(&rt, &map, log, ShardStep::Insert(i % 7, i))?;
+            apply(&rt, &map, log, ShardStep::Insert(i % 7, i));
         }
     }
-    let mut log = logs.pop().ok_or("no log")?;
+    let mut log = logs.pop().expect(&rt, "no log");
     let mut alone = map.alone();
-    assert_pairs(&rt, &mut alone, &mut log)?;
+    assert_pairs(&rt, &mut alone, &mut log);
     let lasts = lasts_of(&rt, &alone);
     let map = alone.end();
     is(&rt, map.shard_count(), 4);
@@ -198,37 +193,32 @@ fn alone_and_end_carry_all_over(rt: HostRuntime) -> Result<(), Fail> {
 }
 
 #[test]
-fn a_leaked_hold_leaves_a_map_that_can_be_dropped(rt: HostRuntime) -> Result<(), Fail> {
-    let (map, mut logs) = Map::new(rt.alloc(), PlaceState, 4, 1)?;
-    let mut log = logs.pop().ok_or("no log")?;
-    apply(&rt, &map, &mut log, ShardStep::Insert(1, 10))?;
+fn a_leaked_hold_leaves_a_map_that_can_be_dropped(rt: HostRuntime) {
+    let (map, mut logs) = Map::new(rt.alloc(), PlaceState, 4, 1).expect(&rt, "refused");
+    let mut log = logs.pop().expect(&rt, "no log");
+    apply(&rt, &map, &mut log, ShardStep::Insert(1, 10));
     mem::forget(map.held(&rt, 1));
     let alone = map.alone();
     is(&rt, alone.last_of(1), 1);
     let map = alone.end();
     mem::forget(map.held(&rt, 1));
     drop(map);
-    Ok(())
 }
 
 // The map of two callers after inserts that get these stamps: rows of a caller, a key and a stamp.
-fn stamped<R: Abort + Wait + Clock>(
-    rt: &R,
-    alloc: Global,
-    rows: &[(usize, u64, u64)],
-) -> Result<Alone, Fail> {
-    let (map, mut logs) = Map::new(alloc, PlaceState, 4, 2)?;
+fn stamped<R: Abort + Wait + Clock>(rt: &R, alloc: Global, rows: &[(usize, u64, u64)]) -> Alone {
+    let (map, mut logs) = Map::new(alloc, PlaceState, 4, 2).expect(rt, "refused");
     for &(caller, key, stamp) in rows {
-        let log = logs.get_mut(caller).ok_or("no log")?;
-        apply(rt, &map, log, ShardStep::Insert(key, 10))?;
+        let log = logs.get_mut(caller).expect(rt, "no log");
+        apply(rt, &map, log, ShardStep::Insert(key, 10));
         is_at(rt, log.last_stamp(), stamp, key);
     }
-    Ok(map.alone())
+    map.alone()
 }
 
 #[test]
-fn stamps_rise_above_the_shards_and_the_callers_last(rt: HostRuntime) -> Result<(), Fail> {
-    let alone = stamped(&rt, rt.alloc(), &[(0, 1, 1), (1, 4, 1), (0, 0, 2)])?;
+fn stamps_rise_above_the_shards_and_the_callers_last(rt: HostRuntime) {
+    let alone = stamped(&rt, rt.alloc(), &[(0, 1, 1), (1, 4, 1), (0, 0, 2)]);
     is(&rt, last_of(&rt, &alone, 0), 2);
     is(&rt, last_of(&rt, &alone, 1), 1);
     let rows = [
@@ -245,7 +235,6 @@ fn stamps_rise_above_the_shards_and_the_callers_last(rt: HostRuntime) -> Result<
         (1, 13, 4),
         (0, 1, 8),
     ];
-    let alone = stamped(&rt, rt.alloc(), &rows)?;
+    let alone = stamped(&rt, rt.alloc(), &rows);
     is(&rt, last_of(&rt, &alone, 1), 8);
-    Ok(())
 }

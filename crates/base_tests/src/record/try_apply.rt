@@ -5,7 +5,6 @@ use crate::places::is;
 use dash_history::record::RecordFault;
 use dash_history::step::{Reply, ShardStep};
 use std::process::Abort;
-use std::test::Fail;
 
 type Step = ShardStep<u64, u64>;
 
@@ -23,44 +22,52 @@ fn try_apply(
 }
 
 #[test]
-fn three_stamps_that_wait_for_nobody(rt: HostRuntime) -> Result<(), Fail> {
-    let (map, mut first, mut second) = map_of_two(rt.alloc())?;
-    try_apply(&rt, &map, &mut first, Step::Insert(1, 10))?;
+fn three_stamps_that_wait_for_nobody(rt: HostRuntime) {
+    let (map, mut first, mut second) = map_of_two(&rt, rt.alloc());
+    try_apply(&rt, &map, &mut first, Step::Insert(1, 10)).expect(&rt, "refused");
     is(&rt, first.last_stamp(), 1);
-    try_apply(&rt, &map, &mut second, Step::Insert(4, 30))?;
+    try_apply(&rt, &map, &mut second, Step::Insert(4, 30)).expect(&rt, "refused");
     is(&rt, second.last_stamp(), 1);
-    try_apply(&rt, &map, &mut first, Step::Insert(0, 20))?;
+    try_apply(&rt, &map, &mut first, Step::Insert(0, 20)).expect(&rt, "refused");
     is(&rt, first.last_stamp(), 2);
     is_gathered(&rt, &map.alone(), &[first, second], &three_places())
 }
 
 #[test]
-fn a_held_shard_is_locked_alone(rt: HostRuntime) -> Result<(), Fail> {
-    let (map, first, mut second) = map_of_two(rt.alloc())?;
+fn a_held_shard_is_locked_alone(rt: HostRuntime) {
+    let (map, first, mut second) = map_of_two(&rt, rt.alloc());
     let held = map.held(&rt, 0);
     let Err((step, fault)) = try_apply(&rt, &map, &mut second, Step::Get(0)) else {
-        return Err(Fail::from("the shard is held"));
+        panic!(&rt; "the shard is held");
     };
     is(&rt, fault, RecordFault::Locked);
     is(
         &rt,
-        format!(in rt.alloc(); "{fault}")?.as_str(),
+        format!(in rt.alloc(); "{fault}")
+            .expect(&rt, "refused")
+            .as_str(),
         "locked (21)",
     );
     assert!(rt; matches!(step, Step::Get(0)));
     is(&rt, second.entries().len(), 0);
-    let reply = try_apply(&rt, &map, &mut second, Step::Get(1))?;
+    let reply = try_apply(&rt, &map, &mut second, Step::Get(1)).expect(&rt, "refused");
     assert!(rt; matches!(reply, Reply::Pair(None)));
     drop(held);
-    try_apply(&rt, &map, &mut second, Step::Get(0))?;
+    try_apply(&rt, &map, &mut second, Step::Get(0)).expect(&rt, "refused");
     is(&rt, second.last_stamp(), 2);
-    is(&rt, map.alone().gather(&[first, second])?.len(), 2);
-    Ok(())
+    is(
+        &rt,
+        map.alone()
+            .gather(&[first, second])
+            .expect(&rt, "refused")
+            .len(),
+        2,
+    );
 }
 
 #[test]
-fn a_held_shard_is_not_asked_for_what_is_missing(rt: HostRuntime) -> Result<(), Fail> {
-    let (map, _, mut second) = map_of_two(rt.alloc())?;
+fn a_held_shard_is_not_asked_for_what_is_missing(rt: HostRuntime) {
+    let (map, _, mut second) = map_of_two(&rt, rt.alloc());
     let held = map.held(&rt, 0);
     let missing = try_apply(&rt, &map, &mut second, Step::Count(4));
     assert!(rt; matches!(missing, Err((Step::Count(4), RecordFault::NoSuchShard))));
@@ -70,5 +77,4 @@ fn a_held_shard_is_not_asked_for_what_is_missing(rt: HostRuntime) -> Result<(), 
     drop(held);
     let last = try_apply(&rt, &map, &mut second, Step::Get(0));
     assert!(rt; matches!(last, Err((Step::Get(0), RecordFault::LastStamp))));
-    Ok(())
 }

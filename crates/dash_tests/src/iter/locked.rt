@@ -1,26 +1,24 @@
 //! A walk over a map that threads share: rising shards, each pair once, and which shard it holds.
 use crate::checks::is;
+use crate::maps::{map_of_four, put};
 use dash_map::map::DashMap;
 use dash_map::t::Map;
-use dash_shard::error::ConstructError;
 use dash_shard::hash::PlaceState;
-use dash_tests::maps::map_of_four;
 use std::alloc::Global;
 use std::process::Abort;
 use std::rt::Clock;
 use std::sync::Wait;
-use std::test::Fail;
 use std::thread;
 
 type Places = DashMap<u64, u64, PlaceState>;
 
 // A map of four shards with a pair in the shards 0, 1 and 3.
-fn three_pairs<R: Abort + Wait + Clock>(rt: &R, alloc: Global) -> Result<Places, Fail> {
-    let map = map_of_four(alloc)?;
+fn three_pairs<R: Abort + Wait + Clock>(rt: &R, alloc: Global) -> Places {
+    let map = map_of_four(rt, alloc);
     for (key, value) in [(3, 30), (0, 5), (1, 10)] {
-        map.insert(rt, key, value)?;
+        put(rt, &map, key, value);
     }
-    Ok(map)
+    map
 }
 
 // Whether somebody holds the shard of a key.
@@ -29,15 +27,15 @@ fn is_held(map: &Places, key: u64) -> bool {
 }
 
 #[test]
-fn gives_each_pair_by_rising_shard(rt: HostRuntime) -> Result<(), Fail> {
-    let map = map_of_four(rt.alloc())?;
+fn gives_each_pair_by_rising_shard(rt: HostRuntime) {
+    let map = map_of_four(&rt, rt.alloc());
     for key in 0..40u64 {
-        map.insert(&rt, key, key)?;
+        put(&rt, &map, key, key);
     }
     let mut count = 0u64;
     let mut keys = 0u64;
     for item in map.iter(&rt) {
-        let item = item?;
+        let item = item.expect(&rt, "refused");
         is(&rt, *item.key() % 4, count / 10);
         is(&rt, *item, *item.key());
         count = count.wrapping_add(1);
@@ -45,51 +43,60 @@ fn gives_each_pair_by_rising_shard(rt: HostRuntime) -> Result<(), Fail> {
     }
     is(&rt, count, 40);
     is(&rt, keys, (1 << 40) - 1);
-    Ok(())
 }
 
 #[test]
-fn a_cloned_walk(rt: HostRuntime) -> Result<(), Fail> {
-    let map = three_pairs(&rt, rt.alloc())?;
+fn a_cloned_walk(rt: HostRuntime) {
+    let map = three_pairs(&rt, rt.alloc());
     let mut walk = map._iter(&rt);
     for pair in [(&0, &5), (&1, &10)] {
-        let item = walk.next().ok_or("no pair")??;
+        let item = walk.next().expect(&rt, "no pair").expect(&rt, "refused");
         is(&rt, item.pair(), pair);
     }
-    let copy = walk.clone()?;
+    let copy = walk.clone().expect(&rt, "refused");
     let mut values = 0u64;
     for item in copy {
-        values = values.wrapping_add(*item?.value());
+        values = values.wrapping_add(*item.expect(&rt, "refused").value());
     }
     is(&rt, values, 45);
-    is(&rt, *walk.next().ok_or("no pair")??, 30);
+    is(
+        &rt,
+        *walk.next().expect(&rt, "no pair").expect(&rt, "refused"),
+        30,
+    );
     assert!(rt; walk.next().is_none());
-    Ok(())
 }
 
 #[test]
-fn holds_the_shard_that_it_is_in(rt: HostRuntime) -> Result<(), Fail> {
-    let map = three_pairs(&rt, rt.alloc())?;
+fn holds_the_shard_that_it_is_in(rt: HostRuntime) {
+    let map = three_pairs(&rt, rt.alloc());
     let mut walk = map.iter(&rt);
     assert!(rt; !is_held(&map, 0), "a walk that took no step");
-    let first = walk.next().ok_or("no pair")??;
+    let first = walk.next().expect(&rt, "no pair").expect(&rt, "refused");
     assert!(rt; is_held(&map, 0) && !is_held(&map, 1));
-    let text = format!(in rt.alloc(); "{first:?}")?;
+    let text = format!(in rt.alloc(); "{first:?}").expect(&rt, "refused");
     is(&rt, text.as_str(), "RefMulti { k: 0, v: 5 }");
-    let second = walk.next().ok_or("no pair")??;
+    let second = walk.next().expect(&rt, "no pair").expect(&rt, "refused");
     assert!(rt; is_held(&map, 0), "its pair is kept");
     assert!(rt; is_held(&map, 1));
     drop(first);
     assert!(rt; !is_held(&map, 0));
     drop(second);
     assert!(rt; is_held(&map, 1), "the walk is there");
-    is(&rt, *walk.next().ok_or("no pair")??.key(), 3);
+    is(
+        &rt,
+        *walk
+            .next()
+            .expect(&rt, "no pair")
+            .expect(&rt, "refused")
+            .key(),
+        3,
+    );
     assert!(rt; walk.next().is_none());
     assert!(rt; !is_held(&map, 1) && is_held(&map, 3));
     assert!(rt; walk.next().is_none());
     drop(walk);
-    is(&rt, map.insert(&rt, 3, 31)?, Some(30));
-    Ok(())
+    is(&rt, put(&rt, &map, 3, 31), Some(30));
 }
 
 // One of two threads: it has the shard 1, and answers whether the shard 0 is still held once the other one had it.
@@ -133,8 +140,8 @@ fn walk_to_the_end<R: Wait + Clock>(rt: &R, map: &Places) -> bool {
 }
 
 #[test]
-fn takes_the_next_hold_before_it_gives_up_the_old(rt: HostRuntime) -> Result<(), Fail> {
-    let map = three_pairs(&rt, rt.alloc())?;
+fn takes_the_next_hold_before_it_gives_up_the_old(rt: HostRuntime) {
+    let map = three_pairs(&rt, rt.alloc());
     let mut answers = [false, false];
     thread::for_each_mut(
         &rt,
@@ -148,5 +155,4 @@ fn takes_the_next_hold_before_it_gives_up_the_old(rt: HostRuntime) -> Result<(),
         },
     );
     is(&rt, answers, [true, true]);
-    Ok(())
 }

@@ -2,7 +2,6 @@
 use dash_shard::hash::{PlaceState, ZeroState};
 use dash_shard::shard::{Shard, probe};
 use std::process::Abort;
-use std::test::Fail;
 
 // Whether the group has the tag in the lanes of the first mask, and is empty in those of the second.
 fn shows(group: &[u8; 16], tag: u8, matches: u16, empty: u16) -> bool {
@@ -25,36 +24,36 @@ fn looks_at_sixteen_tags(rt: HostRuntime) {
 }
 
 #[test]
-fn one_key_comes_and_goes(rt: HostRuntime) -> Result<(), Fail> {
-    let mut shard = Shard::<u64, u64, PlaceState>::new(rt.alloc(), PlaceState, 1, 2, 0)?;
+fn one_key_comes_and_goes(rt: HostRuntime) {
+    let mut shard = Shard::<u64, u64, PlaceState>::new(rt.alloc(), PlaceState, 1, 2, 0).expect(
+        &rt, "refused",
+    );
     for turn in 0..10_000u64 {
         assert!(rt; shard.routes(&6));
-        assert_eq!(rt; shard.insert(6, turn)?, None);
+        assert_eq!(rt; shard.insert(6, turn).expect(&rt, "refused"), None);
         assert!(rt; shard.routes(&6));
         assert_eq!(rt; shard.remove(&6), Some((6, turn)));
     }
     assert_eq!(rt; shard.len(), 0);
     assert!(rt; !shard.contains_key(&6));
     assert_eq!(rt; shard.groups(), 1);
-    Ok(())
 }
 
 type OneHash = Shard<u64, u64, ZeroState>;
 
 // Puts each of these keys, which the shard must take, with itself as its value.
-fn fill(rt: &impl Abort, shard: &mut OneHash, keys: &[u64]) -> Result<(), Fail> {
+fn fill(rt: &impl Abort, shard: &mut OneHash, keys: &[u64]) {
     for key in keys {
         assert!(rt; shard.routes(key));
-        assert_eq!(rt; shard.insert(*key, *key)?, None);
+        assert_eq!(rt; shard.insert(*key, *key).expect(rt, "refused"), None);
     }
-    Ok(())
 }
 
 #[test]
-fn keys_of_one_hash(rt: HostRuntime) -> Result<(), Fail> {
-    let mut shard = OneHash::new(rt.alloc(), ZeroState, 0, 2, 0)?;
+fn keys_of_one_hash(rt: HostRuntime) {
+    let mut shard = OneHash::new(rt.alloc(), ZeroState, 0, 2, 0).expect(&rt, "refused");
     for key in 0..200u64 {
-        fill(&rt, &mut shard, &[key])?;
+        fill(&rt, &mut shard, &[key]);
     }
     assert_eq!(rt; shard.len(), 200);
     for key in 0..200u64 {
@@ -64,12 +63,11 @@ fn keys_of_one_hash(rt: HostRuntime) -> Result<(), Fail> {
         }
     }
     for key in 200..300u64 {
-        fill(&rt, &mut shard, &[key])?;
+        fill(&rt, &mut shard, &[key]);
     }
     assert_eq!(rt; shard.len(), 200);
     for key in 0..300u64 {
         let is_there = key >= 200 || key % 2 == 0;
         assert_eq!(rt; shard.contains_key(&key), is_there, "{key}");
     }
-    Ok(())
 }

@@ -1,14 +1,13 @@
 //! Walks that write: over a map of one owner, and over one that threads share, which show the shard that they hold.
 use crate::checks::is;
+use crate::maps::{map_of_four, put};
 use dash_map::alone::Alone;
 use dash_map::map::DashMap;
 use dash_map::t::Map;
 use dash_shard::hash::PlaceState;
-use dash_tests::maps::map_of_four;
 use std::hash::{BuildHasher, Hash};
 use std::rt::Clock;
 use std::sync::Wait;
-use std::test::Fail;
 
 // Adds 1 to each of up to nine values. Says how many were lent.
 fn add_one<K: Eq + Hash, S: BuildHasher, R: Wait + Clock, M: Map<K, u64, S>>(
@@ -40,25 +39,24 @@ fn add_one_alone<K: Eq + Hash + Drop, S: BuildHasher>(map: &mut Alone<K, u64, S>
 }
 
 #[test]
-fn next_mut(rt: HostRuntime) -> Result<(), Fail> {
-    let map = DashMap::<&str, u64>::with_shard_amount(rt.alloc(), 4)?;
-    map.insert(&rt, "Johnny", 21)?;
+fn next_mut(rt: HostRuntime) {
+    let map = DashMap::<&str, u64>::with_shard_amount(rt.alloc(), 4).expect(&rt, "refused");
+    put(&rt, &map, "Johnny", 21);
     is(&rt, add_one(&rt, &map), 1);
     is(&rt, map.view(&rt, &"Johnny", |_, value| *value), Some(22));
 
-    let map = DashMap::<&str, u64>::with_shard_amount(rt.alloc(), 4)?;
-    map.insert(&rt, "Johnny", 21)?;
+    let map = DashMap::<&str, u64>::with_shard_amount(rt.alloc(), 4).expect(&rt, "refused");
+    put(&rt, &map, "Johnny", 21);
     let mut alone = map.alone();
     is(&rt, add_one_alone(&mut alone), 1);
     is(&rt, alone.get(&"Johnny"), Some((&"Johnny", &22)));
-    Ok(())
 }
 
 #[test]
-fn lends_each_pair_once(rt: HostRuntime) -> Result<(), Fail> {
-    let map = map_of_four(rt.alloc())?;
+fn lends_each_pair_once(rt: HostRuntime) {
+    let map = map_of_four(&rt, rt.alloc());
     for key in 0..9u64 {
-        map.insert(&rt, key, key)?;
+        put(&rt, &map, key, key);
     }
     is(&rt, add_one(&rt, &map), 9);
     let mut alone = map.alone();
@@ -66,14 +64,13 @@ fn lends_each_pair_once(rt: HostRuntime) -> Result<(), Fail> {
     for key in 0..9u64 {
         is(&rt, alone.get(&key), Some((&key, &key.wrapping_add(2))));
     }
-    Ok(())
 }
 
 #[test]
-fn items_of_an_alone(rt: HostRuntime) -> Result<(), Fail> {
-    let mut alone: Alone<u64, u64, PlaceState> = map_of_four(rt.alloc())?.alone();
-    alone.insert(3, 30)?;
-    alone.insert(1, 10)?;
+fn items_of_an_alone(rt: HostRuntime) {
+    let mut alone: Alone<u64, u64, PlaceState> = map_of_four(&rt, rt.alloc()).alone();
+    alone.insert(3, 30).expect(&rt, "refused");
+    alone.insert(1, 10).expect(&rt, "refused");
     let mut walk = alone.iter_mut();
     let mut keys = 0u64;
     for _ in 0..3 {
@@ -91,7 +88,6 @@ fn items_of_an_alone(rt: HostRuntime) -> Result<(), Fail> {
     is(&rt, keys, 13);
     is(&rt, alone.get(&1), Some((&1, &13)));
     is(&rt, alone.get(&3), Some((&3, &35)));
-    Ok(())
 }
 
 // Whether somebody holds the shard of a key.
@@ -100,10 +96,10 @@ fn is_held(map: &DashMap<u64, u64, PlaceState>, key: u64) -> bool {
 }
 
 #[test]
-fn holds_the_shard_that_it_is_in(rt: HostRuntime) -> Result<(), Fail> {
-    let map = map_of_four(rt.alloc())?;
-    map.insert(&rt, 0, 5)?;
-    map.insert(&rt, 2, 20)?;
+fn holds_the_shard_that_it_is_in(rt: HostRuntime) {
+    let map = map_of_four(&rt, rt.alloc());
+    put(&rt, &map, 0, 5);
+    put(&rt, &map, 2, 20);
     let mut walk = map.iter_mut(&rt);
     assert!(rt; !is_held(&map, 0), "a walk that took no step");
     assert!(rt; walk.advance());
@@ -125,5 +121,4 @@ fn holds_the_shard_that_it_is_in(rt: HostRuntime) -> Result<(), Fail> {
     drop(walk);
     assert!(rt; !is_held(&map, 3));
     is(&rt, map.view(&rt, &2, |_, value| *value), Some(20));
-    Ok(())
 }
