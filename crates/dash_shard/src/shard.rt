@@ -184,7 +184,7 @@ impl<K: Eq + Hash, V, S: BuildHasher> Shard<K, V, S> {
     }
 
     /// As `insert`, for a caller who has the key's hash.
-    #[inline]
+    #[inline(always)]
     pub fn insert_hashed(
         &mut self,
         hash: u64,
@@ -229,7 +229,7 @@ impl<K: Eq + Hash, V, S: BuildHasher> Shard<K, V, S> {
     }
 
     /// As `remove`, for a caller who has the key's hash.
-    #[inline]
+    #[inline(always)]
     pub fn remove_hashed(&mut self, hash: u64, key: &K) -> Option<(K, V)>
         requires hash { hash ≡ ⟦<Self as Keyed>⟧.by.hash self.old.hasher key.now }
         requires route { Routes ⟦<Self as Keyed>⟧.by self.old key.now }

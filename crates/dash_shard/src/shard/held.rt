@@ -180,7 +180,7 @@ impl<K: Eq + Hash, V, S: BuildHasher> ShardMut<'_, K, V, S> {
     }
 
     /// As `insert`, for a caller who has the key's hash.
-    #[inline]
+    #[inline(always)]
     pub fn insert_hashed(
         &mut self,
         hash: u64,
@@ -222,7 +222,7 @@ impl<K: Eq + Hash, V, S: BuildHasher> ShardMut<'_, K, V, S> {
     }
 
     /// As `remove`, for a caller who has the key's hash.
-    #[inline]
+    #[inline(always)]
     pub fn remove_hashed(&mut self, hash: u64, key: &K) -> Option<(K, V)>
         requires hash { hash ≡ ⟦<Self as Keyed>⟧.by.hash self.old.hasher key.now }
         requires route { Routes ⟦<Self as Keyed>⟧.by self.old key.now }
