@@ -18,6 +18,7 @@ mod LockBorrows
 mod LockShown
 mod Marked
 pub mod Moving
+mod Odds
 mod Slots
 mod Placing
 mod Positions

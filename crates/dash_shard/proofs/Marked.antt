@@ -4,7 +4,6 @@ use Rattle.std.proofs.lemmas.Bool.{cases_eq, cases_lt, ne_eqb}
 use Rattle.std.proofs.lemmas.List.{get_or_past}
 use Rattle.std.proofs.lemmas.Option.{none-some}
 use Rattle.std.proofs.Math.ListN.{length-set}
-use Rattle.std.specs.Int.{IsPowerOfTwo}
 use Rattle.dash_shard.specs.Shard.{slot}
 use Rattle.dash_shard.specs.inner.Marks.{tag_of, round, step_to, goes_past, lane, IsFull, IsClean, IsAllTaken, KeepsTags, tally, stands_past, IsMarked, IsPlace, class_of, count_of, IsCount, IsRaised, IsLowered, CountsPast, UncountsPast}
 use Rattle.dash_shard.proofs.Fours.{class-small, count-word, count-zero}
@@ -93,10 +92,9 @@ module _ {A : Type 0} where
   past-other n hs g c j p other = rw (ne_eqb (class_of (slice_index hs j)) c other) refl
 
   -- slots that are all empty
-  pub marked-fresh : (n : ℕ) (tags counts : List ℕ) (xs : List (Option A)) (hs : List ℕ) → (0 < n → IsPowerOfTwo n) → length tags ≡ 16 * n → length counts ≡ n → length xs ≡ 16 * n → length hs ≡ 16 * n
+  pub marked-fresh : (n : ℕ) (tags counts : List ℕ) (xs : List (Option A)) (hs : List ℕ) → length tags ≡ 16 * n → length counts ≡ n → length xs ≡ 16 * n → length hs ≡ 16 * n
       → ((i : ℕ) → i < 16 * n → slice_index tags i ≡ 128) → ((g : ℕ) → g < n → slice_index counts g ≡ 0) → ((i : ℕ) → slot xs i ≡ None) → IsMarked n tags counts xs hs
-  marked-fresh n tags counts xs hs power tags_len counts_len slots_len hashes_len empty zeros none = record {
-    power = power;
+  marked-fresh n tags counts xs hs tags_len counts_len slots_len hashes_len empty zeros none = record {
     tags_len = tags_len;
     counts_len = counts_len;
     slots_len = slots_len;
@@ -153,7 +151,6 @@ module _ {A : Type 0} where
           | inr other ↦ (r, sym (get_or-set_other xs i j (Some q) None other) ∙ e)
         ] in
         record {
-          power = m.power;
           tags_len = m.tags_len;
           counts_len = m.counts_len;
           slots_len = length-set xs i (Some q) ∙ m.slots_len;
@@ -247,7 +244,6 @@ module _ {A : Type 0} where
 
       pub marked-fill : IsMarked n (set tags i (tag_of h)) now (set xs i (Some p)) (set hs i h)
       marked-fill = record {
-        power = m.power;
         tags_len = length-set tags i (tag_of h) ∙ m.tags_len;
         counts_len = long ∙ m.counts_len;
         slots_len = length-set xs i (Some p) ∙ m.slots_len;
@@ -357,7 +353,6 @@ module _ {A : Type 0} where
 
       pub marked-clear : IsMarked n (set then i mark) now (set xs i None) hs
       marked-clear = record {
-        power = m.power;
         tags_len = length-set then i mark ∙ tags-long ∙ m.tags_len;
         counts_len = long ∙ m.counts_len;
         slots_len = length-set xs i None ∙ m.slots_len;

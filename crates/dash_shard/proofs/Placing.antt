@@ -7,7 +7,6 @@ use Rattle.dash_shard.specs.Shard.{slot, taken}
 use Rattle.dash_shard.specs.declared.shard.table.Table.{Table}
 use Rattle.dash_shard.specs.inner.Marks.{tag_of, class_of, step_to, CountsPast, UncountsPast, IsFull, IsClean, KeepsTags, IsMarked}
 use Rattle.dash_shard.specs.inner.Table.{IsTable, IsSpot, TellsTaken, limit, slots_in, groups_in, pairs_in, hashes_in, IsMoved}
-use Rattle.std.specs.Int.{IsPowerOfTwo}
 use Rattle.std.proofs.lemmas.List.{get_or-replicate}
 use Rattle.std.proofs.Math.ListN.{replicate, length-replicate}
 use Rattle.dash_shard.proofs.Marked.{marked-fresh, marked-fill, marked-clear}
@@ -76,14 +75,14 @@ pub fresh-taken : {A : Type 0} (xs : List (Option A)) (slots : ℕ) → xs ≡ r
 fresh-taken xs slots none = ap taken none ∙ none-taken slots
 
 -- slots with no pair
-pub table-fresh : {K V : Type 0} (t : Table K V) (count slots : ℕ) → pairs_in t ≡ replicate slots None → length (hashes_in t) ≡ slots → (0 < count → IsPowerOfTwo count) → slots ≡ 16 * count → t.tags.items ≡ replicate slots 128
+pub table-fresh : {K V : Type 0} (t : Table K V) (count slots : ℕ) → pairs_in t ≡ replicate slots None → length (hashes_in t) ≡ slots → slots ≡ 16 * count → t.tags.items ≡ replicate slots 128
     → t.counts.items ≡ replicate count 0 → t.len ≡ 0 → IsTable t
-table-fresh t count slots none hashes-len power wide tags counts len =
+table-fresh t count slots none hashes-len wide tags counts len =
     let tags-len = ap length tags ∙ length-replicate slots 128 in
     let counts-len = ap length counts ∙ length-replicate count 0 in
     let pairs-len = ap length none ∙ length-replicate slots None in
     record {
-      marked = subst (λ n. IsMarked n t.tags.items t.counts.items (pairs_in t) (hashes_in t)) (sym counts-len) (marked-fresh count t.tags.items t.counts.items (pairs_in t) (hashes_in t) power
+      marked = subst (λ n. IsMarked n t.tags.items t.counts.items (pairs_in t) (hashes_in t)) (sym counts-len) (marked-fresh count t.tags.items t.counts.items (pairs_in t) (hashes_in t)
           (omega (arith, tags-len, wide)) counts-len (omega (arith, pairs-len, wide)) (omega (arith, hashes-len, wide))
           (λ i lt. ap (λ l. slice_index l i) tags ∙ get_or-replicate slots i 128 0 (omega (arith, lt, wide)))
           (λ g lt. ap (λ l. slice_index l g) counts ∙ get_or-replicate count g 0 0 lt)

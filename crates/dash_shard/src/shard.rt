@@ -207,7 +207,7 @@ impl<K: Eq + Hash, V, S: BuildHasher> Shard<K, V, S> {
             self.table.fill(place.free, hash, key, value);
             return Ok(None);
         }
-        let Ok(()) = self.table.double(&self.hasher) else {
+        let Ok(()) = self.table.grow(&self.hasher) else {
             return Err(InsertRefused { key, value });
         };
         self.table.push(hash, key, value);

@@ -1,7 +1,6 @@
 -- The marks of an open table: a tag for each slot, in groups of sixteen, and for each group how many pairs of each class stand past it. The tag 128 marks
 -- an empty slot, 129 one whose pair was removed, and a lower one is the top seven bits of a stored pair's hash.
 use Rattle.std.specs.Prelude.{◌≡◌, ◌≢◌, ◌⊎◌, ℕ, suc, ◌+◌, ◌-◌, ◌*◌, ◌/◌, ◌%◌, ◌^◌, ◌<◌, ◌≤◌, List, [], ◌∷◌, length, Option, Some, None, slice_index, nat_lt, ◌==◌, if◌then◌else◌}
-use Rattle.std.specs.Int.{IsPowerOfTwo}
 use Rattle.dash_shard.specs.Shard.{slot}
 
 -- the tag of a hash
@@ -89,7 +88,6 @@ module _ {A : Type 0} where
 
   -- the marks of n groups of slots, whose pairs have these hashes
   pub record IsMarked (n : ℕ) (tags counts : List ℕ) (slots : List (Option A)) (hashes : List ℕ) : Type 0 where
-    pub power : 0 < n → IsPowerOfTwo n
     pub tags_len : length tags ≡ 16 * n
     pub counts_len : length counts ≡ n
     pub slots_len : length slots ≡ 16 * n

@@ -1,6 +1,5 @@
 //! A table that takes memory, and one that gives it back: the pairs move to other slots.
 ghost use Rattle.std.specs.Prelude.{ℕ, ◌≡◌, ◌+◌, ◌*◌, ◌<◌, ◌≤◌, [], None, IsOk, IfOk, OnOk, OnErr, length, replicate};
-ghost use Rattle.std.specs.Int.{IsPowerOfTwo};
 ghost use Rattle.dash_shard.specs.Hashing.{hash_of};
 ghost use Rattle.dash_shard.specs.inner.Table.{IsTable, IsHashed, CarriesOnce, IsCarried, IsMoved, TellsTaken, limit, slots_in, groups_in, pairs_in, hashes_in};
 ghost use Rattle.dash_shard.specs.Shard.{taken};
@@ -13,16 +12,24 @@ use std::alloc::{AllocError, Global};
 use std::hash::{BuildHasher, Hash};
 use std::mem;
 
-// The least power of two of groups that have room for so many pairs.
+// A table of more groups than these, which no cache of a processor holds, grows to half or a third as many more, where a smaller one doubles.
+const LARGE: usize = 4_096;
+
+// As many groups as have room for so many pairs: a power of two or, where there are many, three times one.
 fn groups_for(pairs: usize) -> Result<usize, AllocError>
     requires { 0 < pairs }
-    ensures power { IfOk result IsPowerOfTwo }
     ensures room { IfOk result (λ n. pairs ≤ limit (16 * n)) }
 {
-    match ((pairs - 1) / 14 + 1).checked_next_power_of_two() {
-        Some(groups) => Ok(groups),
-        None => Err(AllocError),
-    }
+    let needed = (pairs - 1) / 14 + 1;
+    let Some(power) = needed.checked_next_power_of_two() else {
+        return Err(AllocError);
+    };
+    let fewer = power / 4 * 3;
+    Ok(if needed > LARGE && needed <= fewer {
+        fewer
+    } else {
+        power
+    })
 }
 
 // Moves the pairs to a table that has room for them.
@@ -58,7 +65,6 @@ fn move_pairs<K: Eq + Hash, V, S: BuildHasher>(
 impl<K, V> Table<K, V> {
     // An empty table of so many groups of slots.
     fn with_groups(alloc: Global, count: usize) -> Result<Self, AllocError>
-        requires { IsPowerOfTwo count }
         ensures table { IfOk result IsTable }
         ensures empty { IfOk result (λ t. taken (pairs_in t) ≡ []) }
         ensures slots { IfOk result (λ t. slots_in t ≡ 16 * count) }
@@ -96,7 +102,6 @@ impl<K, V> Table<K, V> {
         K: Eq + Hash,
         requires table { IsTable self.old }
         requires hashed { IsHashed (λ k. hash_of S.BuildHasher S.Hasher.Hasher hasher.now (K.hash_input k)) (pairs_in self.old) (hashes_in self.old) }
-        requires power { IsPowerOfTwo count }
         requires room { self.old.len ≤ limit (16 * count) }
         ensures moved { OnOk result (IsMoved self.old self.new) }
         ensures slots { OnOk result (slots_in self.new ≡ 16 * count) }
@@ -133,10 +138,10 @@ impl<K, V> Table<K, V> {
         self.rehash(groups_for(wanted)?, hasher)
     }
 
-    /// Makes room for one more pair in a full table: twice the slots.
+    /// Makes room for one more pair in a full table: twice the slots or, in a large one, half or a third as many more.
     #[cold]
     #[inline(never)]
-    pub fn double<S: BuildHasher>(&mut self, hasher: &S) -> Result<(), AllocError>
+    pub fn grow<S: BuildHasher>(&mut self, hasher: &S) -> Result<(), AllocError>
     where
         K: Eq + Hash,
         requires table { IsTable self.old }
@@ -151,7 +156,7 @@ impl<K, V> Table<K, V> {
         self.rehash(groups_for(wanted)?, hasher)
     }
 
-    /// Moves the pairs to as few groups of slots as hold them, a power of two and none for no pairs, where there is memory for these.
+    /// Moves the pairs to as few groups of slots as hold them, of the numbers that growth takes, and none for no pairs, where there is memory for these.
     pub fn shrink<S: BuildHasher>(&mut self, hasher: &S)
     where
         K: Eq + Hash,

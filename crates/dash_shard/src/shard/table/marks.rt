@@ -1,6 +1,6 @@
 //! The marks of a table: a tag for each slot, in groups of sixteen, and for each group how many pairs of each class stand past it on their ways.
 ghost use Rattle.std.specs.Prelude.{◌≡◌, ◌⊎◌, ℕ, ◌+◌, ◌*◌, ◌/◌, ◌%◌, ◌-◌, ◌^◌, ◌<◌, ◌≤◌, ◌↔◌, IsTrue, length, slice_index};
-ghost use Rattle.std.specs.Int.{bit_at, IsPowerOfTwo};
+ghost use Rattle.std.specs.Int.{bit_at};
 ghost use Rattle.dash_shard.specs.inner.Marks.{round, step_to, goes_past, class_of, count_of, IsRaised, IsLowered, OthersStay, CountsPast, UncountsPast, IsClean, KeepsTags};
 
 use crate::shard::lanes::Probe;
@@ -46,14 +46,32 @@ pub(super) fn group_of(tags: &[u8], group: usize) -> &[u8; 16]
     }
 }
 
+// How many times a hash goes round so many groups, without a division where they are three times a power of two.
+#[inline(always)]
+fn rounds(hash: u64, count: usize) -> u64
+    requires { 0 < count }
+    ensures { result ≡ hash / count }
+{
+    let shift = count.trailing_zeros();
+    if count >> shift == 3 {
+        (hash >> shift) / 3
+    } else {
+        hash / count as u64
+    }
+}
+
 // The group where a hash's way begins.
 #[inline(always)]
 pub(super) fn home(hash: u64, count: usize) -> usize
-    requires { IsPowerOfTwo count }
+    requires { 0 < count }
     ensures is { result ≡ hash % count }
     ensures below { result < count }
 {
-    (hash & (count as u64 - 1)) as usize
+    if count >> count.trailing_zeros() == 1 {
+        (hash & (count as u64 - 1)) as usize
+    } else {
+        (hash - rounds(hash, count) * count as u64) as usize
+    }
 }
 
 // The group that comes next on each way.
@@ -74,7 +92,9 @@ pub(super) fn steps_to(home: usize, group: usize, count: usize) -> usize
     ensures is { result ≡ step_to count home group }
     ensures below { result < count }
 {
-    if group < home {
+    if group == home {
+        0
+    } else if group < home {
         count - home + group
     } else {
         group - home

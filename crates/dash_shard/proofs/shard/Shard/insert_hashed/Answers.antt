@@ -50,12 +50,12 @@ returns-then-len-capacity g c =
       lawful = i.inside.shard;
     }
 
-pub returns-in_default-double-clause-inserts : goal.returns-in_default-double-clause-inserts
-returns-in_default-double-clause-inserts g c =
+pub returns-in_default-grow-clause-inserts : goal.returns-in_default-grow-clause-inserts
+returns-in_default-grow-clause-inserts g c =
     let t = c.self.inside.table in
     let hash = hash-same (lawful-of g.S.BuildHasher g.S.Hasher.Hasher g.met.K.Eq.laws g.met.K.Hash.respects_eq) c.args.key _ _ c.self.view_is c.args.hash c.requires.hash in
     let absent = if-none (IsAbsent g.K.PartialEq.eq t c.args.hash c.args.key) _ c.in_default.is c.find_or_place-place.ensures.absent in
-    refuses _ (lawful-of g.S.BuildHasher g.S.Hasher.Hasher g.met.K.Eq.laws g.met.K.Hash.respects_eq) _ _ _ t c.double.new.self c.args.key c.args.value _ c.self.view_is c.self.invariant c.in_default-double.ensures.err (λ room. omega (arith, room, c.if-len-capacity.false, c.len.ensures, c.capacity.ensures))
+    refuses _ (lawful-of g.S.BuildHasher g.S.Hasher.Hasher g.met.K.Eq.laws g.met.K.Hash.respects_eq) _ _ _ t c.grow.new.self c.args.key c.args.value _ c.self.view_is c.self.invariant c.in_default-grow.ensures.err (λ room. omega (arith, room, c.if-len-capacity.false, c.len.ensures, c.capacity.ensures))
     (at-missing _ (lawful-of g.S.BuildHasher g.S.Hasher.Hasher g.met.K.Eq.laws g.met.K.Hash.respects_eq) _ _ _ t c.self.invariant _ _ hash absent)
 
 pub invariant_of-self-2 : goal.invariant_of-self-2
@@ -64,7 +64,7 @@ invariant_of-self-2 g c =
     let p = c.push.ensures in
     let hash = hash-same (lawful-of g.S.BuildHasher g.S.Hasher.Hasher g.met.K.Eq.laws g.met.K.Hash.respects_eq) c.args.key _ _ c.self.view_is c.args.hash c.requires.hash in
     let absent = if-none (IsAbsent g.K.PartialEq.eq t c.args.hash c.args.key) _ c.in_default.is c.find_or_place-place.ensures.absent in
-    (pushed _ (lawful-of g.S.BuildHasher g.S.Hasher.Hasher g.met.K.Eq.laws g.met.K.Hash.respects_eq) _ _ _ t c.double.new.self c.self.invariant c.in-Ok.ensures.moved c.push.new.self c.args.key c.args.value c.args.hash _ _ c.self.view_is c.requires.route p.within p.free hash absent p.pairs p.hashes p.len p.table).inside
+    (pushed _ (lawful-of g.S.BuildHasher g.S.Hasher.Hasher g.met.K.Eq.laws g.met.K.Hash.respects_eq) _ _ _ t c.grow.new.self c.self.invariant c.in-Ok.ensures.moved c.push.new.self c.args.key c.args.value c.args.hash _ _ c.self.view_is c.requires.route p.within p.free hash absent p.pairs p.hashes p.len p.table).inside
 
 pub returns : goal.returns
 returns g c =
@@ -73,7 +73,7 @@ returns g c =
     let hash = hash-same (lawful-of g.S.BuildHasher g.S.Hasher.Hasher g.met.K.Eq.laws g.met.K.Hash.respects_eq) c.args.key _ _ c.self.view_is c.args.hash c.requires.hash in
     let absent = if-none (IsAbsent g.K.PartialEq.eq t c.args.hash c.args.key) _ c.in_default.is c.find_or_place-place.ensures.absent in
     record {
-      inserts = pushed-inserts _ (lawful-of g.S.BuildHasher g.S.Hasher.Hasher g.met.K.Eq.laws g.met.K.Hash.respects_eq) _ _ _ t c.double.new.self c.self.invariant c.in-Ok.ensures.moved c.push.new.self c.args.key c.args.value c.args.hash _ _ c.self.view_is c.requires.route p.within p.free hash absent p.pairs p.hashes p.len p.table
+      inserts = pushed-inserts _ (lawful-of g.S.BuildHasher g.S.Hasher.Hasher g.met.K.Eq.laws g.met.K.Hash.respects_eq) _ _ _ t c.grow.new.self c.self.invariant c.in-Ok.ensures.moved c.push.new.self c.args.key c.args.value c.args.hash _ _ c.self.view_is c.requires.route p.within p.free hash absent p.pairs p.hashes p.len p.table
           (λ room. omega (arith, room, c.if-len-capacity.false, c.len.ensures, c.capacity.ensures));
-      lawful = (pushed _ (lawful-of g.S.BuildHasher g.S.Hasher.Hasher g.met.K.Eq.laws g.met.K.Hash.respects_eq) _ _ _ t c.double.new.self c.self.invariant c.in-Ok.ensures.moved c.push.new.self c.args.key c.args.value c.args.hash _ _ c.self.view_is c.requires.route p.within p.free hash absent p.pairs p.hashes p.len p.table).inside.shard;
+      lawful = (pushed _ (lawful-of g.S.BuildHasher g.S.Hasher.Hasher g.met.K.Eq.laws g.met.K.Hash.respects_eq) _ _ _ t c.grow.new.self c.self.invariant c.in-Ok.ensures.moved c.push.new.self c.args.key c.args.value c.args.hash _ _ c.self.view_is c.requires.route p.within p.free hash absent p.pairs p.hashes p.len p.table).inside.shard;
     }

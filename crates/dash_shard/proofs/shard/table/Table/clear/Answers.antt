@@ -16,6 +16,6 @@ returns-clause-table g c =
     let pairs = c.let_go.ensures.pairs ∙ map-replicate (pairs_in t) ∙ ap (λ k. replicate {A = O} k None) m.slots_len in
     let wide : vec_len t.tags ≡ 16 * n = omega (arith, m.tags_len, t.tags.ok.0) in
     let long : vec_len t.counts ≡ n = omega (arith, t.counts.ok.0) in
-    table-fresh _ n (16 * n) pairs (ap length c.let_go.ensures.hashes ∙ m.hashes_len) m.power refl
+    table-fresh _ n (16 * n) pairs (ap length c.let_go.ensures.hashes ∙ m.hashes_len) refl
     (c.fill.ensures.items (λ y h. h) ∙ ap (λ k. replicate k 128) wide)
     (c.fill-2.ensures.items (λ y h. h) ∙ ap (λ k. replicate k 0) long) refl

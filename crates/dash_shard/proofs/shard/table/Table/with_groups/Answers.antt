@@ -6,7 +6,7 @@ use Rattle.dash_shard.proofs.shard.table.Table.with_groups.Goals as goal
 pub returns-clause-table : goal.returns-clause-table
 returns-clause-table g c =
     let row = c.in_ok-slots.ensures.row in
-    table-fresh _ c.args.count c.in-Some.slots (ap (λ s. s.values) row) (ap (λ s. length s.labels) row ∙ length-replicate c.in-Some.slots 0) (λ _. c.requires) (omega (arith, c.in-Some.ensures))
+    table-fresh _ c.args.count c.in-Some.slots (ap (λ s. s.values) row) (ap (λ s. length s.labels) row ∙ length-replicate c.in-Some.slots 0) (omega (arith, c.in-Some.ensures))
     (c.in_ok-tags.ensures.items_if_clones_equal (λ y h. h)) (c.in_ok-counts.ensures.items_if_clones_equal (λ y h. h)) refl
 
 pub returns-clause-empty : goal.returns-clause-empty
