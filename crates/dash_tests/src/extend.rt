@@ -1,6 +1,5 @@
 //! Lists of pairs that make a map, or are put into one, and the copies that a map gives.
 use crate::checks::is;
-use crate::maps::put;
 use base_tests::values::Noted;
 use dashmap::DashMap;
 use dashmap::error::{ConstructError, FromRefused};
@@ -31,7 +30,7 @@ fn equal_keys_of_a_list(rt: HostRuntime) {
     is(&rt, copy.get(&1), Some(&11));
     is(&rt, copy.get(&5), Some(&50));
     let mut map = Map::new(rt.alloc(), 1).expect(&rt, "refused");
-    put(&rt, &map, 5, 40);
+    map.insert(&rt, 5, 40).expect(&rt, "refused");
     map.extend(three_pairs(&rt, rt.alloc()))
         .expect(&rt, "refused");
     are_two(&rt, &map.pairs(&rt).expect(&rt, "refused"));

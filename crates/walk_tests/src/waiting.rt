@@ -1,7 +1,7 @@
 //! The operators of a map, its shards, and what it prints.
 use crate::checks::is;
 use crate::maps::{map_of_four, put};
-use dashmap::DashMap;
+use dash_map::map::DashMap;
 
 #[test]
 fn operators(rt: HostRuntime) {
