@@ -72,8 +72,7 @@ impl<K: Eq + Hash, V, S: BuildHasher> Shard<K, V, S> {
         self.table.clear();
     }
 
-    /// Moves the pairs to as few slots as hold them, which gives the rest of the memory back: a power of two of slots, and none for no
-    /// pairs.
+    /// Moves the pairs to as few slots as a shard with room for them gets, which gives the rest of the memory back: none for no pairs.
     ///
     /// It takes memory for the new slots, and keeps the old ones where there is none. Slots change.
     pub fn shrink_to_fit(&mut self)
