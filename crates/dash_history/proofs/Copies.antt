@@ -1,16 +1,18 @@
--- A step's copy, with a copy of its reply, is the same step of the map.
-use Rattle.std.proofs.Common.{◌≡◌, ◌<◌, ◌==◌, ◌-◌, ◌^◌, min, length, is_some, eqb-true, Bool, true, false, cond, List, Option, Some, None, refl, sym, subst}
+-- Lawful keys, and steps that are taken: a step's copy, with a copy of its reply, is the same step of the map.
+use Rattle.std.proofs.Common.{◌≡◌, ◌<◌, ◌==◌, ◌-◌, ◌^◌, min, length, is_some, eqb-true, Bool, true, false, cond, List, [], ◌∷◌, ◌++◌, ℕ, Option, Some, None, refl, sym, ap, subst}
 use Rattle.std.specs.Option.{option_and_then, option_map, option_eq}
 use Rattle.std.specs.Cmp.{IsEquivalence}
 use Rattle.std.proofs.lemmas.Bool.{and_parts, and_from}
-use Rattle.dash_shard.specs.Contents.{at, on, Distinct, EachOnce}
+use Rattle.dash_shard.specs.Hashing.{KeyHash, route_by, route_of_hash}
+use Rattle.dash_shard.specs.inner.Keys.{IsLawful}
+use Rattle.dash_shard.specs.Contents.{at, keys, on, Distinct, EachOnce}
 use Rattle.dash_shard.specs.Steps.{Line, at_key, on_shard, Step, Reply, Act, line, line_shard, line_after, LineReplies, Pair, Found, Old, Pairs, Number, changed, if_yes, if_no}
 use Rattle.dash_shard.specs.inner.Steps.{Becomes, key_or, value, after, step_shard}
 use Rattle.dash_history.specs.declared.step.ShardStep.{ShardStep}
 use Rattle.dash_history.specs.declared.step.ShardStep.TheVariants.{Get, Contains, Insert, Remove, RemoveIf, RemoveIfMut, Alter, Read, Count, AlterAll, Retain}
 use Rattle.dash_history.specs.Alike.{alike_pair, alike_reply}
 use Rattle.dash_history.specs.Steps.{step_of, alike_step}
-use Rattle.dash_history.specs.Takes.{Rules, Kinds, Answers, Takes}
+use Rattle.dash_history.specs.Takes.{Rules, rules, Kinds, Answers, Takes, Runs}
 use Rattle.dash_history.specs.inner.Copied.{AlikeAt}
 use Rattle.dash_shard.proofs.Equals.{at-equal}
 use Rattle.dash_history.proofs.AlikeLaws.{turned, chained, options_equiv, pair_equiv, reply_equiv}
@@ -22,6 +24,18 @@ pub record Lawful {K V : Type 0} (m : Rules K V) : Type 0 where
   pub key : IsEquivalence m.alike_key
   pub value : IsEquivalence m.alike_value
   pub alike_equal : (j k : K) → m.alike_key j k ≡ true → m.keys.eq j k ≡ true
+
+module _ {K V S : Type 0} (h : KeyHash K S) (law : IsLawful h) (k : K → K → Bool) (v : V → V → Bool) (key : IsEquivalence k) (value : IsEquivalence v)
+    (alike_equal : (i j : K) → k i j ≡ true → h.eq i j ≡ true) where
+  -- what a map with this hasher and amount knows of them
+  pub lawful-by : (base : S) (n : ℕ) → Lawful (rules k v (keys h.eq (route_by h base n) n))
+  lawful-by base n = record {
+    equal = law.laws;
+    route_same = λ i j e. ap (route_of_hash n) (law.respects base i j e);
+    key = key;
+    value = value;
+    alike_equal = alike_equal;
+  }
 
 module _ {K V : Type 0} (m : Rules K V) (laws : Lawful m) where
   pub at_laws : IsEquivalence (option_eq (alike_pair m.alike_key m.alike_value))
@@ -90,6 +104,11 @@ module _ {K V : Type 0} (m : Rules K V) (laws : Lawful m) where
     each_key = λ j. subst (λ o. AlikeAt m (after m.keys step j (at m.keys.eq P j)) o) (sym (becomes j)) (at_laws.refl (after m.keys step j (at m.keys.eq P j)));
     distinct = distinct;
   }
+
+-- a run with one more step
+pub runs-more : {K V : Type 0} (m : Rules K V) (P M Q : List (K × V)) (ds : List (Step K V × Reply K V)) (d : Step K V × Reply K V) → Runs m P ds M → Takes m M d.0 d.1 Q → Runs m P (ds ++ d ∷ []) Q
+runs-more m P M Q [] d r t = (Q, subst (λ z. Takes m z d.0 d.1 Q) (sym r) t, refl)
+runs-more m P M Q (e ∷ ds) d r t = (r.0, r.1, runs-more m r.0 M Q ds d r.2 t)
 
 -- alike actions do alike things
 abbrev pub ActAlike : {K V A : Type 0} → (K → K → Bool) → (V → V → Bool) → (A → A → Bool) → (A → Act K V) → Type 0

@@ -20,8 +20,7 @@ use Rattle.dash_history.specs.Takes.{rules, Answers}
 use Rattle.dash_history.specs.inner.Copied.{AlikeAt}
 use Rattle.dash_history.specs.inner.Plan.{Fits, Plans, IsTakenSlot, pair_in, MakesAt}
 use Rattle.dash_history.proofs.Copies.{Lawful}
-use Rattle.dash_history.proofs.Plains.{looked}
-use Rattle.dash_history.proofs.Planning.{decided}
+use Rattle.dash_history.proofs.Planning.{looked, decided}
 
 module _ {K V S : Type 0} (h : KeyHash K S) (s : ShardState K V S) where
   pub found-pair : (k : K) (found : Option ℕ) → Finds h.eq s k found → pair_in s found ≡ at h.eq (pairs s) k

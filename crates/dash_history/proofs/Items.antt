@@ -1,8 +1,15 @@
--- Lists whose items are alike: one item more, from the back and from the front.
+-- Lists whose items are alike: one after the other, and one item more, from the back and from the front.
 use Rattle.std.proofs.Common.{◌≡◌, ℕ, ◌+◌, ◌<◌, ◌≤◌, ◌&&◌, Bool, true, List, [], ◌∷◌, ◌++◌, length, take, drop, get_or, refl, sym, ap, ap₂, subst, ◌∙◌}
 use Rattle.std.proofs.lemmas.Bool.{and_parts, and_from}
 use Rattle.std.proofs.lemmas.List.{take_more, drop_more, drop_all}
 use Rattle.std.specs.Cmp.Lexicographic.{pointwise}
+
+-- alike lists, one after the other
+pub alike-append : {X : Type 0} (e : X → X → Bool) (xs ys us vs : List X) → pointwise e xs us ≡ true → pointwise e ys vs ≡ true → pointwise e (xs ++ ys) (us ++ vs) ≡ true
+alike-append e [] ys [] vs h k = k
+alike-append e [] ys (u ∷ us) vs h k = cc
+alike-append e (x ∷ xs) ys [] vs h k = cc
+alike-append e (x ∷ xs) ys (u ∷ us) vs h k = let p = and_parts (e x u) (pointwise e xs us) h in and_from (e x u) (pointwise e (xs ++ ys) (us ++ vs)) p.0 (alike-append e xs ys us vs p.1 k)
 
 module _ {X : Type 0} (e : X → X → Bool) where
   pub pushed : (xs ys : List X) (x y : X) → pointwise e xs ys ≡ true → e x y ≡ true → pointwise e (xs ++ x ∷ []) (ys ++ y ∷ []) ≡ true

@@ -20,11 +20,9 @@ use Rattle.dash_history.specs.Takes.{Rules, Answers, Takes}
 use Rattle.dash_history.specs.Plain.{PlainState}
 use Rattle.dash_history.specs.inner.Plain.{IsPlainMap, plain_rules, pairs_on, Reads, SweepsPlain}
 use Rattle.dash_history.specs.inner.Plan.{change_step, Plans}
-use Rattle.dash_history.proofs.Plains.{looked}
+use Rattle.dash_history.proofs.Planning.{looked, takes-asked, same-key, on-distinct}
 use Rattle.dash_history.proofs.PlainSweeps.{Swept, swept-at, swept-distinct}
-use Rattle.dash_history.proofs.Planning.{takes-asked, same-key, on-distinct}
-use Rattle.dash_history.proofs.Copies.{Lawful, takes-exactly, reply_laws}
-use Rattle.dash_history.proofs.Recording.{lawful-by}
+use Rattle.dash_history.proofs.Copies.{Lawful, takes-exactly, reply_laws, lawful-by}
 
 -- a reference to what is there
 pub mapped : {A B : Type 0} (f : A → B) (o : Option A) → is_some o ≡ is_some (option_map f o)

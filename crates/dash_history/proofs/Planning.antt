@@ -5,7 +5,7 @@ use Rattle.std.proofs.lemmas.Bool.{cases_Bool}
 use Rattle.std.proofs.lemmas.List.Elements.{filter-append}
 use Rattle.std.proofs.lemmas.Option.{none-some}
 use Rattle.dash_shard.specs.Contents.{Keys, at, on, Distinct}
-use Rattle.dash_shard.specs.Steps.{Step, Reply, Pair, LineReplies, at_key, line, line_shard, line_after, Line, on_shard}
+use Rattle.dash_shard.specs.Steps.{Step, Reply, Get, Pair, LineReplies, at_key, line, line_shard, line_after, Line, on_shard}
 use Rattle.dash_shard.specs.inner.Steps.{Becomes, key_or, after}
 use Rattle.dash_shard.proofs.Equals.{at-equal}
 use Rattle.dash_history.specs.declared.step.Reply as program
@@ -41,6 +41,11 @@ module _ {K V : Type 0} (w : Keys K) (laws : IsEquivalence w.eq) (i : ℕ) where
   -- with one pair more
   pub on-more : (ps : List (K × V)) (p : K × V) → on w i (ps ++ p ∷ []) ≡ on w i ps ++ cond (w.route p.0 == i) (p ∷ []) []
   on-more ps p = filter-append (λ (q : K × V). w.route q.0 == i) ps (p ∷ [])
+
+module _ {K V : Type 0} (w : Keys K) (k : K) where
+  -- a look-up changes nothing
+  pub looked : (ps : List (K × V)) → Becomes w (Get k) ps ps
+  looked ps j = elim (cases_Bool (w.eq k j)) as (λ _. at w.eq ps j ≡ after w (Get k) j (at w.eq ps j)) [ inl same ↦ rw same refl | inr other ↦ rw other refl ]
 
 module _ {K V : Type 0} (m : Rules K V) (laws : Lawful m) (P Q : List (K × V)) (k : K) where
   -- two lines at k that make alike of what stands there

@@ -39,8 +39,8 @@ pub fn copy_found<K: Kept + Drop, V: Kept + Drop>(
     }
 }
 
-// What the action makes of a copy of the value, and its answer.
-pub(crate) fn ask<K: Kept, V: Kept + Drop, A: Action<K, V>>(
+/// What the action makes of a copy of the value, and its answer.
+pub fn ask<K: Kept, V: Kept + Drop, A: Action<K, V>>(
     key: &K,
     value: &V,
     action: &A,

@@ -82,9 +82,9 @@ impl<K, V: Kept, A> ShardStep<K, V, A> {
         self.route(hasher, amount).1
     }
 
-    // The hash of the step's key, or 0 where it has none, and the number of its shard.
+    /// The hash of the step's key, or 0 where it has none, and the number of its shard.
     #[inline]
-    pub(crate) fn route<S: BuildHasher>(&self, hasher: &S, amount: usize) -> (u64, usize)
+    pub fn route<S: BuildHasher>(&self, hasher: &S, amount: usize) -> (u64, usize)
     where
         K: Kept + Eq + Hash,
         A: Action<K, V>,

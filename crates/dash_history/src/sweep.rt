@@ -59,7 +59,7 @@ pub fn ask_each<K: Kept, V: Kept + Drop, A: Action<K, V>>(
 
 /// Makes of each pair what was decided: puts the values in place of the shard's, in rising order of slots, and takes out each pair that has
 /// no yes beside its value.
-pub(crate) fn put_each<K: KeptKey + Drop, V: Kept + Drop, S: BuildHasher>(
+pub fn put_each<K: KeptKey + Drop, V: Kept + Drop, S: BuildHasher>(
     shard: &mut Shard<K, V, S>,
     change: Change<V>,
 )

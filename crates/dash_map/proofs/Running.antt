@@ -22,9 +22,7 @@ use Rattle.dash_history.specs.Takes.{Rules, Answers, Takes, Runs}
 use Rattle.dash_history.specs.inner.Copied.{AlikeAt}
 use Rattle.dash_history.specs.declared.step.ShardStep.{ShardStep}
 use Rattle.dash_history.specs.declared.step.Reply.{Reply}
-use Rattle.dash_history.proofs.Copies.{Lawful, takes-exactly, reply_laws, at_laws}
-use Rattle.dash_history.proofs.Growing.{runs-more}
-use Rattle.dash_history.proofs.Recording.{lawful-by}
+use Rattle.dash_history.proofs.Copies.{Lawful, takes-exactly, reply_laws, at_laws, runs-more, lawful-by}
 use Rattle.dash_map.specs.Alone.{AloneState, IsAlone, TakesAlone, contents, keys_in}
 use Rattle.dash_map.specs.declared.run.Fault.{Fault}
 use Rattle.dash_map.specs.declared.run.Fault.TheVariants.{NoSuchShard, Memory}

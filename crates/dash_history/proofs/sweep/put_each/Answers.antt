@@ -2,7 +2,7 @@ use Rattle.std.proofs.Common.{rules}
 use Rattle.dash_history.specs.Takes as takes
 use Rattle.dash_shard.specs.inner.Keys.{keys_of}
 use Rattle.dash_shard.specs.Hashing.{key_hash}
-use Rattle.dash_history.proofs.Recording.{lawful-by}
+use Rattle.dash_history.proofs.Copies.{lawful-by}
 use Rattle.dash_history.proofs.Sweeping.{swept}
 use Rattle.dash_shard.proofs.Lawful.{lawful-of}
 use Rattle.dash_history.proofs.sweep.put_each.Goals as goal

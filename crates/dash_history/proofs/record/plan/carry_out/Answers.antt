@@ -6,7 +6,7 @@ use Rattle.dash_history.specs.inner.Sweep.{keeping}
 use Rattle.dash_history.specs.Takes.{known_by}
 use Rattle.dash_history.specs.inner.Copied.{AlikeAt}
 use Rattle.dash_history.specs.inner.Kinds.{kinds_of}
-use Rattle.dash_history.proofs.Recording.{lawful-by}
+use Rattle.dash_history.proofs.Copies.{lawful-by}
 use Rattle.dash_shard.specs.Hashing.{key_hash}
 use Rattle.dash_history.proofs.Finding.{found-taken, decided-at}
 use Rattle.dash_history.proofs.Sweeping.{leaves}
