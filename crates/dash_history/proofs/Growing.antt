@@ -2,11 +2,11 @@
 use Rattle.std.proofs.Common.{◌≡◌, ℕ, ◌<◌, List, [], ◌∷◌, ◌++◌, length, map, All, refl, sym, subst, arith}
 use Rattle.std.proofs.lemmas.List.Elements.{All-append, All-cons, All-nil}
 use Rattle.std.proofs.lemmas.List.{map-append}
-use Rattle.dash_history.specs.declared.step.Record.{Record}
+use Rattle.dash_steps.specs.declared.step.Record.{Record}
 use Rattle.dash_history.specs.inner.Done.{done}
-use Rattle.dash_history.specs.Takes.{Kinds, Takes, Runs}
+use Rattle.dash_steps.specs.Takes.{Kinds, Takes, Runs}
 use Rattle.dash_history.specs.History.{last_or, Rises, shard_of, IsHistory, LogState, IsLog}
-use Rattle.dash_history.proofs.Copies.{runs-more}
+use Rattle.dash_steps.proofs.Copies.{runs-more}
 
 module _ {K V A : Type 0} where
   rises-more : (low : ℕ) (h : List (Record K V A)) (r : Record K V A) → Rises low h → last_or low h < r.stamp → Rises low (h ++ r ∷ [])

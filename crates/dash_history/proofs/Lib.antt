@@ -1,18 +1,13 @@
-pub mod AlikeLaws
 mod Alones
-pub mod Copies
 mod Faults
 mod Finding
 mod Growing
-pub mod Items
 mod Logging
 pub mod Telling
 mod Maps
 mod Plains
 mod Recording
 mod Refusals
-pub mod Planning
-pub mod Sweeping
 mod PlainSweeps
 mod PlainTakes
 mod Preparing

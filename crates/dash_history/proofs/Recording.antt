@@ -6,16 +6,16 @@ use Rattle.dash_shard.specs.Hashing.{KeyHash}
 use Rattle.dash_shard.specs.inner.Keys.{IsLawful}
 use Rattle.dash_shard.specs.Steps.{Act}
 use Rattle.dash_shard.specs.Shard.{ShardState, IsShard, SameShard, pairs}
-use Rattle.dash_history.specs.declared.step.ShardStep.{ShardStep}
-use Rattle.dash_history.specs.declared.step.Reply as program
-use Rattle.dash_history.specs.declared.step.Record.{Record}
-use Rattle.dash_history.specs.Steps.{step_of, reply_of, alike_record}
-use Rattle.dash_history.specs.Takes.{Known, Answers, Takes}
+use Rattle.dash_steps.specs.declared.step.ShardStep.{ShardStep}
+use Rattle.dash_steps.specs.declared.step.Reply as program
+use Rattle.dash_steps.specs.declared.step.Record.{Record}
+use Rattle.dash_steps.specs.Steps.{step_of, reply_of, alike_record}
+use Rattle.dash_steps.specs.Takes.{Known, Answers, Takes}
 use Rattle.dash_history.specs.History.{RecState, IsRecorded, last_or, shard_of}
 use Rattle.dash_history.specs.inner.Tells.{Tells}
-use Rattle.dash_history.specs.inner.Kinds.{kinds_of}
-use Rattle.dash_history.specs.inner.Plan.{Leaves}
-use Rattle.dash_history.proofs.Copies.{Lawful, lawful-by, ActAlike, takes-alike, line-alike, shard-alike}
+use Rattle.dash_steps.specs.inner.Kinds.{kinds_of}
+use Rattle.dash_steps.specs.inner.Plan.{Leaves}
+use Rattle.dash_steps.proofs.Copies.{Lawful, lawful-by, ActAlike, takes-alike, line-alike, shard-alike}
 use Rattle.dash_history.proofs.Growing.{history-more, last_or-more}
 
 -- alike records have one stamp and one caller
