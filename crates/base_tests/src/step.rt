@@ -1,7 +1,7 @@
 //! Copies of steps and replies, and the shards of steps.
 use crate::places::is;
-use dash_history::step::{Reply, ShardStep};
 use dash_shard::hash::{PlaceState, is_shard_amount};
+use dash_steps::step::{Reply, ShardStep};
 
 type Step = ShardStep<u64, u64>;
 

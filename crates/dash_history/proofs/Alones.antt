@@ -13,12 +13,12 @@ use Rattle.dash_shard.specs.Hashing.{KeyHash, IsAmount, HashAlike, route_by, rou
 use Rattle.dash_shard.specs.Shard.{SameShard}
 use Rattle.dash_shard.specs.Steps.{Line, at_key, on_shard, line}
 use Rattle.dash_shard.specs.inner.Steps.{step_shard}
-use Rattle.dash_history.specs.declared.step.ShardStep.{ShardStep}
-use Rattle.dash_history.specs.declared.step.Reply as program
-use Rattle.dash_history.specs.Steps.{step_of}
-use Rattle.dash_history.specs.inner.Hashed.{OfKey, IsHashBy, HasHash}
-use Rattle.dash_history.specs.Takes.{Kinds, Known, kinds_at, rules}
-use Rattle.dash_history.specs.inner.Kinds.{kinds, kinds_of}
+use Rattle.dash_steps.specs.declared.step.ShardStep.{ShardStep}
+use Rattle.dash_steps.specs.declared.step.Reply as program
+use Rattle.dash_steps.specs.Steps.{step_of}
+use Rattle.dash_steps.specs.inner.Hashed.{OfKey, IsHashBy, HasHash}
+use Rattle.dash_steps.specs.Takes.{Kinds, Known, kinds_at, rules}
+use Rattle.dash_steps.specs.inner.Kinds.{kinds, kinds_of}
 use Rattle.dash_history.specs.History.{RecState, LogState, Recorded, last_or, shard_of}
 use Rattle.dash_history.specs.Alone.{AloneState, IsTagged, IsAlone, Applied, last_at, kinds_in}
 

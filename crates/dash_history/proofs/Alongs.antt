@@ -5,7 +5,7 @@ use Rattle.std.proofs.lemmas.Option.{same_Some}
 use Rattle.std.proofs.lemmas.Bool.{cases_eq, cases_lt}
 use Rattle.dash_history.specs.History.{Rises}
 use Rattle.dash_history.specs.OneHistory.{Earlier, IsMerge, record_at, along, of_shard, StampsStandInOrder}
-use Rattle.dash_history.specs.declared.step.Record.{Record}
+use Rattle.dash_steps.specs.declared.step.Record.{Record}
 use Rattle.dash_history.specs.declared.gather.At.{At}
 use Rattle.dash_history.proofs.Members.{Has, has-get, get-has, has-contains, contains-has, has-kept, kept-has, InOrder, get-in_order, in_order-kept, in_order-mapped, agree, has-mapped, mapped-has}
 use Rattle.dash_history.proofs.Merging.{at-from, from-at}

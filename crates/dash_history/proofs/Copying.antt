@@ -1,20 +1,13 @@
 -- Copies of the pairs of a row of shards, as far as the loop has come.
-use Rattle.std.proofs.Common.{◌≡◌, ℕ, ◌+◌, ◌<◌, ◌≤◌, Bool, true, IsTrue, List, [], ◌∷◌, ◌++◌, flat_map, length, get_or, drop, sym, ap, subst, ◌∙◌, drop_of_length-le, append_assoc, append-nil}
-use Rattle.std.proofs.lemmas.Bool.{and_parts, and_from}
+use Rattle.std.proofs.Common.{◌≡◌, ℕ, ◌+◌, ◌<◌, ◌≤◌, Bool, true, IsTrue, List, [], ◌++◌, flat_map, length, get_or, drop, sym, ap, subst, ◌∙◌, drop_of_length-le, append_assoc, append-nil}
 use Rattle.dash_shard.specs.Shard.{pairs}
-use Rattle.dash_history.specs.Alike.{alike_pair}
-use Rattle.dash_history.specs.inner.Copied.{alike_pairs}
+use Rattle.dash_steps.specs.Alike.{alike_pair}
+use Rattle.dash_steps.specs.inner.Copied.{alike_pairs}
 use Rattle.std.specs.Cmp.Lexicographic.{pointwise}
 use Rattle.dash_history.specs.History.{RecState}
-use Rattle.dash_history.specs.inner.Sweep.{AddsAlike}
+use Rattle.dash_steps.specs.inner.Sweep.{AddsAlike}
+use Rattle.dash_steps.proofs.Items.{alike-append}
 use Rattle.dash_history.proofs.Placing.{drop-next}
-
--- alike lists, one after the other
-pub alike-append : {X : Type 0} (e : X → X → Bool) (xs ys us vs : List X) → pointwise e xs us ≡ true → pointwise e ys vs ≡ true → pointwise e (xs ++ ys) (us ++ vs) ≡ true
-alike-append e [] ys [] vs h k = k
-alike-append e [] ys (u ∷ us) vs h k = cc
-alike-append e (x ∷ xs) ys [] vs h k = cc
-alike-append e (x ∷ xs) ys (u ∷ us) vs h k = let p = and_parts (e x u) (pointwise e xs us) h in and_from (e x u) (pointwise e (xs ++ ys) (us ++ vs)) p.0 (alike-append e xs ys us vs p.1 k)
 
 module _ {K V A S : Type 0} (k : K → K → Bool) (v : V → V → Bool) (row : List (RecState K V A S)) where
   abbrev pub all : List (RecState K V A S) → List (K × V)

@@ -10,18 +10,17 @@ use Rattle.dash_shard.specs.Hashing.{KeyHash}
 use Rattle.dash_shard.specs.Shard.{ShardState, slot, pairs}
 use Rattle.dash_shard.specs.Held.{Finds}
 use Rattle.dash_shard.proofs.BySlot.{unmoved}
-use Rattle.dash_history.specs.declared.change.Change.{Change}
-use Rattle.dash_history.specs.declared.change.Change.TheVariants as change
-use Rattle.dash_history.specs.declared.step.Reply as program
-use Rattle.dash_history.specs.Alike.{alike_reply}
-use Rattle.dash_history.specs.Steps.{reply_of}
-use Rattle.dash_history.specs.inner.Hashed.{OfKey}
-use Rattle.dash_history.specs.Takes.{rules, Answers}
-use Rattle.dash_history.specs.inner.Copied.{AlikeAt}
-use Rattle.dash_history.specs.inner.Plan.{Fits, Plans, IsTakenSlot, pair_in, MakesAt}
-use Rattle.dash_history.proofs.Copies.{Lawful}
-use Rattle.dash_history.proofs.Plains.{looked}
-use Rattle.dash_history.proofs.Planning.{decided}
+use Rattle.dash_steps.specs.declared.change.Change.{Change}
+use Rattle.dash_steps.specs.declared.change.Change.TheVariants as change
+use Rattle.dash_steps.specs.declared.step.Reply as program
+use Rattle.dash_steps.specs.Alike.{alike_reply}
+use Rattle.dash_steps.specs.Steps.{reply_of}
+use Rattle.dash_steps.specs.inner.Hashed.{OfKey}
+use Rattle.dash_steps.specs.Takes.{rules, Answers}
+use Rattle.dash_steps.specs.inner.Copied.{AlikeAt}
+use Rattle.dash_steps.specs.inner.Plan.{Fits, Plans, IsTakenSlot, pair_in, MakesAt}
+use Rattle.dash_steps.proofs.Copies.{Lawful}
+use Rattle.dash_steps.proofs.Planning.{looked, decided}
 
 module _ {K V S : Type 0} (h : KeyHash K S) (s : ShardState K V S) where
   pub found-pair : (k : K) (found : Option ℕ) → Finds h.eq s k found → pair_in s found ≡ at h.eq (pairs s) k

@@ -10,7 +10,7 @@ use Rattle.dash_history.specs.inner.Gathering.{agrees, Finds}
 use Rattle.dash_history.specs.Alone.{AloneState}
 use Rattle.dash_history.specs.History.{LogState, RecState}
 use Rattle.dash_history.specs.OneHistory.{AreCallers, IsMerge, Names, along, of_caller, histories, record_at}
-use Rattle.dash_history.specs.declared.step.Record.{Record}
+use Rattle.dash_steps.specs.declared.step.Record.{Record}
 use Rattle.dash_history.specs.declared.gather.At.{At}
 use Rattle.dash_history.proofs.Members.{get-has, has-contains}
 use Rattle.dash_history.proofs.Merging.{from-at}

@@ -9,9 +9,9 @@ use Rattle.dash_shard.proofs.Unions.{OnShards, at-union, distinct-union, each-sa
 use Rattle.dash_shard.specs.Contents.{at, IsOnShard}
 use Rattle.dash_shard.specs.Steps.{Line, at_key, on_shard, line, line_shard, line_after, LineReplies, Step, Reply}
 use Rattle.dash_shard.specs.inner.Steps.{after, step_shard}
-use Rattle.dash_history.specs.Takes.{Rules, Takes, Runs}
-use Rattle.dash_history.specs.inner.Copied.{AlikeAt}
-use Rattle.dash_history.proofs.Copies.{Lawful, at_laws}
+use Rattle.dash_steps.specs.Takes.{Rules, Takes, Runs}
+use Rattle.dash_steps.specs.inner.Copied.{AlikeAt}
+use Rattle.dash_steps.proofs.Copies.{Lawful, at_laws}
 
 module _ {K V : Type 0} (m : Rules K V) (laws : Lawful m) where
   abbrev pub union : List (List (K × V)) → List (K × V)

@@ -8,9 +8,9 @@ use Rattle.dash_history.specs.Alone.{AloneState, IsAlone, kinds_in}
 use Rattle.dash_history.specs.inner.Gathering.{EachLog, EachRecorded, KeepsCallers, Merges}
 use Rattle.dash_history.specs.History.{LogState, RecState}
 use Rattle.dash_history.specs.OneHistory.{AreCallers, IsMerge, Matches, IsOneHistory, IsGathered, histories}
-use Rattle.dash_history.specs.Takes.{Known, rules}
+use Rattle.dash_steps.specs.Takes.{Known, rules}
 use Rattle.dash_history.specs.declared.gather.At.{At}
-use Rattle.dash_history.proofs.Copies.{Lawful}
+use Rattle.dash_steps.proofs.Copies.{Lawful}
 use Rattle.dash_history.proofs.Matching.{order-from-match, shards-from-order, match-from-order}
 use Rattle.dash_history.proofs.Members.{contains-has}
 use Rattle.dash_history.proofs.Whole.{tidy, one-history, caller-below, all-has, has-all}

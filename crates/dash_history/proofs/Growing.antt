@@ -2,16 +2,11 @@
 use Rattle.std.proofs.Common.{◌≡◌, ℕ, ◌<◌, List, [], ◌∷◌, ◌++◌, length, map, All, refl, sym, subst, arith}
 use Rattle.std.proofs.lemmas.List.Elements.{All-append, All-cons, All-nil}
 use Rattle.std.proofs.lemmas.List.{map-append}
-use Rattle.dash_shard.specs.Steps.{Step, Reply}
-use Rattle.dash_history.specs.declared.step.Record.{Record}
+use Rattle.dash_steps.specs.declared.step.Record.{Record}
 use Rattle.dash_history.specs.inner.Done.{done}
-use Rattle.dash_history.specs.Takes.{Rules, Kinds, Takes, Runs}
+use Rattle.dash_steps.specs.Takes.{Kinds, Takes, Runs}
 use Rattle.dash_history.specs.History.{last_or, Rises, shard_of, IsHistory, LogState, IsLog}
-
--- a run with one more step
-pub runs-more : {K V : Type 0} (m : Rules K V) (P M Q : List (K × V)) (ds : List (Step K V × Reply K V)) (d : Step K V × Reply K V) → Runs m P ds M → Takes m M d.0 d.1 Q → Runs m P (ds ++ d ∷ []) Q
-runs-more m P M Q [] d r t = (Q, subst (λ z. Takes m z d.0 d.1 Q) (sym r) t, refl)
-runs-more m P M Q (e ∷ ds) d r t = (r.0, r.1, runs-more m r.0 M Q ds d r.2 t)
+use Rattle.dash_steps.proofs.Copies.{runs-more}
 
 module _ {K V A : Type 0} where
   rises-more : (low : ℕ) (h : List (Record K V A)) (r : Record K V A) → Rises low h → last_or low h < r.stamp → Rises low (h ++ r ∷ [])

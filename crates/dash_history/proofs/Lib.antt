@@ -1,18 +1,13 @@
-mod AlikeLaws
 mod Alones
-pub mod Copies
 mod Faults
 mod Finding
-pub mod Growing
-mod Items
+mod Growing
 mod Logging
 pub mod Telling
 mod Maps
-pub mod Plains
-pub mod Recording
+mod Plains
+mod Recording
 mod Refusals
-pub mod Planning
-mod Sweeping
 mod PlainSweeps
 mod PlainTakes
 mod Preparing
@@ -26,4 +21,4 @@ mod Indexing
 mod Following
 mod Matching
 mod Gathering
-pub mod Copying
+mod Copying

@@ -2,16 +2,16 @@
 use Rattle.std.proofs.Common.{◌≡◌, ◌==◌, ℕ, ◌&&◌, Bool, true, sym, ap, ◌∙◌, arith, IsTrue, eqb-true}
 use Rattle.std.proofs.lemmas.Bool.{and_parts, and_from}
 use Rattle.std.specs.Cmp.{IsEquivalence, nat_eq_equiv}
-use Rattle.dash_history.specs.declared.step.ShardStep.{ShardStep}
-use Rattle.dash_history.specs.declared.step.ShardStep.TheVariants.{Get, Contains, Insert, Remove, RemoveIf, RemoveIfMut, Alter, Read, Count, AlterAll, Retain}
-use Rattle.dash_history.specs.declared.step.Reply as program
-use Rattle.dash_history.specs.declared.step.Record.{Record}
-use Rattle.dash_history.specs.Steps.{reply_of, alike_step, alike_record}
-use Rattle.dash_history.specs.Takes.{Kinds}
+use Rattle.dash_steps.specs.declared.step.ShardStep.{ShardStep}
+use Rattle.dash_steps.specs.declared.step.ShardStep.TheVariants.{Get, Contains, Insert, Remove, RemoveIf, RemoveIfMut, Alter, Read, Count, AlterAll, Retain}
+use Rattle.dash_steps.specs.declared.step.Reply as program
+use Rattle.dash_steps.specs.declared.step.Record.{Record}
+use Rattle.dash_steps.specs.Steps.{reply_of, alike_step, alike_record}
+use Rattle.dash_steps.specs.Takes.{Kinds}
 use Rattle.dash_history.specs.History.{RecState, LogState, Recorded, shard_of, stamp_of}
 use Rattle.dash_history.specs.inner.Tells.{Tells}
 use Rattle.dash_history.specs.Map.{Logged}
-use Rattle.dash_history.proofs.AlikeLaws.{chained, reply_equiv}
+use Rattle.dash_steps.proofs.AlikeLaws.{chained, reply_equiv}
 use Rattle.dash_history.proofs.Telling.{told, tells-of}
 
 module _ {K V A : Type 0} {k : K → K → Bool} {v : V → V → Bool} {f : A → A → Bool} (lk : IsEquivalence k) (lv : IsEquivalence v) (lf : IsEquivalence f) where

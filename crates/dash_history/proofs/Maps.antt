@@ -14,10 +14,10 @@ use Rattle.dash_history.specs.Alone.{IsTagged, IsAlone}
 use Rattle.dash_history.specs.Held.{FitsTag}
 use Rattle.dash_history.specs.Map.{MapState, Logs, kinds_on}
 use Rattle.dash_history.specs.Refused.{Records}
-use Rattle.dash_history.specs.Takes.{Known}
-use Rattle.dash_history.specs.inner.Kinds.{kinds_of}
-use Rattle.dash_history.specs.declared.step.ShardStep.{ShardStep}
-use Rattle.dash_history.specs.declared.step.Reply.{Reply}
+use Rattle.dash_steps.specs.Takes.{Known}
+use Rattle.dash_steps.specs.inner.Kinds.{kinds_of}
+use Rattle.dash_steps.specs.declared.step.ShardStep.{ShardStep}
+use Rattle.dash_steps.specs.declared.step.Reply.{Reply}
 use Rattle.dash_history.specs.declared.record.RecordFault.{RecordFault}
 use Rattle.dash_history.proofs.Alones.{kinds-same}
 use Rattle.dash_history.proofs.Faults.{never-missing}

@@ -6,8 +6,8 @@ use Rattle.std.proofs.lemmas.Option.{slice_get-get_or, slice_get_within}
 use Rattle.std.specs.Cmp.Lexicographic.{pointwise}
 use Rattle.dash_history.specs.History.{Rises}
 use Rattle.dash_history.specs.OneHistory.{IsMerge, along, of_shard, of_caller}
-use Rattle.dash_history.specs.Steps.{alike_record}
-use Rattle.dash_history.specs.declared.step.Record.{Record}
+use Rattle.dash_steps.specs.Steps.{alike_record}
+use Rattle.dash_steps.specs.declared.step.Record.{Record}
 use Rattle.dash_history.specs.declared.gather.At.{At}
 use Rattle.dash_history.proofs.Alongs.{Before, never, Tidy, rises-in_order, along-in_order, along-has, has-along, keeps-shard}
 use Rattle.dash_history.proofs.Members.{Has, has-kept, kept-has, in_order-kept, agree}

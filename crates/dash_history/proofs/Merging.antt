@@ -9,10 +9,10 @@ use Rattle.std.proofs.lemmas.List.Sorted.{Contains-permutation, IsPermutation-sy
 use Rattle.std.proofs.lemmas.List.Sums.{sum_by-append}
 use Rattle.std.proofs.lemmas.Option.{same_Some}
 use Rattle.dash_history.specs.inner.Gathering.{places, places_from, place_of, EachRecorded}
-use Rattle.dash_history.specs.Takes.{Known}
+use Rattle.dash_steps.specs.Takes.{Known}
 use Rattle.dash_history.specs.History.{RecState, Rises}
 use Rattle.dash_history.specs.OneHistory.{Earlier, Names, IsMerge, record_at}
-use Rattle.dash_history.specs.declared.step.Record.{Record}
+use Rattle.dash_steps.specs.declared.step.Record.{Record}
 use Rattle.dash_history.specs.declared.gather.At.{At}
 use Rattle.dash_history.proofs.Members.{Has, has-contains, contains-has, has-either, has-front, has-back, InOrder, in_order-get, mapped-get}
 

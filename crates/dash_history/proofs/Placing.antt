@@ -4,8 +4,8 @@ use Rattle.std.proofs.lemmas.Bool.{cases_lt}
 use Rattle.std.proofs.lemmas.Option.{slice_get-get_or, same_Some}
 use Rattle.dash_history.specs.inner.Gathering.{places, places_from, place_of}
 use Rattle.dash_history.specs.History.{RecState, IsRecorded}
-use Rattle.dash_history.specs.Takes.{Known}
-use Rattle.dash_history.specs.declared.step.Record.{Record}
+use Rattle.dash_steps.specs.Takes.{Known}
+use Rattle.dash_steps.specs.declared.step.Record.{Record}
 use Rattle.dash_history.specs.declared.gather.At.{At}
 
 -- what is left of a list at the index i, and behind it

@@ -9,9 +9,9 @@ use Rattle.dash_shard.specs.Contents.{at, Distinct}
 use Rattle.dash_shard.specs.Steps.{Act, Retain, changed, if_yes}
 use Rattle.dash_shard.proofs.Equals.{at-equal}
 use Rattle.dash_shard.specs.inner.Steps.{after}
-use Rattle.dash_history.specs.Takes.{Rules}
-use Rattle.dash_history.specs.inner.Copied.{AlikeAt}
-use Rattle.dash_history.proofs.Copies.{Lawful}
+use Rattle.dash_steps.specs.Takes.{Rules}
+use Rattle.dash_steps.specs.inner.Copied.{AlikeAt}
+use Rattle.dash_steps.proofs.Copies.{Lawful}
 
 -- what an Ok has
 pub ok-is : {A E : Type 0} (r : Result A E) (x : A) (P : A → Type 0) → result_ok r ≡ Some x → IfOk r P → P x

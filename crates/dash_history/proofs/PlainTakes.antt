@@ -10,21 +10,19 @@ use Rattle.dash_shard.specs.Steps as table
 use Rattle.dash_shard.specs.Steps.{Act, at_key, line, Reply, Pair, Found, Old, Pairs, Number, Done}
 use Rattle.dash_shard.specs.inner.Steps.{Becomes, Replies, after}
 use Rattle.dash_shard.proofs.Routing.{route_below}
-use Rattle.dash_history.specs.declared.step.Reply as program
-use Rattle.dash_history.specs.declared.step.Reply.TheVariants as variant
-use Rattle.dash_history.specs.declared.change.Change.{Change}
-use Rattle.dash_history.specs.Steps.{reply_of}
-use Rattle.dash_history.specs.inner.Hashed.{OfKey}
-use Rattle.dash_history.specs.inner.Copied.{AlikeFound, AlikeAt}
-use Rattle.dash_history.specs.Takes.{Rules, Answers, Takes}
+use Rattle.dash_steps.specs.declared.step.Reply as program
+use Rattle.dash_steps.specs.declared.step.Reply.TheVariants as variant
+use Rattle.dash_steps.specs.declared.change.Change.{Change}
+use Rattle.dash_steps.specs.Steps.{reply_of}
+use Rattle.dash_steps.specs.inner.Hashed.{OfKey}
+use Rattle.dash_steps.specs.inner.Copied.{AlikeFound, AlikeAt}
+use Rattle.dash_steps.specs.Takes.{Rules, Answers, Takes}
 use Rattle.dash_history.specs.Plain.{PlainState}
 use Rattle.dash_history.specs.inner.Plain.{IsPlainMap, plain_rules, pairs_on, Reads, SweepsPlain}
-use Rattle.dash_history.specs.inner.Plan.{change_step, Plans}
-use Rattle.dash_history.proofs.Plains.{looked}
+use Rattle.dash_steps.specs.inner.Plan.{change_step, Plans}
+use Rattle.dash_steps.proofs.Planning.{looked, takes-asked, same-key, on-distinct}
 use Rattle.dash_history.proofs.PlainSweeps.{Swept, swept-at, swept-distinct}
-use Rattle.dash_history.proofs.Planning.{takes-asked, same-key, on-distinct}
-use Rattle.dash_history.proofs.Copies.{Lawful, takes-exactly, reply_laws}
-use Rattle.dash_history.proofs.Recording.{lawful-by}
+use Rattle.dash_steps.proofs.Copies.{Lawful, takes-exactly, reply_laws, lawful-by}
 
 -- a reference to what is there
 pub mapped : {A B : Type 0} (f : A → B) (o : Option A) → is_some o ≡ is_some (option_map f o)

@@ -7,7 +7,7 @@ use Rattle.std.proofs.lemmas.Bool.{cases_Bool, cases_lt, lt-ltb, le-ltb}
 use Rattle.std.proofs.lemmas.Option.{none-some, same_Some}
 use Rattle.dash_shard.specs.Contents.{Keys, at, Distinct}
 use Rattle.dash_shard.proofs.Equals.{along, apart, at-equal}
-use Rattle.dash_shard.specs.Steps.{Get, Insert, Remove}
+use Rattle.dash_shard.specs.Steps.{Insert, Remove}
 use Rattle.dash_shard.specs.inner.Steps.{key_or, Becomes, after}
 
 module _ {K V : Type 0} (w : Keys K) (k : K) where
@@ -119,10 +119,6 @@ module _ {K V : Type 0} (w : Keys K) (k : K) where
 
     pub removed : (ps : List (K × V)) (i : ℕ) → position (λ p. w.eq p.0 k) ps ≡ Some i → Distinct w.eq ps → Becomes w (Remove k) ps (remove ps i) × Distinct w.eq (remove ps i)
     removed ps i e d = let f = first ps i e in (at-removed ps i f.0 f.1 d, distinct-removed ps i f.0 f.1 d)
-
-  -- a look-up changes nothing
-  pub looked : (ps : List (K × V)) → Becomes w (Get k) ps ps
-  looked ps j = elim (cases_Bool (w.eq k j)) as (λ _. at w.eq ps j ≡ after w (Get k) j (at w.eq ps j)) [ inl same ↦ rw same refl | inr other ↦ rw other refl ]
 
   -- what `position` didn't find
   pub missing : (ps : List (K × V)) → position (λ p. w.eq p.0 k) ps ≡ None → at w.eq ps k ≡ None

@@ -7,8 +7,8 @@ use Rattle.dash_shard.specs.Shard.{ShardState, pairs, IsShard}
 use Rattle.dash_shard.specs.Steps.{Step, Reply, LineReplies, line, on_shard}
 use Rattle.dash_shard.specs.inner.Keys.{keys_of}
 use Rattle.dash_shard.proofs.Remade.{each-once}
-use Rattle.dash_history.specs.Alike.{alike_reply}
-use Rattle.dash_history.specs.Takes.{rules, Answers}
+use Rattle.dash_steps.specs.Alike.{alike_reply}
+use Rattle.dash_steps.specs.Takes.{rules, Answers}
 
 -- the pairs of the step's shard, each once
 pub all-once : {K V S : Type 0} (h : KeyHash K S) (laws : IsEquivalence h.eq) (s : ShardState K V S) → IsShard h s → (i : ℕ) → i ≡ s.number → EachOnce h.eq (on (keys_of h s) i (pairs s)) (pairs s)

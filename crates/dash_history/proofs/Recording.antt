@@ -2,21 +2,20 @@
 use Rattle.std.proofs.Common.{◌≡◌, ℕ, ◌<◌, Bool, true, List, [], ◌∷◌, ◌++◌, sym, ap, subst, ◌∙◌, arith, IsTrue, ◌==◌, ◌&&◌, eqb-true}
 use Rattle.std.proofs.lemmas.Bool.{and_parts}
 use Rattle.std.specs.Cmp.{IsEquivalence}
-use Rattle.dash_shard.specs.Hashing.{KeyHash, route_by, route_of_hash}
+use Rattle.dash_shard.specs.Hashing.{KeyHash}
 use Rattle.dash_shard.specs.inner.Keys.{IsLawful}
-use Rattle.dash_shard.specs.Contents.{keys}
 use Rattle.dash_shard.specs.Steps.{Act}
 use Rattle.dash_shard.specs.Shard.{ShardState, IsShard, SameShard, pairs}
-use Rattle.dash_history.specs.declared.step.ShardStep.{ShardStep}
-use Rattle.dash_history.specs.declared.step.Reply as program
-use Rattle.dash_history.specs.declared.step.Record.{Record}
-use Rattle.dash_history.specs.Steps.{step_of, reply_of, alike_record}
-use Rattle.dash_history.specs.Takes.{Known, rules, Answers, Takes}
+use Rattle.dash_steps.specs.declared.step.ShardStep.{ShardStep}
+use Rattle.dash_steps.specs.declared.step.Reply as program
+use Rattle.dash_steps.specs.declared.step.Record.{Record}
+use Rattle.dash_steps.specs.Steps.{step_of, reply_of, alike_record}
+use Rattle.dash_steps.specs.Takes.{Known, Answers, Takes}
 use Rattle.dash_history.specs.History.{RecState, IsRecorded, last_or, shard_of}
 use Rattle.dash_history.specs.inner.Tells.{Tells}
-use Rattle.dash_history.specs.inner.Kinds.{kinds_of}
-use Rattle.dash_history.specs.inner.Plan.{Leaves}
-use Rattle.dash_history.proofs.Copies.{Lawful, ActAlike, takes-alike, line-alike, shard-alike}
+use Rattle.dash_steps.specs.inner.Kinds.{kinds_of}
+use Rattle.dash_steps.specs.inner.Plan.{Leaves}
+use Rattle.dash_steps.proofs.Copies.{Lawful, lawful-by, ActAlike, takes-alike, line-alike, shard-alike}
 use Rattle.dash_history.proofs.Growing.{history-more, last_or-more}
 
 -- alike records have one stamp and one caller
@@ -32,22 +31,12 @@ module _ {K V A : Type 0} (k : K → K → Bool) (v : V → V → Bool) (f : A �
 
 module _ {K V S : Type 0} (h : KeyHash K S) (law : IsLawful h) (k : K → K → Bool) (v : V → V → Bool) (key : IsEquivalence k) (value : IsEquivalence v)
     (alike_equal : (i j : K) → k i j ≡ true → h.eq i j ≡ true) where
-  -- what a map with this hasher and amount knows of them
-  pub lawful-by : (base : S) (n : ℕ) → Lawful (rules k v (keys h.eq (route_by h base n) n))
-  lawful-by base n = record {
-    equal = law.laws;
-    route_same = λ i j e. ap (route_of_hash n) (law.respects base i j e);
-    key = key;
-    value = value;
-    alike_equal = alike_equal;
-  }
-
   module _ {A : Type 0} (f : A → A → Bool) (acts : A → Act K V) (alike_acts : ActAlike k v f acts) where
     abbrev w : Known K V A S
     w = record { keys = h; alike_key = k; alike_value = v; alike_action = f; acts = acts }
 
     lawful : (s : ShardState K V S) → Lawful (kinds_of w s).rules
-    lawful s = lawful-by s.hasher s.amount
+    lawful s = lawful-by h law k v key value alike_equal s.hasher s.amount
 
     -- a step that got this reply and left these pairs was taken
     pub taken : (s t : ShardState K V S) (step : ShardStep K V A) (reply : program.Reply K V) → IsShard h s → shard_of (kinds_of w s) step ≡ s.number

@@ -12,12 +12,12 @@ use Rattle.dash_history.specs.inner.Gathering.{EachRecorded}
 use Rattle.dash_history.specs.History.{RecState, IsHistory, Rises, shard_of}
 use Rattle.dash_history.specs.OneHistory.{IsMerge, IsOneHistory, along, of_shard, histories, contents}
 use Rattle.dash_history.specs.inner.Done.{done}
-use Rattle.dash_history.specs.Takes.{Known, Kinds, Runs}
-use Rattle.dash_history.specs.declared.step.Record.{Record}
+use Rattle.dash_steps.specs.Takes.{Known, Kinds, Runs}
+use Rattle.dash_steps.specs.declared.step.Record.{Record}
 use Rattle.dash_history.specs.declared.gather.At.{At}
 use Rattle.dash_history.proofs.Alones.{kinds-same}
 use Rattle.dash_history.proofs.Alongs.{Tidy, along-has, caller-along, keeps-shard}
-use Rattle.dash_history.proofs.Copies.{Lawful}
+use Rattle.dash_steps.proofs.Copies.{Lawful}
 use Rattle.dash_history.proofs.Frames.{Spread, at_shard, runs-union}
 use Rattle.dash_history.proofs.Members.{Has, has-get, get-within, mapped-get}
 

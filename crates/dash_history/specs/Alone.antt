@@ -3,11 +3,11 @@ use Rattle.std.specs.Prelude.{ℕ, zero, suc, ◌≡◌, ◌<◌, ◌≤◌, Lis
 use Rattle.std.specs.Option.{option_map_or}
 use Rattle.dash_shard.specs.Hashing.{KeyHash, IsAmount, HashAlike}
 use Rattle.dash_shard.specs.Shard.{pairs}
-use Rattle.dash_history.specs.Takes.{Known, kinds_at, Kinds}
+use Rattle.dash_steps.specs.Takes.{Known, kinds_at, Kinds}
 use Rattle.dash_history.specs.History.{LogState, RecState, Recorded, last_or, shard_of}
 use Rattle.dash_history.specs.Refused.{NoStamp}
-use Rattle.dash_history.specs.declared.step.ShardStep.{ShardStep}
-use Rattle.dash_history.specs.declared.step.Reply.{Reply}
+use Rattle.dash_steps.specs.declared.step.ShardStep.{ShardStep}
+use Rattle.dash_steps.specs.declared.step.Reply.{Reply}
 
 -- a lawful number of callers
 pub record IsCallers (c : ℕ) : Type 0 where

@@ -2,11 +2,11 @@
 use Rattle.std.specs.Prelude.{ℕ, ◌≡◌, ◌+◌, ◌<◌, ◌≤◌, max, List, [], ◌∷◌, ◌++◌, map, All, ⊤, IsTrue}
 use Rattle.dash_shard.specs.Steps.{line, line_shard}
 use Rattle.dash_shard.specs.Shard.{ShardState, IsShard, SameShard, pairs}
-use Rattle.dash_history.specs.Steps.{step_of, reply_of, alike_record}
-use Rattle.dash_history.specs.Takes.{Known, kinds_at, Kinds, Takes, Runs}
-use Rattle.dash_history.specs.declared.step.ShardStep.{ShardStep}
-use Rattle.dash_history.specs.declared.step.Reply.{Reply}
-use Rattle.dash_history.specs.declared.step.Record.{Record}
+use Rattle.dash_steps.specs.Steps.{step_of, reply_of, alike_record}
+use Rattle.dash_steps.specs.Takes.{Known, kinds_at, Kinds, Takes, Runs}
+use Rattle.dash_steps.specs.declared.step.ShardStep.{ShardStep}
+use Rattle.dash_steps.specs.declared.step.Reply.{Reply}
+use Rattle.dash_steps.specs.declared.step.Record.{Record}
 
 -- the stamp of the last record, or the one given where there is none
 abbrev pub last_or : {K V A : Type 0} → ℕ → List (Record K V A) → ℕ

@@ -1,6 +1,3 @@
-pub mod Alike
-pub mod Steps
-pub mod Takes
 pub mod History
 pub mod Alone
 pub mod Plain

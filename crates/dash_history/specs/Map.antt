@@ -1,13 +1,13 @@
 -- A recorded map behind its locks, and what a step through them leaves in the caller's log.
 use Rattle.std.specs.Prelude.{ℕ, ◌≡◌, ◌<◌, ◌↔◌, List, [], ◌∷◌, ◌++◌, length, Result, Err, IfOk, IfErr}
 use Rattle.dash_shard.specs.Hashing.{KeyHash}
-use Rattle.dash_history.specs.Steps.{step_of, reply_of}
-use Rattle.dash_history.specs.Takes.{Known, kinds_at, Kinds, Answers}
+use Rattle.dash_steps.specs.Steps.{step_of, reply_of}
+use Rattle.dash_steps.specs.Takes.{Known, kinds_at, Kinds, Answers}
 use Rattle.dash_history.specs.History.{RecState, LogState, IsCopy, NoShard, shard_of}
 use Rattle.dash_history.specs.Alone.{AloneState, IsTagged, IsAlone}
-use Rattle.dash_history.specs.declared.step.ShardStep.{ShardStep}
-use Rattle.dash_history.specs.declared.step.Reply.{Reply}
-use Rattle.dash_history.specs.declared.step.Record.{Record}
+use Rattle.dash_steps.specs.declared.step.ShardStep.{ShardStep}
+use Rattle.dash_steps.specs.declared.step.Reply.{Reply}
+use Rattle.dash_steps.specs.declared.step.Record.{Record}
 use Rattle.dash_history.specs.declared.record.RecordFault.{RecordFault}
 use Rattle.dash_history.specs.declared.record.RecordFault.TheVariants.{NoSuchShard}
 

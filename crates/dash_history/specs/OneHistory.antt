@@ -4,12 +4,12 @@ use Rattle.std.specs.List.{Contains, filter_map}
 use Rattle.dash_shard.specs.Shard.{pairs}
 use Rattle.std.specs.Option.{option_eq}
 use Rattle.std.specs.Cmp.Lexicographic.{pointwise}
-use Rattle.dash_history.specs.Alike.{alike_pair}
-use Rattle.dash_history.specs.Steps.{step_of, reply_of, alike_record}
-use Rattle.dash_history.specs.Takes.{Known, Runs}
+use Rattle.dash_steps.specs.Alike.{alike_pair}
+use Rattle.dash_steps.specs.Steps.{step_of, reply_of, alike_record}
+use Rattle.dash_steps.specs.Takes.{Known, Runs}
 use Rattle.dash_history.specs.History.{LogState}
 use Rattle.dash_history.specs.Alone.{AloneState, kinds_in}
-use Rattle.dash_history.specs.declared.step.Record.{Record}
+use Rattle.dash_steps.specs.declared.step.Record.{Record}
 use Rattle.dash_history.specs.declared.gather.At.{At}
 use Rattle.dash_history.specs.declared.gather.GatherError.{GatherError}
 use Rattle.dash_history.specs.declared.gather.GatherError.TheVariants.{Mismatch}

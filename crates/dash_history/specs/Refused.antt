@@ -1,10 +1,10 @@
 -- What a recorded step promises: it is taken and recorded, or refused, and nothing changes then.
 use Rattle.std.specs.Prelude.{ℕ, ◌≡◌, ◌-◌, ◌^◌, ◌↔◌, ◌⊎◌, max, Result, Err, IfOk, IfErr}
 use Rattle.dash_shard.specs.Shard.{SameShard}
-use Rattle.dash_history.specs.Takes.{Known, kinds_at}
+use Rattle.dash_steps.specs.Takes.{Known, kinds_at}
 use Rattle.dash_history.specs.History.{LogState, RecState, Recorded}
-use Rattle.dash_history.specs.declared.step.ShardStep.{ShardStep}
-use Rattle.dash_history.specs.declared.step.Reply.{Reply}
+use Rattle.dash_steps.specs.declared.step.ShardStep.{ShardStep}
+use Rattle.dash_steps.specs.declared.step.Reply.{Reply}
 use Rattle.dash_history.specs.declared.record.RecordFault.{RecordFault}
 use Rattle.dash_history.specs.declared.record.RecordFault.TheVariants.{LastStamp, Memory}
 

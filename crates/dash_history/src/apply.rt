@@ -4,12 +4,12 @@ ghost use Rattle.dash_history.specs.History.{shard_of};
 ghost use Rattle.dash_history.specs.Map.{Logs, kinds_on};
 ghost use Rattle.dash_history.specs.declared.record.RecordFault.TheVariants.{LastStamp, Locked};
 
-use crate::action::KeptAction;
-use crate::kept::{Kept, KeptKey};
 use crate::known::Recorded;
 use crate::record::map::RecordedMap;
 use crate::record::{CallerLog, RecordFault};
-use crate::step::{Reply, ShardStep};
+use dash_steps::action::KeptAction;
+use dash_steps::kept::{Kept, KeptKey};
+use dash_steps::step::{Reply, ShardStep};
 use std::hash::BuildHasher;
 use std::rt::Clock;
 use std::sync::Wait;

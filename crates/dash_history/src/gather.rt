@@ -4,15 +4,15 @@ ghost use Rattle.dash_history.specs.Alone.{AloneState};
 ghost use Rattle.dash_history.specs.History.{LogState};
 ghost use Rattle.dash_history.specs.Map.{SawShards};
 ghost use Rattle.dash_history.specs.OneHistory.{IsGathered, Gathers, StampsStandInOrder};
-ghost use Rattle.dash_history.specs.Takes.{Known};
+ghost use Rattle.dash_steps.specs.Takes.{Known};
 ghost use Rattle.dash_history.specs.declared.gather.At.{At};
 
-use crate::action::KeptAction;
-use crate::kept::{Kept, KeptKey};
 use crate::known::Recorded;
 use crate::record::CallerLog;
 use crate::record::map::RecordedMap;
 use core::mem::replace_with;
+use dash_steps::action::KeptAction;
+use dash_steps::kept::{Kept, KeptKey};
 use std::hash::BuildHasher;
 use thiserror::Error;
 

@@ -2,20 +2,20 @@
 ghost use Rattle.std.specs.Prelude.{◌≡◌, ◌<◌, [], IsTrue, IfOk, IfErr, vec_len, vec_capacity, max};
 ghost use Rattle.dash_shard.specs.Hashing.{IsAmount};
 ghost use Rattle.dash_shard.specs.Shard.{SameShard, pairs, shard_len};
-ghost use Rattle.dash_history.specs.Steps.{alike_record};
-ghost use Rattle.dash_history.specs.Takes.{known};
+ghost use Rattle.dash_steps.specs.Steps.{alike_record};
+ghost use Rattle.dash_steps.specs.Takes.{known};
 ghost use Rattle.dash_history.specs.History.{IsLog, IsRecorded, GoesTo, last_or};
 ghost use Rattle.dash_history.specs.inner.Tells.{Tells};
 ghost use Rattle.dash_history.specs.inner.Grows.{Adds};
-ghost use Rattle.dash_history.specs.inner.Hashed.{HasHash};
+ghost use Rattle.dash_steps.specs.inner.Hashed.{HasHash};
 ghost use Rattle.dash_history.specs.Refused.{Records};
 ghost use Rattle.dash_history.specs.Alone.{IsFresh};
 
-use crate::action::KeptAction;
-use crate::kept::{Kept, KeptKey};
 use crate::known::Recorded;
-use crate::step::{Record, Reply, ShardStep};
 use dash_shard::shard::{Iter, Shard};
+use dash_steps::action::KeptAction;
+use dash_steps::kept::{Kept, KeptKey};
+use dash_steps::step::{Record, Reply, ShardStep};
 use plan::{carry_out, find, prepare};
 use std::alloc::{AllocError, Global};
 use std::hash::BuildHasher;
@@ -121,7 +121,7 @@ pub struct RecShard<K: KeptKey, V: Kept, S: BuildHasher, A: KeptAction<K, V> = (
 
 impl<K: KeptKey, V: Kept, S: BuildHasher, A: KeptAction<K, V>> Model for RecShard<K, V, S, A> {
     ghost use Rattle.dash_history.specs.History.{RecState, IsRecorded};
-    ghost use Rattle.dash_history.specs.Takes.{known_by};
+    ghost use Rattle.dash_steps.specs.Takes.{known_by};
 
     ghost Value = { RecState K V A S };
 

@@ -9,7 +9,7 @@ use Rattle.dash_shard.specs.Contents.{at}
 use Rattle.dash_shard.specs.Shard.{ShardState, pairs, shard_len, Routes, IsShard}
 use Rattle.dash_shard.specs.inner.Keys.{IsLawful, keys_of}
 use Rattle.dash_shard.proofs.Equals.{along, apart, at-equal}
-use Rattle.dash_history.specs.Alike.{alike_pair}
+use Rattle.dash_steps.specs.Alike.{alike_pair}
 use Rattle.dash_map.specs.Copies.{CopyRules, copy_rules}
 use Rattle.dash_map.specs.inner.Copies.{or_else, PutsCopy, IsCopying, IsCopied}
 

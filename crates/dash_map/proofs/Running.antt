@@ -17,14 +17,12 @@ use Rattle.dash_shard.specs.Steps as table
 use Rattle.dash_shard.specs.inner.Steps as parts
 use Rattle.dash_shard.specs.Shard.{ShardState, IsShard, pairs}
 use Rattle.dash_shard.specs.inner.Steps.{after, step_shard}
-use Rattle.dash_history.specs.Steps.{step_of, reply_of}
-use Rattle.dash_history.specs.Takes.{Rules, Answers, Takes, Runs}
-use Rattle.dash_history.specs.inner.Copied.{AlikeAt}
-use Rattle.dash_history.specs.declared.step.ShardStep.{ShardStep}
-use Rattle.dash_history.specs.declared.step.Reply.{Reply}
-use Rattle.dash_history.proofs.Copies.{Lawful, takes-exactly, reply_laws, at_laws}
-use Rattle.dash_history.proofs.Growing.{runs-more}
-use Rattle.dash_history.proofs.Recording.{lawful-by}
+use Rattle.dash_steps.specs.Steps.{step_of, reply_of}
+use Rattle.dash_steps.specs.Takes.{Rules, Answers, Takes, Runs}
+use Rattle.dash_steps.specs.inner.Copied.{AlikeAt}
+use Rattle.dash_steps.specs.declared.step.ShardStep.{ShardStep}
+use Rattle.dash_steps.specs.declared.step.Reply.{Reply}
+use Rattle.dash_steps.proofs.Copies.{Lawful, takes-exactly, reply_laws, at_laws, runs-more, lawful-by}
 use Rattle.dash_map.specs.Alone.{AloneState, IsAlone, TakesAlone, contents, keys_in}
 use Rattle.dash_map.specs.declared.run.Fault.{Fault}
 use Rattle.dash_map.specs.declared.run.Fault.TheVariants.{NoSuchShard, Memory}

@@ -2,10 +2,10 @@
 use Rattle.std.specs.Prelude.{◌≡◌, ◌≤◌, ◌↔◌, Bool, List, [], ◌∷◌, ◌++◌, map, IfSome}
 use Rattle.std.specs.Option.{option_map_or}
 use Rattle.dash_shard.specs.Steps as table
-use Rattle.dash_history.specs.Steps.{step_of, reply_of}
-use Rattle.dash_history.specs.Takes.{Rules, rules, Runs}
-use Rattle.dash_history.specs.declared.step.ShardStep.{ShardStep}
-use Rattle.dash_history.specs.declared.step.Reply.{Reply}
+use Rattle.dash_steps.specs.Steps.{step_of, reply_of}
+use Rattle.dash_steps.specs.Takes.{Rules, rules, Runs}
+use Rattle.dash_steps.specs.declared.step.ShardStep.{ShardStep}
+use Rattle.dash_steps.specs.declared.step.Reply.{Reply}
 use Rattle.dash_map.specs.Alone.{contents, keys_in}
 use Rattle.dash_map.specs.Behind.{LeavesShards}
 use Rattle.dash_map.specs.Map.{MapState}

@@ -3,8 +3,8 @@ use Rattle.std.specs.Prelude.{ℕ, suc, ◌≡◌, ◌++◌, ◌⊎◌, List, []
 use Rattle.std.specs.Option.{option_eq}
 use Rattle.dash_shard.specs.Contents.{at, Distinct}
 use Rattle.dash_shard.specs.Steps.{Step, Reply, Read, Pairs}
-use Rattle.dash_history.specs.Alike.{alike_pair}
-use Rattle.dash_history.specs.Takes.{Rules, Runs}
+use Rattle.dash_steps.specs.Alike.{alike_pair}
+use Rattle.dash_steps.specs.Takes.{Rules, Runs}
 
 -- Read(i) to Read(n - 1) stand in this order among the steps; their lists of pairs, one after the other, are the gift
 abbrev pub IsWalk : {K V : Type 0} → ℕ → ℕ → List (Step K V × Reply K V) → List (K × V) → Type 0

@@ -12,14 +12,14 @@ use Rattle.std.proofs.lemmas.List.{drop_all}
 use Rattle.dash_shard.specs.Contents.{at, Distinct, EachOnce}
 use Rattle.dash_shard.specs.Steps as table
 use Rattle.dash_shard.specs.inner.Steps.{Replies, after, step_shard}
-use Rattle.dash_history.specs.Alike.{alike_pair, alike_reply}
-use Rattle.dash_history.specs.inner.AlikeLaws.{pair_equiv}
-use Rattle.dash_history.specs.Steps.{reply_of}
-use Rattle.dash_history.specs.Takes.{Answers, Takes, Runs}
-use Rattle.dash_history.specs.declared.step.ShardStep.{ShardStep}
-use Rattle.dash_history.specs.declared.step.ShardStep.TheVariants.{Get, Insert, Remove}
-use Rattle.dash_history.specs.declared.step.Reply.TheVariants.{Pair, Old}
-use Rattle.dash_history.specs.declared.step.Record.{Record}
+use Rattle.dash_steps.specs.Alike.{alike_pair, alike_reply}
+use Rattle.dash_steps.specs.inner.AlikeLaws.{pair_equiv}
+use Rattle.dash_steps.specs.Steps.{reply_of}
+use Rattle.dash_steps.specs.Takes.{Answers, Takes, Runs}
+use Rattle.dash_steps.specs.declared.step.ShardStep.{ShardStep}
+use Rattle.dash_steps.specs.declared.step.ShardStep.TheVariants.{Get, Insert, Remove}
+use Rattle.dash_steps.specs.declared.step.Reply.TheVariants.{Pair, Old}
+use Rattle.dash_steps.specs.declared.step.Record.{Record}
 use Rattle.dash_history.specs.declared.gather.At.{At}
 use Rattle.dash_history.specs.OneHistory.{along, record_at}
 use Rattle.dashcheck.specs.Replay.{IsThreadStep, IsReplay, plain, bare}

@@ -7,13 +7,13 @@ use Rattle.dash_shard.specs.declared.error.ConstructError.{ConstructError}
 use Rattle.dash_shard.specs.declared.error.ConstructError.TheVariants.{ShardAmount, Memory, Callers}
 use Rattle.dash_history.specs.Alone.{IsCallers}
 use Rattle.dash_shard.specs.inner.Steps.{step_shard}
-use Rattle.dash_history.specs.Steps.{step_of}
+use Rattle.dash_steps.specs.Steps.{step_of}
 use Rattle.dash_history.specs.History.{shard_of}
-use Rattle.dash_history.specs.Takes.{rules}
-use Rattle.dash_history.specs.inner.Kinds.{kinds}
+use Rattle.dash_steps.specs.Takes.{rules}
+use Rattle.dash_steps.specs.inner.Kinds.{kinds}
 use Rattle.dashcheck.specs.Change.{acts}
 use Rattle.dashcheck.specs.inner.AlikeChange.{alike_change}
-use Rattle.dash_history.specs.declared.step.ShardStep.TheVariants.{Get, Contains, Insert, Remove, RemoveIf, RemoveIfMut, Alter, Read, Count, AlterAll, Retain}
+use Rattle.dash_steps.specs.declared.step.ShardStep.TheVariants.{Get, Contains, Insert, Remove, RemoveIf, RemoveIfMut, Alter, Read, Count, AlterAll, Retain}
 use Rattle.dash_history.specs.declared.record.RecordFault.{RecordFault}
 use Rattle.dash_history.specs.declared.record.RecordFault.TheVariants.{NoSuchShard}
 use Rattle.dashcheck.specs.Script.{ScriptStep, IsFaultOf}

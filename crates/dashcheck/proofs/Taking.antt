@@ -4,7 +4,7 @@ use Rattle.std.specs.Prelude.{◌≢◌, All, IfSome, IsSomeAnd, ◌⊎◌}
 use Rattle.std.specs.Io.KnownBytes.{Appends}
 use Rattle.std.proofs.lemmas.List.{append-nil, flat_map_more}
 use Rattle.std.proofs.lemmas.List.Elements.{All-append, All-nil}
-use Rattle.dash_history.specs.declared.step.Reply.{Reply}
+use Rattle.dash_steps.specs.declared.step.Reply.{Reply}
 use Rattle.dash_history.specs.declared.record.RecordFault.{RecordFault}
 use Rattle.dashcheck.specs.declared.script.Stop.TheVariants.{BadStep, Step}
 use Rattle.dashcheck.specs.Script.{ScriptStep, text_of, StartsWithLines, Took, IsNext, IsFaultOf, StopsAt}

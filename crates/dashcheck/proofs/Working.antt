@@ -11,13 +11,13 @@ use Rattle.dash_shard.specs.Contents.{Keys, keys}
 use Rattle.dash_history.specs.Alone.{fresh_logs}
 use Rattle.dash_history.specs.History.{LogState, shard_of}
 use Rattle.dash_history.specs.Map.{Logged}
-use Rattle.dash_history.specs.Steps.{alike_step}
-use Rattle.dash_history.specs.Takes.{Known, rules}
-use Rattle.dash_history.specs.inner.Kinds.{kinds}
+use Rattle.dash_steps.specs.Steps.{alike_step}
+use Rattle.dash_steps.specs.Takes.{Known, rules}
+use Rattle.dash_steps.specs.inner.Kinds.{kinds}
 use Rattle.dash_history.proofs.Telling.{tells-of}
-use Rattle.dash_history.specs.declared.step.ShardStep.{ShardStep}
-use Rattle.dash_history.specs.declared.step.ShardStep.TheVariants.{Get, Contains, Insert, Remove, RemoveIf, RemoveIfMut, Alter, Read, Count, AlterAll, Retain}
-use Rattle.dash_history.specs.declared.step.Reply.{Reply}
+use Rattle.dash_steps.specs.declared.step.ShardStep.{ShardStep}
+use Rattle.dash_steps.specs.declared.step.ShardStep.TheVariants.{Get, Contains, Insert, Remove, RemoveIf, RemoveIfMut, Alter, Read, Count, AlterAll, Retain}
+use Rattle.dash_steps.specs.declared.step.Reply.{Reply}
 use Rattle.dashcheck.specs.declared.threads.Worker.{Worker}
 use Rattle.dashcheck.specs.Replay.{IsThreadStep}
 use Rattle.dashcheck.specs.Threads.{IsSize, HasDone, AreDone, IsJudged, thread_step}

@@ -2,11 +2,11 @@
 use Rattle.std.specs.Prelude.{ℕ, true, ⊤, List, map, nat_eq, All}
 use Rattle.dash_shard.specs.Contents.{keys, EachOnce}
 use Rattle.dash_shard.specs.Steps as table
-use Rattle.dash_history.specs.Steps.{step_of, reply_of}
-use Rattle.dash_history.specs.Takes.{Rules, rules, Runs}
-use Rattle.dash_history.specs.declared.step.ShardStep.{ShardStep}
-use Rattle.dash_history.specs.declared.step.ShardStep.TheVariants.{Get, Insert, Remove}
-use Rattle.dash_history.specs.declared.step.Record.{Record}
+use Rattle.dash_steps.specs.Steps.{step_of, reply_of}
+use Rattle.dash_steps.specs.Takes.{Rules, rules, Runs}
+use Rattle.dash_steps.specs.declared.step.ShardStep.{ShardStep}
+use Rattle.dash_steps.specs.declared.step.ShardStep.TheVariants.{Get, Insert, Remove}
+use Rattle.dash_steps.specs.declared.step.Record.{Record}
 
 -- a thread looks up, puts and takes out, and nothing else
 abbrev pub IsThreadStep : ShardStep ℕ ℕ (Unit {0}) → Type 0

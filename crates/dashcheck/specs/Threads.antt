@@ -6,11 +6,11 @@ use Rattle.dash_shard.specs.declared.hash.PlaceState.{PlaceState}
 use Rattle.dash_history.specs.Alone.{AloneState}
 use Rattle.dash_history.specs.History.{LogState}
 use Rattle.dash_history.specs.OneHistory.{IsGathered, along, histories, contents}
-use Rattle.dash_history.specs.Takes.{Known}
+use Rattle.dash_steps.specs.Takes.{Known}
 use Rattle.dash_history.specs.declared.gather.At.{At}
-use Rattle.dash_history.specs.declared.step.Record.{Record}
-use Rattle.dash_history.specs.declared.step.ShardStep.{ShardStep}
-use Rattle.dash_history.specs.declared.step.ShardStep.TheVariants.{Get, Insert, Remove}
+use Rattle.dash_steps.specs.declared.step.Record.{Record}
+use Rattle.dash_steps.specs.declared.step.ShardStep.{ShardStep}
+use Rattle.dash_steps.specs.declared.step.ShardStep.TheVariants.{Get, Insert, Remove}
 use Rattle.dashcheck.specs.Replay.{IsReplay}
 use Rattle.dashcheck.specs.declared.threads.Refusal.{Refusal}
 use Rattle.dashcheck.specs.declared.threads.Refusal.TheVariants.{Map, LastStamp, Memory, Mismatch, Gather}

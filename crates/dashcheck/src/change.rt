@@ -3,8 +3,8 @@ ghost use Rattle.std.specs.Prelude.{◌≡◌, Bool, true, IfOk, IsTrue};
 ghost use Rattle.dashcheck.specs.Change.{acts};
 ghost use Rattle.dashcheck.specs.inner.AlikeChange.{alike_change};
 
-use dash_history::action::{Action, KeptAction};
-use dash_history::kept::Kept;
+use dash_steps::action::{Action, KeptAction};
+use dash_steps::kept::Kept;
 use std::alloc::AllocError;
 
 /// What a step of a script does with a value.
@@ -73,8 +73,8 @@ mod tests {
     use crate::step::{Printed, in_order};
     use dash_history::alone::RecAlone;
     use dash_history::plain::Plain;
-    use dash_history::step::ShardStep;
     use dash_shard::hash::{PlaceState, is_shard_amount};
+    use dash_steps::step::ShardStep;
     use std::test::Fail;
 
     // The next of a fixed row of numbers.

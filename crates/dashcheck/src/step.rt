@@ -7,7 +7,7 @@ ghost use Rattle.dashcheck.specs.Script.{ScriptStep, IsInOrder, written};
 ghost use Rattle.dashcheck.specs.inner.Words.{HasChange, change_text, IsPlain, IsFirst};
 
 use crate::change::Change;
-use dash_history::step::{Reply, ShardStep};
+use dash_steps::step::{Reply, ShardStep};
 use std::{fmt, str};
 
 /// A step of a script.

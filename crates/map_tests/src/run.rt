@@ -2,12 +2,12 @@
 use crate::checks::is;
 use crate::maps::{map_of_four, put};
 use base_tests::values::Uncopied;
-use dash_history::action::Action;
-use dash_history::kept::Kept;
-use dash_history::step::{Reply, ShardStep};
 use dash_map::alone::Alone;
 use dash_map::run::{Fault, RunOutcome};
 use dash_shard::hash::PlaceState;
+use dash_steps::action::Action;
+use dash_steps::kept::Kept;
+use dash_steps::step::{Reply, ShardStep};
 use std::alloc::{AllocError, Global};
 use std::process::Abort;
 

@@ -3,9 +3,9 @@ use crate::places::{is, is_at};
 use dash_history::alone::RecAlone;
 use dash_history::plain::Plain;
 use dash_history::record::{CallerLog, RecordFault};
-use dash_history::step::{Reply, ShardStep};
 use dash_shard::error::ConstructError;
 use dash_shard::hash::{PlaceState, is_shard_amount};
+use dash_steps::step::{Reply, ShardStep};
 use std::alloc::Global;
 use std::process::Abort;
 

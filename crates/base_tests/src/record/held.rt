@@ -3,8 +3,8 @@ use crate::places::is;
 use dash_history::record::CallerLog;
 use dash_history::record::held::RecShardMut;
 use dash_history::record::map::RecordedMap;
-use dash_history::step::{Reply, ShardStep};
 use dash_shard::hash::PlaceState;
+use dash_steps::step::{Reply, ShardStep};
 use std::process::Abort;
 
 // Takes an insert, by the caller of this log.

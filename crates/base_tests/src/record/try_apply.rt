@@ -3,7 +3,7 @@ use super::gather::{is_gathered, map_of_two, three_places};
 use super::map::{Log, Map};
 use crate::places::is;
 use dash_history::record::RecordFault;
-use dash_history::step::{Reply, ShardStep};
+use dash_steps::step::{Reply, ShardStep};
 use std::process::Abort;
 
 type Step = ShardStep<u64, u64>;

@@ -1,10 +1,10 @@
 -- How a merge is made, and how logs are followed along it.
 use Rattle.std.specs.Prelude.{ℕ, ◌+◌, ◌≡◌, ◌≢◌, ◌<◌, Bool, false, List, [], ◌∷◌, ◌++◌, length, map, Some, slice_get, slice_index, get_or}
 use Rattle.std.specs.Option.{option_map_or}
-use Rattle.dash_history.specs.Takes.{Known}
+use Rattle.dash_steps.specs.Takes.{Known}
 use Rattle.dash_history.specs.History.{LogState, RecState, IsLog, IsRecorded}
 use Rattle.dash_history.specs.OneHistory.{IsMerge, along, of_caller, Same}
-use Rattle.dash_history.specs.declared.step.Record.{Record}
+use Rattle.dash_steps.specs.declared.step.Record.{Record}
 use Rattle.dash_history.specs.declared.gather.At.{At}
 
 module _ {K V A : Type 0} where

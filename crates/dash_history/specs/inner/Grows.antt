@@ -1,11 +1,11 @@
 -- What a step at a stamp promises of its shard.
 use Rattle.std.specs.Prelude.{ℕ, Result, IfOk}
-use Rattle.dash_history.specs.Takes.{Known}
-use Rattle.dash_history.specs.declared.step.ShardStep.{ShardStep}
-use Rattle.dash_history.specs.declared.step.Reply.{Reply}
-use Rattle.dash_history.specs.declared.step.Record.{Record}
+use Rattle.dash_steps.specs.Takes.{Known}
+use Rattle.dash_steps.specs.declared.step.ShardStep.{ShardStep}
+use Rattle.dash_steps.specs.declared.step.Reply.{Reply}
+use Rattle.dash_steps.specs.declared.step.Record.{Record}
 use Rattle.dash_history.specs.History.{RecState, Grown}
-use Rattle.dash_history.specs.inner.Kinds.{kinds_of}
+use Rattle.dash_steps.specs.inner.Kinds.{kinds_of}
 
 module _ {K V A S : Type 0} (w : Known K V A S) where
   -- where it is Ok, the step was taken on the shard at the stamp, and its record stands at the end of the history

@@ -5,12 +5,12 @@ use Rattle.dash_shard.specs.Hashing.{KeyHash, IsAmount, route_by}
 use Rattle.dash_shard.specs.Steps as table
 use Rattle.dash_shard.specs.Steps.{Act}
 use Rattle.dash_shard.specs.inner.Steps.{Becomes, Replies, after}
-use Rattle.dash_history.specs.Alike.{alike_reply}
-use Rattle.dash_history.specs.Steps.{reply_of}
-use Rattle.dash_history.specs.inner.Sweep.{keeping}
-use Rattle.dash_history.specs.Takes.{Rules, rules}
-use Rattle.dash_history.specs.inner.Copied.{AlikeAt}
-use Rattle.dash_history.specs.declared.step.Reply.{Reply}
+use Rattle.dash_steps.specs.Alike.{alike_reply}
+use Rattle.dash_steps.specs.Steps.{reply_of}
+use Rattle.dash_steps.specs.inner.Sweep.{keeping}
+use Rattle.dash_steps.specs.Takes.{Rules, rules}
+use Rattle.dash_steps.specs.inner.Copied.{AlikeAt}
+use Rattle.dash_steps.specs.declared.step.Reply.{Reply}
 use Rattle.dash_history.specs.Plain.{PlainState}
 
 -- the map has no shard of this number, or pairs to copy

@@ -1,10 +1,10 @@
 -- What a record says.
 use Rattle.std.specs.Prelude.{ℕ, ◌≡◌, Bool, IsTrue}
-use Rattle.dash_history.specs.Alike.{alike_reply}
-use Rattle.dash_history.specs.Steps.{reply_of, alike_step}
-use Rattle.dash_history.specs.declared.step.ShardStep.{ShardStep}
-use Rattle.dash_history.specs.declared.step.Reply.{Reply}
-use Rattle.dash_history.specs.declared.step.Record.{Record}
+use Rattle.dash_steps.specs.Alike.{alike_reply}
+use Rattle.dash_steps.specs.Steps.{reply_of, alike_step}
+use Rattle.dash_steps.specs.declared.step.ShardStep.{ShardStep}
+use Rattle.dash_steps.specs.declared.step.Reply.{Reply}
+use Rattle.dash_steps.specs.declared.step.Record.{Record}
 
 -- the record says this
 pub record Tells {K V A : Type 0} (k : K → K → Bool) (v : V → V → Bool) (f : A → A → Bool) (stamp caller shard : ℕ) (step : ShardStep K V A) (reply : Reply K V) (r : Record K V A) : Type 0 where

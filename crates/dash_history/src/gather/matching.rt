@@ -1,17 +1,17 @@
 //! Whether the logs of callers match the histories.
 ghost use Rattle.std.specs.Prelude.{ℕ, ◌≡◌, ◌+◌, ◌^◌, ◌<◌, ◌↔◌, ◌⊎◌, IfOk, IsTrue, MatchOption, Some, length, map};
 ghost use Rattle.std.specs.List.{Contains};
-ghost use Rattle.dash_history.specs.Steps.{alike_record};
+ghost use Rattle.dash_steps.specs.Steps.{alike_record};
 ghost use Rattle.dash_history.specs.inner.Gathering.{agrees, AllEnded, EachLog, Finds, KeepsCallers, SomeGoesOn};
 ghost use Rattle.dash_history.specs.OneHistory.{AreCallers, IsMerge, Names, record_at};
 ghost use Rattle.dash_history.specs.declared.gather.At.{At};
 
-use crate::action::KeptAction;
 use crate::gather::At;
-use crate::kept::{Kept, KeptKey};
 use crate::known::Recorded;
 use crate::record::{CallerLog, RecShard};
-use crate::step::Record;
+use dash_steps::action::KeptAction;
+use dash_steps::kept::{Kept, KeptKey};
+use dash_steps::step::Record;
 use std::alloc::{AllocError, Global};
 use std::hash::BuildHasher;
 

@@ -2,12 +2,12 @@
 ghost use Rattle.std.specs.Prelude.{◌≡◌, ◌++◌, map, IfOk, OnOk};
 ghost use Rattle.dash_history.specs.inner.Gathering.{places, places_from, EachRecorded, Merges};
 
-use crate::action::KeptAction;
 use crate::gather::At;
-use crate::kept::{Kept, KeptKey};
 use crate::known::Recorded;
 use crate::record::RecShard;
-use crate::step::Record;
+use dash_steps::action::KeptAction;
+use dash_steps::kept::{Kept, KeptKey};
+use dash_steps::step::Record;
 use std::alloc::{AllocError, Global};
 use std::hash::BuildHasher;
 

@@ -4,19 +4,19 @@ ghost use Rattle.std.specs.Option.{option_map};
 ghost use Rattle.std.specs.Map.Iter.{deref_pair};
 ghost use Rattle.dash_shard.specs.Shard.{pairs, Routes, SameShard};
 ghost use Rattle.dash_history.specs.History.{GoesTo};
-ghost use Rattle.dash_history.specs.inner.Hashed.{HasHash};
-ghost use Rattle.dash_history.specs.inner.Plan.{MayAnswer, Decides, HasPair, Makes, StaysLawful, Leaves, IsFound, IsTakenSlot, pair_in, MakesAt};
+ghost use Rattle.dash_steps.specs.inner.Hashed.{HasHash};
+ghost use Rattle.dash_steps.specs.inner.Plan.{MayAnswer, Decides, HasPair, Makes, StaysLawful, Leaves, IsFound, IsTakenSlot, pair_in, MakesAt};
 ghost use Rattle.dash_shard.specs.Held.{Finds};
 
-use crate::action::KeptAction;
-use crate::change::{Change, copy_found, plan_asked};
-use crate::kept::{Kept, KeptKey};
 use crate::known::Recorded;
 use crate::record::RecShard;
-use crate::step::{Reply, ShardStep};
-use crate::sweep::{ask_each, copy_pairs, put_each};
 use dash_shard::keyed::Keyed;
 use dash_shard::shard::{InsertRefused, Shard};
+use dash_steps::action::KeptAction;
+use dash_steps::change::{Change, copy_found, plan_asked};
+use dash_steps::kept::{Kept, KeptKey};
+use dash_steps::step::{Reply, ShardStep};
+use dash_steps::sweep::{ask_each, copy_pairs, put_each};
 use std::alloc::{AllocError, Global};
 use std::hash::BuildHasher;
 

@@ -1,11 +1,11 @@
 -- What the parts of a run ask and promise.
 use Rattle.std.specs.Prelude.{◌≡◌, ◌≤◌, ◌↔◌, Bool, length, ⊤}
 use Rattle.dash_shard.specs.Steps as table
-use Rattle.dash_history.specs.Steps.{step_of, reply_of}
-use Rattle.dash_history.specs.Takes.{Rules, rules, Takes}
-use Rattle.dash_history.specs.declared.step.ShardStep.{ShardStep}
-use Rattle.dash_history.specs.declared.step.ShardStep.TheVariants.{Get, Contains, Insert, Remove, Read, Count, AlterAll, Retain}
-use Rattle.dash_history.specs.declared.step.Reply.{Reply}
+use Rattle.dash_steps.specs.Steps.{step_of, reply_of}
+use Rattle.dash_steps.specs.Takes.{Rules, rules, Takes}
+use Rattle.dash_steps.specs.declared.step.ShardStep.{ShardStep}
+use Rattle.dash_steps.specs.declared.step.ShardStep.TheVariants.{Get, Contains, Insert, Remove, Read, Count, AlterAll, Retain}
+use Rattle.dash_steps.specs.declared.step.Reply.{Reply}
 use Rattle.dash_map.specs.Alone.{AloneState, contents, keys_in}
 use Rattle.dash_map.specs.declared.run.Fault.{Fault}
 use Rattle.dash_map.specs.declared.run.Fault.TheVariants.{NoSuchShard}

@@ -9,9 +9,9 @@ ghost use Rattle.dash_shard.specs.Hashing.{by};
 ghost use Rattle.dash_shard.specs.Shard.{Routes, IsShard};
 
 use crate::mapref::one::RefMut;
-use dash_history::kept::KeptKey;
 use dash_shard::keyed::Keyed;
 use dash_shard::shard::held::ShardMut;
+use dash_steps::kept::KeptKey;
 pub use occupied::OccupiedEntry;
 use std::hash::{BuildHasher, Hash};
 pub use vacant::VacantEntry;

@@ -2,8 +2,8 @@
 use Rattle.std.specs.Prelude.{ℕ, ◌≡◌, List, nat_eq}
 use Rattle.dash_shard.specs.Contents.{at}
 use Rattle.dash_shard.specs.inner.Steps.{Replies, after}
-use Rattle.dash_history.specs.Steps.{reply_of}
-use Rattle.dash_history.specs.declared.step.Record.{Record}
+use Rattle.dash_steps.specs.Steps.{reply_of}
+use Rattle.dash_steps.specs.declared.step.Record.{Record}
 use Rattle.dashcheck.specs.Replay.{IsThreadStep, plain, bare}
 
 -- at the pairs P the step of a thread gets the reply of the record

@@ -4,9 +4,9 @@ use Rattle.dash_shard.specs.declared.hash.PlaceState.{PlaceState}
 use Rattle.dash_history.specs.Alone.{AloneState}
 use Rattle.dash_history.specs.History.{LogState}
 use Rattle.dash_history.specs.OneHistory.{IsGathered, along, histories, contents}
-use Rattle.dash_history.specs.Takes.{Known}
+use Rattle.dash_steps.specs.Takes.{Known}
 use Rattle.dash_history.specs.declared.gather.At.{At}
-use Rattle.dash_history.specs.declared.step.ShardStep.{ShardStep}
+use Rattle.dash_steps.specs.declared.step.ShardStep.{ShardStep}
 use Rattle.dashcheck.specs.Replay.{IsReplay}
 use Rattle.dashcheck.specs.Threads.{thread_step}
 use Rattle.dashcheck.specs.declared.threads.Worker.{Worker}

@@ -10,8 +10,8 @@ ghost use Rattle.dashcheck.specs.inner.Replay.{Fits, Makes};
 
 use dash_history::alone::RecAlone;
 use dash_history::gather::At;
-use dash_history::step::{Record, Reply, ShardStep};
 use dash_shard::hash::PlaceState;
+use dash_steps::step::{Record, Reply, ShardStep};
 use std::alloc::{AllocError, Global};
 use std::collections::HashMap;
 

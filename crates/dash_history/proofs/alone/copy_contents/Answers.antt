@@ -1,7 +1,7 @@
 use Rattle.std.proofs.Common.{◌++◌, sym, subst, ◌≡◌, true}
-use Rattle.dash_history.specs.Alike.{alike_pair}
+use Rattle.dash_steps.specs.Alike.{alike_pair}
 use Rattle.std.specs.Cmp.Lexicographic.{pointwise}
-use Rattle.dash_history.specs.inner.Sweep.{AddsAlike}
+use Rattle.dash_steps.specs.inner.Sweep.{AddsAlike}
 use Rattle.dash_history.proofs.Copying.{all, copied-more, copied-all}
 use Rattle.dash_history.proofs.alone.copy_contents.Goals as goal
 

@@ -2,7 +2,7 @@ use Rattle.std.proofs.Common.{true, false, ℕ, ◌*◌, List, map, string_bytes
 use Rattle.std.specs.Prelude.{◌⊎◌}
 use Rattle.std.specs.Io.KnownBytes.{Appends}
 use Rattle.dash_shard.specs.declared.hash.PlaceState.{PlaceState}
-use Rattle.dash_history.specs.Takes.{Known}
+use Rattle.dash_steps.specs.Takes.{Known}
 use Rattle.dashcheck.specs.inner.Command.{Asks}
 use Rattle.dashcheck.specs.Threads.{IsThreads, IsJudged, verdict_lines}
 use Rattle.dashcheck.proofs.OneWord.{at-size}

@@ -4,7 +4,7 @@ use Rattle.std.specs.Prelude.{IsTrue}
 use Rattle.dash_shard.specs.declared.hash.PlaceState.{PlaceState}
 use Rattle.dash_history.specs.Alone.{AloneState}
 use Rattle.dash_history.specs.History.{LogState}
-use Rattle.dash_history.specs.Takes.{Known}
+use Rattle.dash_steps.specs.Takes.{Known}
 use Rattle.dash_history.specs.declared.gather.At.{At}
 use Rattle.dash_history.specs.OneHistory.{IsGathered, along, histories, contents}
 use Rattle.dashcheck.specs.Replay.{IsReplay}

@@ -1,13 +1,13 @@
 use Rattle.std.proofs.Common.{◌<◌, ◌≤◌, max, length, refl, sym, ap, ◌∙◌, arith}
 use Rattle.std.proofs.lemmas.Result.{IfOk-weaker, MatchResult-weaker}
 use Rattle.dash_history.specs.History.{Recorded}
-use Rattle.dash_history.specs.inner.Kinds.{kinds_of}
+use Rattle.dash_steps.specs.inner.Kinds.{kinds_of}
 use Rattle.dash_history.proofs.Alones.{here, alone-set, goes_there, callers_are, past_row, shard_is, count_is, last_is, applied, unchanged, hash_there}
 use Rattle.dash_history.proofs.Faults.{never-missing}
 use Rattle.dash_history.proofs.Refusals.{missing-last}
 use Rattle.dash_history.proofs.alone.RecAlone.apply.Goals as goal
 use Rattle.dash_shard.specs.Hashing.{key_hash}
-use Rattle.dash_history.specs.Takes.{known_by}
+use Rattle.dash_steps.specs.Takes.{known_by}
 
 pub returns-then-idx-len-clause-no_such_shard : goal.returns-then-idx-len-clause-no_such_shard
 returns-then-idx-len-clause-no_such_shard g c =

@@ -5,8 +5,8 @@ use Rattle.std.proofs.lemmas.Result.{IfOk-weaker}
 use Rattle.dash_shard.proofs.Lawful.{lawful-of}
 use Rattle.dash_shard.specs.Hashing.{key_hash}
 use Rattle.dash_history.specs.OneHistory.{IsOneHistory}
-use Rattle.dash_history.specs.Takes.{known_by}
-use Rattle.dash_history.proofs.Recording.{lawful-by}
+use Rattle.dash_steps.specs.Takes.{known_by}
+use Rattle.dash_steps.proofs.Copies.{lawful-by}
 use Rattle.dash_history.proofs.Whole.{one-history}
 use Rattle.dash_history.proofs.alone.RecAlone.merged.Goals as goal
 

@@ -1,5 +1,5 @@
 use Rattle.std.proofs.Common.{map}
-use Rattle.dash_history.specs.Steps.{alike_record}
+use Rattle.dash_steps.specs.Steps.{alike_record}
 use Rattle.dash_history.proofs.Following.{Followed}
 use Rattle.dash_history.proofs.gather.matching.follows.Given as goal
 

@@ -1,6 +1,6 @@
 use Rattle.std.proofs.Common.{map, subst, IsPermutation}
 use Rattle.dash_history.proofs.Merging.{merged, rises-each}
-use Rattle.dash_history.specs.Takes.{known_by}
+use Rattle.dash_steps.specs.Takes.{known_by}
 use Rattle.dash_history.proofs.gather.merge.merge.Goals as goal
 
 pub returns : goal.returns

@@ -1,6 +1,6 @@
 use Rattle.std.proofs.Common.{ap, ◌++◌, ◌∙◌, arith, map}
 use Rattle.dash_history.specs.inner.Gathering.{places, places_from}
-use Rattle.dash_history.specs.Takes.{known_by}
+use Rattle.dash_steps.specs.Takes.{known_by}
 use Rattle.dash_history.proofs.Placing.{history, listed-more, listed-all, lawful-more}
 use Rattle.std.proofs.lemmas.Option.{slice_get_within}
 use Rattle.dash_history.proofs.gather.merge.places.Goals as goal

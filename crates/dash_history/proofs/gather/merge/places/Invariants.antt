@@ -1,6 +1,6 @@
 use Rattle.std.proofs.Common.{◌≡◌, ◌++◌, map, drop}
 use Rattle.dash_history.specs.inner.Gathering.{places}
-use Rattle.dash_history.specs.Takes.{known_by}
+use Rattle.dash_steps.specs.Takes.{known_by}
 use Rattle.dash_history.proofs.Placing.{LawfulBelow}
 use Rattle.dash_history.proofs.gather.merge.places.Given as goal
 

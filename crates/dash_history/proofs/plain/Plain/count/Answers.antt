@@ -2,7 +2,7 @@ use Rattle.std.proofs.Common.{◌≡◌, ◌+◌, ◌==◌, ◌++◌, ◌∷◌,
 use Rattle.std.proofs.lemmas.List.{take_more, length-append}
 use Rattle.dash_shard.specs.Contents.{on}
 use Rattle.dash_history.specs.inner.Plain.{plain_rules}
-use Rattle.dash_history.proofs.Planning.{on-more}
+use Rattle.dash_steps.proofs.Planning.{on-more}
 use Rattle.dash_history.proofs.plain.Plain.count.Goals as goal
 use Rattle.dash_history.proofs.plain.Plain.count.Goals.{then-goes_to, else-goes_to}
 use Rattle.dash_shard.specs.Hashing.{key_hash}

@@ -2,11 +2,11 @@ use Rattle.std.proofs.Common.{◌≡◌, ◌+◌, ◌==◌, ◌++◌, ◌∷◌,
 use Rattle.std.proofs.lemmas.List.{take_more}
 use Rattle.std.specs.Result.{is_ok}
 use Rattle.dash_shard.specs.Contents.{on}
-use Rattle.dash_history.specs.Alike.{alike_pair}
+use Rattle.dash_steps.specs.Alike.{alike_pair}
 use Rattle.dash_history.specs.inner.Plain.{plain_rules}
-use Rattle.dash_history.proofs.Items.{pushed}
+use Rattle.dash_steps.proofs.Items.{pushed}
 use Rattle.dash_history.proofs.PlainSweeps.{ok-is}
-use Rattle.dash_history.proofs.Planning.{on-more}
+use Rattle.dash_steps.proofs.Planning.{on-more}
 use Rattle.dash_history.proofs.plain.Plain.read.Goals as goal
 use Rattle.dash_history.proofs.plain.Plain.read.Goals.{then-goes_to+in_ok-ok+in_ok-ok-2, else-goes_to}
 use Rattle.dash_shard.specs.Hashing.{key_hash}

@@ -1,7 +1,7 @@
 use Rattle.std.proofs.Common.{◌≡◌, true, take}
 use Rattle.dash_shard.specs.Contents.{on}
 use Rattle.std.specs.Cmp.Lexicographic.{pointwise}
-use Rattle.dash_history.specs.Alike.{alike_pair}
+use Rattle.dash_steps.specs.Alike.{alike_pair}
 use Rattle.dash_history.specs.inner.Plain.{plain_rules}
 use Rattle.dash_history.proofs.plain.Plain.read.Given as goal
 use Rattle.dash_shard.specs.Hashing.{key_hash}

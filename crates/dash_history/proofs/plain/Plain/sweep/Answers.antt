@@ -4,7 +4,7 @@ use Rattle.std.specs.Result.{is_ok}
 use Rattle.dash_shard.specs.Hashing.{key_hash}
 use Rattle.dash_history.specs.Plain.{PlainState}
 use Rattle.dash_history.specs.inner.Plain.{plain_rules, SweepsPair}
-use Rattle.dash_history.specs.inner.Sweep.{keeping}
+use Rattle.dash_steps.specs.inner.Sweep.{keeping}
 use Rattle.dash_history.proofs.PlainSweeps.{ok-is, with_first, Swept, swept-more}
 use Rattle.dash_history.proofs.PlainTakes.{swept-plain}
 use Rattle.dash_history.proofs.plain.Plain.sweep.Goals as goal

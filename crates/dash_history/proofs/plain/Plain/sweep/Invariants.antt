@@ -1,6 +1,6 @@
 use Rattle.std.proofs.Common.{take}
 use Rattle.dash_history.specs.inner.Plain.{plain_rules}
-use Rattle.dash_history.specs.inner.Sweep.{keeping}
+use Rattle.dash_steps.specs.inner.Sweep.{keeping}
 use Rattle.dash_history.proofs.PlainSweeps.{Swept}
 use Rattle.dash_history.proofs.plain.Plain.sweep.Given as goal
 use Rattle.dash_shard.specs.Hashing.{key_hash}

@@ -1,6 +1,6 @@
 use Rattle.std.proofs.Common.{◌∙◌, ap, refl, subst, is_some}
 use Rattle.std.specs.Map.Iter.{deref_pair}
-use Rattle.dash_history.specs.inner.Copied.{AlikeFound}
+use Rattle.dash_steps.specs.inner.Copied.{AlikeFound}
 use Rattle.dash_shard.proofs.Lawful.{lawful-of}
 use Rattle.dash_history.proofs.PlainTakes.{mapped, taken, takes-got, takes-put, takes-removed, takes-found, takes-counted, takes-read, takes-altered, takes-retained}
 use Rattle.dash_history.proofs.plain.Plain.take.Goals as goal

@@ -1,4 +1,4 @@
-use Rattle.dash_history.specs.Steps.{step_of}
+use Rattle.dash_steps.specs.Steps.{step_of}
 use Rattle.dash_history.proofs.PlainTakes.{takes-plan}
 use Rattle.dash_shard.proofs.Lawful.{lawful-of}
 use Rattle.dash_history.proofs.plain.Plain.take_asked.Goals as goal

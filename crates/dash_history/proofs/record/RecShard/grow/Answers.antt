@@ -1,13 +1,13 @@
 use Rattle.std.proofs.Common.{List, ◌≡◌, ◌<◌, ◌++◌, ◌∷◌, [], ap, subst, sym, ◌∙◌, refl}
 use Rattle.dash_history.specs.History.{RecState, shard_of}
 use Rattle.dash_history.specs.inner.Tells.{Tells}
-use Rattle.dash_history.specs.declared.step.Record.{Record}
-use Rattle.dash_history.specs.inner.Kinds.{kinds_of}
+use Rattle.dash_steps.specs.declared.step.Record.{Record}
+use Rattle.dash_steps.specs.inner.Kinds.{kinds_of}
 use Rattle.dash_history.proofs.Recording.{taken, recorded}
 use Rattle.dash_history.proofs.Telling.{told}
 use Rattle.dash_history.proofs.record.RecShard.grow.Goals as goal
 use Rattle.dash_shard.proofs.Lawful.{lawful-of}
-use Rattle.dash_history.specs.Takes.{known_by}
+use Rattle.dash_steps.specs.Takes.{known_by}
 
 pub invariant_of-self : goal.invariant_of-self
 invariant_of-self g c = rw c.make_room.ensures.items c.self.invariant

@@ -1,13 +1,13 @@
 use Rattle.std.proofs.Common.{ℕ, List, ◌≡◌, ◌+◌, ◌++◌, ◌∷◌, [], ap, subst, sym, ◌∙◌, arith, max}
 use Rattle.dash_history.specs.History.{LogState, RecState, Grown, stamp_of}
-use Rattle.dash_history.specs.declared.step.Record.{Record}
-use Rattle.dash_history.specs.inner.Kinds.{kinds_of}
+use Rattle.dash_steps.specs.declared.step.Record.{Record}
+use Rattle.dash_steps.specs.inner.Kinds.{kinds_of}
 use Rattle.dash_history.proofs.Growing.{log-more}
 use Rattle.dash_history.proofs.Recording.{same-stamp, same-caller}
 use Rattle.dash_history.proofs.Refusals.{made-refused}
 use Rattle.dash_history.proofs.Telling.{tells-of}
 use Rattle.dash_history.proofs.record.RecShard.record_hashed.Goals as goal
-use Rattle.dash_history.specs.Takes.{known_by}
+use Rattle.dash_steps.specs.Takes.{known_by}
 
 pub invariant_of-log-in-Ok : goal.invariant_of-log-in-Ok
 invariant_of-log-in-Ok g c =

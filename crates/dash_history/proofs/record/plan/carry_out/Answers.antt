@@ -2,14 +2,14 @@ use Rattle.std.proofs.Common.{⊎_elim, true, false, sym, subst}
 use Rattle.dash_shard.specs.Contents.{at}
 use Rattle.dash_shard.specs.Steps.{Act, Step, AlterAll, Retain}
 use Rattle.dash_shard.specs.Shard.{pairs}
-use Rattle.dash_history.specs.inner.Sweep.{keeping}
-use Rattle.dash_history.specs.Takes.{known_by}
-use Rattle.dash_history.specs.inner.Copied.{AlikeAt}
-use Rattle.dash_history.specs.inner.Kinds.{kinds_of}
-use Rattle.dash_history.proofs.Recording.{lawful-by}
+use Rattle.dash_steps.specs.inner.Sweep.{keeping}
+use Rattle.dash_steps.specs.Takes.{known_by}
+use Rattle.dash_steps.specs.inner.Copied.{AlikeAt}
+use Rattle.dash_steps.specs.inner.Kinds.{kinds_of}
+use Rattle.dash_steps.proofs.Copies.{lawful-by}
 use Rattle.dash_shard.specs.Hashing.{key_hash}
 use Rattle.dash_history.proofs.Finding.{found-taken, decided-at}
-use Rattle.dash_history.proofs.Sweeping.{leaves}
+use Rattle.dash_steps.proofs.Sweeping.{leaves}
 use Rattle.dash_history.proofs.record.plan.carry_out.Goals as goal
 use Rattle.dash_shard.proofs.Lawful.{lawful-of}
 use Rattle.dash_shard.specs.inner.Steps.{after}

@@ -6,9 +6,9 @@ use Rattle.dash_shard.specs.Steps.{Pair, Found, Old, Pairs, Number, Done}
 use Rattle.dash_shard.specs.inner.Steps.{value}
 use Rattle.dash_shard.specs.Shard.{pairs}
 use Rattle.std.specs.Cmp.Lexicographic.{pointwise}
-use Rattle.dash_history.specs.Alike.{alike_pair}
-use Rattle.dash_history.specs.Steps.{step_of}
-use Rattle.dash_history.proofs.AlikeLaws.{reply_equiv}
+use Rattle.dash_steps.specs.Alike.{alike_pair}
+use Rattle.dash_steps.specs.Steps.{step_of}
+use Rattle.dash_steps.proofs.AlikeLaws.{reply_equiv}
 use Rattle.dash_history.proofs.Finding.{found-pair, found-taken, planned-answers, planned-fits}
 use Rattle.dash_history.proofs.PlainTakes.{mapped}
 use Rattle.dash_history.proofs.Preparing.{answers-all}

@@ -3,7 +3,7 @@ use Rattle.std.proofs.lemmas.Option.{slice_get-get_or}
 use Rattle.dash_shard.specs.Contents.{at}
 use Rattle.dash_shard.specs.Shard.{pairs}
 use Rattle.dash_shard.specs.Steps.{Count, Number}
-use Rattle.dash_history.proofs.Copies.{reply_laws}
+use Rattle.dash_steps.proofs.Copies.{reply_laws}
 use Rattle.dash_map.specs.Alone.{AloneState, IsAlone, contents, keys_in}
 use Rattle.dash_map.specs.inner.Run.{rules_in}
 use Rattle.dash_map.proofs.Running.{shown, laws-in, takes-look, each-there}

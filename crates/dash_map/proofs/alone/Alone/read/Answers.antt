@@ -4,7 +4,7 @@ use Rattle.dash_shard.specs.Contents.{at}
 use Rattle.dash_shard.specs.Shard.{pairs}
 use Rattle.dash_shard.specs.Steps.{Read, Pairs}
 use Rattle.std.specs.Cmp.Lexicographic.{pointwise}
-use Rattle.dash_history.specs.Alike.{alike_pair}
+use Rattle.dash_steps.specs.Alike.{alike_pair}
 use Rattle.dash_map.specs.Alone.{AloneState, IsAlone, contents, keys_in}
 use Rattle.dash_map.proofs.Running.{shown, takes-look, each-there}
 use Rattle.dash_map.proofs.alone.Alone.read.Goals as goal

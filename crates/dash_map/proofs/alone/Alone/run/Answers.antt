@@ -1,9 +1,9 @@
 use Rattle.std.proofs.Common.{◌≡◌, ◌≤◌, List, [], ◌∷◌, ◌++◌, map, refl, sym, ap, subst, ◌∙◌, arith}
 use Rattle.std.specs.Prelude.{reverse, ◌↔◌}
 use Rattle.std.proofs.lemmas.List.{reverse-reverse}
-use Rattle.dash_history.specs.declared.step.ShardStep.{ShardStep}
-use Rattle.dash_history.specs.Steps.{step_of, reply_of}
-use Rattle.dash_history.specs.Takes.{Rules, Takes, Runs}
+use Rattle.dash_steps.specs.declared.step.ShardStep.{ShardStep}
+use Rattle.dash_steps.specs.Steps.{step_of, reply_of}
+use Rattle.dash_steps.specs.Takes.{Rules, Takes, Runs}
 use Rattle.dash_map.specs.Alone.{AloneState, IsAlone, contents}
 use Rattle.dash_map.specs.Run.{IsRefused}
 use Rattle.dash_map.specs.inner.Run.{rules_in, answered}

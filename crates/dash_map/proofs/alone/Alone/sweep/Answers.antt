@@ -2,8 +2,8 @@ use Rattle.std.proofs.Common.{rules, ◌<◌, Some, sym, ap, subst, ◌∙◌, l
 use Rattle.std.proofs.lemmas.Option.{slice_get-get_or}
 use Rattle.dash_shard.specs.Shard.{pairs}
 use Rattle.dash_shard.specs.Steps.{Retain, Done}
-use Rattle.dash_history.specs.inner.Sweep.{keeping}
-use Rattle.dash_history.specs.Takes.{Takes}
+use Rattle.dash_steps.specs.inner.Sweep.{keeping}
+use Rattle.dash_steps.specs.Takes.{Takes}
 use Rattle.dash_map.specs.Alone.{AloneState, contents}
 use Rattle.dash_map.specs.inner.Run.{rules_in}
 use Rattle.dash_map.proofs.Lifting.{alone-set}

@@ -1,9 +1,8 @@
 use Rattle.std.proofs.Common.{refl, arith}
 use Rattle.dash_shard.specs.Steps.{Get, Contains, Insert, Remove, Pair, Found, Old}
 use Rattle.dash_shard.proofs.Routing.{route_below}
-use Rattle.dash_history.proofs.Copies.{reply_laws}
-use Rattle.dash_history.proofs.Plains.{looked}
-use Rattle.dash_history.proofs.Planning.{answers-found}
+use Rattle.dash_steps.proofs.Copies.{reply_laws}
+use Rattle.dash_steps.proofs.Planning.{looked, answers-found}
 use Rattle.dash_map.specs.Alone.{contents, keys_in}
 use Rattle.dash_map.specs.inner.Run.{rules_in}
 use Rattle.dash_map.proofs.Running.{not-missing, laws-in, takes-look, takes-alone}

@@ -4,10 +4,10 @@ use Rattle.dash_shard.specs.Hashing.{key_hash}
 use Rattle.dash_shard.specs.Steps.{line}
 use Rattle.dash_shard.proofs.Lawful.{lawful-of}
 use Rattle.dash_shard.proofs.Routing.{route_below}
-use Rattle.dash_history.specs.inner.Plan.{HasPair}
-use Rattle.dash_history.proofs.Planning.{same_found, same-key, keyed-shard, planned-there, takes-asked}
+use Rattle.dash_steps.specs.inner.Plan.{HasPair}
+use Rattle.dash_steps.proofs.Planning.{same_found, same-key, keyed-shard, planned-there, takes-asked}
 use Rattle.dash_map.specs.Alone.{keys_in, contents}
-use Rattle.dash_history.specs.Steps.{step_of}
+use Rattle.dash_steps.specs.Steps.{step_of}
 use Rattle.dash_map.proofs.Running.{not-missing, laws-in, distinct-same}
 use Rattle.dash_map.proofs.alone.Alone.take_asked.Goals as goal
 

@@ -1,9 +1,9 @@
 use Rattle.std.proofs.Common.{ℕ, true, List}
 use Rattle.std.proofs.lemmas.Result.{IfOk-weaker, MatchResult-weaker}
 use Rattle.dash_shard.specs.Steps.{Act, Reply, Retain, AlterAll}
-use Rattle.dash_history.specs.Steps.{reply_of}
-use Rattle.dash_history.specs.inner.Sweep.{keeping}
-use Rattle.dash_history.specs.Takes.{Rules, Takes}
+use Rattle.dash_steps.specs.Steps.{reply_of}
+use Rattle.dash_steps.specs.inner.Sweep.{keeping}
+use Rattle.dash_steps.specs.Takes.{Rules, Takes}
 use Rattle.dash_map.specs.inner.Run.{rules_in}
 use Rattle.dash_map.specs.Alone.{contents}
 use Rattle.dash_shard.specs.Hashing.{key_hash}

@@ -1,6 +1,6 @@
 use Rattle.std.proofs.Common.{◌≡◌, ◌∷◌, ◌++◌, [], ◌∙◌, length, ap, subst, arith}
 use Rattle.dash_shard.specs.Hashing.{IsAmount, key_hash}
-use Rattle.dash_history.specs.inner.Sweep.{AddsAlike}
+use Rattle.dash_steps.specs.inner.Sweep.{AddsAlike}
 use Rattle.dash_map.proofs.Listing.{none-copied, more-copied}
 use Rattle.dash_map.proofs.Seeing.{read-at, one-more, all-seen, none-yet}
 use Rattle.dash_map.proofs.map.DashMap.pairs.Goals as goal

@@ -2,7 +2,7 @@ use Rattle.std.proofs.Common.{List, IsTrue, flat_map}
 use Rattle.std.specs.Cmp.Lexicographic.{pointwise}
 use Rattle.dash_shard.specs.Hashing.{key_hash}
 use Rattle.dash_shard.specs.Shard.{ShardState, pairs}
-use Rattle.dash_history.specs.Alike.{alike_pair}
+use Rattle.dash_steps.specs.Alike.{alike_pair}
 use Rattle.dash_map.proofs.Seeing.{SoFar}
 use Rattle.dash_map.proofs.map.DashMap.pairs.Given as goal
 

@@ -1,7 +1,7 @@
 use Rattle.std.proofs.Common.{subst, sym, ◌∙◌}
 use Rattle.dash_history.specs.Refused.{Records}
 use Rattle.dash_history.specs.History.{LogState, RecState}
-use Rattle.dash_history.specs.Takes.{known_by}
+use Rattle.dash_steps.specs.Takes.{known_by}
 use Rattle.dash_history.proofs.record.held.RecShardMut.record_hashed.Goals as goal
 
 pub returns : goal.returns

@@ -1,8 +1,8 @@
 use Rattle.std.proofs.Common.{◌<◌, arith}
 use Rattle.dash_shard.specs.Hashing.{key_hash}
 use Rattle.dash_shard.specs.Steps.{line}
-use Rattle.dash_history.specs.Steps.{step_of}
-use Rattle.dash_history.specs.Takes.{known_by}
+use Rattle.dash_steps.specs.Steps.{step_of}
+use Rattle.dash_steps.specs.Takes.{known_by}
 use Rattle.dash_history.proofs.Alones.{hash-alike}
 use Rattle.dash_history.proofs.Maps.{logs-behind}
 use Rattle.dash_history.proofs.record.map.RecordedMap.apply.Goals as goal

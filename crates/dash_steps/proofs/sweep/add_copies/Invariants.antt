@@ -1,0 +1,11 @@
+use Rattle.std.proofs.Common.{◌≡◌, ◌++◌, List, true}
+use Rattle.std.specs.Cmp.Lexicographic.{pointwise}
+use Rattle.dash_steps.specs.Alike.{alike_pair}
+use Rattle.dash_steps.specs.inner.Sweep.{AddsAlike}
+use Rattle.dash_steps.proofs.sweep.add_copies.Given as goal
+
+-- copies of the pairs that are left, behind those that were made, are copies of all
+abbrev pub invariant-loop-key : goal.invariant-loop-key
+invariant-loop-key g l =
+    (rest : List (g.row.K.Denot × g.row.V.Denot)) → pointwise (alike_pair g.K.Kept.alike g.V.Kept.alike) l.key-iterator rest ≡ true
+    → AddsAlike g.K.Kept.alike g.V.Kept.alike l.fn.pairs l.initial.copies.items (l.copies.items ++ rest)

@@ -1,0 +1,4 @@
+pub mod Alike
+pub mod Steps
+pub mod Takes
+pub mod inner

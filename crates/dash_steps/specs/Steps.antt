@@ -1,0 +1,49 @@
+-- The program's steps, replies and records, in the words of the step table.
+use Rattle.std.specs.Prelude.{◌==◌, ◌&&◌, Bool, false}
+use Rattle.dash_shard.specs.Steps as table
+use Rattle.dash_steps.specs.Alike.{alike_reply}
+use Rattle.dash_steps.specs.declared.step.ShardStep.{ShardStep}
+use Rattle.dash_steps.specs.declared.step.ShardStep.TheVariants.{Get, Contains, Insert, Remove, RemoveIf, RemoveIfMut, Alter, Read, Count, AlterAll, Retain}
+use Rattle.dash_steps.specs.declared.step.Reply.{Reply}
+use Rattle.dash_steps.specs.declared.step.Reply.TheVariants.{Pair, Found, Old, Pairs, Number, Done}
+use Rattle.dash_steps.specs.declared.step.Record.{Record}
+
+-- the reply that the table speaks of
+abbrev pub reply_of : {K V : Type 0} → Reply K V → table.Reply K V
+reply_of (Pair o) = table.Pair o
+reply_of (Found b) = table.Found b
+reply_of (Old o) = table.Old o
+reply_of (Pairs l) = table.Pairs l.items
+reply_of (Number n) = table.Number n
+reply_of Done = table.Done
+
+-- the step that the table speaks of
+abbrev pub step_of : {K V A : Type 0} → (A → table.Act K V) → ShardStep K V A → table.Step K V
+step_of acts (Get k) = table.Get k
+step_of acts (Contains k) = table.Contains k
+step_of acts (Insert k v) = table.Insert k v
+step_of acts (Remove k) = table.Remove k
+step_of acts (RemoveIf k f) = table.RemoveIf k (acts f)
+step_of acts (RemoveIfMut k f) = table.RemoveIfMut k (acts f)
+step_of acts (Alter k f) = table.Alter k (acts f)
+step_of acts (Read i) = table.Read i
+step_of acts (Count i) = table.Count i
+step_of acts (AlterAll i f) = table.AlterAll i (acts f)
+step_of acts (Retain i f) = table.Retain i (acts f)
+
+abbrev pub alike_step : {K V A : Type 0} → (K → K → Bool) → (V → V → Bool) → (A → A → Bool) → ShardStep K V A → ShardStep K V A → Bool
+alike_step k v f (Get x) (Get y) = k x y
+alike_step k v f (Contains x) (Contains y) = k x y
+alike_step k v f (Insert x u) (Insert y t) = k x y && v u t
+alike_step k v f (Remove x) (Remove y) = k x y
+alike_step k v f (RemoveIf x a) (RemoveIf y b) = k x y && f a b
+alike_step k v f (RemoveIfMut x a) (RemoveIfMut y b) = k x y && f a b
+alike_step k v f (Alter x a) (Alter y b) = k x y && f a b
+alike_step k v f (Read i) (Read j) = i == j
+alike_step k v f (Count i) (Count j) = i == j
+alike_step k v f (AlterAll i a) (AlterAll j b) = (i == j) && f a b
+alike_step k v f (Retain i a) (Retain j b) = (i == j) && f a b
+alike_step k v f _ _ = false
+
+abbrev pub alike_record : {K V A : Type 0} → (K → K → Bool) → (V → V → Bool) → (A → A → Bool) → Record K V A → Record K V A → Bool
+alike_record k v f r q = (r.stamp == q.stamp) && (r.caller == q.caller) && (r.shard == q.shard) && alike_step k v f r.step q.step && alike_reply k v (reply_of r.reply) (reply_of q.reply)

@@ -1,0 +1,124 @@
+//! What a step with an action makes of the pair at its key: it is decided on a copy of the value, before anything changes.
+ghost use Rattle.std.specs.Prelude.{◌≡◌, IsTrue, IsSome, IfOk, OnErr};
+ghost use Rattle.std.specs.Option.{option_map};
+ghost use Rattle.std.specs.Map.Iter.{deref_pair};
+ghost use Rattle.dash_shard.specs.Steps.{RemoveIf, RemoveIfMut, Alter, line};
+ghost use Rattle.dash_steps.specs.inner.Copied.{AlikeFound};
+ghost use Rattle.dash_steps.specs.inner.Plan.{PlansBy, Plans};
+ghost use Rattle.dash_steps.specs.Steps.{step_of};
+ghost use Rattle.dash_steps.specs.inner.Hashed.{Asks};
+
+use crate::action::Action;
+use crate::kept::Kept;
+use crate::step::{Reply, ShardStep};
+use std::alloc::AllocError;
+
+/// What a step will do: nothing, a change of the pair at its key, if there is one, or a change of each pair of its shard.
+#[derive(Drop)]
+pub enum Change<V> {
+    Stays,
+    Goes,
+    Becomes(V),
+    /// Each value becomes the next of these, and the pair stays where yes is beside it.
+    Each(Vec<(V, bool)>),
+}
+
+/// A copy of a pair that was found.
+pub fn copy_found<K: Kept + Drop, V: Kept + Drop>(
+    found: Option<(&K, &V)>,
+) -> Result<Option<(K, V)>, AllocError>
+    ensures copy { IfOk result (AlikeFound K.alike V.alike (option_map deref_pair found.entry)) }
+    ensures memory { OnErr result (IsSome found.entry) }
+{
+    match found {
+        Some((key, value)) => {
+            let key = key.copy()?;
+            Ok(Some((key, value.copy()?)))
+        }
+        None => Ok(None),
+    }
+}
+
+/// What the action makes of a copy of the value, and its answer.
+pub fn ask<K: Kept, V: Kept + Drop, A: Action<K, V>>(
+    key: &K,
+    value: &V,
+    action: &A,
+) -> Result<(V, bool), AllocError>
+    ensures changed { IfOk result (λ asked. IsTrue (V.alike (A.acts action.now key.now value.now).0 asked.0)) }
+    ensures answer { IfOk result (λ asked. asked.1 ≡ (A.acts action.now key.now value.now).1) }
+{
+    let mut changed = value.copy()?;
+    let answer = action.act(key, &mut changed);
+    Ok((changed, answer))
+}
+
+// The reply and the change of a `RemoveIf`, where this pair stands at its key.
+fn plan_remove_if<K: Kept + Drop, V: Kept + Drop, A: Action<K, V>>(
+    found: Option<(&K, &V)>,
+    action: &A,
+) -> Result<(Reply<K, V>, Change<V>), AllocError>
+    ensures plan { IfOk result (PlansBy K.alike V.alike RemoveIf (A.acts action.now) found.entry) }
+    ensures memory { OnErr result (IsSome found.entry) }
+{
+    let Some((key, value)) = found else {
+        return Ok((Reply::Pair(None), Change::Stays));
+    };
+    let (_, answer) = ask(key, value, action)?;
+    if !answer {
+        return Ok((Reply::Pair(None), Change::Stays));
+    }
+    let key = key.copy()?;
+    Ok((Reply::Pair(Some((key, value.copy()?))), Change::Goes))
+}
+
+// The reply and the change of a `RemoveIfMut`, where this pair stands at its key.
+fn plan_remove_if_mut<K: Kept + Drop, V: Kept + Drop, A: Action<K, V>>(
+    found: Option<(&K, &V)>,
+    action: &A,
+) -> Result<(Reply<K, V>, Change<V>), AllocError>
+    ensures plan { IfOk result (PlansBy K.alike V.alike RemoveIfMut (A.acts action.now) found.entry) }
+    ensures memory { OnErr result (IsSome found.entry) }
+{
+    let Some((key, value)) = found else {
+        return Ok((Reply::Pair(None), Change::Stays));
+    };
+    let (changed, answer) = ask(key, value, action)?;
+    if !answer {
+        return Ok((Reply::Pair(None), Change::Becomes(changed)));
+    }
+    let key = key.copy()?;
+    Ok((Reply::Pair(Some((key, changed))), Change::Goes))
+}
+
+// The reply and the change of an `Alter`, where this pair stands at its key.
+fn plan_alter<K: Kept + Drop, V: Kept + Drop, A: Action<K, V>>(
+    found: Option<(&K, &V)>,
+    action: &A,
+) -> Result<(Reply<K, V>, Change<V>), AllocError>
+    ensures plan { IfOk result (PlansBy K.alike V.alike Alter (A.acts action.now) found.entry) }
+    ensures memory { OnErr result (IsSome found.entry) }
+{
+    let Some((key, value)) = found else {
+        return Ok((Reply::Done, Change::Stays));
+    };
+    let (changed, _) = ask(key, value, action)?;
+    Ok((Reply::Done, Change::Becomes(changed)))
+}
+
+/// The reply and the change of a step that asks its action of the pair at its key, where this pair stands there.
+pub fn plan_asked<K: Kept + Drop, V: Kept + Drop, A: Action<K, V>>(
+    found: Option<(&K, &V)>,
+    step: &ShardStep<K, V, A>,
+) -> Result<(Reply<K, V>, Change<V>), AllocError>
+    requires { Asks step.now }
+    ensures plan { IfOk result (Plans K.alike V.alike (line (step_of A.acts step.now)) (option_map deref_pair found.entry)) }
+    ensures memory { OnErr result (IsSome found.entry) }
+{
+    match step {
+        ShardStep::RemoveIf(_, action) => plan_remove_if(found, action),
+        ShardStep::RemoveIfMut(_, action) => plan_remove_if_mut(found, action),
+        ShardStep::Alter(_, action) => plan_alter(found, action),
+        _ => unreachable!(),
+    }
+}

@@ -1,0 +1,279 @@
+//! One step of one shard, its reply, and the record of both.
+ghost use Rattle.std.specs.Prelude.{◌≡◌, ◌<◌, IfOk, IsTrue};
+ghost use Rattle.dash_shard.specs.Hashing.{by};
+
+use crate::action::Action;
+use crate::kept::Kept;
+use dash_shard::hash::determine_shard;
+use std::alloc::AllocError;
+use std::hash::{BuildHasher, Hash};
+
+/// A step of one shard: on the pair of a key, or on all pairs of a shard that it names by its number.
+#[derive(Debug, Drop)]
+pub enum ShardStep<K, V, A = ()> {
+    /// The pair whose key equals the key.
+    Get(K),
+    /// Whether there is a pair whose key equals the key.
+    Contains(K),
+    /// Puts the pair, or the value under a stored key that is equal.
+    Insert(K, V),
+    /// Takes the pair whose key equals the key out.
+    Remove(K),
+    /// Takes it out if the action answers yes. What the action makes of the value is thrown away.
+    RemoveIf(K, A),
+    /// Changes its value, and takes it out if the action answers yes.
+    RemoveIfMut(K, A),
+    /// Changes its value, whatever the action answers.
+    Alter(K, A),
+    /// The pairs of the shard.
+    Read(usize),
+    /// How many pairs the shard has.
+    Count(usize),
+    /// Changes each value of the shard, whatever the action answers.
+    AlterAll(usize, A),
+    /// Changes each value of the shard, and takes out the pairs on which the action answers no.
+    Retain(usize, A),
+}
+
+/// What a step returns.
+#[derive(Debug, Drop)]
+pub enum Reply<K, V> {
+    /// The pair that stood at the key, or that was taken out.
+    Pair(Option<(K, V)>),
+    /// Whether there is a pair.
+    Found(bool),
+    /// The value that stood at the key.
+    Old(Option<V>),
+    /// The pairs, each once, in any order.
+    Pairs(Vec<(K, V)>),
+    /// How many pairs, held at 2^64 - 1.
+    Number(u64),
+    /// The step returns nothing.
+    Done,
+}
+
+/// A recorded step. It is kept once in its shard's history and once in its caller's log.
+#[derive(Debug, Drop)]
+pub struct Record<K, V, A = ()> {
+    pub stamp: u64,
+    pub caller: u32,
+    pub shard: usize,
+    pub step: ShardStep<K, V, A>,
+    pub reply: Reply<K, V>,
+}
+
+impl<K, V: Kept, A> ShardStep<K, V, A> {
+    ghost use Rattle.dash_shard.specs.Contents.{keys};
+    ghost use Rattle.dash_shard.specs.Hashing.{IsAmount, route_by};
+    ghost use Rattle.dash_shard.specs.Steps.{line, line_shard};
+    ghost use Rattle.dash_steps.specs.Steps.{alike_step, step_of};
+    ghost use Rattle.dash_steps.specs.inner.Hashed.{shard_by, IsHashBy, Asks, OfKey};
+
+    /// The number of the step's shard: the route of its key among `amount` shards, or the number that it names.
+    #[inline]
+    pub fn shard<S: BuildHasher>(&self, hasher: &S, amount: usize) -> usize
+    where
+        K: Kept + Eq + Hash,
+        A: Action<K, V>,
+        requires { IsAmount amount }
+        ensures { result ≡ line_shard
+            (keys K.eq (route_by (by K.Hash S.BuildHasher S.Hasher.Hasher) hasher.now amount) amount) (line (step_of A.acts self.now)) }
+    {
+        self.route(hasher, amount).1
+    }
+
+    /// The hash of the step's key, or 0 where it has none, and the number of its shard.
+    #[inline]
+    pub fn route<S: BuildHasher>(&self, hasher: &S, amount: usize) -> (u64, usize)
+    where
+        K: Kept + Eq + Hash,
+        A: Action<K, V>,
+        requires { IsAmount amount }
+        ensures hash { IsHashBy A.acts (by K.Hash S.BuildHasher S.Hasher.Hasher) hasher.now self.now result.0 }
+        ensures shard { result.1 ≡ shard_by A.acts (by K.Hash S.BuildHasher S.Hasher.Hasher) hasher.now amount self.now }
+    {
+        match self {
+            ShardStep::Get(key)
+            | ShardStep::Contains(key)
+            | ShardStep::Insert(key, _)
+            | ShardStep::Remove(key)
+            | ShardStep::RemoveIf(key, _)
+            | ShardStep::RemoveIfMut(key, _)
+            | ShardStep::Alter(key, _) => {
+                let hash = hasher.hash_one(key);
+                (hash, determine_shard(hash, amount))
+            }
+            ShardStep::Read(shard)
+            | ShardStep::Count(shard)
+            | ShardStep::AlterAll(shard, _)
+            | ShardStep::Retain(shard, _) => (0, *shard),
+        }
+    }
+
+    /// The key of a step that asks its action of the pair there.
+    pub fn asked_key(&self) -> &K
+    where
+        K: Kept,
+        A: Action<K, V>,
+        requires { Asks self.now }
+        ensures { OfKey (line (step_of A.acts self.now)) (λ k. result.now ≡ k) ⊥ }
+    {
+        match self {
+            ShardStep::RemoveIf(key, _)
+            | ShardStep::RemoveIfMut(key, _)
+            | ShardStep::Alter(key, _) => key,
+            _ => unreachable!(),
+        }
+    }
+
+    /// As `asked_key`, out of the step.
+    pub fn into_asked_key(self) -> K
+    where
+        K: Kept + Drop,
+        V: Drop,
+        A: Action<K, V> + Drop,
+        requires { Asks self }
+        ensures { OfKey (line (step_of A.acts self)) (λ k. result ≡ k) ⊥ }
+    {
+        match self {
+            ShardStep::RemoveIf(key, _action)
+            | ShardStep::RemoveIfMut(key, _action)
+            | ShardStep::Alter(key, _action) => key,
+            _ => unreachable!(),
+        }
+    }
+
+    /// A copy of the step, alike it.
+    pub fn copy(&self) -> Result<ShardStep<K, V, A>, AllocError>
+    where
+        K: Kept + Drop,
+        A: Kept,
+        ensures { IfOk result (λ copy. IsTrue (alike_step K.alike V.alike A.alike self.now copy)) }
+    {
+        match self {
+            ShardStep::Get(key) => Ok(ShardStep::Get(key.copy()?)),
+            ShardStep::Contains(key) => Ok(ShardStep::Contains(key.copy()?)),
+            ShardStep::Insert(key, value) => {
+                let key = key.copy()?;
+                Ok(ShardStep::Insert(key, value.copy()?))
+            }
+            ShardStep::Remove(key) => Ok(ShardStep::Remove(key.copy()?)),
+            ShardStep::RemoveIf(key, action) => {
+                let key = key.copy()?;
+                Ok(ShardStep::RemoveIf(key, action.copy()?))
+            }
+            ShardStep::RemoveIfMut(key, action) => {
+                let key = key.copy()?;
+                Ok(ShardStep::RemoveIfMut(key, action.copy()?))
+            }
+            ShardStep::Alter(key, action) => {
+                let key = key.copy()?;
+                Ok(ShardStep::Alter(key, action.copy()?))
+            }
+            ShardStep::Read(shard) => Ok(ShardStep::Read(*shard)),
+            ShardStep::Count(shard) => Ok(ShardStep::Count(*shard)),
+            ShardStep::AlterAll(shard, action) => {
+                Ok(ShardStep::AlterAll(*shard, action.copy()?))
+            }
+            ShardStep::Retain(shard, action) => Ok(ShardStep::Retain(*shard, action.copy()?)),
+        }
+    }
+}
+
+impl<K: Kept + Drop, V: Kept + Drop> Reply<K, V> {
+    ghost use Rattle.dash_steps.specs.Alike.{alike_reply};
+    ghost use Rattle.dash_steps.specs.Steps.{reply_of};
+
+    /// A copy of the reply, alike it.
+    pub fn copy(&self) -> Result<Reply<K, V>, AllocError>
+        ensures { IfOk result (λ copy. IsTrue (alike_reply K.alike V.alike (reply_of self.now) (reply_of copy))) }
+    {
+        match self {
+            Reply::Pair(None) => Ok(Reply::Pair(None)),
+            Reply::Pair(Some(pair)) => {
+                let key = pair.0.copy()?;
+                Ok(Reply::Pair(Some((key, pair.1.copy()?))))
+            }
+            Reply::Found(found) => Ok(Reply::Found(*found)),
+            Reply::Old(None) => Ok(Reply::Old(None)),
+            Reply::Old(Some(value)) => Ok(Reply::Old(Some(value.copy()?))),
+            Reply::Pairs(pairs) => Ok(Reply::Pairs(pairs.copy()?)),
+            Reply::Number(number) => Ok(Reply::Number(*number)),
+            Reply::Done => Ok(Reply::Done),
+        }
+    }
+}
+
+impl<K: Kept, V: Kept, A: Kept> ShardStep<K, V, A> {
+    ghost use Rattle.dash_steps.specs.Steps.{alike_step};
+
+    /// Whether the two are alike.
+    pub fn same(&self, other: &Self) -> bool
+        ensures { result ≡ alike_step K.alike V.alike A.alike self.now other.now }
+    {
+        match (self, other) {
+            (ShardStep::Get(j), ShardStep::Get(k))
+            | (ShardStep::Contains(j), ShardStep::Contains(k))
+            | (ShardStep::Remove(j), ShardStep::Remove(k)) => j.same(k),
+            (ShardStep::Insert(j, u), ShardStep::Insert(k, v)) => j.same(k) && u.same(v),
+            (ShardStep::RemoveIf(j, f), ShardStep::RemoveIf(k, g))
+            | (ShardStep::RemoveIfMut(j, f), ShardStep::RemoveIfMut(k, g))
+            | (ShardStep::Alter(j, f), ShardStep::Alter(k, g)) => j.same(k) && f.same(g),
+            (ShardStep::Read(i), ShardStep::Read(j)) | (ShardStep::Count(i), ShardStep::Count(j)) =>
+                { i == j }
+            (ShardStep::AlterAll(i, f), ShardStep::AlterAll(j, g))
+            | (ShardStep::Retain(i, f), ShardStep::Retain(j, g)) => i == j && f.same(g),
+            _ => false,
+        }
+    }
+}
+
+impl<K: Kept + Drop, V: Kept + Drop> Reply<K, V> {
+    ghost use Rattle.dash_steps.specs.Alike.{alike_reply};
+    ghost use Rattle.dash_steps.specs.Steps.{reply_of};
+
+    /// Whether the two are alike.
+    pub fn same(&self, other: &Self) -> bool
+        ensures { result ≡ alike_reply K.alike V.alike (reply_of self.now) (reply_of other.now) }
+    {
+        match (self, other) {
+            (Reply::Pair(o), Reply::Pair(p)) => o.same(p),
+            (Reply::Found(a), Reply::Found(b)) => a == b,
+            (Reply::Old(o), Reply::Old(p)) => o.same(p),
+            (Reply::Pairs(l), Reply::Pairs(m)) => l.same(m),
+            (Reply::Number(m), Reply::Number(n)) => m == n,
+            (Reply::Done, Reply::Done) => true,
+            _ => false,
+        }
+    }
+}
+
+impl<K: Kept + Drop, V: Kept + Drop, A: Kept> Record<K, V, A> {
+    ghost use Rattle.dash_steps.specs.Steps.{alike_record};
+
+    /// A copy of the record, alike it.
+    pub fn copy(&self) -> Result<Record<K, V, A>, AllocError>
+    where
+        A: Drop,
+        ensures { IfOk result (λ copy. IsTrue (alike_record K.alike V.alike A.alike self.now copy)) }
+    {
+        Ok(Record {
+            stamp: self.stamp,
+            caller: self.caller,
+            shard: self.shard,
+            step: self.step.copy()?,
+            reply: self.reply.copy()?,
+        })
+    }
+
+    /// Whether the two are alike.
+    pub fn same(&self, other: &Self) -> bool
+        ensures { result ≡ alike_record K.alike V.alike A.alike self.now other.now }
+    {
+        self.stamp == other.stamp
+            && self.caller == other.caller
+            && self.shard == other.shard
+            && self.step.same(&other.step)
+            && self.reply.same(&other.reply)
+    }
+}
