@@ -27,25 +27,24 @@ impl<K: Eq + Hash, V, S: BuildHasher> Shard<K, V, S> {
     }
 }
 
-// Exchanges the table of the shard behind the lock for another.
-pub(super) fn swap_tables<K: Eq + Hash, V, S: BuildHasher>(
+// Puts a table in place of the one of the shard behind the lock, and answers that.
+#[inline]
+fn swap_tables<K: Eq + Hash, V, S: BuildHasher>(
     guard: &mut RwLockWriteGuard<'_, Shard<K, V, S>>,
-    table: &mut Table<K, V>,
-)
-    requires { MayHave ⟦<Shard<K, V, S> as Keyed>⟧.by guard.old.value table.old }
+    table: Table<K, V>,
+) -> Table<K, V>
+    requires { MayHave ⟦<Shard<K, V, S> as Keyed>⟧.by guard.old.value table }
     ensures tag { guard.new.tag ≡ guard.old.tag }
-    ensures swapped { SwapsTable ⟦<Shard<K, V, S> as Keyed>⟧.by guard.old.value guard.new.value table.old table.new }
+    ensures swapped { SwapsTable ⟦<Shard<K, V, S> as Keyed>⟧.by guard.old.value guard.new.value table result }
 {
-    let blank = Table::new(table.allocator());
     // The closure takes it out again, so nothing is leaked.
-    let mine = unsafe { ManuallyDrop::new_unchecked(mem::replace(table, blank)) };
-    let theirs = guard.change(
+    let table = unsafe { ManuallyDrop::new_unchecked(table) };
+    guard.change(
         |shard: &mut Shard<K, V, S>| -> Table<K, V>
-            requires { MayHave (by K.Hash S.BuildHasher S.Hasher.Hasher) shard.old (manually_drop_value mine) }
-            ensures { SwapsTable (by K.Hash S.BuildHasher S.Hasher.Hasher) shard.old shard.new (manually_drop_value mine) result }
-        { shard.swap_table(ManuallyDrop::into_inner(mine)) },
-    );
-    mem::replace(table, theirs).end_blank();
+            requires { MayHave (by K.Hash S.BuildHasher S.Hasher.Hasher) shard.old (manually_drop_value table) }
+            ensures { SwapsTable (by K.Hash S.BuildHasher S.Hasher.Hasher) shard.old shard.new (manually_drop_value table) result }
+        { shard.swap_table(ManuallyDrop::into_inner(table)) },
+    )
 }
 
 // Moves the shard's table to the hold, to be lent from, or back behind the lock, if it isn't there.
@@ -61,8 +60,16 @@ pub(super) fn move_table<K: Eq + Hash, V, S: BuildHasher>(
     ensures value { held_state guard.new.value table.new lend ≡ held_state guard.old.value table.old is_lent }
     ensures held { IsHeld ⟦<Shard<K, V, S> as Keyed>⟧.by guard.new.value table.new lend }
 {
-    if is_lent != lend {
-        swap_tables(guard, table);
+    if is_lent == lend {
+        return;
+    }
+    let blank = Table::new(table.allocator());
+    if lend {
+        let theirs = swap_tables(guard, blank);
+        mem::replace(table, theirs).end_blank();
+    } else {
+        let mine = mem::replace(table, blank);
+        swap_tables(guard, mine).end_blank();
     }
 }
 
