@@ -163,14 +163,14 @@ module _ {K V : Type 0} where
           ]
 
       -- a way that does not go on
-      pub absent-ends : IsTable t → step < groups_in t → MissesGroup eq t hash k group → (row : List ℕ) (m c : ℕ) → IsRow t.tags.items group row → IsMask row 128 m → m < 2 ^ 16 → c ≡ class_of hash
-          → ((m ≡ 0) × (0 < count_of (slice_index t.counts.items group) c) → ⊥) → IsAbsent eq t hash k
-      absent-ends table within missing row m c same bits fits class ends = elim (cases_eq m 0) as (λ _. IsAbsent eq t hash k) [
-        | inl none ↦ absent-passed table within missing (subst (λ d. count_of (slice_index t.counts.items group) d ≡ 0) class
-            (elim (cases_lt 0 (count_of (slice_index t.counts.items group) c)) as (λ _. count_of (slice_index t.counts.items group) c ≡ 0) [
+      pub absent-ends : IsTable t → step < groups_in t → MissesGroup eq t hash k group → (row : List ℕ) (m : ℕ) → IsRow t.tags.items group row → IsMask row 128 m → m < 2 ^ 16
+          → ((m ≡ 0) × (0 < count_of (slice_index t.counts.items group) (class_of hash)) → ⊥) → IsAbsent eq t hash k
+      absent-ends table within missing row m same bits fits ends = elim (cases_eq m 0) as (λ _. IsAbsent eq t hash k) [
+        | inl none ↦ absent-passed table within missing
+            (elim (cases_lt 0 (count_of (slice_index t.counts.items group) (class_of hash))) as (λ _. count_of (slice_index t.counts.items group) (class_of hash) ≡ 0) [
               | inl some ↦ absurd (ends (none, some))
               | inr not ↦ omega (arith, not)
-            ]))
+            ])
         | inr some ↦ absent-here table within missing (empty-seen t.tags.items group row m same bits some fits)
       ]
 

@@ -11,7 +11,7 @@ ghost use Rattle.std.specs.Map.Iter.{deref_pair};
 
 use crate::shard::group::probe;
 use dash_slots::Slots;
-use marks::{EMPTY, class, goes_on, group_of, home, lowest, next_group, without};
+use marks::{EMPTY, goes_on, group_of, home, lowest, next_group, without};
 use std::alloc::Global;
 use std::hash::{BuildHasher, Hash};
 use std::mem;
@@ -135,7 +135,6 @@ impl<K, V> Table<K, V> {
             };
         }
         let tag = (hash >> 57) as u8;
-        let class = class(hash);
         let mut group = home(hash, count);
         for step in 0..count {
             let visits = step + 1;
@@ -146,7 +145,7 @@ impl<K, V> Table<K, V> {
                     visits,
                 };
             }
-            if !goes_on(seen, self.counts[group], class) {
+            if !goes_on(seen, &self.counts, group, hash) {
                 return Search {
                     position: None,
                     visits,

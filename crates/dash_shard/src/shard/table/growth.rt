@@ -12,15 +12,25 @@ use std::alloc::{AllocError, Global};
 use std::hash::{BuildHasher, Hash};
 use std::mem;
 
-// A table of more groups than these, which no cache of a processor holds, grows to half or a third as many more, where a smaller one doubles.
+// A table of more groups than these, which no processor's own cache holds, grows by half or a third of them, where a smaller one doubles.
 const LARGE: usize = 4_096;
 
-// As many groups as have room for so many pairs: a power of two or, where there are many, three times one.
+// The least power of two of groups that have room for so many pairs.
 fn groups_for(pairs: usize) -> Result<usize, AllocError>
     requires { 0 < pairs }
     ensures room { IfOk result (λ n. pairs ≤ limit (16 * n)) }
 {
-    let needed = (pairs - 1) / 14 + 1;
+    match ((pairs - 1) / 14 + 1).checked_next_power_of_two() {
+        Some(groups) => Ok(groups),
+        None => Err(AllocError),
+    }
+}
+
+// As many groups as a table that is full of so many pairs grows to: a power of two or, where there are many, three times one.
+fn groups_after(pairs: usize) -> Result<usize, AllocError>
+    ensures room { IfOk result (λ n. pairs < limit (16 * n)) }
+{
+    let needed = pairs / 14 + 1;
     let Some(power) = needed.checked_next_power_of_two() else {
         return Err(AllocError);
     };
@@ -150,13 +160,10 @@ impl<K, V> Table<K, V> {
         ensures ok { OnOk result (self.new.len < limit (slots_in self.new)) }
         ensures err { OnErr result (self.new ≡ self.old) }
     {
-        let Some(wanted) = self.len.checked_add(1) else {
-            return Err(AllocError);
-        };
-        self.rehash(groups_for(wanted)?, hasher)
+        self.rehash(groups_after(self.len)?, hasher)
     }
 
-    /// Moves the pairs to as few groups of slots as hold them, of the numbers that growth takes, and none for no pairs, where there is memory for these.
+    /// Moves the pairs to as few groups of slots as hold them, a power of two and none for no pairs, where there is memory for these.
     pub fn shrink<S: BuildHasher>(&mut self, hasher: &S)
     where
         K: Eq + Hash,

@@ -54,7 +54,7 @@ fn rounds(hash: u64, count: usize) -> u64
 {
     let shift = count.trailing_zeros();
     if count >> shift == 3 {
-        (hash >> shift) / 3
+        (hash / 3) >> shift
     } else {
         hash / count as u64
     }
@@ -67,8 +67,9 @@ pub(super) fn home(hash: u64, count: usize) -> usize
     ensures is { result ≡ hash % count }
     ensures below { result < count }
 {
-    if count >> count.trailing_zeros() == 1 {
-        (hash & (count as u64 - 1)) as usize
+    let mask = count - 1;
+    if count & mask == 0 {
+        (hash & mask as u64) as usize
     } else {
         (hash - rounds(hash, count) * count as u64) as usize
     }
@@ -149,13 +150,22 @@ fn lowered(counts: u64, class: usize) -> u64
     }
 }
 
-// Whether a way of the class goes on past a group: no slot there is empty, and a pair of the class stands past it.
-#[inline(always)]
-pub(super) fn goes_on(seen: Probe, counts: u64, class: usize) -> bool
-    requires { class < 16 }
-    ensures { IsTrue result ↔ ((seen.empty ≡ 0) × (0 < count_of counts class)) }
+// Whether a pair of the hash's class stands past a group of these counts. Few groups are full, so it is seldom asked.
+#[cold]
+#[inline(never)]
+fn stands_past(counts: u64, hash: u64) -> bool
+    ensures { IsTrue result ↔ (0 < count_of counts (class_of hash)) }
 {
-    seen.empty == 0 && count_at(counts, class) != 0
+    count_at(counts, class(hash)) != 0
+}
+
+// Whether a hash's way goes on past a group: no slot there is empty, and a pair of its class stands past it.
+#[inline(always)]
+pub(super) fn goes_on(seen: Probe, counts: &[u64], group: usize, hash: u64) -> bool
+    requires { group < length counts.now }
+    ensures { IsTrue result ↔ ((seen.empty ≡ 0) × (0 < count_of (slice_index counts.now group) (class_of hash))) }
+{
+    seen.empty == 0 && stands_past(counts[group], hash)
 }
 
 // Counts a pair of a class at each group that its way goes past.

@@ -1,7 +1,6 @@
 use Rattle.std.proofs.Common.{◌≡◌, ℕ, ◌+◌, ◌-◌, ◌/◌, ◌%◌, ◌<◌, List, ap, sym, subst, refl, ◌∙◌, arith, slice_index}
 use Rattle.std.proofs.lemmas.Bool.{false≢true}
-use Rattle.std.proofs.lemmas.List.{get_or_default}
-use Rattle.dash_shard.specs.inner.Marks.{count_of, group_at, round}
+use Rattle.dash_shard.specs.inner.Marks.{class_of, count_of, group_at, round}
 use Rattle.dash_shard.specs.inner.Table.{groups_in}
 use Rattle.dash_shard.proofs.Searching.{IsRow, searching-first, searching-more, misses-seen, full-seen, absent-ends, absent-round}
 use Rattle.dash_shard.proofs.Ways.{mod_below}
@@ -25,9 +24,8 @@ returns-then-not-goes_on-clause-absent g c =
     let t = c.args.self.now in
     let row = subst (λ (l : List ℕ). IsRow l c.loop-step.group c.group_of.result.now) c.deref.ensures.value c.group_of.ensures in
     let missing = misses-seen g.K.PartialEq.eq t c.args.hash c.args.key.now c.requires c.loop-step.group _ _ _ row refl c.probe-seen.ensures.matches c.in_default.ensures.absent in
-    let here : c.index.result.now ≡ slice_index t.counts.items c.loop-step.group = c.index.ensures ∙ get_or_default t.counts.items c.loop-step.group c.index.result.now 0 c.loop-step.invariant.below in
-    absent-ends _ _ _ _ c.loop-step.step c.loop-step.group c.loop-step.invariant c.requires (omega (arith, c.loop-step-test.true, c.len-count.ensures)) missing _ _ c.class-class.result row c.probe-seen.ensures.empty c.probe-seen.ensures.fits.1 c.class-class.ensures.is
-    (λ on. false≢true (sym c.if-not-goes_on.true ∙ c.goes_on.ensures.1 (on.0, subst (λ x. 0 < count_of x c.class-class.result) (sym here) on.1)))
+    absent-ends _ _ _ _ c.loop-step.step c.loop-step.group c.loop-step.invariant c.requires (omega (arith, c.loop-step-test.true, c.len-count.ensures)) missing _ _ row c.probe-seen.ensures.empty c.probe-seen.ensures.fits.1
+    (λ on. false≢true (sym c.if-not-goes_on.true ∙ c.goes_on.ensures.1 (on.0, subst (λ (l : List ℕ). 0 < count_of (slice_index l c.loop-step.group) (class_of c.args.hash)) (sym c.deref-in-loop-step.ensures.value) on.1)))
 
 pub loop-step-preserved : goal.loop-step-preserved
 loop-step-preserved g c =
