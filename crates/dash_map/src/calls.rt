@@ -115,7 +115,7 @@ impl<K: Eq + Hash, V, S: BuildHasher> DashMap<K, V, S> {
     /// The pair whose key equals `key`, with a hold of its shard for reading. Waits until no writer has the shard.
     ///
     /// Till the reference is dropped, whoever wants to write the shard waits, this thread too. It takes no memory.
-    #[inline]
+    #[inline(always)]
     pub fn get<R: Wait + Clock>(&self, rt: &R, key: &K) -> Option<Ref<'_, K, V, S>>
         ensures saw { SawShard ⟦<Self as Keyed>⟧.by self.now key.now (λ s. RepliesOn K.eq s (Get key.now) (Pair (option_map pair_of result))) }
         ensures equal { IfSome result (λ found. IsTrue (K.eq found.key key.now)) }
@@ -207,7 +207,7 @@ impl<K: Eq + Hash, V, S: BuildHasher> DashMap<K, V, S> {
     }
 
     /// Whether there is a pair whose key equals `key`. Waits until no writer has the key's shard. It takes no memory.
-    #[inline]
+    #[inline(always)]
     pub fn contains_key<R: Wait + Clock>(&self, rt: &R, key: &K) -> bool
         ensures { SawShard ⟦<Self as Keyed>⟧.by self.now key.now (λ (s : ShardState K V S). RepliesOn K.eq s (Contains key.now) (Found result)) }
     {
