@@ -12,7 +12,7 @@ use std::alloc::{AllocError, Global};
 use std::hash::{BuildHasher, Hash};
 use std::mem;
 
-// A table of more groups than these, which no processor's own cache holds, grows by half or a third of them, where a smaller one doubles.
+// A full table of so many groups or more, which no processor's own cache holds, grows by half or a third of them, and a smaller one doubles.
 const LARGE: usize = 4_096;
 
 // The least power of two of groups that have room for so many pairs.
