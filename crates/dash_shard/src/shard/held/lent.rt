@@ -1,5 +1,5 @@
 //! A held shard's calls that lend a value for writing. No lock lends what it guards, so the hold takes the shard's table out first.
-ghost use Rattle.std.specs.Prelude.{◌≡◌, [], IsSome};
+ghost use Rattle.std.specs.Prelude.{◌≡◌, [], IsSome, true, false};
 ghost use Rattle.std.specs.Borrow.{Lends, LendsIf, sem};
 ghost use Rattle.std.specs.Map.Iter.{deref_pair_mut};
 ghost use Rattle.std.specs.Option.{option_map, option_copied_mut};
@@ -47,8 +47,41 @@ fn swap_tables<K: Eq + Hash, V, S: BuildHasher>(
     )
 }
 
-// Moves the shard's table to the hold, to be lent from, or back behind the lock, if it isn't there.
-#[inline]
+// Moves the shard's table to the hold, and leaves one with no slots behind the lock.
+#[inline(never)]
+fn take_table<K: Eq + Hash, V, S: BuildHasher>(
+    guard: &mut RwLockWriteGuard<'_, Shard<K, V, S>>,
+    table: &mut Table<K, V>,
+)
+    requires { IsHeld ⟦<Shard<K, V, S> as Keyed>⟧.by guard.old.value table.old false }
+    ensures tag { guard.new.tag ≡ guard.old.tag }
+    ensures value { held_state guard.new.value table.new true ≡ held_state guard.old.value table.old false }
+    ensures held { IsHeld ⟦<Shard<K, V, S> as Keyed>⟧.by guard.new.value table.new true }
+{
+    let blank = Table::new(table.allocator());
+    let theirs = swap_tables(guard, blank);
+    mem::replace(table, theirs).end_blank();
+}
+
+// Moves it back behind the lock, and leaves one with no slots in the hold.
+#[inline(never)]
+fn put_table_back<K: Eq + Hash, V, S: BuildHasher>(
+    guard: &mut RwLockWriteGuard<'_, Shard<K, V, S>>,
+    table: &mut Table<K, V>,
+)
+    requires { IsHeld ⟦<Shard<K, V, S> as Keyed>⟧.by guard.old.value table.old true }
+    ensures tag { guard.new.tag ≡ guard.old.tag }
+    ensures value { held_state guard.new.value table.new false ≡ held_state guard.old.value table.old true }
+    ensures held { IsHeld ⟦<Shard<K, V, S> as Keyed>⟧.by guard.new.value table.new false }
+{
+    let blank = Table::new(table.allocator());
+    let mine = mem::replace(table, blank);
+    swap_tables(guard, mine).end_blank();
+}
+
+// Moves the shard's table to the hold, to be lent from, or back behind the lock, if it isn't there. Most holds lend nothing, so that both ways
+// stand apart.
+#[inline(always)]
 pub(super) fn move_table<K: Eq + Hash, V, S: BuildHasher>(
     guard: &mut RwLockWriteGuard<'_, Shard<K, V, S>>,
     table: &mut Table<K, V>,
@@ -63,13 +96,10 @@ pub(super) fn move_table<K: Eq + Hash, V, S: BuildHasher>(
     if is_lent == lend {
         return;
     }
-    let blank = Table::new(table.allocator());
     if lend {
-        let theirs = swap_tables(guard, blank);
-        mem::replace(table, theirs).end_blank();
+        take_table(guard, table);
     } else {
-        let mine = mem::replace(table, blank);
-        swap_tables(guard, mine).end_blank();
+        put_table_back(guard, table);
     }
 }
 
