@@ -139,6 +139,3 @@ module _ {K V : Type 0} where
               len = longer ∙ omega (arith, c.len, ap length e);
               table = lawful;
             }
-
-  pub once-self : (ps : List (K × V)) (w : Keys K) → Distinct w.eq ps → EachOnce w.eq ps ps
-  once-self ps w d = record { distinct = d; same = λ k. refl }

@@ -25,12 +25,6 @@ count-some c n is some = elim (cases_lt c 15) as (λ _. 0 < c) [
   | inr ge ↦ omega (arith, ge)
 ]
 
-pub raised-none : (c k new : ℕ) → IsRaised c k new → new ≡ 0 → c ≡ 0
-raised-none c k new r none = elim (cases_lt (c + k) 15) as (λ _. c ≡ 0) [
-  | inl lt ↦ let now = r.0 lt in omega (arith, now, none)
-  | inr ge ↦ absurd (let now = r.1 ge in omega (arith, now, none))
-]
-
 pub raised-some : (c k new : ℕ) → IsRaised c k new → 0 < new → c ≡ 0 → 0 < k
 raised-some c k new r some none = elim (cases_lt (c + k) 15) as (λ _. 0 < k) [
   | inl lt ↦ let now = r.0 lt in omega (arith, now, none, some)

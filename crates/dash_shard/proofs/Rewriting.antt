@@ -1,8 +1,8 @@
 -- A table with another pair in a taken slot, and the shard that has it.
-use Rattle.std.proofs.Common.{◌≡◌, ℕ, ◌<◌, ◌==◌, Bool, true, List, length, set, Option, Some, None, is_some, IsTrue, refl, sym, ap, subst, ◌∙◌, inl, inr, eq-eqb, get_or-set_same, get_or-set_other}
+use Rattle.std.proofs.Common.{◌≡◌, ℕ, ◌<◌, Bool, true, List, length, set, Option, Some, None, is_some, IsTrue, refl, sym, ap, subst, ◌∙◌, inl, inr, get_or-set_same}
 use Rattle.std.specs.Prelude.{if◌then◌else◌}
 use Rattle.std.specs.Option.{option_map, IsSomeAnd}
-use Rattle.std.proofs.lemmas.Bool.{cases_Bool, cases_eq, ne_eqb}
+use Rattle.std.proofs.lemmas.Bool.{cases_Bool, cases_eq}
 use Rattle.std.proofs.lemmas.Option.{none-some, same_Some}
 use Rattle.std.proofs.Math.ListN.{length-set}
 use Rattle.dash_shard.specs.declared.shard.table.Table.{Table}
@@ -104,12 +104,6 @@ module _ {K V S : Type 0} (h : KeyHash K S)
         (hashed-replace hash spots _ i found.pair q within found.is ((law.respects s found.pair.0 k found.equal ∙ sym (law.respects s q.0 k equal))) inside.hashed));
     counted = r.len ∙ inside.counted ∙ sym rewritten-len;
   }
-
-  pub rewritten-slot : (j : ℕ) → slot (pairs_in new) j ≡ (if j == i then Some q else slot spots j)
-  rewritten-slot j = ap (λ xs. slot xs j) r.pairs ∙ elim (cases_eq j i) as (λ _. slot (set spots i (Some q)) j ≡ (if j == i then Some q else slot spots j)) [
-    | inl same ↦ rw (eq-eqb j i same) (subst (λ m. slot (set spots i (Some q)) m ≡ Some q) (sym same) (get_or-set_same spots i (Some q) None within))
-    | inr other ↦ rw (ne_eqb j i other) (get_or-set_other spots i j (Some q) None other)
-  ]
 
   pub rewritten-at : (j : K) → at w.eq (pairs after_it) j ≡ (if h.eq k j then Some q else at w.eq (pairs before) j)
   rewritten-at j = ap (λ xs. at w.eq (taken xs) j) r.pairs ∙ at-written w law.laws spots k i (Some q) within was-equal now-equal alone j

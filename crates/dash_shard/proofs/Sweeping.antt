@@ -1,5 +1,5 @@
 -- A walk over all slots of a table, which calls a closure at the pair of each.
-use Rattle.std.proofs.Common.{◌≡◌, ℕ, suc, ◌+◌, ◌<◌, Bool, true, false, List, map, [], ◌∷◌, ◌++◌, length, set, Option, Some, None, IfSome, IsSome, is_some, refl, sym, ap, subst, ◌∙◌, arith, append_assoc, append-nil}
+use Rattle.std.proofs.Common.{◌≡◌, ℕ, suc, ◌+◌, ◌<◌, Bool, true, false, List, map, [], ◌∷◌, ◌++◌, length, set, Option, Some, None, IfSome, IsSome, refl, sym, ap, subst, ◌∙◌, arith, append_assoc, append-nil}
 use Rattle.std.proofs.Math.ListN.{take, drop}
 use Rattle.std.proofs.Math.Seq.{drop-cons, drop-length, take-length}
 use Rattle.std.proofs.lemmas.Bool.{true≢false}
@@ -84,13 +84,6 @@ module _ {F K V : Type 0} (T : F → K → V → Bool → V → F → Type 0) (f
       from : (o n : Option (K × V)) → Asks T f o b n f' → Visits T if_kept f o None f'
       from None n x = absurd (true≢false (sym x.0 ∙ said))
       from (Some p) n x = (false, x.0, subst (λ c. T f p.0 p.1 c x.0 f') said x.1, refl)
-
-  pub asked-some : b ≡ false → IsSome (slot ys i)
-  asked-some said = from (slot xs i) (slot ys i) a
-    where
-      from : (o n : Option (K × V)) → Asks T f o b n f' → IsSome n
-      from None n x = absurd (true≢false (sym x.0 ∙ said))
-      from (Some p) n x = ap is_some x.2
 
   -- the key stays, and so does its hash beside it
   pub asked-hashed : (hash : K → ℕ) (hs : List ℕ) → i < length xs → IsHashed hash xs hs → IsHashed hash ys hs

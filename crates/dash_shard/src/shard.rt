@@ -204,7 +204,7 @@ impl<K: Eq + Hash, V, S: BuildHasher> Shard<K, V, S> {
             return Ok(Some(self.table.replace(slot, value)));
         }
         if self.table.len() < self.table.capacity() {
-            self.table.fill(place.free, hash, key, value);
+            self.table.fill(place.free, place.steps, hash, key, value);
             return Ok(None);
         }
         let Ok(()) = self.table.grow(&self.hasher) else {

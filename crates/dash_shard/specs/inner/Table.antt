@@ -1,5 +1,5 @@
 -- An open table of pairs: slots in groups of sixteen, found by their marks.
-use Rattle.std.specs.Prelude.{ℕ, ◌≡◌, ◌+◌, ◌*◌, ◌/◌, ◌<◌, ◌≤◌, true, false, Bool, List, [], length, slice_index, slice_set, Option, Some, None, IsSome, if◌then◌else◌}
+use Rattle.std.specs.Prelude.{ℕ, ◌≡◌, ◌+◌, ◌*◌, ◌/◌, ◌%◌, ◌<◌, ◌≤◌, true, false, Bool, List, [], length, slice_index, slice_set, Option, Some, None, IsSome, if◌then◌else◌}
 use Rattle.std.specs.Borrow.{Bor}
 use Rattle.std.specs.Cmp.{IsEquivalence}
 use Rattle.std.specs.Int.{bit_at}
@@ -8,7 +8,7 @@ use Rattle.dash_slots.specs.Slots.{SlotsState}
 use Rattle.dash_shard.specs.Hashing.{KeyHash}
 use Rattle.dash_shard.specs.Contents.{Keys, Distinct, EachOnce}
 use Rattle.dash_shard.specs.Shard.{ShardState, IsShard, shard_len, slot, taken}
-use Rattle.dash_shard.specs.inner.Marks.{IsMarked, IsPlace}
+use Rattle.dash_shard.specs.inner.Marks.{step_to, IsFull, IsMarked, IsPlace}
 use Rattle.dash_shard.specs.declared.shard.table.Table.{Table}
 
 -- how many pairs there may be in n slots: seven in eight
@@ -53,6 +53,10 @@ module _ {K V : Type 0} where
   abbrev pub IsSpot : Table K V → ℕ → ℕ → Type 0
   IsSpot t hash i = IsPlace (groups_in t) hash t.tags.items (pairs_in t) i
 
+  -- how many groups after the first of the hash's way the slot i stands
+  abbrev pub steps_in : Table K V → ℕ → ℕ → ℕ
+  steps_in t hash i = step_to (groups_in t) (hash % groups_in t) (i / 16)
+
   -- the table with another value in the pair of the slot i
   abbrev pub with_value_at : Table K V → ℕ → V → Table K V
   with_value_at t i w = record t { slots = record t.slots { values = slice_set (pairs_in t) i (option_map (λ p. (p.0, w)) (slot (pairs_in t) i)) } }
@@ -75,6 +79,13 @@ module _ {K V : Type 0} where
   -- none of their pairs has an equal key
   abbrev pub MissesLanes : (K → K → Bool) → List (Option (K × V)) → K → ℕ → ℕ → Type 0
   MissesLanes eq slots k start mask = (j : ℕ) (p : K × V) → j < 16 → bit_at mask j ≡ 1 → slot slots (start + j) ≡ Some p → eq p.0 k ≡ false
+
+  -- the group g is the first on the way of this hash: it has no empty slot, and no pair of the hash whose key is equal
+  pub record PassesFirst (eq : K → K → Bool) (t : Table K V) (hash : ℕ) (k : K) (g : ℕ) : Type 0 where
+    pub within : g < groups_in t
+    pub first : g ≡ hash % groups_in t
+    pub full : IsFull t.tags.items g
+    pub missed : (j : ℕ) (p : K × V) → j < 16 → slot (pairs_in t) (16 * g + j) ≡ Some p → slice_index (hashes_in t) (16 * g + j) ≡ hash → eq p.0 k ≡ false
 
   -- the taken slot i has the pair q, whose key has the same hash
   pub record IsRewritten (i : ℕ) (q : K × V) (old new : Table K V) : Type 0 where

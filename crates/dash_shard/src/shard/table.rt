@@ -1,6 +1,6 @@
 //! A table of pairs, found by the tags of their hashes, sixteen at a time.
-ghost use Rattle.std.specs.Prelude.{ℕ, ◌≡◌, ◌+◌, ◌-◌, ◌*◌, ◌/◌, ◌^◌, ◌<◌, ◌≤◌, ◌++◌, IfSome, IfNone, IsOk, IfOk, OnOk, OnErr, IsSome, length, [], vec_len, vec_capacity, slice_set, slice_index, replicate};
-ghost use Rattle.dash_shard.specs.inner.Table.{IsTable, IsHashed, Holds, IsAbsent, AreTaken, MissesLanes, limit, slots_in, groups_in, pairs_in, hashes_in};
+ghost use Rattle.std.specs.Prelude.{ℕ, ◌≡◌, ◌+◌, ◌-◌, ◌*◌, ◌/◌, ◌^◌, ◌<◌, ◌≤◌, ◌++◌, IfSome, IfNone, IsOk, IfOk, IfErr, OnOk, OnErr, IsSome, length, [], vec_len, vec_capacity, slice_set, slice_index, replicate};
+ghost use Rattle.dash_shard.specs.inner.Table.{IsTable, IsHashed, Holds, IsAbsent, AreTaken, MissesLanes, PassesFirst, limit, slots_in, groups_in, pairs_in, hashes_in};
 ghost use Rattle.dash_shard.specs.inner.Marks.{group_at};
 ghost use Rattle.dash_shard.specs.Hashing.{hash_of};
 ghost use Rattle.dash_shard.specs.Shard.{slot, IsNextTaken};
@@ -11,7 +11,7 @@ ghost use Rattle.std.specs.Map.Iter.{deref_pair};
 
 use crate::shard::group::probe;
 use dash_slots::Slots;
-use marks::{EMPTY, goes_on, group_of, home, lowest, next_group, without};
+use marks::{EMPTY, class, count_at, group_of, home, lowest, next_group, steps_to, tag, without};
 use std::alloc::Global;
 use std::hash::{BuildHasher, Hash};
 use std::mem;
@@ -103,9 +103,10 @@ impl<K, V> Table<K, V> {
     /// How many pairs there may be before the table takes memory: seven of each eight slots.
     #[inline]
     pub fn capacity(&self) -> usize
+        requires { IsTable self.now }
         ensures { result ≡ limit (slots_in self.now) }
     {
-        self.slots.len() / 8 * 7
+        14 * self.counts.len()
     }
 
     /// How many groups of slots there are.
@@ -134,29 +135,62 @@ impl<K, V> Table<K, V> {
                 visits: 0,
             };
         }
-        let tag = (hash >> 57) as u8;
-        let mut group = home(hash, count);
-        for step in 0..count {
-            let visits = step + 1;
-            let seen = probe(group_of(&self.tags, group), tag);
-            if let Some(position) = find_in(&self.slots, 16 * group, seen.matches, key) {
-                return Search {
-                    position: Some(position),
-                    visits,
-                };
-            }
-            if !goes_on(seen, &self.counts, group, hash) {
-                return Search {
-                    position: None,
-                    visits,
-                };
+        let first = home(hash, count);
+        let seen = probe(group_of(&self.tags, first), tag(hash));
+        if let Some(position) = find_in(&self.slots, 16 * first, seen.matches, key) {
+            return Search {
+                position: Some(position),
+                visits: 1,
+            };
+        }
+        if seen.empty != 0 {
+            return Search {
+                position: None,
+                visits: 1,
+            };
+        }
+        match self.search_past(hash, key, first) {
+            Ok(position) => Search {
+                position: Some(position),
+                visits: steps_to(first, position / 16, count) + 1,
+            },
+            Err(visits) => Search {
+                position: None,
+                visits,
+            },
+        }
+    }
+
+    // Where a search past the first group of the way finds the pair, or else how many groups it looked at with the first. Few groups are
+    // full, so it is seldom called. What it answers fits registers, and costs no caller anything that doesn't call it.
+    #[cold]
+    #[inline(never)]
+    fn search_past(&self, hash: u64, key: &K, first: usize) -> Result<usize, usize>
+    where
+        K: Eq,
+        requires table { IsTable self.now }
+        requires passes { PassesFirst K.eq self.now hash key.now first }
+        ensures found { IfOk result (Holds K.eq (pairs_in self.now) key.now) }
+        ensures absent { OnErr result (IsAbsent K.eq self.now hash key.now) }
+        ensures visits { IfErr result (λ visits. (visits ≤ groups_in self.now) × (0 < visits)) }
+    {
+        let count = self.counts.len();
+        let (tag, class) = (tag(hash), class(hash));
+        let mut group = first;
+        for visits in 1..count {
+            if count_at(self.counts[group], class) == 0 {
+                return Err(visits);
             }
             group = next_group(group, count);
+            let seen = probe(group_of(&self.tags, group), tag);
+            if let Some(position) = find_in(&self.slots, 16 * group, seen.matches, key) {
+                return Ok(position);
+            }
+            if seen.empty != 0 {
+                return Err(visits + 1);
+            }
         }
-        Search {
-            position: None,
-            visits: count,
-        }
+        Err(count)
     }
 
     /// The slot of the pair of this hash whose key is equal.

@@ -1,9 +1,7 @@
 //! The marks of a table: a tag for each slot, in groups of sixteen, and for each group how many pairs of each class stand past it on their ways.
 ghost use Rattle.std.specs.Prelude.{◌≡◌, ◌⊎◌, ℕ, ◌+◌, ◌*◌, ◌/◌, ◌%◌, ◌-◌, ◌^◌, ◌<◌, ◌≤◌, ◌↔◌, IsTrue, length, slice_index};
 ghost use Rattle.std.specs.Int.{bit_at};
-ghost use Rattle.dash_shard.specs.inner.Marks.{round, step_to, goes_past, class_of, count_of, IsRaised, IsLowered, OthersStay, CountsPast, UncountsPast, IsClean, KeepsTags};
-
-use crate::shard::lanes::Probe;
+ghost use Rattle.dash_shard.specs.inner.Marks.{round, step_to, goes_past, tag_of, class_of, count_of, IsRaised, IsLowered, OthersStay, CountsPast, UncountsPast, IsClean, KeepsTags};
 
 // What stands for a tag where a slot is empty, and where its pair was removed from a group that pairs stand past.
 pub(super) const EMPTY: u8 = 128;
@@ -102,6 +100,15 @@ pub(super) fn steps_to(home: usize, group: usize, count: usize) -> usize
     }
 }
 
+// The tag of a hash, by its top seven bits.
+#[inline(always)]
+pub(super) fn tag(hash: u64) -> u8
+    ensures is { result ≡ tag_of hash }
+    ensures below { result < 128 }
+{
+    (hash >> 57) as u8
+}
+
 // The class of a hash, by bits that are not the tag's, and seldom the shard's or the home group's.
 #[inline(always)]
 pub(super) fn class(hash: u64) -> usize
@@ -113,7 +120,7 @@ pub(super) fn class(hash: u64) -> usize
 
 // Of the counts of a group, the one of a class.
 #[inline(always)]
-fn count_at(counts: u64, class: usize) -> u64
+pub(super) fn count_at(counts: u64, class: usize) -> u64
     requires { class < 16 }
     ensures { result ≡ count_of counts class }
 {
@@ -150,27 +157,10 @@ fn lowered(counts: u64, class: usize) -> u64
     }
 }
 
-// Whether a pair of the hash's class stands past a group of these counts. Few groups are full, so it is seldom asked.
+// Counts a pair of a class at each group that its way goes past.
 #[cold]
 #[inline(never)]
-fn stands_past(counts: u64, hash: u64) -> bool
-    ensures { IsTrue result ↔ (0 < count_of counts (class_of hash)) }
-{
-    count_at(counts, class(hash)) != 0
-}
-
-// Whether a hash's way goes on past a group: no slot there is empty, and a pair of its class stands past it.
-#[inline(always)]
-pub(super) fn goes_on(seen: Probe, counts: &[u64], group: usize, hash: u64) -> bool
-    requires { group < length counts.now }
-    ensures { IsTrue result ↔ ((seen.empty ≡ 0) × (0 < count_of (slice_index counts.now group) (class_of hash))) }
-{
-    seen.empty == 0 && stands_past(counts[group], hash)
-}
-
-// Counts a pair of a class at each group that its way goes past.
-#[inline]
-pub(super) fn count_past(counts: &mut [u64], home: usize, steps: usize, class: usize)
+fn count_past(counts: &mut [u64], home: usize, steps: usize, class: usize)
     requires home { home < length counts.old }
     requires steps { steps ≤ length counts.old }
     requires class { class < 16 }
@@ -182,6 +172,18 @@ pub(super) fn count_past(counts: &mut [u64], home: usize, steps: usize, class: u
     for _step in 0..steps {
         counts[group] = raised(counts[group], class);
         group = next_group(group, count);
+    }
+}
+
+// Counts a pair of a hash that stands so many groups after the first of its way at each group before its own. Most stand in the first.
+#[inline(always)]
+pub(super) fn count_way(counts: &mut [u64], hash: u64, steps: usize)
+    requires { steps < length counts.old }
+    ensures len { length counts.new ≡ length counts.old }
+    ensures counts { CountsPast (length counts.old) (hash % length counts.old) steps (class_of hash) counts.old counts.new }
+{
+    if steps != 0 {
+        count_past(counts, home(hash, counts.len()), steps, class(hash));
     }
 }
 

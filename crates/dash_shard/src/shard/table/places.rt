@@ -1,21 +1,23 @@
 //! The places of a table: which one a pair is put on, and what is left where one goes.
-ghost use Rattle.std.specs.Prelude.{ℕ, ◌≡◌, ◌+◌, ◌*◌, ◌/◌, ◌^◌, ◌<◌, ◌≤◌, Some, None, IfSome, IfNone, IsSome, length, slice_set, slice_index};
+ghost use Rattle.std.specs.Prelude.{ℕ, ◌≡◌, ◌+◌, ◌*◌, ◌/◌, ◌^◌, ◌<◌, ◌≤◌, Some, None, IfSome, IfNone, IfOk, IfErr, OnErr, IsSome, length, slice_set, slice_index};
 ghost use Rattle.dash_shard.specs.inner.Marks.{IsFull};
-ghost use Rattle.dash_shard.specs.inner.Table.{IsTable, IsSpot, Holds, IsAbsent, limit, slots_in, pairs_in, hashes_in};
+ghost use Rattle.dash_shard.specs.inner.Table.{IsTable, IsSpot, Holds, IsAbsent, PassesFirst, limit, slots_in, groups_in, pairs_in, hashes_in, steps_in};
 ghost use Rattle.dash_shard.specs.Shard.{slot};
 
 use super::marks::{
-    EMPTY, REMOVED, class, count_past, group_of, home, lowest, next_group, steps_to, uncount_past,
+    EMPTY, REMOVED, class, count_at, count_way, group_of, home, lowest, next_group, steps_to, tag,
+    uncount_past,
 };
 use super::{Table, find_in};
 use crate::shard::group::probe;
 use crate::shard::lanes::free_lanes;
 
-// Where a key's pair stands, or else a place for it where there is room.
+// Where a key's pair stands, or else a place for it where there is room, so many groups after the first of its way.
 #[derive(Clone, Copy)]
 pub struct Place {
     pub position: Option<usize>,
     pub free: usize,
+    pub steps: usize,
 }
 
 // The place that was found before, or else the first free lane of a group.
@@ -62,41 +64,104 @@ impl<K, V> Table<K, V> {
         ensures found { IfSome result.position (Holds K.eq (pairs_in self.now) key.now) }
         ensures absent { IfNone result.position (IsAbsent K.eq self.now hash key.now) }
         ensures free { IfNone result.position (self.now.len < limit (slots_in self.now) → IsSpot self.now hash result.free) }
+        ensures steps { IfNone result.position (result.steps ≡ steps_in self.now hash result.free) }
     {
         let count = self.counts.len();
         if count == 0 {
             return Place {
                 position: None,
                 free: 0,
+                steps: 0,
             };
         }
-        let tag = (hash >> 57) as u8;
-        let mut group = home(hash, count);
-        let mut free = None;
-        for _step in 0..count {
+        let first = home(hash, count);
+        let seen = probe(group_of(&self.tags, first), tag(hash));
+        if let Some(position) = find_in(&self.slots, 16 * first, seen.matches, key) {
+            return Place {
+                position: Some(position),
+                free: 0,
+                steps: 0,
+            };
+        }
+        if seen.empty != 0 {
+            return Place {
+                position: None,
+                free: 16 * first + lowest(seen.empty),
+                steps: 0,
+            };
+        }
+        match self.place_past(hash, key, first) {
+            Ok(position) => Place {
+                position: Some(position),
+                free: 0,
+                steps: 0,
+            },
+            Err(free) => Place {
+                position: None,
+                free,
+                steps: steps_to(first, free / 16, count),
+            },
+        }
+    }
+
+    // Where a pass beyond the first group of the way finds the pair, or else a place for it where there is room.
+    #[cold]
+    #[inline(never)]
+    fn place_past(&self, hash: u64, key: &K, first: usize) -> Result<usize, usize>
+    where
+        K: Eq,
+        requires table { IsTable self.now }
+        requires passes { PassesFirst K.eq self.now hash key.now first }
+        ensures found { IfOk result (Holds K.eq (pairs_in self.now) key.now) }
+        ensures absent { OnErr result (IsAbsent K.eq self.now hash key.now) }
+        ensures within { IfErr result (λ free. free / 16 < groups_in self.now) }
+        ensures free { IfErr result (λ free. self.now.len < limit (slots_in self.now) → IsSpot self.now hash free) }
+    {
+        let count = self.counts.len();
+        let (tag, class) = (tag(hash), class(hash));
+        let mut group = first;
+        let mut free = first_free(None, group_of(&self.tags, first), 16 * first);
+        for _visits in 1..count {
+            // With a place known it ends where a search does.
+            if free.is_some() && count_at(self.counts[group], class) == 0 {
+                break;
+            }
+            group = next_group(group, count);
             let row = group_of(&self.tags, group);
             let seen = probe(row, tag);
             if let Some(position) = find_in(&self.slots, 16 * group, seen.matches, key) {
-                return Place {
-                    position: Some(position),
-                    free: 0,
-                };
+                return Ok(position);
             }
             free = first_free(free, row, 16 * group);
             if seen.empty != 0 {
                 break;
             }
-            group = next_group(group, count);
         }
-        Place {
-            position: None,
-            free: free.unwrap_or(0),
-        }
+        Err(free.unwrap_or(0))
     }
 
-    // The first place on a hash's way where a pair of it may be put.
-    #[inline]
-    fn place_for(&self, hash: u64) -> usize
+    // The first place on a hash's way where a pair of it may be put, and how many groups after the first it stands.
+    #[inline(always)]
+    fn place_for(&self, hash: u64) -> (usize, usize)
+        requires table { IsTable self.now }
+        requires room { self.now.len < limit (slots_in self.now) }
+        ensures spot { IsSpot self.now hash result.0 }
+        ensures steps { result.1 ≡ steps_in self.now hash result.0 }
+    {
+        let count = self.counts.len();
+        let first = home(hash, count);
+        let free = free_lanes(group_of(&self.tags, first));
+        if free != 0 {
+            return (16 * first + lowest(free), 0);
+        }
+        let position = self.place_on_way(hash);
+        (position, steps_to(first, position / 16, count))
+    }
+
+    // The first place on a hash's way, from its first group on. Few first groups are full, so it is seldom called.
+    #[cold]
+    #[inline(never)]
+    fn place_on_way(&self, hash: u64) -> usize
         requires table { IsTable self.now }
         requires room { self.now.len < limit (slots_in self.now) }
         ensures { IsSpot self.now hash result }
@@ -113,23 +178,21 @@ impl<K, V> Table<K, V> {
         unreachable!()
     }
 
-    /// Puts a pair on a place where it may be put.
+    /// Puts a pair on a place where it may be put, so many groups after the first of its way.
     #[inline(always)]
-    pub fn fill(&mut self, position: usize, hash: u64, key: K, value: V)
+    pub fn fill(&mut self, position: usize, steps: usize, hash: u64, key: K, value: V)
         requires table { IsTable self.old }
         requires room { self.old.len < limit (slots_in self.old) }
         requires spot { IsSpot self.old hash position }
+        requires steps { steps ≡ steps_in self.old hash position }
         ensures pairs { pairs_in self.new ≡ slice_set (pairs_in self.old) position (Some (key, value)) }
         ensures hashes { hashes_in self.new ≡ slice_set (hashes_in self.old) position hash }
         ensures len { self.new.len ≡ self.old.len + 1 }
         ensures slots { slots_in self.new ≡ slots_in self.old }
         ensures table { IsTable self.new }
     {
-        let count = self.counts.len();
-        let home = home(hash, count);
-        let steps = steps_to(home, position / 16, count);
-        count_past(&mut self.counts, home, steps, class(hash));
-        self.tags[position] = (hash >> 57) as u8;
+        count_way(&mut self.counts, hash, steps);
+        self.tags[position] = tag(hash);
         self.slots.put(position, hash, (key, value));
         self.len += 1;
     }
@@ -147,8 +210,8 @@ impl<K, V> Table<K, V> {
         ensures slots { slots_in self.new ≡ slots_in self.old }
         ensures table { IsTable self.new }
     {
-        let position = self.place_for(hash);
-        self.fill(position, hash, key, value);
+        let (position, steps) = self.place_for(hash);
+        self.fill(position, steps, hash, key, value);
         position
     }
 

@@ -1,22 +1,32 @@
-use Rattle.std.proofs.Common.{◌≡◌, length, refl, ap, subst, ◌∙◌, arith}
+use Rattle.std.proofs.Common.{◌/◌, ◌%◌, ◌<◌, length, slice_set, refl, ap, subst, ◌∙◌, arith}
 use Rattle.dash_shard.specs.inner.Marks.{class_of, CountsPast}
 use Rattle.std.proofs.Math.ListN.{length-set}
 use Rattle.dash_shard.specs.inner.Table.{groups_in, pairs_in}
 use Rattle.dash_shard.proofs.Written.{written}
-use Rattle.dash_shard.proofs.Placing.{by-way, table-filled}
+use Rattle.dash_shard.proofs.Placing.{table-filled}
+use Rattle.dash_shard.proofs.Ways.{mod_below, step_below}
 use Rattle.dash_shard.proofs.shard.table.Table.fill.Goals as goal
+
+pub count_way-requires : goal.count_way-requires
+count_way-requires g c =
+    let t = c.args.self.now in
+    let wide = c.requires.table.marked.slots_len in
+    let within : c.args.position / 16 < groups_in t = omega (arith, c.requires.spot.within, wide) in
+    let below = step_below (groups_in t) (c.args.hash % groups_in t) (c.args.position / 16) (mod_below (groups_in t) c.args.hash (omega (arith, within))) within in
+    let same = ap length c.deref_mut.ensures.value in
+    omega (arith, below, c.requires.steps, same)
 
 pub returns-clause-table : goal.returns-clause-table
 returns-clause-table g c =
     let t = c.args.self.now in
     let i = c.args.position in
-    let long : c.len-count.result ≡ groups_in t = omega (arith, c.len-count.ensures, t.counts.ok.0) in
-    let now = c.count_past.new.counts in
-    let counts = written t.counts.len now _ (c.count_past.ensures.len ∙ c.deref_mut.ensures.len) in
-    table-filled t _ c.requires.table i now counts (c.count_past.ensures.len ∙ ap length c.deref_mut.ensures.value) (ap length c.put.ensures.values ∙ length-set (pairs_in t) i _)
+    let now = c.count_way.new.counts in
+    let counts = written t.counts.len now _ (c.count_way.ensures.len ∙ c.deref_mut.ensures.len) in
+    let counted = subst (λ l. CountsPast (length l) (c.args.hash % length l) c.args.steps (class_of c.args.hash) l now) c.deref_mut.ensures.value c.count_way.ensures.counts in
+    table-filled t _ c.requires.table i now counts (c.count_way.ensures.len ∙ ap length c.deref_mut.ensures.value) (ap length c.put.ensures.values ∙ length-set (pairs_in t) i _)
     c.args.hash (c.args.key, c.args.value) c.requires.room c.requires.spot c.ranges.hash.fits
-    (by-way (λ l a s. CountsPast (length l) a s (class_of c.args.hash) l now) c.args.hash i _ t.counts.items c.len-count.result c.home-home.result c.steps_to-steps.result c.deref_mut.ensures.value long c.home-home.ensures.is c.steps_to-steps.ensures.is (subst (λ d. CountsPast (length c.deref_mut.result.now) c.home-home.result c.steps_to-steps.result d c.deref_mut.result.now now) c.class.ensures.is c.count_past.ensures.counts))
-    refl
+    (subst (λ s. CountsPast (groups_in t) (c.args.hash % groups_in t) s (class_of c.args.hash) t.counts.items now) c.requires.steps counted)
+    (ap (λ m. slice_set t.tags.items i m) c.tag.ensures.is)
     c.put.ensures.values
     c.put.ensures.labels
     refl

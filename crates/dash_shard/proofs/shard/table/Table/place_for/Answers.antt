@@ -1,19 +1,20 @@
-use Rattle.std.proofs.Common.{◌≡◌, ℕ, ◌%◌, List, None, subst, ap, refl, ◌∙◌, arith}
+use Rattle.std.proofs.Common.{◌≡◌, ℕ, ◌+◌, ◌*◌, ◌%◌, ◌<◌, List, ap, refl, subst, ◌∙◌, arith}
 use Rattle.dash_shard.specs.inner.Table.{groups_in}
-use Rattle.dash_shard.proofs.Searching.{IsRow, placing-first, placing-now, placing-round}
+use Rattle.dash_shard.proofs.Searching.{IsRow, at-first, no-steps, placing-first, spot-here}
 use Rattle.dash_shard.proofs.shard.table.Table.place_for.Goals as goal
 
-pub loop-step-init : goal.loop-step-init
-loop-step-init g c =
-    let long : c.len-count.result ≡ groups_in c.args.self.now = omega (arith, c.len-count.ensures, c.args.self.now.counts.ok.0) in
-    placing-first c.args.self.now c.args.hash c.home-group.result (omega (arith, c.home-group.ensures.below, long)) (c.home-group.ensures.is ∙ ap (λ n. c.args.hash % n) long)
+pub returns-then-free-ne0-clause-spot : goal.returns-then-free-ne0-clause-spot
+returns-then-free-ne0-clause-spot g c =
+    let t = c.args.self.now in
+    let long : c.len-count.result ≡ groups_in t = omega (arith, c.len-count.ensures, t.counts.ok.0) in
+    let some : 0 < groups_in t = omega (arith, c.home-first.ensures.below, long) in
+    let at = at-first t c.args.hash c.home-first.result some (c.home-first.ensures.is ∙ ap (λ n. c.args.hash % n) long) in
+    let row = subst (λ (l : List ℕ). IsRow l c.home-first.result c.group_of.result.now) c.deref.ensures.value c.group_of.ensures in
+    let lane = ((c.free_lanes-free.ensures c.lowest.result).0 c.lowest.ensures.set).1 in
+    spot-here t c.args.hash 0 c.home-first.result _ at row c.requires.table some (placing-first _ _) (16 * c.home-first.result + c.lowest.result) c.lowest.result c.lowest.ensures.bound refl lane
 
-pub returns-in-Some : goal.returns-in-Some
-returns-in-Some g c =
-    let f = c.first_free-free.ensures in
-    let row = subst (λ (l : List ℕ). IsRow l c.loop-step.group c.group_of.result.now) c.deref.ensures.value c.group_of.ensures in
-    (placing-now c.args.self.now c.args.hash c.requires.table c.loop-step._step c.loop-step.group _ (omega (arith, c.loop-step-test.true, c.len-count.ensures, c.args.self.now.counts.ok.0)) row None c.first_free-free.result (f.kept, f.found, f.none) c.loop-step.invariant).0 c.in-Some.position c.in-Some.is
-
-pub unreachable-requires : goal.unreachable-requires
-unreachable-requires g c =
-    placing-round c.args.self.now c.args.hash c.requires.table c.loop-step._step c.loop-step.group None (omega (arith, c.loop-step-test.false, c.len-count.ensures, c.args.self.now.counts.ok.0)) c.requires.room c.loop-step.invariant refl
+pub returns-then-free-ne0-clause-steps : goal.returns-then-free-ne0-clause-steps
+returns-then-free-ne0-clause-steps g c =
+    let t = c.args.self.now in
+    let long : c.len-count.result ≡ groups_in t = omega (arith, c.len-count.ensures, t.counts.ok.0) in
+    no-steps t c.args.hash c.home-first.result _ (c.home-first.ensures.is ∙ ap (λ n. c.args.hash % n) long) (omega (arith, c.lowest.ensures.bound))
