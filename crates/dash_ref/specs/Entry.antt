@@ -1,5 +1,7 @@
 -- What contracts see of entries of a held shard.
-use Rattle.std.specs.Prelude.{◌≡◌, ◌<◌, Bool, Some, None, IsTrue, IsSomeAnd}
+use Rattle.std.specs.Prelude.{◌≡◌, ◌<◌, Bool, Some, None, IsTrue, IfSome, IsSomeAnd}
+use Rattle.std.specs.Borrow.{MutBor}
+use Rattle.std.specs.Fn.{Once, FnOnceTakesAtMut}
 use Rattle.dash_shard.specs.Contents.{at, EachOnce}
 use Rattle.dash_shard.specs.Steps.{Insert, Old}
 use Rattle.dash_shard.specs.Shard.{ShardState, HasKey, SameShard, TakesInPlace, pairs, shard_len}
@@ -19,6 +21,10 @@ module _ {K V S : Type 0} where
   -- with another value under the stored key; all other pairs stay
   abbrev pub revalued : OccupiedState K V S → V → OccupiedState K V S
   revalued o v = record o { pair = rewritten o.pair v }
+
+  -- f may be called at the stored value
+  abbrev pub MayModify : {F R : Type 0} → Once F (MutBor V × Unit {0}) R → F → OccupiedState K V S → Type 0
+  MayModify g f o = IfSome (stored o.pair) (λ p. FnOnceTakesAtMut g f p.1)
 
   -- the stored value is now one that `change` makes of it, and nothing else changed
   abbrev pub Modified : (V → V → Type 0) → OccupiedState K V S → OccupiedState K V S → Type 0

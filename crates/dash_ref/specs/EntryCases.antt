@@ -1,6 +1,7 @@
 -- What is known of an entry, by its case.
 use Rattle.std.specs.Prelude.{◌≡◌, ◌≤◌, Bool, None, Result, Ok, Err}
 use Rattle.dash_shard.specs.Contents.{at}
+use Rattle.dash_shard.specs.Left.{LeftBehind}
 use Rattle.dash_shard.specs.Shard.{ShardState, pairs, shard_len}
 use Rattle.dash_ref.specs.Entry.{OccupiedState, VacantState, OccupiedOf, VacantOf}
 use Rattle.dash_ref.specs.declared.mapref.entry.EntryRefused.{EntryRefused}
@@ -24,7 +25,7 @@ module _ {K V S H : Type 0} where
   entry_shard (Vacant v) = v.shard
 
   -- the entry of a key in a shard: occupied exactly where a pair with an equal one is there; a refusal hands the key of a vacant one back,
-  -- and comes only for a full shard
+  -- comes only for a full shard, and leaves the shard as it was
   abbrev pub IsEntryOf : (K → K → Bool) → ShardState K V S → K → Result (Entry K V S H) (EntryRefused K) → Type 0
   IsEntryOf eq s key (Ok e) = MatchEntry e (OccupiedOf eq s key) (VacantOf eq s key)
-  IsEntryOf eq s key (Err r) = (r.key ≡ key) × (at eq (pairs s) key ≡ None) × (s.capacity ≤ shard_len s)
+  IsEntryOf eq s key (Err r) = (r.key ≡ key) × (at eq (pairs s) key ≡ None) × (s.capacity ≤ shard_len s) × LeftBehind s

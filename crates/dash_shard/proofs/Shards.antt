@@ -97,11 +97,13 @@ module _ {K V S : Type 0} (h : KeyHash K S)
 
   -- the same as contracts see it, where the state before is written z
   module _ (old new : Table K V) (k : K) (v : V) (o : Option V) (z : ShardState K V S) (view : state old ≡ z) (i : Inserted old new k v o) where
-    pub inserts : (shard_len z < z.capacity → limit (slots_in new) ≡ z.capacity) → Inserts h.eq z (state new) k v (Ok o)
+    pub inserts : limit (slots_in new) ≡ z.capacity → Inserts h.eq z (state new) k v (Ok o)
     inserts room = record {
       taken = subst (λ x. TakesStep h.eq x (state new) (Insert k v) (Old o)) view i.takes;
       len = subst (λ x. shard_len (state new) ≡ shard_len x + cond (is_some o) 0 1) view i.len;
-      room = room;
+      room = λ _. room;
+      over = λ _. room;
+      grows = omega (arith, room);
       slots = λ _. subst (λ x. StaysPut h.eq x (state new) (Insert k v)) view i.stays;
       refused = tt;
       absent = tt;
@@ -118,6 +120,8 @@ module _ {K V S : Type 0} (h : KeyHash K S)
         taken = tt;
         len = tt;
         room = λ _. ap (λ x. x.capacity) back;
+        over = λ _. ap (λ x. x.capacity) back;
+        grows = let same = ap (λ x. x.capacity) back in omega (arith, same);
         slots = tt;
         refused = (refl, refl, back);
         absent = subst (λ x. at h.eq (pairs x) k ≡ None) view none;

@@ -1,7 +1,8 @@
 -- A shard whose pairs were moved to other slots.
 use Rattle.std.proofs.Common.{◌≡◌, ℕ, ◌+◌, ◌<◌, ◌≤◌, length, set, Some, None, refl, sym, ap, ◌∙◌, subst, arith, Ok, Err}
-use Rattle.std.specs.Prelude.{Result, OnOk, OnErr}
+use Rattle.std.specs.Prelude.{IsSome, Result, OnOk, OnErr}
 use Rattle.std.specs.Option.{option_map}
+use Rattle.std.proofs.lemmas.Bool.{false≢true}
 use Rattle.dash_shard.specs.Contents.{at, EachOnce}
 use Rattle.dash_shard.specs.Steps.{Insert, Old}
 use Rattle.dash_shard.specs.inner.Steps.{after}
@@ -74,6 +75,12 @@ module _ {K V S : Type 0} (h : KeyHash K S)
       taken = pushed-takes;
       len = pushed.len ∙ ap (λ n. n + 1) moved-len;
       room = λ room. absurd (full (omega (arith, room, inside.counted)));
+      over = λ some. absurd (false≢true (subst IsSome none some));
+      grows =
+          let more = lawful.fits in
+          let was = moved.len in
+          let fits = inside.table.fits in
+          omega (arith, more, longer, was, full, fits);
       slots = λ same. absurd (
           let more = lawful.fits in
           let was = moved.len in

@@ -1,5 +1,5 @@
 -- What a shard's calls promise, and those of a held one, and those for a caller who has the key's hash.
-use Rattle.std.specs.Prelude.{◌≡◌, ℕ, ◌+◌, ◌<◌, ◌≤◌, ◌↔◌, Bool, Option, Some, None, IfSome, IsNone, Result, IfOk, OnOk, IfErr, OnErr, is_some, slice_set, if◌then◌else◌}
+use Rattle.std.specs.Prelude.{◌≡◌, ℕ, ◌+◌, ◌<◌, ◌≤◌, ◌↔◌, Bool, Option, Some, None, IsSome, IfSome, IsNone, Result, IfOk, OnOk, IfErr, OnErr, is_some, slice_set, if◌then◌else◌}
 use Rattle.dash_shard.specs.Hashing.{KeyHash}
 use Rattle.dash_shard.specs.Contents.{at, EachOnce}
 use Rattle.dash_shard.specs.Steps.{Insert, Old}
@@ -7,11 +7,13 @@ use Rattle.dash_shard.specs.Shard.{ShardState, slot, pairs, shard_len, HasKey, S
 use Rattle.dash_shard.specs.declared.shard.InsertRefused.{InsertRefused}
 use Rattle.dash_shard.specs.declared.shard.held.ShardTag.{ShardTag}
 
--- all that an insert promises: a refusal hands the pair back, and comes only for a new key in a full shard
+-- all that an insert promises: the room stays but for a new key in a full shard, and never falls; a refusal hands the pair back
 pub record Inserts {K V S : Type 0} (eq : K → K → Bool) (old new : ShardState K V S) (key : K) (value : V) (result : Result (Option V) (InsertRefused K V)) : Type 0 where
   pub taken : IfOk result (λ o. TakesStep eq old new (Insert key value) (Old o))
   pub len : IfOk result (λ o. shard_len new ≡ shard_len old + (if is_some o then 0 else 1))
   pub room : shard_len old < old.capacity → new.capacity ≡ old.capacity
+  pub over : IsSome (at eq (pairs old) key) → new.capacity ≡ old.capacity
+  pub grows : old.capacity ≤ new.capacity
   pub slots : OnOk result (new.capacity ≡ old.capacity → StaysPut eq old new (Insert key value))
   pub refused : IfErr result (λ e. (e.key ≡ key) × (e.value ≡ value) × (new ≡ old))
   pub absent : OnErr result (at eq (pairs old) key ≡ None)

@@ -6,6 +6,7 @@
 ghost use Rattle.std.specs.Prelude.{◌≡◌, IfOk, IfSome};
 ghost use Rattle.std.specs.Fn.{FnOnceReturnsAtMut, FnOnceTakesAtMut};
 ghost use Rattle.dash_shard.specs.Guarded.{KeepsFit};
+ghost use Rattle.dash_shard.specs.Left.{LeftBehind};
 ghost use Rattle.dash_shard.specs.inner.Holding.{lock_owns, lock_shares};
 
 use crossbeam_utils::Backoff;
@@ -75,6 +76,7 @@ impl<T: Tagged> RwLock<T> {
     pub fn new(value: T, tag: &T::Tag) -> RwLock<T>
         requires fits { T.fits tag.now value }
         ensures tag { result ≡ tag.now }
+        ensures left { LeftBehind value }
     {
         let _ = tag;
         RwLock { word: 0, value }
@@ -332,7 +334,9 @@ impl<T: Tagged> RwLockWriteGuard<'_, T> {
 
 impl<T: Tagged> Drop for RwLockWriteGuard<'_, T> {
     #[inline]
-    fn drop(self) {
+    fn drop(self)
+        ensures left { LeftBehind self.entry.value }
+    {
         let Self { hold } = self;
         hold.open();
     }

@@ -3,9 +3,10 @@ ghost use Rattle.std.specs.Prelude.{◌≡◌, IsOk, IfOk, IfErr, OnErr, MatchRe
 ghost use Rattle.std.specs.Option.{option_map};
 ghost use Rattle.std.specs.Fn.{FnOnceReturnsAtMut};
 ghost use Rattle.dash_ref.specs.RefMut.{rewritten, stored};
-ghost use Rattle.dash_ref.specs.Entry.{Modified, Puts, PutsCopy, revalued};
+ghost use Rattle.dash_ref.specs.Entry.{MayModify, Modified, Puts, PutsCopy, revalued};
 ghost use Rattle.dash_ref.specs.EntryCases.{MatchEntry, entry_key, entry_shard, IsEntryOf};
 ghost use Rattle.dash_shard.specs.Hashing.{by};
+ghost use Rattle.dash_shard.specs.Left.{LeftBehind};
 ghost use Rattle.dash_shard.specs.Shard.{Routes, IsShard};
 
 use crate::mapref::one::RefMut;
@@ -22,12 +23,23 @@ mod vacant;
 /// A key and a hold of its shard for writing, with the pair that stands there or with room for one, as the original's `Entry`.
 ///
 /// No call of it takes memory or waits, nor does the drop, which ends the hold.
-#[derive(Drop)]
 pub enum Entry<'a, K: Eq + Hash, V, S: BuildHasher> {
     /// A pair with an equal key stands there.
     Occupied(OccupiedEntry<'a, K, V, S>),
     /// There is none.
     Vacant(VacantEntry<'a, K, V, S>),
+}
+
+impl<K: Eq + Hash + Drop, V, S: BuildHasher> Drop for Entry<'_, K, V, S> {
+    #[inline]
+    fn drop(self)
+        ensures left { LeftBehind (entry_shard self.entry) }
+    {
+        match self {
+            Entry::Occupied(entry) => drop(entry),
+            Entry::Vacant(entry) => drop(entry),
+        }
+    }
 }
 
 /// No room for the pair of a vacant key (2), which comes back. The pairs are as they were, and the hold is over.
@@ -88,7 +100,7 @@ impl<'a, K: Eq + Hash + Drop, V: Drop, S: BuildHasher> Entry<'a, K, V, S> {
     /// Changes the stored value by `f`, where there is one.
     #[inline]
     pub fn and_modify<F: FnOnce(&mut V) + Drop>(self, f: F) -> Self
-        requires { F.IsAlwaysCallable f }
+        requires { MatchEntry self (λ o. MayModify F.FnOnce f o) (λ _. ⊤) }
         ensures { MatchEntry self.entry
             (λ o. MatchEntry result (Modified (λ v w. FnOnceReturnsAtMut F.FnOnce f v tt w) o) (λ _. ⊥))
             (λ v. MatchEntry result (λ _. ⊥) (λ w. w ≡ v)) }
@@ -116,7 +128,8 @@ impl<'a, K: Eq + Hash + Drop, V: Drop, S: BuildHasher> Entry<'a, K, V, S> {
     /// The key that was handed in.
     #[inline]
     pub fn into_key(self) -> K
-        ensures { result ≡ entry_key self.entry }
+        ensures key { result ≡ entry_key self.entry }
+        ensures left { LeftBehind (entry_shard self.entry) }
     {
         match self {
             Entry::Occupied(entry) => entry.into_key(),
@@ -169,7 +182,7 @@ impl<'a, K: Eq + Hash + Drop, V: Drop, S: BuildHasher> Entry<'a, K, V, S> {
         requires { MatchEntry self (λ _. ⊤) (λ _. F.pre value) }
         ensures { MatchEntry self.entry
             (λ o. IfOk result (λ r. r ≡ o.pair) × IsOk result)
-            (λ v. MatchResult result (λ r. (w : V) × F.post value (Ok w) × Puts K.eq v.shard v.key w r) (λ e. F.post value (Err e))) }
+            (λ v. MatchResult result (λ r. (w : V) × F.post value (Ok w) × Puts K.eq v.shard v.key w r) (λ e. F.post value (Err e) × LeftBehind v.shard)) }
     {
         match self {
             Entry::Occupied(entry) => Ok(entry.into_ref()),

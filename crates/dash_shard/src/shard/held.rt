@@ -8,6 +8,7 @@ ghost use Rattle.dash_shard.specs.Steps.{Get, Contains, Pair, Found, Remove, Rem
 ghost use Rattle.dash_shard.specs.Shard.{pairs, shard_len, Routes, IsShard, RepliesOn, TakesInPlace, TakesBy};
 ghost use Rattle.dash_shard.specs.Closures.{MayAsk, Viewed, MayChange, ChangesOn, MayGive, Answered, Given};
 ghost use Rattle.dash_shard.specs.Held.{FitsTag, Inserts, Reserves, Loses};
+ghost use Rattle.dash_shard.specs.Left.{LeftBehind};
 ghost use Rattle.dash_shard.specs.inner.Table.{IsInside, with_table};
 
 use crate::error::TryReserveError;
@@ -93,7 +94,9 @@ impl<K: Eq + Hash, V, S: BuildHasher> Keyed for ShardMut<'_, K, V, S> {
 
 impl<K: Eq + Hash, V, S: BuildHasher> Drop for ShardMut<'_, K, V, S> {
     #[inline]
-    fn drop(self) {
+    fn drop(self)
+        ensures left { LeftBehind self.entry }
+    {
         let Self {
             mut guard,
             mut table,

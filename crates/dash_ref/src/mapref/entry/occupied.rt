@@ -4,10 +4,11 @@ ghost use Rattle.std.specs.Option.{option_map};
 ghost use Rattle.std.specs.Borrow.{Lends, sem};
 ghost use Rattle.std.specs.Fn.{FnOnceReturnsAtMut};
 ghost use Rattle.dash_shard.specs.Held.{Replaces};
+ghost use Rattle.dash_shard.specs.Left.{LeftBehind, Leaves};
 ghost use Rattle.dash_shard.specs.Shard.{HasKey, TakesAt};
 ghost use Rattle.dash_shard.specs.Steps.{Remove, Pair};
 ghost use Rattle.dash_ref.specs.RefMut.{stored};
-ghost use Rattle.dash_ref.specs.Entry.{Modified, revalued};
+ghost use Rattle.dash_ref.specs.Entry.{MayModify, Modified, revalued};
 
 use crate::mapref::one::RefMut;
 use dash_shard::keyed::Lender;
@@ -51,7 +52,9 @@ impl<K: Eq + Hash, V, S: BuildHasher> Lender for OccupiedEntry<'_, K, V, S> {
 
 impl<K: Eq + Hash + Drop, V, S: BuildHasher> Drop for OccupiedEntry<'_, K, V, S> {
     #[inline]
-    fn drop(self) {
+    fn drop(self)
+        ensures left { LeftBehind self.entry.pair.shard }
+    {
         let Self {
             guard,
             loan,
@@ -119,7 +122,7 @@ impl<'a, K: Eq + Hash + Drop, V: Drop, S: BuildHasher> OccupiedEntry<'a, K, V, S
     // Changes the stored value by `f`.
     #[inline]
     pub(super) fn modify<F: FnOnce(&mut V)>(&mut self, f: F)
-        requires { F.IsAlwaysCallable f }
+        requires { MayModify F.FnOnce f self.old }
         ensures { Modified (λ v w. FnOnceReturnsAtMut F.FnOnce f v tt w) self.old self.new }
     {
         f(self.get_mut());
@@ -146,7 +149,8 @@ impl<'a, K: Eq + Hash + Drop, V: Drop, S: BuildHasher> OccupiedEntry<'a, K, V, S
     /// The key that was handed in.
     #[inline]
     pub fn into_key(self) -> K
-        ensures { result ≡ self.entry.key }
+        ensures key { result ≡ self.entry.key }
+        ensures left { LeftBehind self.entry.pair.shard }
     {
         self.into_parts().1
     }
@@ -162,7 +166,9 @@ impl<'a, K: Eq + Hash + Drop, V: Drop, S: BuildHasher> OccupiedEntry<'a, K, V, S
     /// Takes the stored pair out, and answers its value.
     #[inline]
     pub fn remove(self) -> V
-        ensures { option_map (λ p. p.1) (stored self.entry.pair) ≡ Some result }
+        ensures value { option_map (λ p. p.1) (stored self.entry.pair) ≡ Some result }
+        ensures removes { Leaves (λ s. (k : K)
+            × TakesAt K.eq self.entry.pair.shard s self.entry.pair.position Remove (Pair (Some (k, result)))) }
     {
         self.remove_entry().1
     }
@@ -170,7 +176,8 @@ impl<'a, K: Eq + Hash + Drop, V: Drop, S: BuildHasher> OccupiedEntry<'a, K, V, S
     /// Takes the stored pair out, and answers it.
     #[inline]
     pub fn remove_entry(self) -> (K, V)
-        ensures { stored self.entry.pair ≡ Some result }
+        ensures pair { stored self.entry.pair ≡ Some result }
+        ensures removes { Leaves (λ s. TakesAt K.eq self.entry.pair.shard s self.entry.pair.position Remove (Pair (Some result))) }
     {
         self.remove_held().0
     }
@@ -189,7 +196,7 @@ impl<'a, K: Eq + Hash + Drop, V: Drop, S: BuildHasher> OccupiedEntry<'a, K, V, S
     /// Stores the key that was handed in with the value, and answers the pair that stood there.
     #[inline]
     pub fn replace_entry(self, value: V) -> (K, V)
-        ensures { stored self.entry.pair ≡ Some result }
+        ensures { Leaves (λ s. Replaces K.eq self.entry.pair.shard s self.entry.pair.position self.entry.key value result) }
     {
         self.replace_held(value).0
     }

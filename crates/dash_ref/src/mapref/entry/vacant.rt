@@ -1,6 +1,7 @@
 //! A key that has no pair.
 ghost use Rattle.std.specs.Prelude.{◌≡◌, ◌<◌, None, IfOk, IfErr};
 ghost use Rattle.dash_shard.specs.Hashing.{by};
+ghost use Rattle.dash_shard.specs.Left.{LeftBehind};
 ghost use Rattle.dash_shard.specs.Contents.{at};
 ghost use Rattle.dash_shard.specs.Shard.{pairs, shard_len, Routes};
 ghost use Rattle.dash_ref.specs.Entry.{Puts, PutsCopy};
@@ -14,7 +15,6 @@ use std::hash::{BuildHasher, Hash};
 use std::marker::Model;
 
 /// A key, and a hold of its shard for writing, which has no pair with an equal key, and room for one: the original's `VacantEntry`.
-#[derive(Drop)]
 pub struct VacantEntry<'a, K: Eq + Hash, V, S: BuildHasher> {
     shard: ShardMut<'a, K, V, S>,
     key: K,
@@ -42,6 +42,20 @@ impl<K: Eq + Hash, V, S: BuildHasher> Keyed for VacantEntry<'_, K, V, S> {
     type State = S;
 
     ghost by = { by K.Hash S.BuildHasher S.Hasher.Hasher };
+}
+
+impl<K: Eq + Hash + Drop, V, S: BuildHasher> Drop for VacantEntry<'_, K, V, S> {
+    #[inline]
+    fn drop(self)
+        ensures left { LeftBehind self.entry.shard }
+    {
+        let Self {
+            shard,
+            key: _,
+            hash: _,
+        } = self;
+        drop(shard);
+    }
 }
 
 impl<'a, K: Eq + Hash + Drop, V: Drop, S: BuildHasher> VacantEntry<'a, K, V, S> {
@@ -99,7 +113,8 @@ impl<'a, K: Eq + Hash + Drop, V: Drop, S: BuildHasher> VacantEntry<'a, K, V, S> 
     /// The key that was handed in.
     #[inline]
     pub fn into_key(self) -> K
-        ensures { result ≡ self.entry.key }
+        ensures key { result ≡ self.entry.key }
+        ensures left { LeftBehind self.entry.shard }
     {
         let Self {
             shard: _,

@@ -1,10 +1,11 @@
 //! A reference to one pair that may be written.
-ghost use Rattle.std.specs.Prelude.{[], ◌≡◌, ◌↔◌, IsSome, IfSome, IsNone, Some, None, option_and_then};
+ghost use Rattle.std.specs.Prelude.{[], ◌≡◌, ◌↔◌, IsSome, IfSome, IfNone, IsNone, Some, None, option_and_then};
 ghost use Rattle.std.specs.Option.{option_map};
 ghost use Rattle.std.specs.Borrow.{Lends, sem};
 ghost use Rattle.std.specs.Map.Iter.{deref_pair, deref_pair_mut};
 ghost use Rattle.dash_shard.specs.Hashing.{by};
 ghost use Rattle.dash_shard.specs.Contents.{at};
+ghost use Rattle.dash_shard.specs.Left.{LeftBehind};
 ghost use Rattle.dash_shard.specs.Steps.{Get, Pair};
 ghost use Rattle.dash_shard.specs.Shard.{slot, pairs, HasKey, IsShard, RepliesOn};
 ghost use Rattle.dash_ref.specs.RefMut.{stored, rewritten};
@@ -67,7 +68,9 @@ impl<K: Eq + Hash, V, S: BuildHasher> Lender for RefMut<'_, K, V, S> {
 
 impl<K: Eq + Hash, V, S: BuildHasher> Drop for RefMut<'_, K, V, S> {
     #[inline]
-    fn drop(self) {
+    fn drop(self)
+        ensures left { LeftBehind self.entry.shard }
+    {
         let Self {
             guard,
             loan,
@@ -102,6 +105,7 @@ impl<'a, K: Eq + Hash, V, S: BuildHasher> RefMut<'a, K, V, S> {
         ensures absent { IsNone result ↔ (at K.eq (pairs shard.entry) key.now ≡ None) }
         ensures equal { IfSome result (λ r. HasKey K.eq r.shard key.now r.position) }
         ensures shard { IfSome result (λ r. r.shard ≡ shard.entry) }
+        ensures left { IfNone result (LeftBehind shard.entry) }
     {
         let position = shard.position_of_hashed(hash, key)?;
         Some(RefMut::new(shard, position))

@@ -2,6 +2,7 @@
 ghost use Rattle.std.specs.Prelude.{[], ◌≡◌, ◌↔◌, IsSome, Some, IfOk, IfErr, IsOk, option_and_then};
 ghost use Rattle.std.specs.Option.{option_map};
 ghost use Rattle.std.specs.Borrow.{Lends, sem};
+ghost use Rattle.dash_shard.specs.Left.{LeftBehind};
 ghost use Rattle.dash_ref.specs.RefMut.{stored, part_in, with_part};
 
 use super::RefMut;
@@ -52,7 +53,9 @@ impl<K: Eq + Hash, V, S: BuildHasher, P: Projection<V>> Lender for MappedRefMut<
 impl<K: Eq + Hash, V, S: BuildHasher, P: Projection<V> + Drop> Drop
     for MappedRefMut<'_, K, V, S, P> {
     #[inline]
-    fn drop(self) {
+    fn drop(self)
+        ensures left { LeftBehind self.entry.guard.shard }
+    {
         let Self {
             guard,
             loan,

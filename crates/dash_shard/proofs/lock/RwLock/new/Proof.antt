@@ -1,6 +1,7 @@
 -- `new` lays the word and the value side by side.
-use Rattle.dash_shard.proofs.Walking.{[], ◌++◌, ◌≡◌, ℕ, ◌^◌, ◌&&◌, T, true, List, ◌∷◌, sym, refl, subst, lit<, w64, and_tt, dcons, dnil, a_type, Val, vint, vptr, vstruct, vcons, vnil, has_ty, WT, inst_fn, emp, SProp, ent, id⊢, ftrue, fsep, fex, WpFn, ‵, raw, ◌⊛◌, ◌$◌, ◌∵◌, !, qed, by, move, keep, drop, split, fsplit, fjoin, fjoin3, fpack, use0, rewrite, feq_i, flt_i, suffices, lit, of_opd, no_more, and_then, returns, enter, alloc_all, pass_all, free_all, look_at, get, sets, agg, tables, fact, fact_i, yes, no, RattleType, Valss, owns, types_at, plain, nothing, heard, Typed, param, layout, bounded, RefOf, u64, alive, Stays, stay_dropped, walk_of, Goes-dropped, El, lawful, Good, one, proved_at, leaves}
+use Rattle.dash_shard.proofs.Walking.{[], ◌++◌, ◌≡◌, ℕ, ◌^◌, ◌&&◌, T, true, List, ◌∷◌, sym, refl, subst, lit<, w64, and_tt, dcons, dnil, a_type, Val, vint, vptr, vstruct, vcons, vnil, has_ty, WT, inst_fn, emp, SProp, ent, id⊢, ftrue, fsep, fex, WpFn, ‵, raw, ◌⊛◌, ◌$◌, ◌∵◌, !, qed, by, move, keep, drop, split, join, fsplit, fjoin, fjoin3, fpack, use0, rewrite, feq_i, flt_i, suffices, lit, of_opd, no_more, and_then, returns, enter, alloc_all, pass_all, free_all, look_at, get, sets, agg, tables, fact, fact_i, yes, no, RattleType, Valss, owns, types_at, plain, nothing, heard, Typed, param, layout, bounded, RefOf, u64, alive, Stays, stay_dropped, walk_of, Goes-dropped, El, lawful, Good, one, proved_at, leaves}
 use denote.Struct.Struct.{within}
+use Rattle.dash_shard.specs.Left.{LeftBehind, left}
 use Rattle.dash_shard.specs.contracts.lock.RwLock.TheInside as inside
 use Rattle.dash_shard.specs.contracts.lock.RwLock.new.{ended, clauses}
 use Rattle.dash_shard.specs.contracts.lock.RwLock.new.Key.{name as #self}
@@ -25,6 +26,6 @@ new_spec 𝓤 𝓛 𝓜 𝓡 wired X Y L _ g d _ =
     suffices ! (Run (vy ∷ at ∷ [])) (subst (λ (ws : List Val). ent 𝓤 (Run (vy ∷ at ∷ [])) (Run ws)) (sym (λ i. got.1 i ++ (are.1.0.0 i ++ []))) (id⊢ 𝓤 (Run (vy ∷ at ∷ [])))) $
     enter ! 𝓣.C 𝓣.Λ fn (vy ∷ at ∷ []) Post $ alloc_all ! (λ l. pass_all ! refl (fy, ((tt, tt), tt)) $ sets ! (of_opd ! (get ! refl)) refl fy $
     sets ! (agg ! (and_then ! (lit ! tt) (and_then ! (get ! refl) (no_more !)))) refl typed $
-    use0 𝓛 (raw (fact 𝓤 (tag ≡ tag))) (fact_i 𝓤 (tag ≡ tag) (emp 𝓤) refl) $ nothing ! $ nothing ! $ fjoin ! $ nothing ! $ fjoin ! $
+    use0 𝓛 (raw (fact 𝓤 (LeftBehind x))) (fact_i 𝓤 (LeftBehind x) (emp 𝓤) (left x)) $ use0 𝓛 (raw (fact 𝓤 (tag ≡ tag))) (fact_i 𝓤 (tag ≡ tag) (emp 𝓤) refl) $ join ! $ nothing ! $ nothing ! $ fjoin ! $ nothing ! $ fjoin ! $
     -- [the parameters; what is ensured; the lock; the tokens]
     returns ! (look_at ! 0 refl) $ free_all ! refl $ keep ! (3 ∷ 0 ∷ 2 ∷ 1 ∷ []) $ by ! (leaves 𝓛 En hs c z v tag (tt, (tt, tt)) (tt, (tt, tt))))))

@@ -20,7 +20,7 @@ returns-in-Some g c =
     let i = replaced _ (lawful-of g.S.BuildHasher g.S.Hasher.Hasher g.met.K.Eq.laws g.met.K.Hash.respects_eq) _ _ _ c.self.inside.table c.self.invariant _ _ c.self.view_is c.requires.route c.args.value c.replace.new.self _ found r.pairs r.hashes r.len r.table in
     let room = ap limit r.slots ∙ ap (λ s. s.capacity) c.self.view_is in
     record {
-      inserts = rw (r.old ∙ ap (λ o. option_map (λ p. p.1) o) found.is) (inserts _ (lawful-of g.S.BuildHasher g.S.Hasher.Hasher g.met.K.Eq.laws g.met.K.Hash.respects_eq) _ _ _ _ _ _ _ _ _ c.self.view_is i (λ _. room));
+      inserts = rw (r.old ∙ ap (λ o. option_map (λ p. p.1) o) found.is) (inserts _ (lawful-of g.S.BuildHasher g.S.Hasher.Hasher g.met.K.Eq.laws g.met.K.Hash.respects_eq) _ _ _ _ _ _ _ _ _ c.self.view_is i room);
       lawful = i.inside.shard;
     }
 
@@ -46,7 +46,7 @@ returns-then-len-capacity g c =
     let none = at-missing _ (lawful-of g.S.BuildHasher g.S.Hasher.Hasher g.met.K.Eq.laws g.met.K.Hash.respects_eq) _ _ _ t c.self.invariant _ _ hash absent in
     let i = filled _ (lawful-of g.S.BuildHasher g.S.Hasher.Hasher g.met.K.Eq.laws g.met.K.Hash.respects_eq) _ _ _ t c.self.invariant c.args.key _ c.self.view_is c.requires.route c.args.value c.fill.new.self _ c.args.hash (omega (arith, spot.within)) spot.empty hash none f.pairs f.hashes f.len f.table in
     record {
-      inserts = inserts _ (lawful-of g.S.BuildHasher g.S.Hasher.Hasher g.met.K.Eq.laws g.met.K.Hash.respects_eq) _ _ _ _ _ _ _ _ _ c.self.view_is i (λ _. ap limit f.slots ∙ ap (λ s. s.capacity) c.self.view_is);
+      inserts = inserts _ (lawful-of g.S.BuildHasher g.S.Hasher.Hasher g.met.K.Eq.laws g.met.K.Hash.respects_eq) _ _ _ _ _ _ _ _ _ c.self.view_is i (ap limit f.slots ∙ ap (λ s. s.capacity) c.self.view_is);
       lawful = i.inside.shard;
     }
 

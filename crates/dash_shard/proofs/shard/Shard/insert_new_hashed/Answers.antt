@@ -20,7 +20,7 @@ returns g c =
     let none = subst (λ x. at g.K.PartialEq.eq (pairs x) c.args.key ≡ None) (sym c.self.view_is) c.requires.absent in
     let i = filled _ (lawful-of g.S.BuildHasher g.S.Hasher.Hasher g.met.K.Eq.laws g.met.K.Hash.respects_eq) _ _ _ c.self.inside.table c.self.invariant _ _ c.self.view_is c.requires.route c.args.value c.push.new.self c.push.result c.args.hash p.within p.free hash none p.pairs p.hashes p.len p.table in
     let same = ap limit p.slots ∙ ap (λ s. s.capacity) c.self.view_is in
-    let x = inserts _ (lawful-of g.S.BuildHasher g.S.Hasher.Hasher g.met.K.Eq.laws g.met.K.Hash.respects_eq) _ _ _ _ _ _ _ _ _ c.self.view_is i (λ _. same) in
+    let x = inserts _ (lawful-of g.S.BuildHasher g.S.Hasher.Hasher g.met.K.Eq.laws g.met.K.Hash.respects_eq) _ _ _ _ _ _ _ _ _ c.self.view_is i same in
     record {
       inserts = record { taken = x.taken; slots = x.slots same; room = same };
       slot = filled-slot _ (lawful-of g.S.BuildHasher g.S.Hasher.Hasher g.met.K.Eq.laws g.met.K.Hash.respects_eq) _ _ _ c.self.inside.table c.self.invariant _ _ c.self.view_is c.requires.route c.args.value c.push.new.self c.push.result p.within p.pairs;
