@@ -11,7 +11,8 @@ use Rattle.dash_shard.specs.Steps.{Insert, Old}
 use Rattle.dash_shard.specs.Shard.{ShardState, pairs, shard_len}
 use Rattle.dash_shard.specs.declared.shard.InsertRefused.{InsertRefused}
 use Rattle.dash_shard.proofs.Equals.{at-equal}
-use Rattle.dash_map.specs.Alone.{AloneState, IsAlone, SameMap, TakesAlone, contents}
+use Rattle.dash_map.specs.Alone.{AloneState, IsAlone, KeepsRoom, TakesAlone, contents}
+use Rattle.dash_map.proofs.Rooms.{keeps-same, keeps-then}
 use Rattle.dash_map.specs.Extend.{first_with_last, Gave, InsertsEach, Gains, HasNoRoom, MadeOf, Extends}
 use Rattle.dash_map.specs.declared.extend.ExtendRefused.{ExtendRefused}
 use Rattle.dash_map.proofs.Distincts.{distinct-contents}
@@ -101,11 +102,9 @@ module _ {K V S : Type 0} (h : KeyHash K S) where
       settles-more (front ++ p ∷ []) ps r.0 new (λ j. r.2.table.becomes j ∙ ap (λ o. cond (h.eq p.0 j) (Some (option_map_or (λ q. q.0) o p.0, p.1)) o) (so j) ∙ sym (settled-more h.eq front p j)) r.3 k
       ∙ ap (λ l. first_with_last h.eq l k) (append_assoc front (p ∷ []) ps)
 
-  stays-each : (old : AloneState K V S) (ps : List (K × V)) (new : AloneState K V S) → InsertsEach h old ps new → SameMap old new
-  stays-each old [] new e = record { hasher = ap (λ a. a.hasher) e; amount = ap (λ a. length a.row) e }
-  stays-each old (p ∷ ps) new r =
-      let rest = stays-each r.0 ps new r.3 in
-      record { hasher = rest.hasher ∙ r.2.stays.hasher; amount = rest.amount ∙ r.2.stays.amount }
+  stays-each : (old : AloneState K V S) (ps : List (K × V)) (new : AloneState K V S) → InsertsEach h old ps new → KeepsRoom old new
+  stays-each old [] new e = keeps-same old new e
+  stays-each old (p ∷ ps) new r = keeps-then old r.0 new r.2.stays (stays-each r.0 ps new r.3)
 
   pub lawful-each : (old : AloneState K V S) (ps : List (K × V)) (new : AloneState K V S) → IsAlone h old → InsertsEach h old ps new → IsAlone h new
   lawful-each old [] new lawful e = subst (IsAlone h) (sym e) lawful

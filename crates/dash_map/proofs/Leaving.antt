@@ -5,7 +5,9 @@ use Rattle.std.proofs.Math.ListN.{take}
 use Rattle.std.proofs.Math.Seq.{take-length}
 use Rattle.std.specs.Cmp.{IsEquivalence}
 use Rattle.std.specs.Map.Calls.{CallableOnEachPair}
+use Rattle.dash_shard.proofs.Rows.{each-more as put-more}
 use Rattle.dash_shard.specs.Hashing.{KeyHash, IsAmount}
+use Rattle.dash_shard.specs.Left.{LeftBehind}
 use Rattle.dash_shard.specs.Shard.{ShardState, SameShard, IsShard, taken, IsTagged}
 use Rattle.dash_shard.specs.Each.{Clears, Shrinks}
 use Rattle.dash_shard.specs.inner.Walks.{Sweeps, SweepsShard, if_kept, altered}
@@ -41,6 +43,7 @@ module _ {K V S : Type 0} (h : KeyHash K S) (m : MapState S) where
     pub stood : SoFar h m n olds
     pub stands : SoFar h m n news
     pub each : (i : ℕ) (s t : ShardState K V S) → slice_get olds i ≡ Some s → slice_get news i ≡ Some t → R s t
+    pub left : (i : ℕ) (t : ShardState K V S) → slice_get news i ≡ Some t → LeftBehind t
 
   -- a row of this map
   abbrev row-of : List (ShardState K V S) → AloneState K V S
@@ -48,16 +51,17 @@ module _ {K V S : Type 0} (h : KeyHash K S) (m : MapState S) where
 
   module _ (R : ShardState K V S → ShardState K V S → Type 0) where
     abbrev pub none-left : Leaving R 0
-    none-left = record { olds = []; news = []; stood = none-yet h m; stands = none-yet h m; each = λ i s t e e'. absurd (none-some s e) }
+    none-left = record { olds = []; news = []; stood = none-yet h m; stands = none-yet h m; each = λ i s t e e'. absurd (none-some s e); left = λ i t e. absurd (none-some t e) }
 
     module _ (n : ℕ) (so : Leaving R n) where
-      abbrev pub one-left : (s t : ShardState K V S) → IsTagged h m.hasher m.amount n s → SameShard s t → IsShard h t → R s t → Leaving R (n + 1)
-      one-left s t tagged stays lawful is = record {
+      abbrev pub one-left : (s t : ShardState K V S) → IsTagged h m.hasher m.amount n s → SameShard s t → IsShard h t → R s t → LeftBehind t → Leaving R (n + 1)
+      one-left s t tagged stays lawful is left = record {
         olds = so.olds ++ s ∷ [];
         news = so.news ++ t ∷ [];
         stood = one-more h m n so.olds so.stood s tagged;
         stands = one-more h m n so.news so.stands t (tagged-moved h m.hasher m.amount n s t tagged stays lawful);
         each = each-more R so.olds so.news s t (so.stood.count ∙ sym so.stands.count) so.each is;
+        left = put-more (λ _ x. LeftBehind x) so.news t so.left left;
       }
 
       module _ (all : n ≡ m.amount) (amount : IsAmount m.amount) where
@@ -77,7 +81,7 @@ module _ {K V S : Type 0} (h : KeyHash K S) (m : MapState S) where
         }
 
         all-left : (Q : AloneState K V S → AloneState K V S → Type 0) → Q (row-of so.olds) (row-of so.news) → LeavesShards h m Q
-        all-left Q did = (row-of so.olds, row-of so.news, all-stood, all-stand, did)
+        all-left Q did = (row-of so.olds, all-stood, (row-of so.news, record { behind = all-stand; left = so.left }, did))
 
   pub all-cleared : (n : ℕ) → Leaving Clears n → n ≡ m.amount → IsAmount m.amount → LeavesShards {V = V} h m (ClearsAlone)
   all-cleared n so all amount =
@@ -100,9 +104,9 @@ module _ {K V S : Type 0} (h : KeyHash K S) (m : MapState S) where
     going-first callable = record { left = none-left SameRoom; swept = (refl, refl); ready = callable }
 
     module _ (n : ℕ) (f : F) (so : Going n f) where
-      pub going-next : (s t : ShardState K V S) (f' : F) → IsTagged h m.hasher m.amount n s → SweepsShard T leaves f f' s t → IsShard h t → Going (n + 1) f'
-      going-next s t f' tagged x lawful = record {
-        left = one-left SameRoom n so.left s t tagged x.stays lawful x.room;
+      pub going-next : (s t : ShardState K V S) (f' : F) → IsTagged h m.hasher m.amount n s → SweepsShard T leaves f f' s t → IsShard h t → LeftBehind t → Going (n + 1) f'
+      going-next s t f' tagged x lawful put = record {
+        left = one-left SameRoom n so.left s t tagged x.stays lawful x.room put;
         swept = subst (λ l. Sweeps T leaves first l (slots_of (so.left.news ++ t ∷ [])) f') (sym (slots-more so.left.olds s))
             (subst (λ l. Sweeps T leaves first (slots_of so.left.olds ++ s.slots) l f') (sym (slots-more so.left.news t))
             (sweeps-append T leaves first f f' (slots_of so.left.olds) (slots_of so.left.news) s.slots t.slots so.swept x.swept));

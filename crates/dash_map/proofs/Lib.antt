@@ -12,6 +12,7 @@ mod Lifting
 mod Moves
 mod Refusals
 mod Reserving
+mod Rooms
 mod Running
 mod Seeing
 mod Spots

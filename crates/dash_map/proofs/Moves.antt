@@ -5,11 +5,12 @@ use Rattle.crossbeam_utils.specs.declared.cache_padded.CachePadded.{CachePadded}
 use Rattle.crossbeam_utils.specs.Padded.{padded_value}
 use Rattle.dash_shard.specs.Hashing.{KeyHash, IsAmount, HashAlike}
 use Rattle.dash_shard.specs.Held.{FitsTag}
+use Rattle.dash_shard.specs.Left.{LeftBehind}
 use Rattle.dash_shard.specs.inner.Rows.{Moved}
 use Rattle.dash_shard.specs.Shard.{ShardState, IsTagged}
 use Rattle.dash_shard.specs.declared.shard.held.ShardTag.{ShardTag}
-use Rattle.dash_shard.proofs.Rows.{moved-length, moved-from}
-use Rattle.dash_map.specs.Alone.{IsAlone}
+use Rattle.dash_shard.proofs.Rows.{moved-length, moved-from, moved-to}
+use Rattle.dash_map.specs.Alone.{AloneState, IsAlone}
 use Rattle.dash_map.specs.Map.{MapState}
 use Rattle.dash_map.specs.Locks.{IsAt, IsMap}
 
@@ -41,12 +42,20 @@ module _ {K V S : Type 0} (h : KeyHash K S) where
             subst (λ n. IsTagged h base n i s) (sym long) (tagged-behind (record { hasher = base; amount = length locks }) i from.0 s (m.tagged i from.0 from.1) from.2);
       }
 
+  -- the lock was made for the shard, and has it
+  abbrev pub Locks : MapState S → ℕ → ShardState K V S → CachePadded (ShardTag S) → Type 0
+  Locks m i s lock = record { at : IsAt m i lock; left : LeftBehind s }
+
   pub map-of_alone : (base : S) (n : ℕ) (row : List (ShardState K V S)) (locks : List (CachePadded (ShardTag S))) → n ≡ length row → IsAlone h (record { hasher = base; row = row })
-      → Moved (λ i (_ : ShardState K V S) lock. IsAt (record { hasher = base; amount = n }) i lock) 0 row locks → IsMap (record { hasher = base; amount = length locks }) locks
+      → Moved (Locks (record { hasher = base; amount = n })) 0 row locks → IsMap (record { hasher = base; amount = length locks }) locks
   map-of_alone base n row locks count a moved =
-      let R : ℕ → ShardState K V S → CachePadded (ShardTag S) → Type 0 = λ i s lock. IsAt (record { hasher = base; amount = n }) i lock in
+      let R : ℕ → ShardState K V S → CachePadded (ShardTag S) → Type 0 = Locks (record { hasher = base; amount = n }) in
       let long : length locks ≡ length row = moved-length R 0 row locks moved in
       record {
         amount = subst IsAmount (sym long) a.amount;
-        tagged = λ i lock e. subst (λ k. IsAt (record { hasher = base; amount = k }) i lock) (count ∙ sym long) (moved-from R row locks moved i lock e).2;
+        tagged = λ i lock e. subst (λ k. IsAt (record { hasher = base; amount = k }) i lock) (count ∙ sym long) (moved-from R row locks moved i lock e).2.at;
       }
+
+  -- each shard of the row is behind its lock
+  pub left-of_alone : (m : MapState S) (a z : AloneState K V S) → a ≡ z → (locks : List (CachePadded (ShardTag S))) → Moved (Locks m) 0 a.row locks → (i : ℕ) (s : ShardState K V S) → slice_get z.row i ≡ Some s → LeftBehind s
+  left-of_alone m a z view locks moved i s e = (moved-to (Locks m) a.row locks moved i s (subst (λ (x : AloneState K V S). slice_get x.row i ≡ Some s) (sym view) e)).1.left

@@ -12,6 +12,7 @@ use Rattle.crossbeam_utils.specs.Padded.{padded_value}
 use Rattle.dash_shard.specs.Hashing.{KeyHash, IsAmount, route_by}
 use Rattle.dash_shard.specs.Contents.{at}
 use Rattle.dash_shard.specs.Held.{FitsTag}
+use Rattle.dash_shard.specs.Left.{LeftBehind}
 use Rattle.dash_shard.specs.Shard.{ShardState, SameShard, Routes, IsShard, IsTagged, pairs, shard_len}
 use Rattle.dash_shard.specs.declared.shard.held.ShardTag.{ShardTag}
 use Rattle.dash_map.specs.Behind.{IsBehind, StandsAt, LeavesShard}
@@ -52,10 +53,10 @@ module _ {K V S : Type 0} (h : KeyHash K S) where
 
   -- what a hold of the key's shard found there and left
   pub left-behind : (m : MapState S) (k : K) (i : ℕ) → i ≡ route_by h m.hasher m.amount k → (s t : ShardState K V S) → IsTagged h m.hasher m.amount i s → SameShard s t → IsShard h t
-      → (R : ShardState K V S → ShardState K V S → Type 0) → R s t → LeavesShard h m k R
-  left-behind m k i route s t tagged stays new R did =
+      → LeftBehind t → (R : ShardState K V S → ShardState K V S → Type 0) → R s t → LeavesShard h m k R
+  left-behind m k i route s t tagged stays new left R did =
       let here : StandsAt h m k s = subst (λ n. IsTagged h m.hasher m.amount n s) route tagged in
-      (s, t, here, tagged-moved h m.hasher m.amount _ s t here stays new, did)
+      (s, here, (t, tagged-moved h m.hasher m.amount _ s t here stays new, left, did))
 
   -- the shards in front of n, each as it stood when it was held
   pub record SoFar (m : MapState S) (n : ℕ) (row : List (ShardState K V S)) : Type 0 where

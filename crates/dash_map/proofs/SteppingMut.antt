@@ -1,10 +1,11 @@
 -- A step of a walk over a map's locks that writes.
-use Rattle.std.proofs.Common.{◌≡◌, ℕ, zero, suc, ◌+◌, ◌-◌, Option, Some, None, IsSome, refl, sym, ap, subst, ◌∙◌, arith, add-one}
+use Rattle.std.proofs.Common.{◌≡◌, ℕ, zero, suc, ◌+◌, ◌-◌, Option, Some, None, IsSome, inl, inr, refl, sym, ap, subst, ◌∙◌, arith, add-one}
 use Rattle.std.specs.Prelude.{IfSome, option_and_then}
 use Rattle.std.specs.Option.{option_map}
 use Rattle.std.proofs.lemmas.Bool.{true≢false, false≢true}
 use Rattle.std.proofs.lemmas.Option.{same_Some}
 use Rattle.dash_shard.specs.Hashing.{KeyHash}
+use Rattle.dash_shard.specs.Left.{LeftBehind}
 use Rattle.dash_shard.specs.Shard.{ShardState, IsNextTaken, IsTagged, slot, with_value_in}
 use Rattle.dash_shard.specs.inner.Keys.{IsLawful}
 use Rattle.dash_shard.specs.inner.Loans.{MayLend, lent_slot, with_lent}
@@ -13,8 +14,8 @@ use Rattle.dash_shard.proofs.Loans.{slot-lent, parts-lent, joined-lent}
 use Rattle.dash_ref.specs.Ref.{RefState}
 use Rattle.dash_map.specs.Walking.{IterState, GivesPair}
 use Rattle.dash_map.specs.Map.{MapState}
-use Rattle.dash_map.specs.WalkingMut.{here, rewritten, pair_before, StepsTo, Rewrites}
-use Rattle.dash_map.specs.inner.Walking.{IsWalk, GivesHere}
+use Rattle.dash_map.specs.WalkingMut.{here, rewritten, pair_before, LeavesHeld, StepsTo, Rewrites}
+use Rattle.dash_map.specs.inner.Walking.{IsWalk, GivesHere, HasPassed}
 use Rattle.dash_map.specs.inner.WalkingMut.{MayHold, IsWalkMut, joined_if}
 use Rattle.dash_map.proofs.AloneWalks.{valued-shard}
 
@@ -33,6 +34,11 @@ module _ {K V S : Type 0} (h : KeyHash K S) where
       → (item : RefState K V S) × GivesHere h z item (record x { position = m + 1 })
   found-here x z view walk s held m next =
       subst (λ (y : IterState K V S). (item : RefState K V S) × GivesHere h y item (record x { position = m + 1 })) view (gives-at x walk s held m next (slot s.slots m) refl next.1)
+
+  -- a walk that goes on to the next shard leaves the one that it held
+  pub leaves-on : (old w next : IterState K V S) → HasPassed h old w → LeavesHeld old w → IfSome w.held LeftBehind → LeavesHeld old next
+  leaves-on old w next (inl here) so left = λ _. subst (λ (x : IterState K V S). IfSome x.held LeftBehind) here left
+  leaves-on old w next (inr later) so left = λ _. so later.later
 
   -- a walk that gave a pair stands on it
   pub gave-here : (old : IterState K V S) (item : RefState K V S) (new : IterState K V S) → GivesPair h old item new → here new ≡ Some (item.key, item.value)

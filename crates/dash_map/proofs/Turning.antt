@@ -4,14 +4,15 @@ use Rattle.std.proofs.lemmas.Bool.{cases_eq, cases_lt}
 use Rattle.std.proofs.lemmas.Option.{slice_get_within, slice_get-get_or, same_Some}
 use Rattle.std.proofs.Math.ListN.{length-set}
 use Rattle.std.specs.Cmp.{IsEquivalence}
+use Rattle.std.specs.Prelude.{IsSomeAnd, Result, OnOk, OnErr}
 use Rattle.dash_shard.proofs.Rows.{slice_get-set_same, slice_get-set_other}
 use Rattle.dash_shard.proofs.Routing.{route_below}
 use Rattle.dash_shard.specs.Hashing.{KeyHash, route_by}
 use Rattle.dash_shard.specs.Contents.{Keys, keys, at, EachOnce}
 use Rattle.dash_shard.specs.Shard.{ShardState, SameShard, IsShard, pairs, shard_len}
 use Rattle.dash_shard.specs.Each.{Clears, Shrinks}
-use Rattle.dash_map.specs.Alone.{AloneState, IsAlone, contents, keys_in}
-use Rattle.dash_map.specs.AllPairs.{EachShard, ClearsAlone, ShrinksAlone}
+use Rattle.dash_map.specs.Alone.{AloneState, IsAlone, EachShard, ReservesAlone, contents, keys_in}
+use Rattle.dash_map.specs.AllPairs.{ClearsAlone, ShrinksAlone}
 use Rattle.dash_map.proofs.Distincts.{distinct-contents}
 use Rattle.dash_map.proofs.Lifting.{alone-set, on-shards}
 use Rattle.dash_map.proofs.Union.{OnShards, at-union}
@@ -115,20 +116,35 @@ module _ {K V S : Type 0} (h : KeyHash K S) where
         stays = record { hasher = r.hasher; amount = r.amount };
       }
 
-  -- what a shard keeps that is given room
-  pub record Keeps (s t : ShardState K V S) : Type 0 where
+  -- what a shard keeps that is given room for so many pairs more
+  pub record Keeps (additional : ℕ) (s t : ShardState K V S) : Type 0 where
     pub pairs : EachOnce h.eq (pairs s) (pairs t)
     pub len : shard_len t ≡ shard_len s
+    pub kept : shard_len s + additional ≤ s.capacity → t ≡ s
+    pub room : s.capacity ≤ t.capacity
 
-  -- the shards below i kept their pairs, and the others are as they were
-  pub keeps-alone : IsEquivalence h.eq → (i : ℕ) (old now : AloneState K V S) → IsAlone h old → Turning Keeps i old now → EachOnce h.eq (contents old) (contents now) × (length (contents now) ≡ length (contents old))
-  keeps-alone laws i old now a r = (
-    kept-pairs laws old now a r.lawful r.hasher r.amount (λ j s t e f. (each j s t e f).pairs),
-    as-many old.row now.row r.amount (λ j s t e f. (each j s t e f).len),
-  )
+  -- the shards below i kept theirs, and the others are as they were: all that making room promises of a map, but for its refusal
+  pub keeps-alone : IsEquivalence h.eq → (additional i : ℕ) (old now : AloneState K V S) → IsAlone h old → Turning (Keeps additional) i old now → {E : Type 0} (result : Result (Unit {0}) E)
+      → OnOk result ((j : ℕ) (s : ShardState K V S) → slice_get now.row j ≡ Some s → shard_len s + additional ≤ s.capacity)
+      → OnErr result ((j : ℕ) × IsSomeAnd (slice_get old.row j) (λ s. s.capacity < shard_len s + additional)) → ReservesAlone h.eq additional old now result
+  keeps-alone laws additional i old now a r result room full = record {
+    room = room;
+    pairs = kept-pairs laws old now a r.lawful r.hasher r.amount (λ j s t e f. (each j s t e f).pairs);
+    len = as-many old.row now.row r.amount (λ j s t e f. (each j s t e f).len);
+    kept = λ j s t e f. (each j s t e f).kept;
+    full = full;
+    stays = record { hasher = r.hasher; amount = r.amount; room = λ j s t e f. (each j s t e f).room };
+  }
     where
-      each : EachShard Keeps old now
-      each j s t e f = elim (cases_lt j i) as (λ _. Keeps s t) [
+      each : EachShard (Keeps additional) old now
+      each j s t e f = elim (cases_lt j i) as (λ _. Keeps additional s t) [
         | inl below ↦ r.done j s t below e f
-        | inr from ↦ subst (Keeps s) (same_Some s t (sym e ∙ r.rest j t from f)) (record { pairs = record { distinct = (a.tagged j s e).shard.contents.distinct; same = λ k. refl }; len = refl })
+        | inr from ↦
+            let same = same_Some s t (sym e ∙ r.rest j t from f) in
+            subst (Keeps additional s) same (record {
+              pairs = record { distinct = (a.tagged j s e).shard.contents.distinct; same = λ k. refl };
+              len = refl;
+              kept = λ _. refl;
+              room = omega arith;
+            })
       ]

@@ -1,16 +1,11 @@
 -- What calls on all pairs of a map of one owner do and promise.
-use Rattle.std.specs.Prelude.{ℕ, ◌≡◌, ◌≤◌, Bool, [], length, Option, Some, slice_get, option_and_then}
+use Rattle.std.specs.Prelude.{ℕ, ◌≡◌, ◌≤◌, Bool, [], length, Option, Some, option_and_then}
 use Rattle.dash_shard.specs.Contents.{at, EachOnce}
 use Rattle.dash_shard.specs.Steps.{changed, if_yes}
-use Rattle.dash_shard.specs.Shard.{ShardState}
 use Rattle.dash_shard.specs.Each.{ByCalls, Shrinks}
-use Rattle.dash_map.specs.Alone.{AloneState, SameMap, contents}
+use Rattle.dash_map.specs.Alone.{AloneState, SameMap, EachShard, contents}
 
 module _ {K V S : Type 0} where
-  -- each shard is to the one that stood at its index what R says
-  abbrev pub EachShard : (ShardState K V S → ShardState K V S → Type 0) → AloneState K V S → AloneState K V S → Type 0
-  EachShard R old new = (i : ℕ) (s t : ShardState K V S) → slice_get old.row i ≡ Some s → slice_get new.row i ≡ Some t → R s t
-
   -- all that `clear` promises: no pair stays
   pub record ClearsAlone (old new : AloneState K V S) : Type 0 where
     pub empty : contents new ≡ []

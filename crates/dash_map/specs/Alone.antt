@@ -1,5 +1,5 @@
 -- A map of one owner: a row of shards.
-use Rattle.std.specs.Prelude.{ℕ, ◌≡◌, ◌+◌, ◌≤◌, Bool, List, length, flat_map, Some, Result, OnOk, slice_get}
+use Rattle.std.specs.Prelude.{ℕ, ◌≡◌, ◌+◌, ◌<◌, ◌≤◌, Bool, List, length, flat_map, Some, Result, OnOk, OnErr, IsSomeAnd, slice_get}
 use Rattle.dash_shard.specs.Hashing.{KeyHash, IsAmount, route_by}
 use Rattle.dash_shard.specs.Contents.{Keys, keys, at, EachOnce}
 use Rattle.dash_shard.specs.Steps.{Act, Step, Reply, line, LineReplies, IsTaken, BySome}
@@ -20,12 +20,25 @@ module _ {K V S : Type 0} where
     pub hasher : new.hasher ≡ old.hasher
     pub amount : length new.row ≡ length old.row
 
-  -- room in each shard for so many pairs more, or in some of them where it is refused; the pairs stay
+  -- each shard is to the one that stood at its index what R says
+  abbrev pub EachShard : (ShardState K V S → ShardState K V S → Type 0) → AloneState K V S → AloneState K V S → Type 0
+  EachShard R old new = (i : ℕ) (s t : ShardState K V S) → slice_get old.row i ≡ Some s → slice_get new.row i ≡ Some t → R s t
+
+  -- hasher and amount stay, and no shard loses room
+  pub record KeepsRoom (old new : AloneState K V S) : Type 0 where
+    pub hasher : new.hasher ≡ old.hasher
+    pub amount : length new.row ≡ length old.row
+    pub room : EachShard (λ s t. s.capacity ≤ t.capacity) old new
+
+  -- room in each shard for so many pairs more, or in some of them where it is refused, which comes only where room was wanting; the pairs
+  -- stay, and so does a shard that had room
   pub record ReservesAlone (eq : K → K → Bool) (additional : ℕ) (old new : AloneState K V S) {E : Type 0} (result : Result (Unit {0}) E) : Type 0 where
     pub room : OnOk result ((i : ℕ) (s : ShardState K V S) → slice_get new.row i ≡ Some s → shard_len s + additional ≤ s.capacity)
     pub pairs : EachOnce eq (contents old) (contents new)
     pub len : length (contents new) ≡ length (contents old)
-    pub stays : SameMap old new
+    pub kept : EachShard (λ s t. shard_len s + additional ≤ s.capacity → t ≡ s) old new
+    pub full : OnErr result ((i : ℕ) × IsSomeAnd (slice_get old.row i) (λ s. s.capacity < shard_len s + additional))
+    pub stays : KeepsRoom old new
 
   module _ (h : KeyHash K S) where
     -- each shard has the number of its index
@@ -44,7 +57,7 @@ module _ {K V S : Type 0} where
     -- the step is taken on the map, which stays lawful
     pub record TakesAlone (old new : AloneState K V S) (step : Step K V) (reply : Reply K V) : Type 0 where
       pub table : IsTaken (keys_in old) step reply (contents old) (contents new)
-      pub stays : SameMap old new
+      pub stays : KeepsRoom old new
       pub lawful : IsAlone new
 
     -- the same by some action, which may do on the pair with an equal key what it does

@@ -2,8 +2,7 @@
 use Rattle.std.specs.Prelude.{ℕ, zero, suc, ◌≡◌, List, [], ◌∷◌, ◌++◌, take, drop, flat_map, Option, Some, None}
 use Rattle.std.specs.Borrow.{GName}
 use Rattle.dash_shard.specs.Shard.{ShardState, slot, taken, pairs, with_value_in}
-use Rattle.dash_map.specs.Alone.{AloneState, SameMap, contents}
-use Rattle.dash_map.specs.AllPairs.{EachShard}
+use Rattle.dash_map.specs.Alone.{AloneState, SameMap, EachShard, contents}
 use Rattle.dash_map.specs.declared.iter.alone_mut.AloneIterMut.{AloneIterMut}
 
 -- the pairs with these values, in their order

@@ -4,8 +4,7 @@ use Rattle.std.specs.Option.{option_eq}
 use Rattle.dash_shard.specs.Contents.{at}
 use Rattle.dash_shard.specs.Shard.{ShardState, pairs, shard_len}
 use Rattle.dash_steps.specs.Alike.{alike_pair}
-use Rattle.dash_map.specs.Alone.{AloneState}
-use Rattle.dash_map.specs.AllPairs.{EachShard}
+use Rattle.dash_map.specs.Alone.{AloneState, EachShard}
 
 -- when a copy of a map is one: which keys are equal, which keys and values are alike, and which hasher is a clone
 pub record CopyRules (K V S : Type 0) : Type 1 where

@@ -6,7 +6,7 @@ use Rattle.dash_shard.specs.Contents.{at}
 use Rattle.dash_shard.specs.Steps.{Insert, Old}
 use Rattle.dash_shard.specs.Shard.{shard_len}
 use Rattle.dash_shard.specs.declared.error.ConstructError.{ConstructError}
-use Rattle.dash_map.specs.Alone.{AloneState, SameMap, TakesAlone, contents, keys_in}
+use Rattle.dash_map.specs.Alone.{AloneState, KeepsRoom, TakesAlone, contents, keys_in}
 use Rattle.dash_map.specs.declared.extend.ExtendRefused.{ExtendRefused}
 use Rattle.dash_map.specs.declared.extend.FromRefused.{FromRefused}
 use Rattle.dash_map.specs.declared.extend.FromRefused.TheVariants.{Construct, Pair}
@@ -40,7 +40,7 @@ module _ {K V S : Type 0} (h : KeyHash K S) where
   pub record Gains (old : AloneState K V S) (ps : List (K × V)) (new : AloneState K V S) : Type 0 where
     pub steps : InsertsEach old ps new
     pub settles : (k : K) → at h.eq (contents new) k ≡ first_with_last h.eq (contents old ++ ps) k
-    pub stays : SameMap old new
+    pub stays : KeepsRoom old new
 
   -- the pairs were inserted into a map without pairs
   pub record MadeOf (ps : List (K × V)) (a : AloneState K V S) : Type 0 where

@@ -4,6 +4,7 @@ use Rattle.std.specs.Borrow.{Fml, RattleType, MutBor, LendsSo}
 use Rattle.std.specs.Option.{option_map}
 use Rattle.std.specs.Iterator.{size}
 use Rattle.dash_shard.specs.Hashing.{KeyHash}
+use Rattle.dash_shard.specs.Left.{LeftBehind}
 use Rattle.dash_shard.specs.Shard.{ShardState, slot, with_value_in}
 use Rattle.dash_ref.specs.Ref.{RefState}
 use Rattle.dash_map.specs.Walking.{IterState, StepsOn, steps_left}
@@ -31,15 +32,21 @@ module _ {K V S : Type 0} where
   abbrev pub rewritten : IterState K V S → V → IterState K V S
   rewritten w v = record w { held = valued_before w.held w.position v }
 
+  -- where the walk went on to another shard, the one that it held was left as it was
+  abbrev pub LeavesHeld : IterState K V S → IterState K V S → Type 0
+  LeavesHeld old new = old.entered < new.entered → IfSome old.held LeftBehind
+
   module _ (h : KeyHash K S) where
     -- a step from old to new found the item, as one for reading does
     pub record StepsTo (old : IterState K V S) (item : RefState K V S) (new : IterState K V S) : Type 0 where
       pub steps : StepsOn h {E = Unit {0}} old (Some (Ok item)) new
       pub nearer : size (steps_left new) < size (steps_left old)
+      pub left : LeavesHeld old new
 
     -- a step found the end, as one for reading does
-    abbrev pub StepsToEnd : IterState K V S → IterState K V S → Type 0
-    StepsToEnd old new = StepsOn h {E = Unit {0}} old None new
+    pub record StepsToEnd (old new : IterState K V S) : Type 0 where
+      pub steps : StepsOn h {E = Unit {0}} old None new
+      pub left : LeavesHeld old new
 
     -- what a step says that answers whether there was a pair
     abbrev pub Advances : IterState K V S → Bool → IterState K V S → Type 0

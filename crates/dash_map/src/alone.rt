@@ -4,6 +4,7 @@ ghost use Rattle.crossbeam_utils.specs.Padded.{padded_value};
 ghost use Rattle.dash_shard.specs.Hashing.{by, IsAmount, HashAlike};
 ghost use Rattle.dash_shard.specs.Shard.{shard_len, IsTagged};
 ghost use Rattle.dash_shard.specs.Held.{FitsTag};
+ghost use Rattle.dash_shard.specs.Left.{LeftBehind};
 ghost use Rattle.dash_map.specs.Amounts.{Overflows};
 ghost use Rattle.dash_map.specs.inner.Amounts.{share};
 ghost use Rattle.std.specs.Option.{option_map};
@@ -13,7 +14,7 @@ ghost use Rattle.dash_shard.specs.Steps.{Get, Contains, Insert, Remove, Pair, Fo
 ghost use Rattle.dash_shard.specs.Closures.{MayAsk, Viewed, Answered};
 ghost use Rattle.dash_map.specs.Alone.{IsAlone, ReservesAlone, TakesAlone, contents, keys_in, RepliesAlone, TakesAloneBy};
 ghost use Rattle.dash_map.specs.Locks.{IsAt};
-ghost use Rattle.dash_map.specs.Behind.{IsBehind};
+ghost use Rattle.dash_map.specs.Behind.{IsBehind, IsLeft};
 
 use crate::map::{DashMap, Locked};
 use crate::read_only::{Keys, ViewIter};
@@ -277,14 +278,16 @@ impl<K: Eq + Hash + Drop, V: Drop, S: BuildHasher> Alone<K, V, S> {
 
     /// The map behind its locks again. It takes no memory.
     pub fn end(self) -> DashMap<K, V, S>
-        ensures { result ≡ record { hasher = self.hasher; amount = length self.row } }
+        ensures map { result ≡ record { hasher = self.hasher; amount = length self.row } }
+        ensures left { IsLeft ⟦<Self as Keyed>⟧.by result self }
     {
         let Alone { hasher, row } = self;
         let amount = row.len();
         let row = row.turn(
             |number: usize, shard: Shard<K, V, S>| -> Locked<K, V, S>
                 requires { IsTagged (by K.Hash S.BuildHasher S.Hasher.Hasher) hasher amount number shard }
-                ensures { IsAt (record { hasher = hasher; amount = amount }) number result }
+                ensures at { IsAt (record { hasher = hasher; amount = amount }) number result }
+                ensures left { LeftBehind shard }
             {
                 let tag = ShardTag {
                     number,

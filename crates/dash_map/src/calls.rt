@@ -1,5 +1,5 @@
 //! Calls of threads on a map that they share. Each takes one lock.
-ghost use Rattle.std.specs.Prelude.{◌≡◌, ◌<◌, ◌==◌, ◌-◌, ◌^◌, min, length, sum_by, Option, IsTrue, IfSome, IfErr, is_some, option_and_then};
+ghost use Rattle.std.specs.Prelude.{◌≡◌, ◌<◌, ◌==◌, ◌-◌, ◌^◌, min, length, sum_by, Option, IsTrue, IfSome, IfErr, is_some};
 ghost use Rattle.std.specs.Option.{option_map};
 ghost use Rattle.std.specs.Map.Iter.{deref_pair};
 ghost use Rattle.dash_shard.specs.Closures.{MayAsk, Viewed, MayChange, ChangesOn, MayGive, Answered, Given};
@@ -10,7 +10,7 @@ ghost use Rattle.dash_shard.specs.Hashing.{route_by};
 ghost use Rattle.dash_map.specs.Alone.{AloneState, contents, ReservesAlone};
 ghost use Rattle.dash_map.specs.Walking.{at_start};
 ghost use Rattle.dash_ref.specs.Ref.{Stands, pair_of};
-ghost use Rattle.dash_ref.specs.RefMut.{stored};
+ghost use Rattle.dash_ref.specs.RefMut.{GetsMut};
 ghost use Rattle.dash_shard.specs.Held.{Inserts, Loses};
 ghost use Rattle.dash_shard.specs.Steps.{Remove, RemoveIf, RemoveIfMut, Alter, Done, Pair, Found, Get, Contains};
 
@@ -131,7 +131,7 @@ impl<K: Eq + Hash, V, S: BuildHasher> DashMap<K, V, S> {
     /// Till the reference is dropped, whoever wants the shard waits, this thread too. It takes no memory.
     #[inline]
     pub fn get_mut<R: Wait + Clock>(&self, rt: &R, key: &K) -> Option<RefMut<'_, K, V, S>>
-        ensures saw { SawShard ⟦<Self as Keyed>⟧.by self.now key.now (λ s. RepliesOn K.eq s (Get key.now) (Pair (option_and_then stored result))) }
+        ensures saw { SawShard ⟦<Self as Keyed>⟧.by self.now key.now (λ s. GetsMut K.eq s key.now result) }
         ensures equal { IfSome result (λ found. HasKey K.eq found.shard key.now found.position) }
         ensures tagged { IfSome result (λ found. StandsAt ⟦<Self as Keyed>⟧.by self.now key.now found.shard) }
     {

@@ -4,7 +4,7 @@ ghost use Rattle.dash_shard.specs.Hashing.{by, HashAlike};
 ghost use Rattle.dash_shard.specs.Contents.{at};
 ghost use Rattle.dash_shard.specs.Shard.{pairs, shard_len, Routes, IsShard};
 ghost use Rattle.dash_map.specs.Alone.{IsAlone};
-ghost use Rattle.dash_map.specs.Behind.{SawShards};
+ghost use Rattle.dash_map.specs.Behind.{SawShards, LeftShards};
 ghost use Rattle.dash_map.specs.Copies.{copy_rules, CopiesAlone};
 ghost use Rattle.dash_map.specs.inner.Copies.{PutsCopy, IsCopied, AreCopied};
 
@@ -96,7 +96,7 @@ impl<K: KeptKey + Drop, V: Kept + Drop, S: BuildHasher + Clone + Drop> DashMap<K
     pub fn clone<R: Wait + Clock>(&self, rt: &R) -> Result<Self, AllocError>
         requires { (s t : S) → S.is_clone s t → HashAlike ⟦<Self as Keyed>⟧.by s t }
         ensures { IfOk result (λ copy. SawShards ⟦<Self as Keyed>⟧.by self.now
-            (λ a. SawShards ⟦<Self as Keyed>⟧.by copy (CopiesAlone (copy_rules K.eq K.alike V.alike S.is_clone) a))) }
+            (λ a. LeftShards ⟦<Self as Keyed>⟧.by copy (CopiesAlone (copy_rules K.eq K.alike V.alike S.is_clone) a))) }
     {
         Ok(self.copied(rt)?.end())
     }

@@ -5,9 +5,9 @@ ghost use Rattle.dash_shard.specs.Contents.{EachOnce};
 ghost use Rattle.dash_shard.specs.Errors.{IsOneOf};
 ghost use Rattle.dash_shard.specs.Hashing.{HashAlike};
 ghost use Rattle.dash_shard.specs.declared.error.ConstructError.TheVariants.{Memory, Parallelism};
-ghost use Rattle.dash_map.specs.Alone.{IsAlone, SameMap, contents};
+ghost use Rattle.dash_map.specs.Alone.{IsAlone, KeepsRoom, contents};
 ghost use Rattle.dash_map.specs.Amounts.{IsDefault, IsParallelism};
-ghost use Rattle.dash_map.specs.Behind.{LeavesShards, SawShards};
+ghost use Rattle.dash_map.specs.Behind.{LeavesShards, LeftShards};
 ghost use Rattle.dash_map.specs.Extend.{Extends, Gave, MadeOf, MatchFrom, IsRefusedAmong, Overfills};
 ghost use Rattle.dash_map.specs.declared.extend.FromRefused.TheVariants.{Construct, Pair};
 
@@ -87,7 +87,7 @@ impl<K: Eq + Hash + Drop, V: Drop, S: BuildHasher> Alone<K, V, S> {
     fn reserve_share(&mut self, additional: usize)
         ensures same { EachOnce K.eq (contents self.old) (contents self.new) }
         ensures len { length (contents self.new) ≡ length (contents self.old) }
-        ensures stays { SameMap self.old self.new }
+        ensures stays { KeepsRoom self.old self.new }
         ensures lawful { IsAlone ⟦<Self as Keyed>⟧.by self.new }
     {
         let share = additional.div_ceil(self.row.len());
@@ -182,7 +182,7 @@ impl<K: Eq + Hash + Drop, V: Drop, S: BuildHasher + Clone + Default + Drop> Dash
         requires alike { (s t : S) → S.is_clone s t → HashAlike ⟦<Self as Keyed>⟧.by s t }
         requires finite { IsFiniteIterable U.into_iter_gives U.IntoIter.can_next U.IntoIter.remaining iter }
         ensures made { IfOk result (λ m. Gave U.into_iter_gives U.IntoIter.next_gives iter None
-            (λ ps. SawShards ⟦<Self as Keyed>⟧.by m (MadeOf ⟦<Self as Keyed>⟧.by ps))) }
+            (λ ps. LeftShards ⟦<Self as Keyed>⟧.by m (MadeOf ⟦<Self as Keyed>⟧.by ps))) }
         ensures hasher { IfOk result (λ m. S.is_default m.hasher) }
         ensures amount { IfOk result (λ m. IsDefault parallelism m.amount) }
         ensures bad_parallelism { IsErrOf result (Construct Parallelism) ↔ (IsParallelism parallelism → ⊥) }
@@ -199,7 +199,7 @@ impl<K: Eq + Hash + Drop, V: Drop, S: BuildHasher + Clone + Default + Drop> Dash
         parallelism: usize,
     ) -> Result<Self, FromRefused<K, V>>
         requires alike { (s t : S) → S.is_clone s t → HashAlike ⟦<Self as Keyed>⟧.by s t }
-        ensures made { IfOk result (λ m. SawShards ⟦<Self as Keyed>⟧.by m (MadeOf ⟦<Self as Keyed>⟧.by list.items)) }
+        ensures made { IfOk result (λ m. LeftShards ⟦<Self as Keyed>⟧.by m (MadeOf ⟦<Self as Keyed>⟧.by list.items)) }
         ensures hasher { IfOk result (λ m. S.is_default m.hasher) }
         ensures amount { IfOk result (λ m. IsDefault parallelism m.amount) }
         ensures bad_parallelism { IsErrOf result (Construct Parallelism) ↔ (IsParallelism parallelism → ⊥) }

@@ -6,7 +6,7 @@ ghost use Rattle.dash_shard.specs.Hashing.{by};
 ghost use Rattle.dash_shard.specs.Contents.{at};
 ghost use Rattle.dash_shard.specs.Steps.{Get, Contains, Found, Pair};
 ghost use Rattle.dash_map.specs.Alone.{IsAlone, RepliesAlone, contents};
-ghost use Rattle.dash_map.specs.Behind.{IsBehind};
+ghost use Rattle.dash_map.specs.Behind.{IsBehind, IsLeft};
 ghost use Rattle.dash_map.specs.Copies.{copy_rules, CopiesAlone};
 ghost use Rattle.dash_shard.specs.Hashing.{HashAlike};
 
@@ -161,6 +161,7 @@ impl<K: Eq + Hash, V, S: BuildHasher> ReadOnlyView<K, V, S> {
         K: Drop,
         V: Drop,
         ensures map { IfOk result (λ m. m ≡ record { hasher = self.hasher; amount = length self.row }) }
+        ensures left { IfOk result (λ m. IsLeft ⟦<Self as Keyed>⟧.by m self) }
         ensures refused { IfErr result (λ e. e.owner ≡ self) }
     {
         let ReadOnlyView { hasher, shards } = self;

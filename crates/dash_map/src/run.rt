@@ -8,7 +8,7 @@ ghost use Rattle.dash_steps.specs.Takes.{rules};
 ghost use Rattle.dash_steps.specs.inner.Hashed.{Asks};
 ghost use Rattle.dash_steps.specs.inner.Plan.{change_step, HasPair};
 ghost use Rattle.dash_steps.specs.inner.Sweep.{keeping};
-ghost use Rattle.dash_map.specs.Alone.{IsAlone, contents, keys_in, SameMap};
+ghost use Rattle.dash_map.specs.Alone.{IsAlone, contents, keys_in, KeepsRoom};
 ghost use Rattle.dash_map.specs.Walks.{WalksGive};
 ghost use Rattle.dash_map.specs.inner.Run.{TakesLike, IsMissing};
 
@@ -52,7 +52,7 @@ impl<K: KeptKey + Drop, V: Kept + Drop, S: BuildHasher> Alone<K, V, S> {
         requires there { HasPair change (at K.eq (contents self.old) key) }
         requires lawful { IsAlone ⟦<Self as Keyed>⟧.by self.old }
         ensures becomes { Becomes (keys_in ⟦<Self as Keyed>⟧.by self.old) (change_step key change) (contents self.old) (contents self.new) }
-        ensures stays { SameMap self.old self.new }
+        ensures stays { KeepsRoom self.old self.new }
         ensures lawful { IsAlone ⟦<Self as Keyed>⟧.by self.new }
     {
         match change {
@@ -109,7 +109,7 @@ impl<K: KeptKey + Drop, V: Kept + Drop, S: BuildHasher> Alone<K, V, S> {
     ) -> Result<Reply<K, V>, Fault>
         ensures taken { IfOk result (λ reply. TakesLike ⟦<Self as Keyed>⟧.by K.alike V.alike self.old self.new (table.Retain shard (keeping all (A.acts action.now))) reply) }
         ensures refused { IfErr result (λ fault. (fault ≡ Fault.NoSuchShard) × (length self.old.row ≤ shard) × (self.new ≡ self.old)) }
-        ensures stays { SameMap self.old self.new }
+        ensures stays { KeepsRoom self.old self.new }
         ensures lawful { IsAlone ⟦<Self as Keyed>⟧.by self.new }
     {
         if shard >= self.row.len() {
@@ -137,7 +137,7 @@ impl<K: KeptKey + Drop, V: Kept + Drop, S: BuildHasher> Alone<K, V, S> {
         ensures taken { IfOk result (λ reply. TakesLike ⟦<Self as Keyed>⟧.by K.alike V.alike self.old self.new (step_of A.acts step) reply) }
         ensures refused { IfErr result (λ e. (e.0 ≡ step) × (self.new ≡ self.old)) }
         ensures fault { IfErr result (λ e. IsMissing ⟦<Self as Keyed>⟧.by self.old (step_of A.acts step) e.1) }
-        ensures stays { SameMap self.old self.new }
+        ensures stays { KeepsRoom self.old self.new }
         ensures lawful { IsAlone ⟦<Self as Keyed>⟧.by self.new }
     {
         match plan_asked(self.get(step.asked_key()), &step) {
@@ -159,7 +159,7 @@ impl<K: KeptKey + Drop, V: Kept + Drop, S: BuildHasher> Alone<K, V, S> {
         ensures taken { IfOk result (λ reply. TakesLike ⟦<Self as Keyed>⟧.by K.alike V.alike self.old self.new (step_of A.acts step.now) reply) }
         ensures refused { IfErr result (λ fault. self.new ≡ self.old) }
         ensures fault { IfErr result (λ fault. IsMissing ⟦<Self as Keyed>⟧.by self.old (step_of A.acts step.now) fault) }
-        ensures stays { SameMap self.old self.new }
+        ensures stays { KeepsRoom self.old self.new }
         ensures lawful { IsAlone ⟦<Self as Keyed>⟧.by self.new }
     {
         match step {
@@ -180,7 +180,7 @@ impl<K: KeptKey + Drop, V: Kept + Drop, S: BuildHasher> Alone<K, V, S> {
         ensures taken { IfOk result (λ reply. TakesLike ⟦<Self as Keyed>⟧.by K.alike V.alike self.old self.new (step_of A.acts step) reply) }
         ensures refused { IfErr result (λ e. (e.0 ≡ step) × (self.new ≡ self.old)) }
         ensures fault { IfErr result (λ e. IsMissing ⟦<Self as Keyed>⟧.by self.old (step_of A.acts step) e.1) }
-        ensures stays { SameMap self.old self.new }
+        ensures stays { KeepsRoom self.old self.new }
         ensures lawful { IsAlone ⟦<Self as Keyed>⟧.by self.new }
     {
         match step {
@@ -216,7 +216,7 @@ impl<K: KeptKey + Drop, V: Kept + Drop, S: BuildHasher> Alone<K, V, S> {
     ) -> RunOutcome<K, V, A>
         ensures ran { Ran (rules K.alike V.alike (keys_in ⟦<Self as Keyed>⟧.by self.old)) A.acts (contents self.old) (contents self.new) steps.items result }
         ensures walks { WalksGive (rules K.alike V.alike (keys_in ⟦<Self as Keyed>⟧.by self.old)) }
-        ensures stays { SameMap self.old self.new }
+        ensures stays { KeepsRoom self.old self.new }
         ensures lawful { IsAlone ⟦<Self as Keyed>⟧.by self.new }
     {
         // Only a look at the map tells the prover its invariant, which a run of no steps needs too.

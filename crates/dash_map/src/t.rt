@@ -1,5 +1,5 @@
 //! The calls of a map that threads share, as a trait: code may be written for any such map.
-ghost use Rattle.std.specs.Prelude.{◌≡◌, ◌<◌, ◌==◌, ◌-◌, ◌^◌, min, length, sum_by, Option, IsTrue, IfOk, IfSome, IfErr, is_some, option_map, option_and_then};
+ghost use Rattle.std.specs.Prelude.{◌≡◌, ◌<◌, ◌==◌, ◌-◌, ◌^◌, min, length, sum_by, Option, IsTrue, IfOk, IfSome, IfErr, is_some, option_map};
 ghost use Rattle.std.specs.Map.Calls.{CalledAtPair, TakesPair};
 ghost use Rattle.dash_shard.specs.Closures.{MayAsk, Viewed, MayChange, ChangesOn, MayGive, Answered, Given};
 ghost use Rattle.dash_shard.specs.Each.{CalledOnPair, TakesOnPair};
@@ -12,7 +12,7 @@ ghost use Rattle.dash_map.specs.Walking.{at_start};
 ghost use Rattle.dash_map.specs.AllPairs.{ClearsAlone, ShrinksAlone, RetainsAlone, AltersAllAlone};
 ghost use Rattle.dash_ref.specs.EntryCases.{IsEntryOf, entry_shard};
 ghost use Rattle.dash_ref.specs.Ref.{Stands, pair_of};
-ghost use Rattle.dash_ref.specs.RefMut.{stored};
+ghost use Rattle.dash_ref.specs.RefMut.{GetsMut};
 ghost use Rattle.dash_ref.specs.Try.{found};
 ghost use Rattle.dash_shard.specs.Contents.{at};
 ghost use Rattle.dash_shard.specs.Shard.{shard_len, HasKey, RepliesOn, TakesInPlace, IsTagged, ShardState, pairs};
@@ -122,7 +122,7 @@ pub trait Map<K: Eq + Hash, V, S: BuildHasher> {
 
     /// As `DashMap::get_mut`.
     fn _get_mut<R: Wait + Clock>(&self, rt: &R, key: &K) -> Option<RefMut<'_, K, V, S>>
-        ensures saw { SawShard (by K.Hash S.BuildHasher S.Hasher.Hasher) (state self.now) key.now (λ s. RepliesOn K.eq s (Get key.now) (Pair (option_and_then stored result))) }
+        ensures saw { SawShard (by K.Hash S.BuildHasher S.Hasher.Hasher) (state self.now) key.now (λ s. GetsMut K.eq s key.now result) }
         ensures equal { IfSome result (λ found. HasKey K.eq found.shard key.now found.position) }
         ensures tagged { IfSome result (λ found. StandsAt (by K.Hash S.BuildHasher S.Hasher.Hasher) (state self.now) key.now found.shard) };
 
@@ -137,7 +137,7 @@ pub trait Map<K: Eq + Hash, V, S: BuildHasher> {
     /// As `DashMap::try_get_mut`.
     fn _try_get_mut(&self, key: &K) -> TryResult<RefMut<'_, K, V, S>>
         ensures saw { UnlessLocked result (λ r.
-            SawShard (by K.Hash S.BuildHasher S.Hasher.Hasher) (state self.now) key.now (λ s. RepliesOn K.eq s (Get key.now) (Pair (option_and_then stored r)))) }
+            SawShard (by K.Hash S.BuildHasher S.Hasher.Hasher) (state self.now) key.now (λ s. GetsMut K.eq s key.now r)) }
         ensures equal { IfSome (found result) (λ r. HasKey K.eq r.shard key.now r.position) }
         ensures tagged { IfSome (found result) (λ r. StandsAt (by K.Hash S.BuildHasher S.Hasher.Hasher) (state self.now) key.now r.shard) };
 

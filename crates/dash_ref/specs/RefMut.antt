@@ -1,7 +1,9 @@
 -- What contracts see of a reference to a pair that may be written: the shard that it holds, and a position in it.
-use Rattle.std.specs.Prelude.{ℕ, Option, option_and_then}
+use Rattle.std.specs.Prelude.{ℕ, Bool, Option, IfNone, option_and_then}
 use Rattle.std.specs.Option.{option_map_or}
-use Rattle.dash_shard.specs.Shard.{ShardState, slot, with_value_in}
+use Rattle.dash_shard.specs.Left.{LeftBehind}
+use Rattle.dash_shard.specs.Shard.{ShardState, RepliesOn, slot, with_value_in}
+use Rattle.dash_shard.specs.Steps.{Get, Pair}
 
 pub record RefMutState (K V S : Type 0) : Type 0 where
   pub shard : ShardState K V S
@@ -11,6 +13,11 @@ module _ {K V S : Type 0} where
   -- the pair at the position in the held shard
   abbrev pub stored : RefMutState K V S → Option (K × V)
   stored r = slot r.shard.slots r.position
+
+  -- the reference is to the pair of the key in the shard, or there is none, and the shard was left as it was
+  pub record GetsMut (eq : K → K → Bool) (s : ShardState K V S) (key : K) (result : Option (RefMutState K V S)) : Type 0 where
+    pub replies : RepliesOn eq s (Get key) (Pair (option_and_then stored result))
+    pub left : IfNone result (LeftBehind s)
 
   -- with another value in its pair; all other pairs stay
   abbrev pub rewritten : RefMutState K V S → V → RefMutState K V S

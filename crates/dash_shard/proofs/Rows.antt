@@ -26,6 +26,20 @@ module _ {A B : Type 0} (R : ℕ → A → B → Type 0) where
       let r = moved-at 0 xs ys m j y e in
       (r.0, r.1, subst (λ n. R n r.0 y) (omega arith) r.2)
 
+  -- and that something was made of it
+  moved-on : (i : ℕ) (xs : List A) (ys : List B) → Moved R i xs ys → (j : ℕ) (x : A) → slice_get xs j ≡ Some x → (y : B) × R (i + j) x y
+  moved-on i [] ys m j x e = absurd (none-some x e)
+  moved-on i (z ∷ xs) [] m j x e = absurd m
+  moved-on i (z ∷ xs) (y ∷ ys) m zero x e = (y, subst (λ n. R n x y) (omega arith) (subst (λ w. R i w y) (same_Some z x e) m.0))
+  moved-on i (z ∷ xs) (y ∷ ys) m (suc j) x e =
+      let r = moved-on (i + 1) xs ys m.1 j x e in
+      (r.0, subst (λ n. R n x r.0) (omega arith) r.1)
+
+  pub moved-to : (xs : List A) (ys : List B) → Moved R 0 xs ys → (j : ℕ) (x : A) → slice_get xs j ≡ Some x → (y : B) × R j x y
+  moved-to xs ys m j x e =
+      let r = moved-on 0 xs ys m j x e in
+      (r.0, subst (λ n. R n x r.0) (omega arith) r.1)
+
 module _ {A : Type 0} where
   -- what holds of each slot holds with one more behind
   pub each-more : (P : ℕ → A → Type 0) (xs : List A) (x : A) → ((i : ℕ) (y : A) → slice_get xs i ≡ Some y → P i y) → P (length xs) x

@@ -1,10 +1,10 @@
 //! Calls of threads on a map that they share, for those who wait for nobody.
-ghost use Rattle.std.specs.Prelude.{◌<◌, IsTrue, IfSome, option_and_then};
+ghost use Rattle.std.specs.Prelude.{◌<◌, IsTrue, IfSome};
 ghost use Rattle.std.specs.Option.{option_map};
 ghost use Rattle.dash_shard.specs.Shard.{HasKey, RepliesOn, IsTagged};
 ghost use Rattle.dash_shard.specs.Steps.{Get, Pair};
 ghost use Rattle.dash_ref.specs.Ref.{Stands, pair_of};
-ghost use Rattle.dash_ref.specs.RefMut.{stored};
+ghost use Rattle.dash_ref.specs.RefMut.{GetsMut};
 ghost use Rattle.dash_ref.specs.Try.{found};
 ghost use Rattle.dash_map.specs.Behind.{SawShard, StandsAt};
 ghost use Rattle.dash_map.specs.Tries.{UnlessLocked};
@@ -63,7 +63,7 @@ impl<K: Eq + Hash, V, S: BuildHasher> DashMap<K, V, S> {
     /// says nothing of who has it. It takes no memory.
     #[inline]
     pub fn try_get_mut(&self, key: &K) -> TryResult<RefMut<'_, K, V, S>>
-        ensures saw { UnlessLocked result (λ r. SawShard ⟦<Self as Keyed>⟧.by self.now key.now (λ s. RepliesOn K.eq s (Get key.now) (Pair (option_and_then stored r)))) }
+        ensures saw { UnlessLocked result (λ r. SawShard ⟦<Self as Keyed>⟧.by self.now key.now (λ s. GetsMut K.eq s key.now r)) }
         ensures equal { IfSome (found result) (λ r. HasKey K.eq r.shard key.now r.position) }
         ensures tagged { IfSome (found result) (λ r. StandsAt ⟦<Self as Keyed>⟧.by self.now key.now r.shard) }
     {

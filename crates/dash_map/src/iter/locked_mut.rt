@@ -6,6 +6,7 @@ ghost use Rattle.std.specs.Iterator.{size};
 ghost use Rattle.std.specs.Borrow.{Lends, sem};
 ghost use Rattle.std.specs.Map.Iter.{deref_pair_mut};
 ghost use Rattle.dash_shard.specs.Hashing.{by};
+ghost use Rattle.dash_shard.specs.Left.{LeftBehind};
 ghost use Rattle.dash_shard.specs.inner.Loans.{MayLend};
 ghost use Rattle.dash_ref.specs.Multi.{lent_pair, lent_value};
 ghost use Rattle.dash_map.specs.Walking.{IterState, IsDone, at_start, steps_left};
@@ -78,7 +79,9 @@ impl<K: Eq + Hash, V, S: BuildHasher, R> Lender for IterMut<'_, K, V, S, R> {
 
 impl<K: Eq + Hash, V, S: BuildHasher, R> Drop for IterMut<'_, K, V, S, R> {
     #[inline]
-    fn drop(self) {
+    fn drop(self)
+        ensures left { IfSome self.entry.held LeftBehind }
+    {
         let Self {
             rt: _,
             map: _,
@@ -98,6 +101,7 @@ fn give_up<K: Eq + Hash, V, S: BuildHasher>(
     loan: Loan<K, V>,
 )
     requires { MayHold ⟦<Shard<K, V, S> as Keyed>⟧.by (option_map (λ g. g.value) guard) loan }
+    ensures left { IfSome (joined_if (option_map (λ g. g.value) guard.entry) loan) LeftBehind }
 {
     match guard {
         Some(guard) => drop(ShardMut::of_parts(guard, loan)),
@@ -201,6 +205,7 @@ impl<'a, K: Eq + Hash, V, S: BuildHasher, R: Wait + Clock> IterMut<'a, K, V, S, 
         ensures entered { self.new.entered ≡ self.old.entered + 1 }
         ensures first { self.new.position ≡ 0 }
         ensures held { IsSome self.new.held }
+        ensures left { IfSome self.old.held LeftBehind }
     {
         let shard = self.map._yield_write_shard(self.rt, self.shard_i);
         let (guard, loan) = shard.into_parts();

@@ -1,14 +1,13 @@
 //! A reference to one pair that may be written.
-ghost use Rattle.std.specs.Prelude.{[], ◌≡◌, ◌↔◌, IsSome, IfSome, IfNone, IsNone, Some, None, option_and_then};
+ghost use Rattle.std.specs.Prelude.{[], ◌≡◌, ◌↔◌, IsSome, IfSome, IsNone, Some, None};
 ghost use Rattle.std.specs.Option.{option_map};
 ghost use Rattle.std.specs.Borrow.{Lends, sem};
 ghost use Rattle.std.specs.Map.Iter.{deref_pair, deref_pair_mut};
 ghost use Rattle.dash_shard.specs.Hashing.{by};
 ghost use Rattle.dash_shard.specs.Contents.{at};
 ghost use Rattle.dash_shard.specs.Left.{LeftBehind};
-ghost use Rattle.dash_shard.specs.Steps.{Get, Pair};
-ghost use Rattle.dash_shard.specs.Shard.{slot, pairs, HasKey, IsShard, RepliesOn};
-ghost use Rattle.dash_ref.specs.RefMut.{stored, rewritten};
+ghost use Rattle.dash_shard.specs.Shard.{slot, pairs, HasKey};
+ghost use Rattle.dash_ref.specs.RefMut.{stored, rewritten, GetsMut};
 
 use dash_shard::keyed::{Keyed, Lender};
 use dash_shard::lock::RwLockWriteGuard;
@@ -101,11 +100,10 @@ impl<'a, K: Eq + Hash, V, S: BuildHasher> RefMut<'a, K, V, S> {
     #[inline]
     pub fn find(shard: ShardMut<'a, K, V, S>, hash: u64, key: &K) -> Option<RefMut<'a, K, V, S>>
         requires { hash ≡ ⟦<Self as Keyed>⟧.by.hash shard.hasher key.now }
-        ensures pair { RepliesOn K.eq shard.entry (Get key.now) (Pair (option_and_then stored result)) }
+        ensures gets { GetsMut K.eq shard.entry key.now result }
         ensures absent { IsNone result ↔ (at K.eq (pairs shard.entry) key.now ≡ None) }
         ensures equal { IfSome result (λ r. HasKey K.eq r.shard key.now r.position) }
         ensures shard { IfSome result (λ r. r.shard ≡ shard.entry) }
-        ensures left { IfNone result (LeftBehind shard.entry) }
     {
         let position = shard.position_of_hashed(hash, key)?;
         Some(RefMut::new(shard, position))

@@ -1,7 +1,8 @@
 use Rattle.dash_shard.specs.Shard.{IsTagged}
 use Rattle.std.proofs.Common.{◌≡◌, ◌∙◌, sym, subst, ap, length}
 use Rattle.dash_shard.proofs.Rows.{moved-length}
-use Rattle.dash_map.proofs.Moves.{map-of_alone}
+use Rattle.dash_map.specs.Alone.{AloneState, IsAlone}
+use Rattle.dash_map.proofs.Moves.{map-of_alone, left-of_alone}
 use Rattle.dash_map.proofs.alone.Alone.end.Goals as goal
 use Rattle.dash_shard.specs.Hashing.{key_hash}
 
@@ -14,5 +15,13 @@ invariant_of-result g c =
 
 pub returns : goal.returns
 returns g c =
+    let h = key_hash g.K.PartialEq.eq g.K.Hash.hash_input g.S.BuildHasher g.S.Hasher.Hasher in
     let long : length c.turn-row.result ≡ length c.self.inside.row = moved-length _ 0 c.self.inside.row c.turn-row.result c.turn-row.ensures in
-    ap (λ n. record { hasher = c.self.inside.hasher; amount = n }) long ∙ ap (λ a. record { hasher = a.hasher; amount = length a.row }) c.self.view_is
+    let map = ap (λ n. record { hasher = c.self.inside.hasher; amount = n }) long ∙ ap (λ a. record { hasher = a.hasher; amount = length a.row }) c.self.view_is in
+    record {
+      map = map;
+      left = record {
+        behind = record { hasher = sym (ap (λ m. m.hasher) map); amount = sym (ap (λ m. m.amount) map); lawful = subst (λ (a : AloneState g.row.K.Denot g.row.V.Denot g.row.S.Denot). IsAlone h a) c.self.view_is c.self.invariant };
+        left = left-of_alone h (record { hasher = c.self.inside.hasher; amount = c.len-amount.result }) _ _ c.self.view_is c.turn-row.result c.turn-row.ensures;
+      };
+    }

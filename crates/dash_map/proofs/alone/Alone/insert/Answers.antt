@@ -38,7 +38,7 @@ pub returns-clause-taken : goal.returns-clause-taken
 returns-clause-taken g c =
     let r = c.insert_hashed.ensures in
     IfOk-weaker c.insert_hashed.result (λ old. TakesStep g.K.PartialEq.eq c.index_mut.result.now c.insert_hashed.new.self (Insert c.args.key c.args.value) (Old old)) _
-    (λ old x. spot-takes (spot g (goal.at.returns-clause-taken g c).After-index_mut) c.insert_hashed.new.self r.lawful (Insert c.args.key c.args.value) (Old old) (_, _, refl) x) r.inserts.taken
+    (λ old x. spot-takes (spot g (goal.at.returns-clause-taken g c).After-index_mut) c.insert_hashed.new.self r.lawful (Insert c.args.key c.args.value) (Old old) (_, _, refl) x r.inserts.grows) r.inserts.taken
 
 pub returns-clause-refused : goal.returns-clause-refused
 returns-clause-refused g c =

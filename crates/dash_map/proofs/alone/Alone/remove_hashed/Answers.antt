@@ -33,4 +33,4 @@ invariant_of-self g c =
 pub returns : goal.returns
 returns g c =
     let r = c.remove_hashed.ensures in
-    spot-takes (spot g (goal.at.returns g c).After-index_mut) c.remove_hashed.new.self r.lawful (Remove c.args.key.now) (Pair c.remove_hashed.result) (_, _, refl) r.removes.taken
+    spot-takes (spot g (goal.at.returns g c).After-index_mut) c.remove_hashed.new.self r.lawful (Remove c.args.key.now) (Pair c.remove_hashed.result) (_, _, refl) r.removes.taken (omega (arith, r.removes.room))

@@ -9,6 +9,7 @@ use Rattle.dash_map.specs.Run.{IsRefused}
 use Rattle.dash_map.specs.inner.Run.{rules_in, answered}
 use Rattle.dash_map.specs.declared.run.Fault.TheVariants.{NoSuchShard}
 use Rattle.dash_shard.specs.inner.Steps.{step_shard}
+use Rattle.dash_map.proofs.Rooms.{keeps-same, keeps-then}
 use Rattle.dash_map.proofs.Running.{running-none, running-more, refused-first, rules-same}
 use Rattle.dash_map.proofs.Walks.{walks-in}
 use Rattle.dash_map.proofs.alone.Alone.run.Goals as goal
@@ -31,8 +32,7 @@ loop-step-init g c =
     let m = rules_in (key_hash g.K.PartialEq.eq g.K.Hash.hash_input g.S.BuildHasher g.S.Hasher.Hasher) g.K.Kept.alike g.V.Kept.alike c.args.self.now in
     record {
       so_far = running-none m g.A.Action.acts (contents c.args.self.now) c.args.steps.items c.reverse.new.self.items c.in-Ok.replies.items (sym (ap reverse c.reverse.ensures.items ∙ reverse-reverse c.args.steps.items)) c.in-Ok.ensures.items;
-      hasher = refl;
-      amount = refl;
+      stays = keeps-same c.args.self.now c.args.self.now refl;
       lawful = subst (λ (a : AloneState g.row.K.Denot g.row.V.Denot g.row.S.Denot). IsAlone (key_hash g.K.PartialEq.eq g.K.Hash.hash_input g.S.BuildHasher g.S.Hasher.Hasher) a) c.self.view_is c.self.invariant;
       room = omega (arith, c.in-Ok.ensures.len, c.in-Ok.ensures.capacity, c.reverse.ensures.len, c.len.ensures);
     }
@@ -41,11 +41,10 @@ pub loop-step-preserved : goal.loop-step-preserved
 loop-step-preserved g c =
     let m = rules_in (key_hash g.K.PartialEq.eq g.K.Hash.hash_input g.S.BuildHasher g.S.Hasher.Hasher) g.K.Kept.alike g.V.Kept.alike c.args.self.now in
     let took = c.in-Ok-take.ensures in
-    let known = rules-same (key_hash g.K.PartialEq.eq g.K.Hash.hash_input g.S.BuildHasher g.S.Hasher.Hasher) g.K.Kept.alike g.V.Kept.alike c.args.self.now c.loop-step.self c.loop-step.invariant.hasher c.loop-step.invariant.amount in
+    let known = rules-same (key_hash g.K.PartialEq.eq g.K.Hash.hash_input g.S.BuildHasher g.S.Hasher.Hasher) g.K.Kept.alike g.V.Kept.alike c.args.self.now c.loop-step.self c.loop-step.invariant.stays.hasher c.loop-step.invariant.stays.amount in
     record {
       so_far = rw c.push_reserved.ensures.items (running-more m g.A.Action.acts _ _ _ _ _ _ _ c.in-Some.step c.in-Ok-take.reply c.loop-step.invariant.so_far c.in-Some.ensures.items (subst (λ (r : Rules g.row.K.Denot g.row.V.Denot). Takes r (contents c.loop-step.self) (step_of g.A.Action.acts c.in-Some.step) (reply_of c.in-Ok-take.reply) (contents c.take.new.self)) known took.taken));
-      hasher = took.stays.hasher ∙ c.loop-step.invariant.hasher;
-      amount = took.stays.amount ∙ c.loop-step.invariant.amount;
+      stays = keeps-then c.args.self.now c.loop-step.self c.take.new.self c.loop-step.invariant.stays took.stays;
       lawful = took.lawful;
       room = omega (arith, c.loop-step.invariant.room, c.push_reserved.ensures.len, c.push_reserved.ensures.capacity, c.in-Some.ensures.cases);
     }
@@ -53,7 +52,7 @@ loop-step-preserved g c =
 pub returns-in-Err-clause-ran : goal.returns-in-Err-clause-ran
 returns-in-Err-clause-ran g c =
     let m = rules_in (key_hash g.K.PartialEq.eq g.K.Hash.hash_input g.S.BuildHasher g.S.Hasher.Hasher) g.K.Kept.alike g.V.Kept.alike c.args.self.now in
-    let known = rules-same (key_hash g.K.PartialEq.eq g.K.Hash.hash_input g.S.BuildHasher g.S.Hasher.Hasher) g.K.Kept.alike g.V.Kept.alike c.args.self.now c.loop-step.self c.loop-step.invariant.hasher c.loop-step.invariant.amount in
+    let known = rules-same (key_hash g.K.PartialEq.eq g.K.Hash.hash_input g.S.BuildHasher g.S.Hasher.Hasher) g.K.Kept.alike g.V.Kept.alike c.args.self.now c.loop-step.self c.loop-step.invariant.stays.hasher c.loop-step.invariant.stays.amount in
     let refused = c.in-Err.ensures.refused in
     let rest = c.reverse-in-Err.new.self.items in
     let put : rest ≡ reverse (c.pop.new.self.items ++ c.in-Some.step ∷ []) = c.reverse-in-Err.ensures.items ∙ ap reverse c.push_reserved-in-Err.ensures.items

@@ -4,9 +4,10 @@ use Rattle.dash_shard.specs.Shard.{pairs}
 use Rattle.dash_shard.specs.Steps.{Retain, Done}
 use Rattle.dash_steps.specs.inner.Sweep.{keeping}
 use Rattle.dash_steps.specs.Takes.{Takes}
-use Rattle.dash_map.specs.Alone.{AloneState, contents}
+use Rattle.dash_map.specs.Alone.{AloneState, KeepsRoom, contents}
 use Rattle.dash_map.specs.inner.Run.{rules_in}
 use Rattle.dash_map.proofs.Lifting.{alone-set}
+use Rattle.dash_map.proofs.Rooms.{keeps-set}
 use Rattle.dash_map.proofs.Running.{takes-sweep}
 use Rattle.dash_map.proofs.alone.Alone.sweep.Goals as goal
 use Rattle.dash_shard.proofs.Lawful.{lawful-of}
@@ -27,6 +28,16 @@ returns-clause-lawful g c =
     let here = slice_get-get_or row c.args.shard c.index_mut.result.now within ∙ ap Some (sym c.index_mut.ensures.value) in
     let x = c.retain.ensures in
     alone-set (key_hash g.K.PartialEq.eq g.K.Hash.hash_input g.S.BuildHasher g.S.Hasher.Hasher) _ c.args.shard row c.index_mut.result.now c.retain.new.self c.self.invariant here x.retains.does.taken.stays x.lawful
+
+pub returns-clause-stays : goal.returns-clause-stays
+returns-clause-stays g c =
+    let row = c.self.inside.row in
+    let within : c.args.shard < length row = omega (arith, c.if-shard-len.false, c.len.ensures) in
+    let here = slice_get-get_or row c.args.shard c.index_mut.result.now within ∙ ap Some (sym c.index_mut.ensures.value) in
+    let At : Type 0 = AloneState g.row.K.Denot g.row.V.Denot g.row.S.Denot in
+    let new : At = record { hasher = c.self.inside.hasher; row = slice_set row c.args.shard c.retain.new.self } in
+    subst (λ (a : At). KeepsRoom a new) c.self.view_is
+    (keeps-set c.self.inside.hasher row c.args.shard c.index_mut.result.now c.retain.new.self here (omega (arith, c.retain.ensures.retains.does.room)))
 
 pub returns-clause-taken : goal.returns-clause-taken
 returns-clause-taken g c =

@@ -2,7 +2,7 @@ use Rattle.std.proofs.Common.{◌≡◌, ◌<◌, ◌∙◌, Some, length, slice
 use Rattle.std.proofs.lemmas.Option.{slice_get-get_or}
 use Rattle.std.proofs.Math.ListN.{length-set}
 use Rattle.dash_map.specs.Alone.{AloneState, IsAlone}
-use Rattle.dash_map.proofs.Reserving.{reserving-first, turned, reserved, refused, all-reserved}
+use Rattle.dash_map.proofs.Reserving.{reserving-first, turned, reserved, refused, all-reserved, keeps-reserved}
 use Rattle.dash_map.proofs.alone.Alone.try_reserve.Goals as goal
 use Rattle.dash_shard.specs.Hashing.{key_hash}
 
@@ -22,9 +22,9 @@ returns-in_err-try_reserve g c =
     let x = c.try_reserve.ensures in
     let lawful = subst (λ (a : AloneState g.row.K.Denot g.row.V.Denot g.row.S.Denot). IsAlone (key_hash g.K.PartialEq.eq g.K.Hash.hash_input g.S.BuildHasher g.S.Hasher.Hasher) a) c.self.view_is c.self.invariant in
     record {
-      reserves = refused (key_hash g.K.PartialEq.eq g.K.Hash.hash_input g.S.BuildHasher g.S.Hasher.Hasher) c.args.additional i c.args.self.now c.loop-idx.self-inside.hasher row c.loop-idx.invariant.so_far s c.try_reserve.new.self here x.reserves.stays x.lawful (record { pairs = x.reserves.pairs; len = x.reserves.len })
-          g.met.K.Eq.laws lawful c.from_residual.result c.from_residual.ensures.0;
-      lawful = (turned (key_hash g.K.PartialEq.eq g.K.Hash.hash_input g.S.BuildHasher g.S.Hasher.Hasher) c.args.additional i c.args.self.now c.loop-idx.self-inside.hasher row c.loop-idx.invariant.so_far s c.try_reserve.new.self here x.reserves.stays x.lawful (record { pairs = x.reserves.pairs; len = x.reserves.len })).lawful;
+      reserves = refused (key_hash g.K.PartialEq.eq g.K.Hash.hash_input g.S.BuildHasher g.S.Hasher.Hasher) c.args.additional i c.args.self.now c.loop-idx.self-inside.hasher row c.loop-idx.invariant.so_far s c.try_reserve.new.self here x.reserves.stays x.lawful (keeps-reserved (key_hash g.K.PartialEq.eq g.K.Hash.hash_input g.S.BuildHasher g.S.Hasher.Hasher) c.args.additional s c.try_reserve.new.self _ x.reserves)
+          g.met.K.Eq.laws lawful c.in_err-try_reserve.ensures.reserves.full c.from_residual.result c.from_residual.ensures.0;
+      lawful = (turned (key_hash g.K.PartialEq.eq g.K.Hash.hash_input g.S.BuildHasher g.S.Hasher.Hasher) c.args.additional i c.args.self.now c.loop-idx.self-inside.hasher row c.loop-idx.invariant.so_far s c.try_reserve.new.self here x.reserves.stays x.lawful (keeps-reserved (key_hash g.K.PartialEq.eq g.K.Hash.hash_input g.S.BuildHasher g.S.Hasher.Hasher) c.args.additional s c.try_reserve.new.self _ x.reserves)).lawful;
     }
 
 pub loop-idx-preserved : goal.loop-idx-preserved
@@ -36,7 +36,7 @@ loop-idx-preserved g c =
     let here : slice_get row i ≡ Some s = slice_get-get_or row i s within ∙ ap Some (sym c.index_mut.ensures.value) in
     let x = c.in_ok-try_reserve.ensures in
     record {
-      so_far = reserved (key_hash g.K.PartialEq.eq g.K.Hash.hash_input g.S.BuildHasher g.S.Hasher.Hasher) c.args.additional i c.args.self.now c.loop-idx.self-inside.hasher row c.loop-idx.invariant.so_far s c.try_reserve.new.self here x.reserves.stays x.lawful (record { pairs = x.reserves.pairs; len = x.reserves.len }) x.reserves.room;
+      so_far = reserved (key_hash g.K.PartialEq.eq g.K.Hash.hash_input g.S.BuildHasher g.S.Hasher.Hasher) c.args.additional i c.args.self.now c.loop-idx.self-inside.hasher row c.loop-idx.invariant.so_far s c.try_reserve.new.self here x.reserves.stays x.lawful (keeps-reserved (key_hash g.K.PartialEq.eq g.K.Hash.hash_input g.S.BuildHasher g.S.Hasher.Hasher) c.args.additional s c.try_reserve.new.self _ x.reserves) x.reserves.room;
       end = c.loop-idx.invariant.end ∙ sym (length-set row i c.try_reserve.new.self);
     }
 

@@ -1,4 +1,3 @@
-use Rattle.std.proofs.Common.{sym, ap}
 use Rattle.dash_map.proofs.map.DashMap.clone.Goals as goal
 
 pub returns : goal.returns
@@ -8,7 +7,7 @@ returns g c =
       saw.1,
       (
         c.in_ok-copied.field-0,
-        record { hasher = sym (ap (λ m. m.hasher) c.end.ensures); amount = sym (ap (λ m. m.amount) c.end.ensures); lawful = c.in_ok-copied.ensures.lawful },
+        c.end.ensures.left,
         saw.2,
       ),
     )

@@ -5,12 +5,17 @@ pub returns-clause-extends : goal.returns-clause-extends
 returns-clause-extends g c =
     let stays = c.extend-extended.ensures.extends.gains.5.stays in (
       c.alone-alone.result,
-      c.extend-extended.new.self,
       c.alone-alone.ensures,
-      record {
-        hasher = stays.hasher ∙ c.alone-alone.ensures.hasher;
-        amount = stays.amount ∙ c.alone-alone.ensures.amount;
-        lawful = c.extend-extended.ensures.lawful;
-      },
-      c.extend-extended.ensures.extends,
+      (
+        c.extend-extended.new.self,
+        record {
+          behind = record {
+            hasher = stays.hasher ∙ c.alone-alone.ensures.hasher;
+            amount = stays.amount ∙ c.alone-alone.ensures.amount;
+            lawful = c.extend-extended.ensures.lawful;
+          };
+          left = c.end.ensures.left.left;
+        },
+        c.extend-extended.ensures.extends,
+      ),
     )

@@ -4,12 +4,17 @@ use Rattle.dash_map.proofs.map.DashMap.run_alone.Goals as goal
 pub returns-clause-ran : goal.returns-clause-ran
 returns-clause-ran g c = (
   c.alone-alone.result,
-  c.run-outcome.new.self,
   c.alone-alone.ensures,
-  record {
-    hasher = c.run-outcome.ensures.stays.hasher ∙ c.alone-alone.ensures.hasher;
-    amount = c.run-outcome.ensures.stays.amount ∙ c.alone-alone.ensures.amount;
-    lawful = c.run-outcome.ensures.lawful;
-  },
-  c.run-outcome.ensures.ran,
+  (
+    c.run-outcome.new.self,
+    record {
+      behind = record {
+        hasher = c.run-outcome.ensures.stays.hasher ∙ c.alone-alone.ensures.hasher;
+        amount = c.run-outcome.ensures.stays.amount ∙ c.alone-alone.ensures.amount;
+        lawful = c.run-outcome.ensures.lawful;
+      };
+      left = c.end.ensures.left.left;
+    },
+    c.run-outcome.ensures.ran,
+  ),
 )

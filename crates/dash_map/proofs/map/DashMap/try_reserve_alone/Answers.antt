@@ -4,12 +4,17 @@ use Rattle.dash_map.proofs.map.DashMap.try_reserve_alone.Goals as goal
 pub returns-clause-reserves : goal.returns-clause-reserves
 returns-clause-reserves g c = (
   c.alone-alone.result,
-  c.try_reserve-made.new.self,
   c.alone-alone.ensures,
-  record {
-    hasher = c.try_reserve-made.ensures.reserves.stays.hasher ∙ c.alone-alone.ensures.hasher;
-    amount = c.try_reserve-made.ensures.reserves.stays.amount ∙ c.alone-alone.ensures.amount;
-    lawful = c.try_reserve-made.ensures.lawful;
-  },
-  c.try_reserve-made.ensures.reserves,
+  (
+    c.try_reserve-made.new.self,
+    record {
+      behind = record {
+        hasher = c.try_reserve-made.ensures.reserves.stays.hasher ∙ c.alone-alone.ensures.hasher;
+        amount = c.try_reserve-made.ensures.reserves.stays.amount ∙ c.alone-alone.ensures.amount;
+        lawful = c.try_reserve-made.ensures.lawful;
+      };
+      left = c.end.ensures.left.left;
+    },
+    c.try_reserve-made.ensures.reserves,
+  ),
 )
