@@ -44,7 +44,7 @@ module _ {K V S : Type 0} (h : KeyHash K S) where
 
   -- the lock was made for the shard, and has it
   abbrev pub Locks : MapState S → ℕ → ShardState K V S → CachePadded (ShardTag S) → Type 0
-  Locks m i s lock = record { at : IsAt m i lock; left : LeftBehind s }
+  Locks m i s lock = IsAt m i lock × LeftBehind s
 
   pub map-of_alone : (base : S) (n : ℕ) (row : List (ShardState K V S)) (locks : List (CachePadded (ShardTag S))) → n ≡ length row → IsAlone h (record { hasher = base; row = row })
       → Moved (Locks (record { hasher = base; amount = n })) 0 row locks → IsMap (record { hasher = base; amount = length locks }) locks
@@ -53,9 +53,9 @@ module _ {K V S : Type 0} (h : KeyHash K S) where
       let long : length locks ≡ length row = moved-length R 0 row locks moved in
       record {
         amount = subst IsAmount (sym long) a.amount;
-        tagged = λ i lock e. subst (λ k. IsAt (record { hasher = base; amount = k }) i lock) (count ∙ sym long) (moved-from R row locks moved i lock e).2.at;
+        tagged = λ i lock e. subst (λ k. IsAt (record { hasher = base; amount = k }) i lock) (count ∙ sym long) (moved-from R row locks moved i lock e).2.0;
       }
 
   -- each shard of the row is behind its lock
   pub left-of_alone : (m : MapState S) (a z : AloneState K V S) → a ≡ z → (locks : List (CachePadded (ShardTag S))) → Moved (Locks m) 0 a.row locks → (i : ℕ) (s : ShardState K V S) → slice_get z.row i ≡ Some s → LeftBehind s
-  left-of_alone m a z view locks moved i s e = (moved-to (Locks m) a.row locks moved i s (subst (λ (x : AloneState K V S). slice_get x.row i ≡ Some s) (sym view) e)).1.left
+  left-of_alone m a z view locks moved i s e = (moved-to (Locks m) a.row locks moved i s (subst (λ (x : AloneState K V S). slice_get x.row i ≡ Some s) (sym view) e)).1.1
