@@ -12,7 +12,7 @@ use Rattle.crossbeam_utils.specs.Padded.{padded_value}
 use Rattle.dash_shard.specs.Hashing.{KeyHash, IsAmount, route_by}
 use Rattle.dash_shard.specs.Contents.{at}
 use Rattle.dash_shard.specs.Held.{FitsTag}
-use Rattle.dash_shard.specs.Left.{LeftBehind}
+use Rattle.dash_shard.specs.Lock.{LeftBehind}
 use Rattle.dash_shard.specs.Shard.{ShardState, SameShard, Routes, IsShard, IsTagged, pairs, shard_len}
 use Rattle.dash_shard.specs.declared.shard.held.ShardTag.{ShardTag}
 use Rattle.dash_map.specs.Behind.{IsBehind, StandsAt, LeavesShard}

@@ -5,7 +5,7 @@ use Rattle.std.specs.Option.{option_map}
 use Rattle.std.proofs.lemmas.Bool.{true≢false, false≢true}
 use Rattle.std.proofs.lemmas.Option.{same_Some}
 use Rattle.dash_shard.specs.Hashing.{KeyHash}
-use Rattle.dash_shard.specs.Left.{LeftBehind}
+use Rattle.dash_shard.specs.Lock.{LeftBehind}
 use Rattle.dash_shard.specs.Shard.{ShardState, IsNextTaken, IsTagged, slot, with_value_in}
 use Rattle.dash_shard.specs.inner.Keys.{IsLawful}
 use Rattle.dash_shard.specs.inner.Loans.{MayLend, lent_slot, with_lent}

@@ -2,7 +2,7 @@
 use Rattle.std.specs.Prelude.{ℕ, ◌≡◌, Bool, List, Some, length, slice_get}
 use Rattle.std.specs.Map.Calls.{CallableOnEachPair}
 use Rattle.dash_shard.specs.Hashing.{KeyHash, route_by}
-use Rattle.dash_shard.specs.Left.{LeftBehind}
+use Rattle.dash_shard.specs.Lock.{LeftBehind}
 use Rattle.dash_shard.specs.Steps.{Act, Step, Reply}
 use Rattle.dash_shard.specs.Shard.{ShardState, IsTagged, TakesBy}
 use Rattle.dash_map.specs.Alone.{AloneState, IsAlone}

@@ -4,7 +4,7 @@ ghost use Rattle.crossbeam_utils.specs.Padded.{padded_value};
 ghost use Rattle.dash_shard.specs.Hashing.{by, IsAmount, HashAlike};
 ghost use Rattle.dash_shard.specs.Shard.{shard_len, IsTagged};
 ghost use Rattle.dash_shard.specs.Held.{FitsTag};
-ghost use Rattle.dash_shard.specs.Left.{LeftBehind};
+ghost use Rattle.dash_shard.specs.Lock.{LeftBehind};
 ghost use Rattle.dash_map.specs.Amounts.{Overflows};
 ghost use Rattle.dash_map.specs.inner.Amounts.{share};
 ghost use Rattle.std.specs.Option.{option_map};

@@ -5,7 +5,7 @@ pub mod Shard
 pub mod Search
 pub mod Held
 pub mod Guarded
-pub mod Left
+pub mod Lock
 pub mod Closures
 pub mod Errors
 pub mod Each

@@ -6,7 +6,7 @@
 ghost use Rattle.std.specs.Prelude.{◌≡◌, IfOk, IfSome};
 ghost use Rattle.std.specs.Fn.{FnOnceReturnsAtMut, FnOnceTakesAtMut};
 ghost use Rattle.dash_shard.specs.Guarded.{KeepsFit};
-ghost use Rattle.dash_shard.specs.Left.{LeftBehind};
+ghost use Rattle.dash_shard.specs.Lock.{FoundBehind, LeftBehind};
 ghost use Rattle.dash_shard.specs.inner.Holding.{lock_owns, lock_shares};
 
 use crossbeam_utils::Backoff;
@@ -86,6 +86,7 @@ impl<T: Tagged> RwLock<T> {
     #[inline]
     pub fn into_inner(self) -> T
         ensures fits { T.fits self result }
+        ensures found { FoundBehind result }
     {
         let Self { word: _, value } = self;
         value
@@ -95,6 +96,7 @@ impl<T: Tagged> RwLock<T> {
     #[inline]
     pub fn get(&mut self) -> &T
         ensures fits { T.fits self.old result.now }
+        ensures found { FoundBehind result.now }
     {
         &self.value
     }
@@ -104,6 +106,7 @@ impl<T: Tagged> RwLock<T> {
     pub fn read<R: Wait + Clock>(&self, rt: &R) -> RwLockReadGuard<'_, T>
         ensures tag { result.tag ≡ self.now }
         ensures fits { T.fits self.now result.value }
+        ensures found { FoundBehind result.value }
     {
         match self.read_once(self.word()) {
             Ok(guard) => guard,
@@ -116,6 +119,7 @@ impl<T: Tagged> RwLock<T> {
     pub fn write<R: Wait + Clock>(&self, rt: &R) -> RwLockWriteGuard<'_, T>
         ensures tag { result.tag ≡ self.now }
         ensures fits { T.fits self.now result.value }
+        ensures found { FoundBehind result.value }
     {
         match self.try_write() {
             Some(guard) => guard,
@@ -128,6 +132,7 @@ impl<T: Tagged> RwLock<T> {
     pub fn try_read(&self) -> Option<RwLockReadGuard<'_, T>>
         ensures tag { IfSome result (λ guard. guard.tag ≡ self.now) }
         ensures fits { IfSome result (λ guard. T.fits self.now guard.value) }
+        ensures found { IfSome result (λ guard. FoundBehind guard.value) }
     {
         match self.read_once(self.word()) {
             Ok(guard) => Some(guard),
@@ -140,6 +145,7 @@ impl<T: Tagged> RwLock<T> {
     pub fn try_write(&self) -> Option<RwLockWriteGuard<'_, T>>
         ensures tag { IfSome result (λ guard. guard.tag ≡ self.now) }
         ensures fits { IfSome result (λ guard. T.fits self.now guard.value) }
+        ensures found { IfSome result (λ guard. FoundBehind guard.value) }
     {
         let (found, hold) = self.take(0, ONE_WRITER);
         if found.is_ok() {
@@ -154,6 +160,7 @@ impl<T: Tagged> RwLock<T> {
     fn read_once(&self, seen: u64) -> Result<RwLockReadGuard<'_, T>, u64>
         ensures tag { IfOk result (λ guard. guard.tag ≡ self.now) }
         ensures fits { IfOk result (λ guard. T.fits self.now guard.value) }
+        ensures found { IfOk result (λ guard. FoundBehind guard.value) }
     {
         if seen >= MOST_READERS {
             return Err(seen);
@@ -174,6 +181,7 @@ impl<T: Tagged> RwLock<T> {
     fn read_again(&self, seen: u64) -> Option<RwLockReadGuard<'_, T>>
         ensures tag { IfSome result (λ guard. guard.tag ≡ self.now) }
         ensures fits { IfSome result (λ guard. T.fits self.now guard.value) }
+        ensures found { IfSome result (λ guard. FoundBehind guard.value) }
     {
         let turns = Backoff::new();
         let mut seen = seen;
@@ -196,6 +204,7 @@ impl<T: Tagged> RwLock<T> {
     fn wait_to_read<R: Wait + Clock>(&self, rt: &R) -> RwLockReadGuard<'_, T>
         ensures tag { result.tag ≡ self.now }
         ensures fits { T.fits self.now result.value }
+        ensures found { FoundBehind result.value }
     {
         let turns = Backoff::new();
         for _ in rt.forever() {
@@ -213,6 +222,7 @@ impl<T: Tagged> RwLock<T> {
     fn wait_to_write<R: Wait + Clock>(&self, rt: &R) -> RwLockWriteGuard<'_, T>
         ensures tag { result.tag ≡ self.now }
         ensures fits { T.fits self.now result.value }
+        ensures found { FoundBehind result.value }
     {
         let turns = Backoff::new();
         for _ in rt.forever() {

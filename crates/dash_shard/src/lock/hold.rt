@@ -2,6 +2,7 @@
 ghost use Rattle.std.specs.Prelude.{◌≡◌, ℕ, ◌<◌, OnOk, OnErr};
 ghost use Rattle.std.specs.Fn.{FnOnceReturnsAtMut, FnOnceTakesAtMut};
 ghost use Rattle.dash_shard.specs.Guarded.{KeepsFit};
+ghost use Rattle.dash_shard.specs.Lock.{FoundBehind};
 ghost use Rattle.dash_shard.specs.inner.Holding.{hold_owns, hold_shares, IsTake, Gains};
 
 use crate::lock::{ONE_READER, RwLock, Tagged};
@@ -39,6 +40,7 @@ impl<T: Tagged> RwLock<T> {
         ensures missed { OnErr result.0 (result.1.right ≡ 0) }
         ensures tag { result.1.tag ≡ self.now }
         ensures fits { 0 < result.1.right → T.fits self.now result.1.value }
+        ensures found { 0 < result.1.right → FoundBehind result.1.value }
     {
         let found = unsafe {
             raw::compare_exchange::<Brand>(&raw const self.word, old, new, SeqCst, SeqCst)

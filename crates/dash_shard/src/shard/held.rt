@@ -8,7 +8,7 @@ ghost use Rattle.dash_shard.specs.Steps.{Get, Contains, Pair, Found, Remove, Rem
 ghost use Rattle.dash_shard.specs.Shard.{pairs, shard_len, Routes, IsShard, RepliesOn, TakesInPlace, TakesBy};
 ghost use Rattle.dash_shard.specs.Closures.{MayAsk, Viewed, MayChange, ChangesOn, MayGive, Answered, Given};
 ghost use Rattle.dash_shard.specs.Held.{FitsTag, Inserts, Reserves, Loses};
-ghost use Rattle.dash_shard.specs.Left.{LeftBehind};
+ghost use Rattle.dash_shard.specs.Lock.{LeftBehind};
 ghost use Rattle.dash_shard.specs.inner.Table.{IsInside, with_table};
 
 use crate::error::TryReserveError;

@@ -1,6 +1,7 @@
 -- `get` turns the `&mut` into a `&` of the value.
 use Rattle.dash_shard.proofs.Walking.{[], ◌++◌, ℕ, ◌+◌, List, ◌∷◌, refl, dcons, dnil, a_type, named, Val, vptr, inst_fn, full_share, emp, SProp, id⊢, Lft, Share, Fml, ftrue, fsep, flft, fbor, fobs, Incl-refl, Incl-trans, ‵, raw, ◌⊛◌, later, ◌$◌, ◌∵◌, !, qed, by, move, keep, drop, split, split3, join, fsplit, fsplit3, fjoin, fpick, use0, use1, use3, group, await, feq_i, stop, fld, addr, returns, enter, alloc_all, pass_all, free_all, look_at, through, sets, tables, fact, fact_i, ◌⊑◌, ⊑_meet, ⊑_static, meet_⊑_left, meet_⊑_right, no, RattleType, owns, types_at, plain, nothing, heard, part_at, hidden_shr, param, bounded, param_laws, Stays, stay_dropped, walk_of, proved, leaves, mut_vals, mut_Tells, RefMutOf, mem, settles, Goes-spent_ref}
 use Rattle.dash_shard.specs.inner.Holding.{offset}
+use Rattle.dash_shard.specs.Lock.{FoundBehind, found}
 use Rattle.dash_shard.specs.contracts.lock.RwLock as lock
 use Rattle.dash_shard.proofs.LockShown as shown
 use Rattle.dash_shard.specs.contracts.lock.RwLock.get.{ended, clauses}
@@ -27,5 +28,5 @@ get_spec 𝓤 𝓛 𝓜 𝓡 wired X Y L _ g d _ =
     sets ! (addr ! (through ! refl (fld ! refl (stop !)))) refl (tt, tt) $
     -- [what is seen; the tokens; nothing; self's first; nothing]
     feq_i ! (List Val) (vptr b e ∷ []) (vptr b e ∷ []) refl $ fjoin ! $ move ! (1 ∷ []) $ split3 ! $ move ! (2 ∷ 4 ∷ []) $ fjoin ! $ move ! (2 ∷ 0 ∷ []) $ join ! $ move ! (1 ∷ 0 ∷ []) $ join ! $
-    use0 𝓛 (raw (fact 𝓤 (ok x))) (fact_i 𝓤 (ok x) (emp 𝓤) fit) $ nothing ! $ nothing ! $ fjoin ! $
+    use0 𝓛 (raw (fact 𝓤 (FoundBehind x))) (fact_i 𝓤 (FoundBehind x) (emp 𝓤) (found x)) $ use0 𝓛 (raw (fact 𝓤 (ok x))) (fact_i 𝓤 (ok x) (emp 𝓤) fit) $ join ! $ nothing ! $ nothing ! $ fjoin ! $
     returns ! (look_at ! 0 refl) $ free_all ! refl $ keep ! (2 ∷ 0 ∷ 3 ∷ 1 ∷ []) $ by ! (leaves 𝓛 En hs c y (vptr b e) (record { ref_ptr = (b, e); now = x }) (tt, tt) (tt, tt))))))))

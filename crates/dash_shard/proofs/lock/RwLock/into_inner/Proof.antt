@@ -1,5 +1,6 @@
 -- `into_inner` takes the value, whatever the word is.
-use Rattle.dash_shard.proofs.Walking.{[], ◌++◌, ◌≡◌, ◌&&◌, T, true, List, ◌∷◌, sym, refl, ◌∙◌, subst, w64, and_tt, dcons, dnil, a_type, Val, vint, vstruct, vcons, vnil, of_list, has_ty, inst_fn, emp, SProp, ent, id⊢, ftrue, fsep, WpFn, ‵, raw, ◌⊛◌, ◌$◌, ◌∵◌, !, qed, by, move, keep, drop, split, fsplit, fsplit3, fjoin, fpick, use0, rewrite, feq_l, flt_l, suffices, stop, fld, of_opd, returns, enter, alloc_all, pass_all, free_all, look_at, get, get_in, sets, sub, whole, tables, fact, fact_i, no, RattleType, plain, nothing, peeks, Is, shows, param, layout, bounded, alive, Stays, stay_dropped, walk_of, Goes-dropped, El, lawful, Good, one, proved_at, leaves}
+use Rattle.dash_shard.proofs.Walking.{[], ◌++◌, ◌≡◌, ◌&&◌, T, true, List, ◌∷◌, sym, refl, ◌∙◌, subst, w64, and_tt, dcons, dnil, a_type, Val, vint, vstruct, vcons, vnil, of_list, has_ty, inst_fn, emp, SProp, ent, id⊢, ftrue, fsep, WpFn, ‵, raw, ◌⊛◌, ◌$◌, ◌∵◌, !, qed, by, move, keep, drop, split, join, fsplit, fsplit3, fjoin, fpick, use0, rewrite, feq_l, flt_l, suffices, stop, fld, of_opd, returns, enter, alloc_all, pass_all, free_all, look_at, get, get_in, sets, sub, whole, tables, fact, fact_i, no, RattleType, plain, nothing, peeks, Is, shows, param, layout, bounded, alive, Stays, stay_dropped, walk_of, Goes-dropped, El, lawful, Good, one, proved_at, leaves}
+use Rattle.dash_shard.specs.Lock.{FoundBehind, found}
 use Rattle.dash_shard.specs.contracts.lock.RwLock as lock
 use Rattle.dash_shard.specs.contracts.lock.RwLock.into_inner.{ended, clauses}
 use Rattle.dash_shard.specs.contracts.lock.RwLock.into_inner.Key.{name as #self}
@@ -21,6 +22,6 @@ into_inner_spec 𝓤 𝓛 𝓜 𝓡 wired X Y L _ g d _ =
     suffices ! (Run (v ∷ [])) (subst (λ (ws : List Val). ent 𝓤 (Run (v ∷ [])) (Run ws)) (sym (λ i. whole_is i ++ [])) (id⊢ 𝓤 (Run (v ∷ [])))) $
     enter ! 𝓣.C 𝓣.Λ fn (v ∷ []) Post $ alloc_all ! (λ l. pass_all ! refl ((fine vy fy, (record { fits = fits }, (fy.1, tt))), tt) $
     sets ! (of_opd ! (get_in ! (fld ! refl (stop !)) (sub ! 1 refl (whole !)))) refl fy $ sets ! (of_opd ! (get ! refl)) refl fy $
-    use0 𝓛 (raw (fact 𝓤 (g.fits z.0.3.0 s.1))) (fact_i 𝓤 (g.fits z.0.3.0 s.1) (emp 𝓤) fit) $ nothing ! $ nothing ! $ fjoin ! $
+    use0 𝓛 (raw (fact 𝓤 (FoundBehind s.1))) (fact_i 𝓤 (FoundBehind s.1) (emp 𝓤) (found s.1)) $ use0 𝓛 (raw (fact 𝓤 (g.fits z.0.3.0 s.1))) (fact_i 𝓤 (g.fits z.0.3.0 s.1) (emp 𝓤) fit) $ join ! $ nothing ! $ nothing ! $ fjoin ! $
     -- [self; what is ensured; the value; the tokens]
     returns ! (look_at ! 0 refl) $ free_all ! refl $ keep ! (3 ∷ 0 ∷ 2 ∷ 1 ∷ []) $ by ! (leaves 𝓛 En hs c z vy s.1 (tt, tt) (tt, tt)))))))))))

@@ -1,5 +1,7 @@
 -- `take` is one compare-exchange, and the hold has what it gained.
 use Rattle.dash_shard.proofs.Walking.{[], ◌++◌, ◌≡◌, ℕ, ◌+◌, ◌<◌, List, ◌∷◌, refl, lit<, w64, and_tt, OnOk, OnErr, dcons, dnil, a_type, named, Val, vint, vptr, vstruct, vcons, vnil, of_list, inst_fn, emp, SProp, via, apply∗, Lft, Share, Fml, ftrue, fsep, feq, flft, fbor, finv, before, ‵, raw, ◌⊛◌, later, mean, at_ret, ◌$◌, ◌∵◌, !, qed, by, move, keep, drop, split, join, fsplit, fjoin, fjoin3, fpick, fpack, pick, learn, use0, use1, use2, use3, await, feq_i, stop, fld, addr, lit, of_opd, no_more, and_then, first, blocks, exec, Calls-last, returns, enter, alloc_all, pass_all, free_all, look_at, get, through, sets, lands_last, env, agg, before_dup, tables, fact, fact_i, Lends-one, yes, RattleType, Valss, owns, types_at, plain, named_lft, Ptr, block_ptr, nothing, heard, unhide, param, bounded, param_laws, RefOf, u64, shr_vals, shr_Tells, uint_vals, uint_Tells, Stays, stay_dropped, walk_of, Goes-dropped, tail, proved, leaves, fm, seq_cst, word_found}
+use Rattle.dash_shard.specs.Lock.{FoundBehind}
+use Rattle.dash_shard.specs.Lock.{found as found-behind}
 use Rattle.dash_shard.proofs.Exchanging.{Found, exchanged, exchanges, on_ok, on_err}
 use Rattle.dash_shard.specs.inner.Holding.{IsTake, Gains, Fixed, Inv, kept, right_to}
 use Rattle.dash_shard.specs.contracts.lock.RwLock as lock
@@ -46,8 +48,8 @@ take_spec 𝓤 𝓛 𝓜 𝓡 wired X Y L _ g d _ =
     -- [the hold; the tokens; what was found]
     nothing ! $ move ! (3 ∷ 1 ∷ 0 ∷ []) $ fjoin3 ! $ feq_i ! (List Val) (r ∷ []) (r ∷ []) refl $ fjoin ! $
     fpack ! (Valss (Found ∷ Hr ∷ [])) (λ uss. fsep (feq (List Val) (r ∷ []) (vstruct (of_list (uss.0 ++ (uss.1.0 ++ []))) ∷ [])) (owns (Found ∷ Hr ∷ []) (found, (h, tt)) uss)) (v ∷ [], (bits_of p ∷ [], tt)) $
-    let Won : Type 0 = OnOk found (Gains new k) in let Missed : Type 0 = OnErr found (k ≡ 0) in let Same : Type 0 = a.0.now ≡ a.0.now in let Fits : Type 0 = 0 < k → ok x in
-    use0 𝓛 (raw (fact 𝓤 Fits)) (fact_i 𝓤 Fits (emp 𝓤) so.2) $ use0 𝓛 (raw (fact 𝓤 Same)) (fact_i 𝓤 Same (emp 𝓤) refl) $ join ! $ use0 𝓛 (raw (fact 𝓤 Missed)) (fact_i 𝓤 Missed (emp 𝓤) (on_err old found is.1 so.1)) $ join ! $
+    let Won : Type 0 = OnOk found (Gains new k) in let Missed : Type 0 = OnErr found (k ≡ 0) in let Same : Type 0 = a.0.now ≡ a.0.now in let Fits : Type 0 = 0 < k → ok x in let Was : Type 0 = 0 < k → FoundBehind x in
+    use0 𝓛 (raw (fact 𝓤 Was)) (fact_i 𝓤 Was (emp 𝓤) (λ _. found-behind x)) $ use0 𝓛 (raw (fact 𝓤 Fits)) (fact_i 𝓤 Fits (emp 𝓤) so.2) $ join ! $ use0 𝓛 (raw (fact 𝓤 Same)) (fact_i 𝓤 Same (emp 𝓤) refl) $ join ! $ use0 𝓛 (raw (fact 𝓤 Missed)) (fact_i 𝓤 Missed (emp 𝓤) (on_err old found is.1 so.1)) $ join ! $
     use0 𝓛 (raw (fact 𝓤 Won)) (fact_i 𝓤 Won (emp 𝓤) (on_ok old found is.1 so.0)) $ join ! $
     -- [the facts; the result; the tokens]
     nothing ! $ nothing ! $ fjoin ! $ nothing ! $ fjoin ! $ nothing ! $ fjoin ! $
