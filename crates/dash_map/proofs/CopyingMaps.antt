@@ -4,12 +4,13 @@ use Rattle.std.proofs.lemmas.List.{length_push}
 use Rattle.std.proofs.lemmas.Option.{none-some, slice_get_within, slice_get-get_or}
 use Rattle.dash_shard.specs.Hashing.{KeyHash, HashAlike, IsAmount}
 use Rattle.dash_shard.specs.Shard.{ShardState}
+use Rattle.dash_shard.specs.Lock.{FoundBehind}
 use Rattle.dash_map.specs.Alone.{AloneState, IsAlone}
 use Rattle.dash_map.specs.Copies.{CopyRules, CopiesAlone}
 use Rattle.dash_map.specs.inner.Copies.{IsCopied, AreCopied}
 use Rattle.dash_map.specs.Behind.{SawShards}
 use Rattle.dash_map.specs.Map.{MapState}
-use Rattle.dash_map.proofs.Seeing.{append-cases, SoFar, all-seen}
+use Rattle.dash_map.proofs.Seeing.{append-cases, SoFar, all-found}
 
 module _ {K V S : Type 0} (c : CopyRules K V S) (h : KeyHash K S) where
   pub none-copied : AreCopied c h [] []
@@ -55,14 +56,14 @@ module _ {K V S : Type 0} (c : CopyRules K V S) (h : KeyHash K S) where
     }
 
   -- a map behind its locks that was copied, each shard when it was held
-  pub copied-map : (m : MapState S) (n : ℕ) (row copies : List (ShardState K V S)) → SoFar h m n row → n ≡ m.amount → IsAmount m.amount → AreCopied c h row copies
+  pub copied-map : (m : MapState S) (n : ℕ) (row copies : List (ShardState K V S)) → SoFar h m FoundBehind n row → n ≡ m.amount → IsAmount m.amount → AreCopied c h row copies
       → (base : S) → base ≡ m.hasher → (hasher : S) → c.is_clone base hasher → ((s t : S) → c.is_clone s t → HashAlike h s t) → (made : List (ShardState K V S)) → made ≡ copies
       → SawShards h m (λ a. CopiesAlone c a (record { hasher = hasher; row = made })) × IsAlone h (record { hasher = hasher; row = made })
   copied-map m n row copies so all amount are base is hasher clone alike made same =
       let a : AloneState K V S = record { hasher = m.hasher; row = row } in
-      let behind = all-seen h m n row so all amount in
+      let found = all-found h m n row so all amount in
       let cloned : c.is_clone m.hasher hasher = subst (λ z. c.is_clone z hasher) is clone in
       let made-of = subst (λ l. AreCopied c h row l) (sym same) are in (
-        (a, behind, all-copied a made made-of hasher cloned),
-        copied-lawful a made made-of hasher cloned behind.lawful (alike _ _ cloned),
+        (a, found, all-copied a made made-of hasher cloned),
+        copied-lawful a made made-of hasher cloned found.behind.lawful (alike _ _ cloned),
       )

@@ -5,19 +5,18 @@ use Rattle.std.proofs.Math.ListN.{take}
 use Rattle.std.proofs.Math.Seq.{take-length}
 use Rattle.std.specs.Cmp.{IsEquivalence}
 use Rattle.std.specs.Map.Calls.{CallableOnEachPair}
-use Rattle.dash_shard.proofs.Rows.{each-more as put-more}
 use Rattle.dash_shard.specs.Hashing.{KeyHash, IsAmount}
-use Rattle.dash_shard.specs.Lock.{LeftBehind}
+use Rattle.dash_shard.specs.Lock.{FoundBehind, LeftBehind}
 use Rattle.dash_shard.specs.Shard.{ShardState, SameShard, IsShard, taken, IsTagged}
 use Rattle.dash_shard.specs.Each.{Clears, Shrinks}
 use Rattle.dash_shard.specs.inner.Walks.{Sweeps, SweepsShard, if_kept, altered}
 use Rattle.dash_map.specs.Alone.{AloneState}
-use Rattle.dash_map.specs.Behind.{LeavesShards, IsBehind}
+use Rattle.dash_map.specs.Behind.{LeavesShards, IsBehind, IsFound}
 use Rattle.dash_map.specs.Map.{MapState}
 use Rattle.dash_map.specs.AllPairs.{ClearsAlone, ShrinksAlone, RetainsAlone, AltersAllAlone}
 use Rattle.dash_map.specs.inner.Rooms.{SameRoom}
 use Rattle.dash_map.proofs.Lifting.{tagged-moved}
-use Rattle.dash_map.proofs.Seeing.{SoFar, append-cases, none-yet, one-more, all-seen}
+use Rattle.dash_map.proofs.Seeing.{SoFar, append-cases, none-yet, one-more, all-seen, all-found}
 use Rattle.dash_map.proofs.Sweeping.{Sweeping, slots_of, slots-more, sweeps-append, callable-behind, retains-alone, alters-all-alone}
 use Rattle.dash_map.proofs.Turning.{Turning, clears-alone, shrinks-alone}
 
@@ -40,10 +39,9 @@ module _ {K V S : Type 0} (h : KeyHash K S) (m : MapState S) where
   pub record Leaving (R : ShardState K V S → ShardState K V S → Type 0) (n : ℕ) : Type 0 where
     pub olds : List (ShardState K V S)
     pub news : List (ShardState K V S)
-    pub stood : SoFar h m n olds
-    pub stands : SoFar h m n news
+    pub stood : SoFar h m FoundBehind n olds
+    pub stands : SoFar h m LeftBehind n news
     pub each : (i : ℕ) (s t : ShardState K V S) → slice_get olds i ≡ Some s → slice_get news i ≡ Some t → R s t
-    pub left : (i : ℕ) (t : ShardState K V S) → slice_get news i ≡ Some t → LeftBehind t
 
   -- a row of this map
   abbrev row-of : List (ShardState K V S) → AloneState K V S
@@ -51,25 +49,24 @@ module _ {K V S : Type 0} (h : KeyHash K S) (m : MapState S) where
 
   module _ (R : ShardState K V S → ShardState K V S → Type 0) where
     abbrev pub none-left : Leaving R 0
-    none-left = record { olds = []; news = []; stood = none-yet h m; stands = none-yet h m; each = λ i s t e e'. absurd (none-some s e); left = λ i t e. absurd (none-some t e) }
+    none-left = record { olds = []; news = []; stood = none-yet h m FoundBehind; stands = none-yet h m LeftBehind; each = λ i s t e e'. absurd (none-some s e) }
 
     module _ (n : ℕ) (so : Leaving R n) where
-      abbrev pub one-left : (s t : ShardState K V S) → IsTagged h m.hasher m.amount n s → SameShard s t → IsShard h t → R s t → LeftBehind t → Leaving R (n + 1)
-      one-left s t tagged stays lawful is left = record {
+      abbrev pub one-left : (s t : ShardState K V S) → IsTagged h m.hasher m.amount n s → FoundBehind s → SameShard s t → IsShard h t → R s t → LeftBehind t → Leaving R (n + 1)
+      one-left s t tagged found stays lawful is left = record {
         olds = so.olds ++ s ∷ [];
         news = so.news ++ t ∷ [];
-        stood = one-more h m n so.olds so.stood s tagged;
-        stands = one-more h m n so.news so.stands t (tagged-moved h m.hasher m.amount n s t tagged stays lawful);
+        stood = one-more h m FoundBehind n so.olds so.stood s tagged found;
+        stands = one-more h m LeftBehind n so.news so.stands t (tagged-moved h m.hasher m.amount n s t tagged stays lawful) left;
         each = each-more R so.olds so.news s t (so.stood.count ∙ sym so.stands.count) so.each is;
-        left = put-more (λ _ x. LeftBehind x) so.news t so.left left;
       }
 
       module _ (all : n ≡ m.amount) (amount : IsAmount m.amount) where
-        all-stood : IsBehind h m (row-of so.olds)
-        all-stood = all-seen h m n so.olds so.stood all amount
+        all-stood : IsFound h m (row-of so.olds)
+        all-stood = all-found h m n so.olds so.stood all amount
 
         all-stand : IsBehind h m (row-of so.news)
-        all-stand = all-seen h m n so.news so.stands all amount
+        all-stand = all-seen h m LeftBehind n so.news so.stands all amount
 
         all-turned : Turning h R n (row-of so.olds) (row-of so.news)
         all-turned = record {
@@ -81,7 +78,7 @@ module _ {K V S : Type 0} (h : KeyHash K S) (m : MapState S) where
         }
 
         all-left : (Q : AloneState K V S → AloneState K V S → Type 0) → Q (row-of so.olds) (row-of so.news) → LeavesShards h m Q
-        all-left Q did = (row-of so.olds, all-stood, (row-of so.news, record { behind = all-stand; left = so.left }, did))
+        all-left Q did = (row-of so.olds, all-stood, (row-of so.news, record { behind = all-stand; left = so.stands.each }, did))
 
   pub all-cleared : (n : ℕ) → Leaving Clears n → n ≡ m.amount → IsAmount m.amount → LeavesShards {V = V} h m (ClearsAlone)
   all-cleared n so all amount =
@@ -91,7 +88,7 @@ module _ {K V S : Type 0} (h : KeyHash K S) (m : MapState S) where
   pub all-shrunk : IsEquivalence h.eq → (n : ℕ) → Leaving (Shrinks h.eq) n → n ≡ m.amount → IsAmount m.amount → LeavesShards {V = V} h m (ShrinksAlone h.eq)
   all-shrunk laws n so all amount =
       all-left (Shrinks h.eq) n so all amount (ShrinksAlone h.eq)
-      (shrinks-alone h laws n (row-of so.olds) (row-of so.news) (all-stood (Shrinks h.eq) n so all amount).lawful (all-turned (Shrinks h.eq) n so all amount) (sym so.stands.count))
+      (shrinks-alone h laws n (row-of so.olds) (row-of so.news) (all-stood (Shrinks h.eq) n so all amount).behind.lawful (all-turned (Shrinks h.eq) n so all amount) (sym so.stands.count))
 
   module _ {F : Type 0} (T : F → K → V → Bool → V → F → Type 0) (Q : F → K → V → Type 0) (leaves : K → V × Bool → Option (K × V)) (first : F) where
     -- the closure went over the shards in front of n, and may go on
@@ -104,9 +101,9 @@ module _ {K V S : Type 0} (h : KeyHash K S) (m : MapState S) where
     going-first callable = record { left = none-left SameRoom; swept = (refl, refl); ready = callable }
 
     module _ (n : ℕ) (f : F) (so : Going n f) where
-      pub going-next : (s t : ShardState K V S) (f' : F) → IsTagged h m.hasher m.amount n s → SweepsShard T leaves f f' s t → IsShard h t → LeftBehind t → Going (n + 1) f'
-      going-next s t f' tagged x lawful put = record {
-        left = one-left SameRoom n so.left s t tagged x.stays lawful x.room put;
+      pub going-next : (s t : ShardState K V S) (f' : F) → IsTagged h m.hasher m.amount n s → FoundBehind s → SweepsShard T leaves f f' s t → IsShard h t → LeftBehind t → Going (n + 1) f'
+      going-next s t f' tagged found x lawful put = record {
+        left = one-left SameRoom n so.left s t tagged found x.stays lawful x.room put;
         swept = subst (λ l. Sweeps T leaves first l (slots_of (so.left.news ++ t ∷ [])) f') (sym (slots-more so.left.olds s))
             (subst (λ l. Sweeps T leaves first (slots_of so.left.olds ++ s.slots) l f') (sym (slots-more so.left.news t))
             (sweeps-append T leaves first f f' (slots_of so.left.olds) (slots_of so.left.news) s.slots t.slots so.swept x.swept));
@@ -129,9 +126,9 @@ module _ {K V S : Type 0} (h : KeyHash K S) (m : MapState S) where
     pub all-retained : Going T Q if_kept first n f → LeavesShards h m (RetainsAlone h.eq T first)
     all-retained so =
         all-left SameRoom n so.left all amount (RetainsAlone h.eq T first)
-        (retains-alone h T Q first laws n (row-of so.left.olds) (row-of so.left.news) f (all-stood SameRoom n so.left all amount).lawful (sym so.left.stands.count) (gone T Q if_kept first n f so all amount))
+        (retains-alone h T Q first laws n (row-of so.left.olds) (row-of so.left.news) f (all-stood SameRoom n so.left all amount).behind.lawful (sym so.left.stands.count) (gone T Q if_kept first n f so all amount))
 
     pub all-altered : Going T Q altered first n f → LeavesShards h m (AltersAllAlone h.eq T first)
     all-altered so =
         all-left SameRoom n so.left all amount (AltersAllAlone h.eq T first)
-        (alters-all-alone h T Q first laws n (row-of so.left.olds) (row-of so.left.news) f (all-stood SameRoom n so.left all amount).lawful (sym so.left.stands.count) (gone T Q altered first n f so all amount))
+        (alters-all-alone h T Q first laws n (row-of so.left.olds) (row-of so.left.news) f (all-stood SameRoom n so.left all amount).behind.lawful (sym so.left.stands.count) (gone T Q altered first n f so all amount))

@@ -5,7 +5,7 @@ use Rattle.crossbeam_utils.specs.declared.cache_padded.CachePadded.{CachePadded}
 use Rattle.crossbeam_utils.specs.Padded.{padded_value}
 use Rattle.dash_shard.specs.Hashing.{KeyHash, IsAmount, HashAlike}
 use Rattle.dash_shard.specs.Held.{FitsTag}
-use Rattle.dash_shard.specs.Lock.{LeftBehind}
+use Rattle.dash_shard.specs.Lock.{FoundBehind, LeftBehind}
 use Rattle.dash_shard.specs.inner.Rows.{Moved}
 use Rattle.dash_shard.specs.Shard.{ShardState, IsTagged}
 use Rattle.dash_shard.specs.declared.shard.held.ShardTag.{ShardTag}
@@ -31,15 +31,19 @@ module _ {K V S : Type 0} (h : KeyHash K S) where
       let here : slice_get locks i ≡ Some lock = slice_get-get_or locks i lock within ∙ ap Some (sym read) in
       subst (λ x. IsTagged h x.hasher x.amount i s) view (tagged-behind m i lock s (is.tagged i lock here) (subst (λ t. FitsTag h t s) same fits))
 
+  -- the shard fits the lock, and was found there
+  abbrev pub Unlocks : ℕ → CachePadded (ShardTag S) → ShardState K V S → Type 0
+  Unlocks i lock s = FitsTag h (padded_value lock) s × FoundBehind s
+
   pub alone-of_map : (base : S) (locks : List (CachePadded (ShardTag S))) (row : List (ShardState K V S)) → IsMap (record { hasher = base; amount = length locks }) locks
-      → Moved (λ _ lock s. FitsTag h (padded_value lock) s) 0 locks row → IsAlone h (record { hasher = base; row = row })
+      → Moved Unlocks 0 locks row → IsAlone h (record { hasher = base; row = row })
   alone-of_map base locks row m moved =
-      let long : length row ≡ length locks = moved-length (λ _ lock s. FitsTag h (padded_value lock) s) 0 locks row moved in
+      let long : length row ≡ length locks = moved-length Unlocks 0 locks row moved in
       record {
         amount = subst IsAmount (sym long) m.amount;
         tagged = λ i s e.
-            let from = moved-from (λ _ lock s. FitsTag h (padded_value lock) s) locks row moved i s e in
-            subst (λ n. IsTagged h base n i s) (sym long) (tagged-behind (record { hasher = base; amount = length locks }) i from.0 s (m.tagged i from.0 from.1) from.2);
+            let from = moved-from Unlocks locks row moved i s e in
+            subst (λ n. IsTagged h base n i s) (sym long) (tagged-behind (record { hasher = base; amount = length locks }) i from.0 s (m.tagged i from.0 from.1) from.2.0);
       }
 
   -- the lock was made for the shard, and has it
@@ -59,3 +63,7 @@ module _ {K V S : Type 0} (h : KeyHash K S) where
   -- each shard of the row is behind its lock
   pub left-of_alone : (m : MapState S) (a z : AloneState K V S) → a ≡ z → (locks : List (CachePadded (ShardTag S))) → Moved (Locks m) 0 a.row locks → (i : ℕ) (s : ShardState K V S) → slice_get z.row i ≡ Some s → LeftBehind s
   left-of_alone m a z view locks moved i s e = (moved-to (Locks m) a.row locks moved i s (subst (λ (x : AloneState K V S). slice_get x.row i ≡ Some s) (sym view) e)).1.1
+
+  -- each shard of the row was behind its lock
+  pub found-of_map : (locks : List (CachePadded (ShardTag S))) (row : List (ShardState K V S)) → Moved Unlocks 0 locks row → (i : ℕ) (s : ShardState K V S) → slice_get row i ≡ Some s → FoundBehind s
+  found-of_map locks row moved i s e = (moved-from Unlocks locks row moved i s e).2.1

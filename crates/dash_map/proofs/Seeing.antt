@@ -9,13 +9,14 @@ use Rattle.std.specs.Option.{option_map}
 use Rattle.std.specs.Map.Iter.{deref_pair}
 use Rattle.crossbeam_utils.specs.declared.cache_padded.CachePadded.{CachePadded}
 use Rattle.crossbeam_utils.specs.Padded.{padded_value}
+use Rattle.dash_shard.proofs.Rows.{each-more as put-more}
 use Rattle.dash_shard.specs.Hashing.{KeyHash, IsAmount, route_by}
 use Rattle.dash_shard.specs.Contents.{at}
 use Rattle.dash_shard.specs.Held.{FitsTag}
-use Rattle.dash_shard.specs.Lock.{LeftBehind}
+use Rattle.dash_shard.specs.Lock.{FoundBehind, LeftBehind}
 use Rattle.dash_shard.specs.Shard.{ShardState, SameShard, Routes, IsShard, IsTagged, pairs, shard_len}
 use Rattle.dash_shard.specs.declared.shard.held.ShardTag.{ShardTag}
-use Rattle.dash_map.specs.Behind.{IsBehind, StandsAt, LeavesShard}
+use Rattle.dash_map.specs.Behind.{IsBehind, IsFound, StandsAt, LeavesShard}
 use Rattle.dash_map.specs.Map.{MapState}
 use Rattle.dash_map.specs.Locks.{IsMap}
 use Rattle.dash_map.proofs.Lifting.{keys-same, tagged-moved}
@@ -52,40 +53,44 @@ module _ {K V S : Type 0} (h : KeyHash K S) where
   routes base n k s p = ap (λ x. x.route k) (keys-same h base n _ s p) ∙ sym p.number
 
   -- what a hold of the key's shard found there and left
-  pub left-behind : (m : MapState S) (k : K) (i : ℕ) → i ≡ route_by h m.hasher m.amount k → (s t : ShardState K V S) → IsTagged h m.hasher m.amount i s → SameShard s t → IsShard h t
+  pub left-behind : (m : MapState S) (k : K) (i : ℕ) → i ≡ route_by h m.hasher m.amount k → (s t : ShardState K V S) → IsTagged h m.hasher m.amount i s → FoundBehind s → SameShard s t → IsShard h t
       → LeftBehind t → (R : ShardState K V S → ShardState K V S → Type 0) → R s t → LeavesShard h m k R
-  left-behind m k i route s t tagged stays new left R did =
+  left-behind m k i route s t tagged found stays new left R did =
       let here : StandsAt h m k s = subst (λ n. IsTagged h m.hasher m.amount n s) route tagged in
-      (s, here, (t, tagged-moved h m.hasher m.amount _ s t here stays new, left, did))
+      (s, here, found, (t, tagged-moved h m.hasher m.amount _ s t here stays new, left, did))
 
-  -- the shards in front of n, each as it stood when it was held
-  pub record SoFar (m : MapState S) (n : ℕ) (row : List (ShardState K V S)) : Type 0 where
+  -- the shards in front of n, each as it stood when it was held, or as it was left, which P says
+  pub record SoFar (m : MapState S) (P : ShardState K V S → Type 0) (n : ℕ) (row : List (ShardState K V S)) : Type 0 where
     pub count : length row ≡ n
     pub tagged : (i : ℕ) (s : ShardState K V S) → slice_get row i ≡ Some s → IsTagged h m.hasher m.amount i s
+    pub each : (i : ℕ) (s : ShardState K V S) → slice_get row i ≡ Some s → P s
 
-  pub none-yet : (m : MapState S) → SoFar m 0 []
-  none-yet m = record { count = refl; tagged = λ i s e. absurd (none-some s e) }
+  module _ (m : MapState S) (P : ShardState K V S → Type 0) where
+    pub none-yet : SoFar m P 0 []
+    none-yet = record { count = refl; tagged = λ i s e. absurd (none-some s e); each = λ i s e. absurd (none-some s e) }
 
-  pub one-more : (m : MapState S) (n : ℕ) (row : List (ShardState K V S)) → SoFar m n row → (s : ShardState K V S) → IsTagged h m.hasher m.amount n s → SoFar m (n + 1) (row ++ s ∷ [])
-  one-more m n row so s tagged = record {
-    count = length_push row s ∙ ap (λ k. k + 1) so.count;
-    tagged = λ i x e. elim (append-cases row s i x e) as (λ _. IsTagged h m.hasher m.amount i x) [
-      | inl old ↦ so.tagged i x old
-      | inr new ↦ subst (λ y. IsTagged h m.hasher m.amount i y) new.1 (subst (λ j. IsTagged h m.hasher m.amount j s) (sym (new.0 ∙ so.count)) tagged)
-    ];
-  }
-
-  pub all-seen : (m : MapState S) (n : ℕ) (row : List (ShardState K V S)) → SoFar m n row → n ≡ m.amount → IsAmount m.amount → IsBehind h m (record { hasher = m.hasher; row = row })
-  all-seen m n row so all amount =
-      let long : length row ≡ m.amount = so.count ∙ all in
-      record {
-        hasher = refl;
-        amount = long;
-        lawful = record {
-          amount = subst IsAmount (sym long) amount;
-          tagged = λ i s e. subst (λ k. IsTagged h m.hasher k i s) (sym long) (so.tagged i s e);
-        };
+    module _ (n : ℕ) (row : List (ShardState K V S)) (so : SoFar m P n row) where
+      pub one-more : (s : ShardState K V S) → IsTagged h m.hasher m.amount n s → P s → SoFar m P (n + 1) (row ++ s ∷ [])
+      one-more s tagged is = record {
+        count = length_push row s ∙ ap (λ k. k + 1) so.count;
+        tagged = put-more (IsTagged h m.hasher m.amount) row s so.tagged (subst (λ j. IsTagged h m.hasher m.amount j s) (sym so.count) tagged);
+        each = put-more (λ _ x. P x) row s so.each is;
       }
+
+      pub all-seen : n ≡ m.amount → IsAmount m.amount → IsBehind h m (record { hasher = m.hasher; row = row })
+      all-seen all amount =
+          let long : length row ≡ m.amount = so.count ∙ all in
+          record {
+            hasher = refl;
+            amount = long;
+            lawful = record {
+              amount = subst IsAmount (sym long) amount;
+              tagged = λ i s e. subst (λ k. IsTagged h m.hasher k i s) (sym long) (so.tagged i s e);
+            };
+          }
+
+  pub all-found : (m : MapState S) (n : ℕ) (row : List (ShardState K V S)) → SoFar m FoundBehind n row → n ≡ m.amount → IsAmount m.amount → IsFound h m (record { hasher = m.hasher; row = row })
+  all-found m n row so all amount = record { behind = all-seen m FoundBehind n row so all amount; found = so.each }
 
 -- what holds of each pair with an equal key holds of the one that stands at it
 pub at-each : {K V : Type 0} (eq : K → K → Bool) (ps : List (K × V)) (k : K) (P : K × V → Type 0) → ((p : K × V) → IsTrue (eq p.0 k) → P p) → IfSome (at eq ps k) P

@@ -2,7 +2,7 @@
 use Rattle.std.specs.Prelude.{ℕ, ◌≡◌, Bool, List, Some, length, slice_get}
 use Rattle.std.specs.Map.Calls.{CallableOnEachPair}
 use Rattle.dash_shard.specs.Hashing.{KeyHash, route_by}
-use Rattle.dash_shard.specs.Lock.{LeftBehind}
+use Rattle.dash_shard.specs.Lock.{FoundBehind, LeftBehind}
 use Rattle.dash_shard.specs.Steps.{Act, Step, Reply}
 use Rattle.dash_shard.specs.Shard.{ShardState, IsTagged, TakesBy}
 use Rattle.dash_map.specs.Alone.{AloneState, IsAlone}
@@ -19,7 +19,7 @@ module _ {K V S : Type 0} (h : KeyHash K S) where
 
   -- P is so of a shard that stood where the key goes
   abbrev pub SawShard : MapState S → K → (ShardState K V S → Type 0) → Type 0
-  SawShard m key P = (s : ShardState K V S) × StandsAt m key s × P s
+  SawShard m key P = (s : ShardState K V S) × StandsAt m key s × FoundBehind s × P s
 
   -- P is so of a shard that was left there
   abbrev pub LeftShard : MapState S → K → (ShardState K V S → Type 0) → Type 0
@@ -39,6 +39,11 @@ module _ {K V S : Type 0} (h : KeyHash K S) where
     pub amount : length a.row ≡ m.amount
     pub lawful : IsAlone h a
 
+  -- that were found there
+  pub record IsFound (m : MapState S) (a : AloneState K V S) : Type 0 where
+    pub behind : IsBehind m a
+    pub found : (i : ℕ) (s : ShardState K V S) → slice_get a.row i ≡ Some s → FoundBehind s
+
   -- and that were put there
   pub record IsLeft (m : MapState S) (a : AloneState K V S) : Type 0 where
     pub behind : IsBehind m a
@@ -46,7 +51,7 @@ module _ {K V S : Type 0} (h : KeyHash K S) where
 
   -- P is so of the shards, each as it stood at a moment of its own
   abbrev pub SawShards : MapState S → (AloneState K V S → Type 0) → Type 0
-  SawShards m P = (a : AloneState K V S) × IsBehind m a × P a
+  SawShards m P = (a : AloneState K V S) × IsFound m a × P a
 
   -- P is so of the shards that were put there
   abbrev pub LeftShards : MapState S → (AloneState K V S → Type 0) → Type 0

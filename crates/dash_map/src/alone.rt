@@ -4,7 +4,7 @@ ghost use Rattle.crossbeam_utils.specs.Padded.{padded_value};
 ghost use Rattle.dash_shard.specs.Hashing.{by, IsAmount, HashAlike};
 ghost use Rattle.dash_shard.specs.Shard.{shard_len, IsTagged};
 ghost use Rattle.dash_shard.specs.Held.{FitsTag};
-ghost use Rattle.dash_shard.specs.Lock.{LeftBehind};
+ghost use Rattle.dash_shard.specs.Lock.{FoundBehind, LeftBehind};
 ghost use Rattle.dash_map.specs.Amounts.{Overflows};
 ghost use Rattle.dash_map.specs.inner.Amounts.{share};
 ghost use Rattle.std.specs.Option.{option_map};
@@ -14,7 +14,7 @@ ghost use Rattle.dash_shard.specs.Steps.{Get, Contains, Insert, Remove, Pair, Fo
 ghost use Rattle.dash_shard.specs.Closures.{MayAsk, Viewed, Answered};
 ghost use Rattle.dash_map.specs.Alone.{IsAlone, ReservesAlone, TakesAlone, contents, keys_in, RepliesAlone, TakesAloneBy};
 ghost use Rattle.dash_map.specs.Locks.{IsAt};
-ghost use Rattle.dash_map.specs.Behind.{IsBehind, IsLeft};
+ghost use Rattle.dash_map.specs.Behind.{IsFound, IsLeft};
 
 use crate::map::{DashMap, Locked};
 use crate::read_only::{Keys, ViewIter};
@@ -304,12 +304,13 @@ impl<K: Eq + Hash + Drop, V: Drop, S: BuildHasher> Alone<K, V, S> {
 impl<K: Eq + Hash, V, S: BuildHasher> DashMap<K, V, S> {
     /// The map without its locks. It takes no memory, and waits for nobody, even where a hold was leaked.
     pub fn alone(self) -> Alone<K, V, S>
-        ensures { IsBehind ⟦<Self as Keyed>⟧.by self result }
+        ensures { IsFound ⟦<Self as Keyed>⟧.by self result }
     {
         let DashMap { hasher, row } = self;
         let row = row.turn(
             |_: usize, lock: Locked<K, V, S>| -> Shard<K, V, S>
-                ensures { FitsTag (by K.Hash S.BuildHasher S.Hasher.Hasher) (padded_value lock) result }
+                ensures fits { FitsTag (by K.Hash S.BuildHasher S.Hasher.Hasher) (padded_value lock) result }
+                ensures found { FoundBehind result }
             { lock.into_inner().into_inner() },
         );
         Alone { hasher, row }

@@ -4,6 +4,7 @@ ghost use Rattle.std.specs.Option.{option_map};
 ghost use Rattle.std.specs.Map.Iter.{deref_pair};
 ghost use Rattle.dash_shard.specs.Closures.{MayAsk, Viewed, MayChange, ChangesOn, MayGive, Answered, Given};
 ghost use Rattle.dash_shard.specs.Contents.{at};
+ghost use Rattle.dash_shard.specs.Lock.{FoundBehind};
 ghost use Rattle.dash_shard.specs.Shard.{shard_len, pairs, HasKey, IsShard, RepliesOn, TakesInPlace, IsTagged, ShardState};
 ghost use Rattle.dash_map.specs.Behind.{SawShards, LeavesShard, SawShard, LeavesShards, StandsAt, LeavesBy};
 ghost use Rattle.dash_shard.specs.Hashing.{route_by};
@@ -63,6 +64,7 @@ impl<K: Eq + Hash, V, S: BuildHasher> DashMap<K, V, S> {
     pub fn shards_mut<R: Wait + Clock>(&self, rt: &R, shard: usize) -> ShardMut<'_, K, V, S>
         requires { shard < self.now.amount }
         ensures tagged { IsTagged ⟦<Self as Keyed>⟧.by self.now.hasher self.now.amount shard result }
+        ensures found { FoundBehind result }
     {
         self.row[shard].write(rt).shard()
     }

@@ -6,7 +6,7 @@ ghost use Rattle.dash_shard.specs.Hashing.{by};
 ghost use Rattle.dash_shard.specs.Contents.{at};
 ghost use Rattle.dash_shard.specs.Steps.{Get, Contains, Found, Pair};
 ghost use Rattle.dash_map.specs.Alone.{IsAlone, RepliesAlone, contents};
-ghost use Rattle.dash_map.specs.Behind.{IsBehind, IsLeft};
+ghost use Rattle.dash_map.specs.Behind.{IsFound, IsLeft};
 ghost use Rattle.dash_map.specs.Copies.{copy_rules, CopiesAlone};
 ghost use Rattle.dash_shard.specs.Hashing.{HashAlike};
 
@@ -201,7 +201,7 @@ impl<K: Eq + Hash + fmt::Debug, V: fmt::Debug, S: BuildHasher> fmt::Debug
 impl<K: Eq + Hash, V, S: BuildHasher> DashMap<K, V, S> {
     /// The map as a view without locks. It takes no memory, and waits for nobody. The memory of the row of locks is given back.
     pub fn into_read_only(self) -> ReadOnlyView<K, V, S>
-        ensures { IsBehind ⟦<Self as Keyed>⟧.by self result }
+        ensures { IsFound ⟦<Self as Keyed>⟧.by self result }
     {
         let Alone { hasher, row } = self.alone();
         ReadOnlyView {

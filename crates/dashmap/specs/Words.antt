@@ -2,18 +2,19 @@
 pub use Rattle.dash_shard.specs.Contents.{at}
 pub use Rattle.dash_shard.specs.Hashing.{IsAmount, HashAlike, route_by}
 pub use Rattle.dash_shard.specs.Held.{Inserts, Loses}
+pub use Rattle.dash_shard.specs.Lock.{FoundBehind, LeftBehind, Leaves}
 pub use Rattle.dash_shard.specs.Shard.{ShardState, slot, pairs, shard_len, HasKey, IsShard, IsTagged, RepliesOn, TakesInPlace}
 pub use Rattle.dash_shard.specs.Steps.{Step, Reply, Get, Contains, Insert, Remove, RemoveIf, RemoveIfMut, Alter, Read, Count, AlterAll, Retain, Pair, Found, Old, Number, Pairs, Done}
 pub use Rattle.dash_shard.specs.declared.error.ConstructError.{ConstructError}
 pub use Rattle.dash_shard.specs.declared.error.ConstructError.TheVariants.{CapacityOverflow, Memory, Parallelism, ShardAmount}
 pub use Rattle.dash_ref.specs.Ref.{RefState, Stands, pair_of}
-pub use Rattle.dash_ref.specs.RefMut.{RefMutState, stored, rewritten}
+pub use Rattle.dash_ref.specs.RefMut.{RefMutState, GetsMut, stored, rewritten}
 pub use Rattle.dash_ref.specs.Entry.{OccupiedOf, VacantOf, Puts}
 pub use Rattle.dash_ref.specs.EntryCases.{MatchEntry, IsEntryOf}
 pub use Rattle.dash_ref.specs.declared.mapref.entry.Entry.{Entry}
 pub use Rattle.dash_ref.specs.declared.mapref.entry.Entry.TheVariants.{Occupied, Vacant}
-pub use Rattle.dash_map.specs.Alone.{AloneState, contents, IsAlone, ReservesAlone, RepliesAlone, TakesAlone, TakesAloneBy, keys_in}
-pub use Rattle.dash_map.specs.Behind.{IsBehind, LeavesShard, LeavesShards, SawShard, SawShards, StandsAt}
+pub use Rattle.dash_map.specs.Alone.{AloneState, contents, IsAlone, KeepsRoom, ReservesAlone, RepliesAlone, TakesAlone, TakesAloneBy, keys_in}
+pub use Rattle.dash_map.specs.Behind.{IsBehind, IsFound, IsLeft, LeavesShard, LeavesShards, LeftShard, LeftShards, SawShard, SawShards, StandsAt}
 pub use Rattle.dash_map.specs.Lends.{with_value_at}
 pub use Rattle.dash_map.specs.Walking.{IterState, StepsOn, GivesPair, FindsEnd, at_start}
 pub use Rattle.dash_ref.specs.Multi.{lent_pair, lent_value, with_lent_value}

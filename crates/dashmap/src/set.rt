@@ -11,7 +11,7 @@ ghost use Rattle.dash_ref.specs.Ref.{Stands, pair_of};
 ghost use Rattle.dash_map.specs.Alone.{AloneState, contents};
 ghost use Rattle.dash_map.specs.AllPairs.{ClearsAlone, RetainsAlone, ShrinksAlone};
 ghost use Rattle.dash_map.specs.Amounts.{IsDefault, IsParallelism, OverflowsDefault};
-ghost use Rattle.dash_map.specs.Behind.{CallableOnPairs, LeavesBy, LeavesShard, LeavesShards, SawShard, SawShards, StandsAt};
+ghost use Rattle.dash_map.specs.Behind.{CallableOnPairs, LeavesBy, LeavesShard, LeavesShards, LeftShards, SawShard, SawShards, StandsAt};
 ghost use Rattle.dash_map.specs.Locks.{IsMap};
 ghost use Rattle.dash_map.specs.Walking.{at_start};
 ghost use Rattle.dashmap.specs.Set.{AnsweredKey, CalledAtKey, CopiesKeys, MayAskKey, TakesKey, inserted, keys_of, member};
@@ -326,7 +326,7 @@ impl<K: KeptKey + Drop, S: BuildHasher + Clone + Drop> DashSet<K, S> {
     pub fn clone<R: Wait + Clock>(&self, rt: &R) -> Result<Self, AllocError>
         requires { (s t : S) → S.is_clone s t → HashAlike ⟦<Self as Keyed>⟧.by s t }
         ensures { IfOk result (λ copy. SawShards ⟦<Self as Keyed>⟧.by self.now
-            (λ a. SawShards ⟦<Self as Keyed>⟧.by copy (CopiesKeys K.eq K.alike S.is_clone a))) }
+            (λ a. LeftShards ⟦<Self as Keyed>⟧.by copy (CopiesKeys K.eq K.alike S.is_clone a))) }
     {
         let inner = self.inner.clone(rt)?;
         Ok(DashSet { inner })

@@ -1,6 +1,7 @@
 //! Calls of threads on a map that they share, for those who wait for nobody.
 ghost use Rattle.std.specs.Prelude.{◌<◌, IsTrue, IfSome};
 ghost use Rattle.std.specs.Option.{option_map};
+ghost use Rattle.dash_shard.specs.Lock.{FoundBehind};
 ghost use Rattle.dash_shard.specs.Shard.{HasKey, RepliesOn, IsTagged};
 ghost use Rattle.dash_shard.specs.Steps.{Get, Pair};
 ghost use Rattle.dash_ref.specs.Ref.{Stands, pair_of};
@@ -24,6 +25,7 @@ impl<K: Eq + Hash, V, S: BuildHasher> DashMap<K, V, S> {
     pub(crate) fn try_shard(&self, shard: usize) -> Option<RwLockReadGuard<'_, Shard<K, V, S>>>
         requires { shard < self.now.amount }
         ensures tagged { IfSome result (λ r. IsTagged ⟦<Self as Keyed>⟧.by self.now.hasher self.now.amount shard r.value) }
+        ensures found { IfSome result (λ r. FoundBehind r.value) }
     {
         self.row[shard].try_read()
     }
@@ -52,6 +54,7 @@ impl<K: Eq + Hash, V, S: BuildHasher> DashMap<K, V, S> {
     pub(crate) fn try_shards_mut(&self, shard: usize) -> Option<ShardMut<'_, K, V, S>>
         requires { shard < self.now.amount }
         ensures tagged { IfSome result (IsTagged ⟦<Self as Keyed>⟧.by self.now.hasher self.now.amount shard) }
+        ensures found { IfSome result FoundBehind }
     {
         match self.row[shard].try_write() {
             Some(guard) => Some(guard.shard()),

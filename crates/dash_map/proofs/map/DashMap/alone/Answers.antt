@@ -1,8 +1,6 @@
 use Rattle.std.proofs.Common.{◌∙◌, ap}
-use Rattle.crossbeam_utils.specs.Padded.{padded_value}
 use Rattle.dash_shard.proofs.Rows.{moved-length}
-use Rattle.dash_shard.specs.Held.{FitsTag}
-use Rattle.dash_map.proofs.Moves.{alone-of_map}
+use Rattle.dash_map.proofs.Moves.{Unlocks, alone-of_map, found-of_map}
 use Rattle.dash_map.proofs.map.DashMap.alone.Goals as goal
 use Rattle.dash_shard.specs.Hashing.{key_hash}
 
@@ -12,9 +10,14 @@ invariant_of-result g c =
 
 pub returns : goal.returns
 returns g c =
+    let h = key_hash g.K.PartialEq.eq g.K.Hash.hash_input g.S.BuildHasher g.S.Hasher.Hasher in
     let row = c.self.inside.row in
-    let made = c.turn-row.result in record {
-      hasher = ap (λ m. m.hasher) c.self.view_is;
-      amount = moved-length (λ _ lock s. FitsTag (key_hash g.K.PartialEq.eq g.K.Hash.hash_input g.S.BuildHasher g.S.Hasher.Hasher) (padded_value lock) s) 0 row made c.turn-row.ensures ∙ ap (λ m. m.amount) c.self.view_is;
-      lawful = alone-of_map (key_hash g.K.PartialEq.eq g.K.Hash.hash_input g.S.BuildHasher g.S.Hasher.Hasher) c.self.inside.hasher row made c.self.invariant c.turn-row.ensures;
+    let made = c.turn-row.result in
+    record {
+      behind = record {
+        hasher = ap (λ m. m.hasher) c.self.view_is;
+        amount = moved-length (Unlocks h) 0 row made c.turn-row.ensures ∙ ap (λ m. m.amount) c.self.view_is;
+        lawful = alone-of_map h c.self.inside.hasher row made c.self.invariant c.turn-row.ensures;
+      };
+      found = found-of_map h row made c.turn-row.ensures;
     }

@@ -12,5 +12,5 @@ alter_hashed-requires-clause-callable g c = at-each g.K.PartialEq.eq (pairs c.sh
 pub returns : goal.returns
 returns g c =
     let r = c.alter_hashed.ensures in
-    left-behind (key_hash g.K.PartialEq.eq g.K.Hash.hash_input g.S.BuildHasher g.S.Hasher.Hasher) c.args.self.now c.args.key.now _ c.route_of-hash.ensures.route _ _ c.shards_mut.ensures.tagged r.alters.1.taken.stays r.lawful c.drop-shards_mut.ensures.left
+    left-behind (key_hash g.K.PartialEq.eq g.K.Hash.hash_input g.S.BuildHasher g.S.Hasher.Hasher) c.args.self.now c.args.key.now _ c.route_of-hash.ensures.route _ _ c.shards_mut.ensures.tagged c.shards_mut.ensures.found r.alters.1.taken.stays r.lawful c.drop-shards_mut.ensures.left
     (λ s t. TakesBy g.K.PartialEq.eq s t Alter c.args.key.now Done (Given g.F.FnOnce c.args.f) × (shard_len t ≡ shard_len s)) (r.alters, r.len)

@@ -16,7 +16,7 @@ alter_all_by-f-requires g c = c.loop-idx.invariant.ready (pairs c.shards_mut.res
 pub loop-idx-preserved : goal.loop-idx-preserved
 loop-idx-preserved g c =
     going-next (key_hash g.K.PartialEq.eq g.K.Hash.hash_input g.S.BuildHasher g.S.Hasher.Hasher) c.args.self.now (CalledOnPair g.F.FnMut) (TakesOnPair g.F.FnMut) altered c.args.f
-    c.loop-idx.idx c.loop-idx.f c.loop-idx.invariant c.shards_mut.result c.alter_all_by-f.new.self c.alter_all_by-f.result c.shards_mut.ensures.tagged c.alter_all_by-f.ensures.sweeps c.alter_all_by-f.ensures.lawful c.drop-shards_mut.ensures.left
+    c.loop-idx.idx c.loop-idx.f c.loop-idx.invariant c.shards_mut.result c.alter_all_by-f.new.self c.alter_all_by-f.result c.shards_mut.ensures.tagged c.shards_mut.ensures.found c.alter_all_by-f.ensures.sweeps c.alter_all_by-f.ensures.lawful c.drop-shards_mut.ensures.left
 
 pub returns : goal.returns
 returns g c =

@@ -1,5 +1,6 @@
 use Rattle.std.proofs.Common.{◌≡◌, [], ◌∷◌, ◌++◌, length, sym, ap, subst, ◌∙◌, arith}
 use Rattle.dash_shard.specs.Hashing.{IsAmount, key_hash}
+use Rattle.dash_shard.specs.Lock.{FoundBehind}
 use Rattle.dash_map.specs.Copies.{copy_rules}
 use Rattle.dash_map.specs.inner.Copies.{AreCopied}
 use Rattle.dash_map.proofs.CopyingMaps.{more-copied, copied-map}
@@ -17,7 +18,7 @@ loop-lock-preserved g c =
       room = omega (arith, c.loop-lock.invariant.room, c.push_reserved.ensures.capacity);
       seen = (
         so.0 ++ s ∷ [],
-        one-more h c.args.self.now c.loop-lock.lock-index so.0 so.1 s tagged,
+        one-more h c.args.self.now FoundBehind c.loop-lock.lock-index so.0 so.1 s tagged (subst FoundBehind (sym c.deref-in-loop-lock.ensures.0) c.read-shard.ensures.found),
         subst (λ l. AreCopied k h (so.0 ++ s ∷ []) l) (sym c.push_reserved.ensures.items) (more-copied k h so.0 c.loop-lock.copies.items so.2 s c.in_ok-copy_shard.field-0 c.in_ok-copy_shard.ensures),
       );
     }

@@ -1,6 +1,7 @@
 use Rattle.std.proofs.Common.{◌≤◌, List, vec_capacity}
 use Rattle.dash_shard.specs.Hashing.{key_hash}
 use Rattle.dash_shard.specs.Shard.{ShardState}
+use Rattle.dash_shard.specs.Lock.{FoundBehind}
 use Rattle.dash_map.specs.Copies.{copy_rules}
 use Rattle.dash_map.specs.inner.Copies.{AreCopied}
 use Rattle.dash_map.proofs.Seeing.{SoFar}
@@ -10,6 +11,6 @@ abbrev pub invariant-loop-lock : goal.invariant-loop-lock
 invariant-loop-lock g l = record {
   room : l.self.amount ≤ vec_capacity l.copies;
   seen : (row : List (ShardState g.row.K.Denot g.row.V.Denot g.row.S.Denot))
-      × SoFar (key_hash g.K.PartialEq.eq g.K.Hash.hash_input g.S.BuildHasher g.S.Hasher.Hasher) l.self l.lock-index row
+      × SoFar (key_hash g.K.PartialEq.eq g.K.Hash.hash_input g.S.BuildHasher g.S.Hasher.Hasher) l.self FoundBehind l.lock-index row
       × AreCopied (copy_rules g.K.PartialEq.eq g.K.Kept.alike g.V.Kept.alike g.S.Clone.is_clone) (key_hash g.K.PartialEq.eq g.K.Hash.hash_input g.S.BuildHasher g.S.Hasher.Hasher) row l.copies.items;
 }

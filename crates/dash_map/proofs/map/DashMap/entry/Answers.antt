@@ -20,6 +20,6 @@ returns g c =
     let m = c.args.self.now in
     let here = subst (λ n. IsTagged h m.hasher m.amount n c.shards_mut.result) c.route_of-hash.ensures.route c.shards_mut.ensures.tagged in
     record {
-      saw = (c.shards_mut.result, here, c.find.ensures.case);
+      saw = (c.shards_mut.result, here, c.shards_mut.ensures.found, c.find.ensures.case);
       tagged = entered h m c.args.key c.shards_mut.result here c.find.result c.find.ensures.case c.find.ensures.lawful;
     }

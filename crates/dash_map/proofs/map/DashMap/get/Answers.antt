@@ -29,4 +29,4 @@ returns-clause-saw g c =
     let held = c.read.result.value in
     let within : i < length row = omega (arith, c.route_of-hash.ensures.below, ap (λ m. m.amount) c.self.view_is) in
     let tagged = tagged-held (key_hash g.K.PartialEq.eq g.K.Hash.hash_input g.S.BuildHasher g.S.Hasher.Hasher) _ _ c.self.view_is row c.self.invariant i within c.index.result.now c.index.ensures _ c.deref.ensures held c.read.ensures.fits in
-    (held, subst (λ n. IsTagged (key_hash g.K.PartialEq.eq g.K.Hash.hash_input g.S.BuildHasher g.S.Hasher.Hasher) c.args.self.now.hasher c.args.self.now.amount n held) c.route_of-hash.ensures.route tagged, c.find.ensures.pair)
+    (held, subst (λ n. IsTagged (key_hash g.K.PartialEq.eq g.K.Hash.hash_input g.S.BuildHasher g.S.Hasher.Hasher) c.args.self.now.hasher c.args.self.now.amount n held) c.route_of-hash.ensures.route tagged, c.read.ensures.found, c.find.ensures.pair)

@@ -14,7 +14,7 @@ returns g c =
     let held = c.shards_mut.result in
     let here = subst (λ n. IsTagged h m.hasher m.amount n held) c.route_of-hash.ensures.route c.shards_mut.ensures.tagged in
     record {
-      saw = (held, here, c.find.ensures.gets);
+      saw = (held, here, c.shards_mut.ensures.found, c.find.ensures.gets);
       equal = c.find.ensures.equal;
       tagged = IfSome_then c.find.result c.find.ensures.shard (λ found e. rw e here);
     }

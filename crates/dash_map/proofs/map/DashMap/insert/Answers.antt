@@ -8,5 +8,5 @@ pub returns : goal.returns
 returns g c =
     let r = c.insert_hashed.ensures in
     let stays = settled (key_hash g.K.PartialEq.eq g.K.Hash.hash_input g.S.BuildHasher g.S.Hasher.Hasher) c.insert_hashed.result c.shards_mut.result c.insert_hashed.new.self c.args.key c.args.value r.inserts.taken r.inserts.refused in
-    left-behind (key_hash g.K.PartialEq.eq g.K.Hash.hash_input g.S.BuildHasher g.S.Hasher.Hasher) c.args.self.now c.args.key _ c.route_of-hash.ensures.route _ _ c.shards_mut.ensures.tagged stays r.lawful c.drop-shards_mut.ensures.left
+    left-behind (key_hash g.K.PartialEq.eq g.K.Hash.hash_input g.S.BuildHasher g.S.Hasher.Hasher) c.args.self.now c.args.key _ c.route_of-hash.ensures.route _ _ c.shards_mut.ensures.tagged c.shards_mut.ensures.found stays r.lawful c.drop-shards_mut.ensures.left
     (λ s t. Inserts g.K.PartialEq.eq s t c.args.key c.args.value c.insert_hashed.result) r.inserts

@@ -12,5 +12,5 @@ remove_if_hashed-requires-clause-callable g c = at-each g.K.PartialEq.eq (pairs 
 pub returns : goal.returns
 returns g c =
     let r = c.remove_if_hashed.ensures in
-    left-behind (key_hash g.K.PartialEq.eq g.K.Hash.hash_input g.S.BuildHasher g.S.Hasher.Hasher) c.args.self.now c.args.key.now _ c.route_of-hash.ensures.route _ _ c.shards_mut.ensures.tagged r.removes.1.taken.stays r.lawful c.drop-shards_mut.ensures.left
+    left-behind (key_hash g.K.PartialEq.eq g.K.Hash.hash_input g.S.BuildHasher g.S.Hasher.Hasher) c.args.self.now c.args.key.now _ c.route_of-hash.ensures.route _ _ c.shards_mut.ensures.tagged c.shards_mut.ensures.found r.removes.1.taken.stays r.lawful c.drop-shards_mut.ensures.left
     (λ s t. TakesBy g.K.PartialEq.eq s t RemoveIf c.args.key.now (Pair c.remove_if_hashed.result) (Answered g.F.FnOnce c.args.f) × Loses s t c.remove_if_hashed.result) (r.removes, r.len)

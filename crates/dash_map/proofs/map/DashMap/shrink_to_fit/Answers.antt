@@ -12,7 +12,7 @@ pub loop-idx-preserved : goal.loop-idx-preserved
 loop-idx-preserved g c =
     let r = c.shrink_to_fit.ensures in
     one-left (key_hash g.K.PartialEq.eq g.K.Hash.hash_input g.S.BuildHasher g.S.Hasher.Hasher) c.args.self.now (Shrinks {V = g.row.V.Denot} g.K.PartialEq.eq)
-    c.loop-idx.idx c.loop-idx.invariant c.shards_mut.result c.shrink_to_fit.new.self c.shards_mut.ensures.tagged r.shrinks.stays r.lawful r.shrinks c.drop-shards_mut.ensures.left
+    c.loop-idx.idx c.loop-idx.invariant c.shards_mut.result c.shrink_to_fit.new.self c.shards_mut.ensures.tagged c.shards_mut.ensures.found r.shrinks.stays r.lawful r.shrinks c.drop-shards_mut.ensures.left
 
 pub returns : goal.returns
 returns g c =

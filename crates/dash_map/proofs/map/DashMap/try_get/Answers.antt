@@ -11,7 +11,7 @@ returns-in-Some-find-clause-saw g c =
     let h = key_hash g.K.PartialEq.eq g.K.Hash.hash_input g.S.BuildHasher g.S.Hasher.Hasher in
     let m = c.args.self.now in
     let held = c.in-Some.guard.value in
-    (held, subst (λ n. IsTagged h m.hasher m.amount n held) c.route_of-hash.ensures.route c.in-Some.ensures.tagged, c.in-Some-find.ensures.pair)
+    (held, subst (λ n. IsTagged h m.hasher m.amount n held) c.route_of-hash.ensures.route c.in-Some.ensures.tagged, c.in-Some.ensures.found, c.in-Some-find.ensures.pair)
 
 pub returns-in-Some-find-clause-tagged : goal.returns-in-Some-find-clause-tagged
 returns-in-Some-find-clause-tagged g c =
@@ -24,4 +24,4 @@ returns-in-None-clause-saw g c =
     let h = key_hash g.K.PartialEq.eq g.K.Hash.hash_input g.S.BuildHasher g.S.Hasher.Hasher in
     let m = c.args.self.now in
     let held = c.in-Some.guard.value in
-    (held, subst (λ n. IsTagged h m.hasher m.amount n held) c.route_of-hash.ensures.route c.in-Some.ensures.tagged, c.in-None.ensures.pair)
+    (held, subst (λ n. IsTagged h m.hasher m.amount n held) c.route_of-hash.ensures.route c.in-Some.ensures.tagged, c.in-Some.ensures.found, c.in-None.ensures.pair)

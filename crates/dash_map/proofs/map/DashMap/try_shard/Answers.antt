@@ -11,4 +11,5 @@ returns g c =
     record {
       tagged = if-both c.try_read.result c.try_read.ensures.tag c.try_read.ensures.fits
           (λ r tag fits. tagged-held (key_hash g.K.PartialEq.eq g.K.Hash.hash_input g.S.BuildHasher g.S.Hasher.Hasher) _ _ c.self.view_is row c.self.invariant c.args.shard within c.index.result.now c.index.ensures _ c.deref.ensures r.value fits);
+      found = c.try_read.ensures.found;
     }

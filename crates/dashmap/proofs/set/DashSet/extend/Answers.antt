@@ -8,10 +8,12 @@ returns-clause-extends g c =
     rw (← c.self.view_is) (
       left.0,
       left.1,
-      left.2,
-      left.3,
-      record {
-        gains = came-inside (λ m. m.keys) (of_members g.U.IntoIter.Iterator.next_gives) _ _ _ (g.U.IntoIterator.into_iter_gives c.args.iter) c.into_iter-keys.ensures.into_iter_gives left.4.gains;
-        refused = left.4.refused;
-      },
+      (
+        left.2.0,
+        left.2.1,
+        record {
+          gains = came-inside (λ m. m.keys) (of_members g.U.IntoIter.Iterator.next_gives) _ _ _ (g.U.IntoIterator.into_iter_gives c.args.iter) c.into_iter-keys.ensures.into_iter_gives left.2.2.gains;
+          refused = left.2.2.refused;
+        },
+      ),
     )

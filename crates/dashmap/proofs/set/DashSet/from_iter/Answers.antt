@@ -1,4 +1,3 @@
-use Rattle.std.proofs.Common.{sym, ap}
 use Rattle.dashmap.proofs.set.DashSet.from_iter.Goals as goal
 
 pub returns-clause-made : goal.returns-clause-made
@@ -11,7 +10,7 @@ returns-clause-made g c =
       made.4,
       (
         c.in_ok-from_iter.field-0,
-        record { hasher = sym (ap (λ m. m.hasher) c.end.ensures); amount = sym (ap (λ m. m.amount) c.end.ensures); lawful = c.in_ok-from_iter.ensures.lawful },
+        c.end.ensures.left,
         made.5,
       ),
     )

@@ -10,4 +10,4 @@ retain-requires g c = λ ps.
 pub returns : goal.returns
 returns g c =
     let left = c.retain.ensures in
-    rw (← c.self.view_is) (left.0, left.1, left.2, left.3, retains-inside (λ x. x.0.now) _ (CalledAtKey g.F.FnMut) (λ x k v b w y called. search rules) g.K.PartialEq.eq _ _ _ left.4)
+    rw (← c.self.view_is) (left.0, left.1, (left.2.0, left.2.1, retains-inside (λ x. x.0.now) _ (CalledAtKey g.F.FnMut) (λ x k v b w y called. search rules) g.K.PartialEq.eq _ _ _ left.2.2))
