@@ -40,15 +40,3 @@ module _ {K V A : Type 0} where
 
     pub listed-all : (ats start : List At) (i : ℕ) (row : List (RecState K V A S)) → length row ≤ i → ats ++ places i (map history (drop i row)) ≡ start → ats ≡ start
     listed-all ats start i row past so_far = sym (append-nil ats) ∙ ap (λ l. ats ++ places i (map history l)) (sym (drop_of_length-le row past)) ∙ so_far
-
-    -- the shards below i are lawful
-    abbrev pub LawfulBelow : Known K V A S → ℕ → List (RecState K V A S) → Type 0
-    LawfulBelow w i row = (k : ℕ) (s : RecState K V A S) → k < i → slice_get row k ≡ Some s → IsRecorded w s
-
-    pub lawful-more : (w : Known K V A S) (i : ℕ) (row : List (RecState K V A S)) (s : RecState K V A S) → i < length row → s ≡ get_or row i s → LawfulBelow w i row → IsRecorded w s → LawfulBelow w (i + 1) row
-    lawful-more w i row s within is so_far one k t below e = elim (cases_lt k i) as (λ _. IsRecorded w t) [
-      | inl before ↦ so_far k t before e
-      | inr past ↦
-          let same : k ≡ i = omega (arith, below, past) in
-          subst (IsRecorded w) (same_Some s t (ap Some is ∙ sym (slice_get-get_or row i s within) ∙ ap (slice_get row) (sym same) ∙ e)) one
-    ]
