@@ -1,11 +1,13 @@
 //! `dashcheck threads`: threads that take steps on one recorded map, the count of what they logged, and whether the history that is
 //! gathered of it is legal.
-ghost use Rattle.std.specs.Prelude.{◌≡◌, ◌≢◌, ℕ, ◌+◌, ◌*◌, ◌%◌, ◌^◌, ◌<◌, ◌≤◌, ◌⊎◌, ◌↔◌, ◌∷◌, ◌++◌, [], All, Some, IsSomeAnd, IfOk, IfErr, IfSome, IfNone, OnOk, OnErr, IsTrue, length, map, sum_by, slice_get, slice_index_or, vec_len, if◌then◌else◌, true, false};
+ghost use Rattle.std.specs.Prelude.{◌≡◌, ◌≢◌, ℕ, ◌+◌, ◌*◌, ◌%◌, ◌^◌, ◌<◌, ◌≤◌, ◌⊎◌, ◌↔◌, ◌∷◌, ◌++◌, [], All, Err, IfOk, IfErr, IfSome, IfNone, OnOk, OnErr, IsTrue, length, map, sum_by, slice_index_or, vec_len, if◌then◌else◌, true, false};
 ghost use Rattle.std.specs.Io.KnownBytes.{Appends};
 ghost use Rattle.dash_history.specs.Alone.{fresh_logs};
+ghost use Rattle.dash_history.specs.Map.{SawShards};
+ghost use Rattle.dash_history.specs.OneHistory.{Matches};
 ghost use Rattle.dashcheck.specs.Replay.{IsThreadStep};
-ghost use Rattle.dashcheck.specs.Threads.{IsSize, IsJudged, thread_step, refusal_text, SaysRefusal, verdict_lines};
-ghost use Rattle.dashcheck.specs.inner.Threads.{LogsStep, IsIdle, Works, AllDone, HasTaken, idle, IsJudgedBy};
+ghost use Rattle.dashcheck.specs.Threads.{IsSize, IsJudged, IsSo, thread_step, refusal_text, SaysRefusal, verdict_lines};
+ghost use Rattle.dashcheck.specs.inner.Threads.{LogsStep, IsIdle, IsFirstRefusal, MayRefuse, Works, AllDone, HasTaken, idle, IsJudgedBy};
 
 mod replay;
 
@@ -82,7 +84,8 @@ struct Outcome {
 /// it on a plain map. It prints how many entries the logs have, and whether each reply and the pairs at the end are those of the replay:
 /// where they aren't, it ends as refused.
 ///
-/// The first refusal, in the order of the threads, is printed on `errors` instead. It fails where a write does.
+/// The first refusal, in the order of the threads, is printed on `errors` instead: a mismatch only where the logs don't match the
+/// histories, and a last stamp only where a thread had none left. It fails where a write does.
 pub fn run<T: Threads + Wait + Clock + Sync, O: Write, E: Write>(
     rt: &T,
     alloc: Global,
@@ -97,7 +100,8 @@ pub fn run<T: Threads + Wait + Clock + Sync, O: Write, E: Write>(
         → Appends (O.contents output.old) (O.contents output.new) (verdict_lines (callers * steps) true) × (errors.new ≡ errors.old) }
     ensures legal { result ≡ Ok Status.Good → IsJudged ⟦<Alone as Recorded>⟧.known callers steps true }
     ensures refused { result ≡ Ok Status.Refused
-        → (SaysRefusal (E.contents errors.old) (E.contents errors.new) × (output.new ≡ output.old))
+        → (SaysRefusal ⟦<Alone as Recorded>⟧.known callers steps (E.contents errors.old) (E.contents errors.new)
+        × (output.new ≡ output.old))
         ⊎ (Appends (O.contents output.old) (O.contents output.new) (verdict_lines (callers * steps) false) × (errors.new ≡ errors.old)
         × IsJudged ⟦<Alone as Recorded>⟧.known callers steps false) }
 {
@@ -117,6 +121,7 @@ fn outcome_of<T: Threads + Wait + Clock + Sync>(
     requires { IsSize callers steps }
     ensures entries { IfOk result (λ o. o.entries ≡ callers * steps) }
     ensures judged { IfOk result (λ o. IsJudged ⟦<Alone as Recorded>⟧.known callers steps o.legal) }
+    ensures refused { IfErr result (IsSo ⟦<Alone as Recorded>⟧.known callers steps) }
 {
     let (map, workers) = work(rt, alloc, callers, steps)?;
     let entries = entries(workers.as_slice());
@@ -161,6 +166,7 @@ fn work<T: Threads + Wait + Clock + Sync>(
     ensures amount { IfOk result (λ done. done.0.amount ≡ 4) }
     ensures len { IfOk result (λ done. vec_len done.1 ≡ callers) }
     ensures done { IfOk result (λ done. AllDone steps done.1.items) }
+    ensures refused { IfErr result (IsSo ⟦<Alone as Recorded>⟧.known callers steps) }
 {
     let Ok((map, logs)) = Map::new(alloc, PlaceState, SHARDS, callers) else {
         return Err(Refusal::Map);
@@ -178,7 +184,10 @@ fn work<T: Threads + Wait + Clock + Sync>(
 // Whether the history that is gathered of the map with the workers' logs is legal: a replay of its steps on a plain map gets their
 // replies, and leaves the map's pairs.
 fn judge(alloc: Global, shared: Map, workers: Vec<Worker>) -> Result<bool, Refusal>
-    ensures { IfOk result (IsJudgedBy ⟦<Alone as Recorded>⟧.known shared.amount (map (λ w. w.log) workers.items)) }
+    ensures judged { IfOk result (IsJudgedBy ⟦<Alone as Recorded>⟧.known shared.amount (map (λ w. w.log) workers.items)) }
+    ensures mismatch { result ≡ Err Refusal.Mismatch
+        → SawShards ⟦<Alone as Recorded>⟧.known shared (λ a. Matches ⟦<Alone as Recorded>⟧.known a (map (λ w. w.log) workers.items) → ⊥) }
+    ensures kinds { IfErr result (λ refusal. refusal ≢ Refusal.LastStamp) }
 {
     let Ok(logs) = logs_of(alloc, workers) else {
         return Err(Refusal::Map);
@@ -212,7 +221,8 @@ fn take_all<T: Threads + Wait + Clock + Sync>(rt: &T, map: &Map, workers: &mut [
     requires some { 0 < length workers.old }
     requires idle { All (IsIdle map.now.callers) workers.old }
     ensures len { length workers.new ≡ length workers.old }
-    ensures each { (i : ℕ) (d : _) → i < length workers.old → Works steps (slice_index_or workers.old i d) (slice_index_or workers.new i d) }
+    ensures each { (i : ℕ) (d : _) → i < length workers.old
+        → Works ⟦<Alone as Recorded>⟧.known map.now steps (slice_index_or workers.old i d) (slice_index_or workers.new i d) }
 {
     let threads = workers.len();
     thread::for_each_mut(
@@ -232,9 +242,10 @@ fn idle_workers(alloc: Global, logs: Vec<Log>) -> Result<Vec<Worker>, AllocError
         .collect(alloc)
 }
 
+// The first refusal, in the order of the workers.
 fn first_refusal(workers: &[Worker]) -> Option<Refusal>
     ensures none { IfNone result (All (λ w. w.refused ≡ None) workers.now) }
-    ensures some { IfSome result (λ refusal. (i : ℕ) × IsSomeAnd (slice_get workers.now i) (λ w. w.refused ≡ Some refusal)) }
+    ensures first { IfSome result (IsFirstRefusal workers.now) }
 {
     workers.iter().find_map(|worker| worker.refused)
 }
@@ -256,7 +267,7 @@ impl Worker {
         requires size { IsSize map.now.callers steps }
         requires shards { map.now.amount ≡ 4 }
         requires idle { IsIdle map.now.callers self.old }
-        ensures { Works steps self.old self.new }
+        ensures { Works ⟦<Alone as Recorded>⟧.known map.now steps self.old self.new }
     {
         self.refused = take_steps(rt, map, &mut self.log, steps).err();
     }
@@ -270,7 +281,7 @@ fn take_steps<T: Wait + Clock>(rt: &T, map: &Map, log: &mut Log, steps: u64) -> 
     requires idle { log.old.entries ≡ [] }
     ensures caller { log.new.caller ≡ log.old.caller }
     ensures done { OnOk result (HasTaken steps log.new) }
-    ensures kinds { IfErr result (λ refusal. refusal ≢ Refusal.Map) }
+    ensures refused { IfErr result (MayRefuse ⟦<Alone as Recorded>⟧.known map.now log.new) }
 {
     let thread = u64::from(log.caller());
     for number in 0..steps {
@@ -290,8 +301,8 @@ fn take<T: Wait + Clock>(
     requires caller { log.old.caller < map.now.callers }
     requires kind { IsThreadStep step }
     ensures taken { OnOk result (LogsStep log.old log.new step) }
-    ensures refused { OnErr result (log.new ≡ log.old) }
-    ensures kinds { IfErr result (λ refusal. refusal ≢ Refusal.Map) }
+    ensures unchanged { OnErr result (log.new ≡ log.old) }
+    ensures refused { IfErr result (MayRefuse ⟦<Alone as Recorded>⟧.known map.now log.new) }
 {
     match map.apply(rt, log, step) {
         Ok(_) => Ok(()),
@@ -321,6 +332,7 @@ fn step(thread: u64, number: u64) -> ShardStep<u64, u64>
 mod tests {
     use super::*;
     use dash_shard::error::ConstructError;
+    use dash_steps::step::Reply;
     use std::test::Fail;
 
     #[test]
@@ -333,6 +345,46 @@ mod tests {
         ] {
             let step = step(thread, number);
             assert_eq!(rt; format!(in rt.alloc(); "{step:?}")?.as_str(), text);
+        }
+        Ok(())
+    }
+
+    // Waits until the key is there.
+    fn await_key<T: Wait + Clock>(rt: &T, map: &Map, log: &mut Log, key: u64)
+        requires { log.old.caller < map.now.callers }
+        ensures { log.new.caller ≡ log.old.caller }
+    {
+        for _ in rt.forever() {
+            if let Ok(Reply::Pair(Some(_))) = map.apply(rt, log, ShardStep::Get(key)) {
+                return;
+            }
+            // It takes memory to look.
+            for _ in 0..1_000 {
+                thread::yield_now();
+            }
+        }
+    }
+
+    // Shard 1 is held, and each of four workers comes to it in its four steps. So none ends before the first steps of all are seen, and
+    // they are seen only where each worker has a thread of its own.
+    #[test]
+    fn each_worker_has_a_thread_of_its_own(rt: HostRuntime) -> Result<(), Fail> {
+        let (map, logs) = Map::new(rt.alloc(), PlaceState, SHARDS, 5).expect(&rt, "refused");
+        let mut workers = idle_workers(rt.alloc(), logs)?;
+        let mut seer = workers.pop().expect(&rt, "no worker");
+        let held = map.held(&rt, 1);
+        thread::join(
+            &rt,
+            || take_all(&rt, &map, workers.as_mut_slice(), 4),
+            || {
+                for key in [0, 2, 3] {
+                    await_key(&rt, &map, &mut seer.log, key);
+                }
+                drop(held);
+            },
+        );
+        for worker in &workers {
+            assert_eq!(rt; worker.log.entries().len(), 4);
         }
         Ok(())
     }

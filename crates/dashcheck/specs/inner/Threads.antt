@@ -1,14 +1,17 @@
 -- The steps of a thread, and what it has done.
-use Rattle.std.specs.Prelude.{◌≡◌, ◌↔◌, IsTrue, Bool, ℕ, zero, suc, ◌<◌, ◌++◌, List, [], ◌∷◌, None, IfNone, length, map, slice_index_or}
+use Rattle.std.specs.Prelude.{◌≡◌, ◌↔◌, IsTrue, Bool, ℕ, zero, suc, ◌<◌, ◌++◌, List, [], ◌∷◌, None, Some, IfNone, IfSome, IsSomeAnd, ⊤, length, map, slice_get, slice_index_or}
 use Rattle.dash_shard.specs.declared.hash.PlaceState.{PlaceState}
 use Rattle.dash_history.specs.Alone.{AloneState}
 use Rattle.dash_history.specs.History.{LogState}
+use Rattle.dash_history.specs.Map.{MapState}
 use Rattle.dash_history.specs.OneHistory.{IsGathered, along, histories, contents}
 use Rattle.dash_steps.specs.Takes.{Known}
 use Rattle.dash_history.specs.declared.gather.At.{At}
 use Rattle.dash_steps.specs.declared.step.ShardStep.{ShardStep}
 use Rattle.dashcheck.specs.Replay.{IsReplay}
-use Rattle.dashcheck.specs.Threads.{thread_step}
+use Rattle.dashcheck.specs.Threads.{HasNoStamp, thread_step}
+use Rattle.dashcheck.specs.declared.threads.Refusal.{Refusal}
+use Rattle.dashcheck.specs.declared.threads.Refusal.TheVariants.{LastStamp, Memory}
 use Rattle.dashcheck.specs.declared.threads.Worker.{Worker}
 
 -- the steps 0 to n - 1 of thread j
@@ -38,10 +41,23 @@ pub record IsIdle (c : ℕ) (worker : Worker) : Type 0 where
   pub caller : worker.log.caller < c
   pub entries : worker.log.entries ≡ []
 
--- the worker took the first n steps of its thread, or was refused one
-pub record Works (n : ℕ) (old new : Worker) : Type 0 where
+-- why the thread of the log may be refused a step: for want of a stamp, or of memory
+abbrev pub MayRefuse : Known ℕ ℕ (Unit {0}) PlaceState → MapState PlaceState → LogState ℕ ℕ (Unit {0}) → Refusal → Type 0
+MayRefuse w m log LastStamp = HasNoStamp w m log
+MayRefuse w m log Memory = ⊤
+MayRefuse w m log _ = ⊥
+
+-- the worker took the first n steps of its thread on the map, or was refused one
+pub record Works (w : Known ℕ ℕ (Unit {0}) PlaceState) (m : MapState PlaceState) (n : ℕ) (old new : Worker) : Type 0 where
   pub caller : new.log.caller ≡ old.log.caller
   pub done : IfNone new.refused (HasTaken n new.log)
+  pub refused : IfSome new.refused (MayRefuse w m new.log)
+
+-- the first refusal of the workers, in their order
+pub record IsFirstRefusal (workers : List Worker) (refusal : Refusal) : Type 0 where
+  pub index : ℕ
+  pub here : IsSomeAnd (slice_get workers index) (λ w. w.refused ≡ Some refusal)
+  pub before : (i : ℕ) (d : Worker) → i < index → (slice_index_or workers i d).refused ≡ None
 
 -- the worker at each place i is the thread i, and has done its first n steps
 abbrev pub AllDone : ℕ → List Worker → Type 0

@@ -17,8 +17,8 @@ with-logs {w} state ats e h = subst (λ ls. IsGathered w state ls ats) e h
 pub agrees-requires : goal.agrees-requires
 agrees-requires c a has = (c.in-Ok-gather.ensures.gathered.history.merge.each a).0 (subst (λ xs. Contains xs a) c.as_slice-2.ensures.value has)
 
-pub returns : goal.returns
-returns c =
+pub returns-clause-judged : goal.returns-clause-judged
+returns-clause-judged c =
     let map = c.alone-alone.result in
     let ats = c.in-Ok-gather.ats.items in
     let pairs : c.as_slice-3.result.now ≡ contents map = c.as_slice-3.ensures.value ∙ same-pairs (contents map) c.in-Ok-pairs.pairs.items c.in-Ok-pairs.ensures in
