@@ -1,10 +1,7 @@
 -- The places of all records, as they are listed.
-use Rattle.std.proofs.Common.{◌≡◌, ℕ, suc, ◌+◌, ◌<◌, ◌≤◌, List, [], ◌∷◌, ◌++◌, map, length, Some, slice_get, get_or, drop, sym, ap, subst, ◌∙◌, inl, inr, arith, drop-cons, add-one, drop_of_length-le, append_assoc, append-nil}
-use Rattle.std.proofs.lemmas.Bool.{cases_lt}
-use Rattle.std.proofs.lemmas.Option.{slice_get-get_or, same_Some}
+use Rattle.std.proofs.Common.{◌≡◌, ℕ, suc, ◌+◌, ◌<◌, ◌≤◌, List, [], ◌∷◌, ◌++◌, map, length, get_or, drop, sym, ap, ◌∙◌, drop-cons, add-one, drop_of_length-le, append_assoc, append-nil}
 use Rattle.dash_history.specs.inner.Gathering.{places, places_from, place_of}
-use Rattle.dash_history.specs.History.{RecState, IsRecorded}
-use Rattle.dash_steps.specs.Takes.{Known}
+use Rattle.dash_history.specs.History.{RecState}
 use Rattle.dash_steps.specs.declared.step.Record.{Record}
 use Rattle.dash_history.specs.declared.gather.At.{At}
 

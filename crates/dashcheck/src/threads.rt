@@ -333,6 +333,7 @@ mod tests {
     use super::*;
     use dash_shard::error::ConstructError;
     use dash_steps::step::Reply;
+    use std::process::Abort;
     use std::test::Fail;
 
     #[test]
@@ -349,16 +350,27 @@ mod tests {
         Ok(())
     }
 
-    // Waits until the key is there.
-    fn await_key<T: Wait + Clock>(rt: &T, map: &Map, log: &mut Log, key: u64)
-        requires { log.old.caller < map.now.callers }
-        ensures { log.new.caller ≡ log.old.caller }
+    // Four workers that have done nothing on a map of five callers, and the log of the fifth.
+    fn four_idle<T: Abort>(rt: &T, alloc: Global) -> (Map, Vec<Worker>, Log)
+        ensures callers { result.0.callers ≡ 5 }
+        ensures amount { result.0.amount ≡ 4 }
+        ensures some { 0 < length result.1.items }
+        ensures idle { All (IsIdle 5) result.1.items }
     {
+        let (map, logs) = Map::new(alloc, PlaceState, SHARDS, 5).expect(rt, "refused");
+        let mut workers = idle_workers(alloc, logs).expect(rt, "refused");
+        let last = workers.pop().expect(rt, "no worker");
+        (map, workers, last.log)
+    }
+
+    // Waits until the key is there.
+    fn await_key<T: Wait + Clock + Abort>(rt: &T, map: &Map, log: &mut Log, key: u64) {
         for _ in rt.forever() {
+            assert!(rt; log.caller() < map.callers());
             if let Ok(Reply::Pair(Some(_))) = map.apply(rt, log, ShardStep::Get(key)) {
                 return;
             }
-            // It takes memory to look.
+            // A look takes memory.
             for _ in 0..1_000 {
                 thread::yield_now();
             }
@@ -368,17 +380,18 @@ mod tests {
     // Shard 1 is held, and each of four workers comes to it in its four steps. So none ends before the first steps of all are seen, and
     // they are seen only where each worker has a thread of its own.
     #[test]
-    fn each_worker_has_a_thread_of_its_own(rt: HostRuntime) -> Result<(), Fail> {
-        let (map, logs) = Map::new(rt.alloc(), PlaceState, SHARDS, 5).expect(&rt, "refused");
-        let mut workers = idle_workers(rt.alloc(), logs)?;
-        let mut seer = workers.pop().expect(&rt, "no worker");
+    fn each_worker_has_a_thread_of_its_own(rt: HostRuntime) {
+        let (map, mut workers, mut log) = four_idle(&rt, rt.alloc());
         let held = map.held(&rt, 1);
+        let idle = workers.as_mut_slice();
         thread::join(
             &rt,
-            || take_all(&rt, &map, workers.as_mut_slice(), 4),
+            ||
+                requires { IsSize map.callers 4 × (map.amount ≡ 4) × (0 < length idle.now) × All (IsIdle map.callers) idle.now }
+            { take_all(&rt, &map, idle, 4) },
             || {
                 for key in [0, 2, 3] {
-                    await_key(&rt, &map, &mut seer.log, key);
+                    await_key(&rt, &map, &mut log, key);
                 }
                 drop(held);
             },
@@ -386,7 +399,6 @@ mod tests {
         for worker in &workers {
             assert_eq!(rt; worker.log.entries().len(), 4);
         }
-        Ok(())
     }
 
     #[test]

@@ -1,5 +1,5 @@
 -- How a merge is made, and how logs are followed along it.
-use Rattle.std.specs.Prelude.{ℕ, ◌+◌, ◌≡◌, ◌≢◌, ◌<◌, Bool, false, List, [], ◌∷◌, ◌++◌, length, map, Some, slice_get, slice_index, get_or}
+use Rattle.std.specs.Prelude.{ℕ, ◌+◌, ◌≡◌, ◌≢◌, ◌<◌, Bool, false, List, [], ◌∷◌, ◌++◌, length, Some, slice_get, slice_index, get_or}
 use Rattle.std.specs.Option.{option_map_or}
 use Rattle.dash_steps.specs.Takes.{Known}
 use Rattle.dash_history.specs.History.{LogState, IsLog}
