@@ -8,7 +8,8 @@ use Rattle.std.proofs.lemmas.Nat.{mul-le}
 use Rattle.std.proofs.lemmas.Option.{same_Some, slice_get_within, slice_get-get_or}
 use Rattle.dash_shard.specs.declared.hash.PlaceState.{PlaceState}
 use Rattle.dash_shard.specs.Contents.{Keys, keys}
-use Rattle.dash_history.specs.Alone.{fresh_logs}
+use Rattle.std.proofs.lemmas.Result.{IfOk-weaker}
+use Rattle.dash_history.specs.Alone.{AloneState, fresh_logs}
 use Rattle.dash_history.specs.History.{LogState, shard_of}
 use Rattle.dash_history.specs.Map.{Logged, MapState, SawShards}
 use Rattle.dash_history.specs.OneHistory.{Matches}
@@ -24,7 +25,7 @@ use Rattle.dashcheck.specs.declared.threads.Refusal.TheVariants.{Map, LastStamp,
 use Rattle.dashcheck.specs.declared.threads.Worker.{Worker}
 use Rattle.dashcheck.specs.Replay.{IsThreadStep}
 use Rattle.dashcheck.specs.Threads.{IsSize, HasDone, AreDone, IsJudged, IsSo, thread_step}
-use Rattle.dashcheck.specs.inner.Threads.{LogsStep, IsIdle, IsFirstRefusal, MayRefuse, Works, AllDone, HasTaken, IsJudgedBy, idle, steps_in, thread_steps}
+use Rattle.dashcheck.specs.inner.Threads.{LogsStep, IsIdle, IsFirstRefusal, MayRefuse, Works, AllDone, HasTaken, IsJudgedOf, IsJudgedBy, idle, steps_in, thread_steps}
 
 -- steps of threads: they carry no action
 abbrev idle_acts : Unit {0} → ℕ → ℕ → ℕ × Bool
@@ -201,6 +202,12 @@ logs-done c n ws long done = record {
       (did.0, has-done n l did.1);
 }
 
+-- what was said of these shards, of the same logs
+pub judged-by : (w : Known ℕ ℕ (Unit {0}) PlaceState) (state : AloneState ℕ ℕ (Unit {0}) PlaceState) (shards : ℕ) (logs same : List (LogState ℕ ℕ (Unit {0}))) (r : Result Bool Refusal)
+    → length state.row ≡ shards → logs ≡ same → IfOk r (IsJudgedOf w state logs) → IfOk r (IsJudgedBy w shards same)
+judged-by w state shards logs same r long is =
+    IfOk-weaker r (IsJudgedOf w state logs) (IsJudgedBy w shards same) (λ legal j. record { state = state; amount = long; judged = subst (λ ls. IsJudgedOf w state ls legal) is j })
+
 -- why the history was not judged
 pub not-judged : (w : Known ℕ ℕ (Unit {0}) PlaceState) (c n : ℕ) (m : MapState PlaceState) (ws : List Worker) (r : Refusal) → length ws ≡ c → AllDone n ws → m.amount ≡ 4
     → (r ≡ Mismatch → SawShards w m (λ a. Matches w a (map (λ w. w.log) ws) → ⊥)) → r ≢ LastStamp → IsSo w c n r
@@ -210,18 +217,18 @@ not-judged w c n m ws Gather long done four mismatch kind = tt
 not-judged w c n m ws LastStamp long done four mismatch kind = absurd (kind refl)
 not-judged w c n m ws Mismatch long done four mismatch kind =
     let saw = mismatch refl in
-    record { logs = map (λ w. w.log) ws; state = saw.0; done = logs-done c n ws long done; amount = saw.1.amount ∙ four; differ = saw.2 }
+    record { logs = map (λ w. w.log) ws; state = saw.0; done = logs-done c n ws long done; amount = saw.1.amount ∙ four; lawful = saw.1.lawful; differ = saw.2 }
 
 -- what was said of the history
 pub judged : {w : Known ℕ ℕ (Unit {0}) PlaceState} (c n amount : ℕ) (ws : List Worker) (legal : Bool) → length ws ≡ c → AllDone n ws → amount ≡ 4 → IsJudgedBy w amount (map (λ w. w.log) ws) legal → IsJudged w c n legal
 judged c n amount ws legal long done four by = record {
   logs = map (λ w. w.log) ws;
   state = by.state;
-  ats = by.ats;
+  ats = by.judged.ats;
   done = logs-done c n ws long done;
   amount = by.amount ∙ four;
-  gathered = by.gathered;
-  exact = by.exact;
+  gathered = by.judged.gathered;
+  exact = by.judged.exact;
 }
 
 -- how many entries they logged

@@ -3,7 +3,7 @@ use Rattle.std.specs.Prelude.{◌≡◌, ◌↔◌, ℕ, Bool, IsTrue, ⊤, ◌+
 use Rattle.std.specs.Fmt.{decimal}
 use Rattle.std.specs.Io.KnownBytes.{Appends}
 use Rattle.dash_shard.specs.declared.hash.PlaceState.{PlaceState}
-use Rattle.dash_history.specs.Alone.{AloneState}
+use Rattle.dash_history.specs.Alone.{AloneState, IsAlone}
 use Rattle.dash_history.specs.History.{LogState}
 use Rattle.dash_history.specs.Map.{MapState, SawShard}
 use Rattle.dash_history.specs.OneHistory.{IsGathered, Matches, along, histories, contents}
@@ -51,12 +51,13 @@ pub record IsJudged (w : Known ℕ ℕ (Unit {0}) PlaceState) (c n : ℕ) (legal
   pub gathered : IsGathered w state logs ats
   pub exact : IsTrue legal ↔ IsReplay [] (along (histories state) ats) (contents state)
 
--- NO MATCH: the logs of c threads, which took n steps each on a map of four shards, don't match its histories
+-- NO MATCH: the logs of c threads, which took n steps each, don't match the histories of a lawful map of four shards
 pub record AreMismatched (w : Known ℕ ℕ (Unit {0}) PlaceState) (c n : ℕ) : Type 0 where
   pub logs : List (LogState ℕ ℕ (Unit {0}))
   pub state : AloneState ℕ ℕ (Unit {0}) PlaceState
   pub done : AreDone c n logs
   pub amount : length state.row ≡ 4
+  pub lawful : IsAlone w state
   pub differ : Matches w state logs → ⊥
 
 -- no stamp is above the log's last and that of a shard of the map, as it stood behind its lock

@@ -7,7 +7,7 @@ ghost use Rattle.dash_history.specs.Map.{SawShards};
 ghost use Rattle.dash_history.specs.OneHistory.{Matches};
 ghost use Rattle.dashcheck.specs.Replay.{IsThreadStep};
 ghost use Rattle.dashcheck.specs.Threads.{IsSize, IsJudged, IsSo, thread_step, refusal_text, SaysRefusal, verdict_lines};
-ghost use Rattle.dashcheck.specs.inner.Threads.{LogsStep, IsIdle, IsFirstRefusal, MayRefuse, Works, AllDone, HasTaken, idle, IsJudgedBy};
+ghost use Rattle.dashcheck.specs.inner.Threads.{LogsStep, IsIdle, IsFirstRefusal, MayRefuse, Works, AllDone, HasTaken, idle, IsJudgedOf, IsJudgedBy};
 
 mod replay;
 
@@ -193,7 +193,16 @@ fn judge(alloc: Global, shared: Map, workers: Vec<Worker>) -> Result<bool, Refus
         return Err(Refusal::Map);
     };
     let alone = shared.alone();
-    let ats = match alone.gather(logs.as_slice()) {
+    judge_alone(alloc, &alone, logs.as_slice())
+}
+
+// The same, of a map of one owner: these very shards.
+fn judge_alone(alloc: Global, alone: &Alone, logs: &[Log]) -> Result<bool, Refusal>
+    ensures judged { IfOk result (IsJudgedOf ⟦<Alone as Recorded>⟧.known alone.now logs.now) }
+    ensures mismatch { result ≡ Err Refusal.Mismatch → Matches ⟦<Alone as Recorded>⟧.known alone.now logs.now → ⊥ }
+    ensures kinds { IfErr result (λ refusal. refusal ≢ Refusal.LastStamp) }
+{
+    let ats = match alone.gather(logs) {
         Ok(ats) => ats,
         Err(GatherError::Mismatch) => return Err(Refusal::Mismatch),
         Err(GatherError::Memory) => return Err(Refusal::Gather),
@@ -201,7 +210,7 @@ fn judge(alloc: Global, shared: Map, workers: Vec<Worker>) -> Result<bool, Refus
     let Ok(pairs) = alone.pairs() else {
         return Err(Refusal::Map);
     };
-    let Ok(legal) = replay::agrees(alloc, &alone, ats.as_slice(), pairs.as_slice()) else {
+    let Ok(legal) = replay::agrees(alloc, alone, ats.as_slice(), pairs.as_slice()) else {
         return Err(Refusal::Map);
     };
     Ok(legal)

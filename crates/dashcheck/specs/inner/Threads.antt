@@ -63,10 +63,14 @@ pub record IsFirstRefusal (workers : List Worker) (refusal : Refusal) : Type 0 w
 abbrev pub AllDone : ℕ → List Worker → Type 0
 AllDone n workers = (i : ℕ) (d : Worker) → i < length workers → ((slice_index_or workers i d).log.caller ≡ i) × HasTaken n (slice_index_or workers i d).log
 
--- a history was gathered of a map of so many shards with these logs, and it is said to be legal exactly where it is
-pub record IsJudgedBy (w : Known ℕ ℕ (Unit {0}) PlaceState) (shards : ℕ) (logs : List (LogState ℕ ℕ (Unit {0}))) (legal : Bool) : Type 0 where
-  pub state : AloneState ℕ ℕ (Unit {0}) PlaceState
+-- a history was gathered of the map with these logs, and it is said to be legal exactly where it is
+pub record IsJudgedOf (w : Known ℕ ℕ (Unit {0}) PlaceState) (state : AloneState ℕ ℕ (Unit {0}) PlaceState) (logs : List (LogState ℕ ℕ (Unit {0}))) (legal : Bool) : Type 0 where
   pub ats : List At
-  pub amount : length state.row ≡ shards
   pub gathered : IsGathered w state logs ats
   pub exact : IsTrue legal ↔ IsReplay [] (along (histories state) ats) (contents state)
+
+-- the same, of a map of so many shards
+pub record IsJudgedBy (w : Known ℕ ℕ (Unit {0}) PlaceState) (shards : ℕ) (logs : List (LogState ℕ ℕ (Unit {0}))) (legal : Bool) : Type 0 where
+  pub state : AloneState ℕ ℕ (Unit {0}) PlaceState
+  pub amount : length state.row ≡ shards
+  pub judged : IsJudgedOf w state logs legal
