@@ -19,7 +19,7 @@ use Rattle.dash_steps.specs.Steps.{step_of}
 use Rattle.dash_steps.specs.inner.Hashed.{OfKey, IsHashBy, HasHash}
 use Rattle.dash_steps.specs.Takes.{Kinds, Known, kinds_at, rules}
 use Rattle.dash_steps.specs.inner.Kinds.{kinds, kinds_of}
-use Rattle.dash_history.specs.History.{RecState, LogState, Recorded, last_or, shard_of}
+use Rattle.dash_history.specs.History.{RecState, LogState, IsRecorded, Recorded, last_or, shard_of}
 use Rattle.dash_history.specs.Alone.{AloneState, IsTagged, IsAlone, Applied, last_at, kinds_in}
 
 module _ {K V A S : Type 0} (h : KeyHash K S) where
@@ -31,21 +31,28 @@ module _ {K V A S : Type 0} (h : KeyHash K S) where
     hashes = subst (λ x. HashAlike h base x) (sym stays.hasher) p.hashes;
   }
 
-  -- one shard changed where it stood
-  pub alone-set : (base : S) (c i : ℕ) (row : List (RecState K V A S)) (s t : RecState K V A S) → IsAlone h (record { hasher = base; callers = c; row = row }) → slice_get row i ≡ Some s
-      → SameShard s.shard t.shard → t.callers ≡ s.callers → IsAlone h (record { hasher = base; callers = c; row = slice_set row i t })
-  alone-set base c i row s t a here stays callers =
-      let long : length (slice_set row i t) ≡ length row = length-set row i t in
-      record {
-        amount = subst IsAmount (sym long) a.amount;
-        callers = a.callers;
-        tagged = λ j x e. subst (λ n. IsTagged h base n c j x) (sym long) (elim (cases_eq j i) as (λ _. IsTagged h base (length row) c j x) [
-          | inl same ↦
-              let new : t ≡ x = same_Some t x (sym (slice_get-set_same row i t (slice_get_within row i s here)) ∙ ap (λ n. slice_get (slice_set row i t) n) (sym same) ∙ e) in
-              subst (λ n. IsTagged h base (length row) c n x) (sym same) (subst (λ y. IsTagged h base (length row) c i y) new (tagged-moved base (length row) c i s t (a.tagged i s here) stays callers))
-          | inr other ↦ a.tagged j x (slice_get-set_other row i j t x other e)
-        ]);
-      }
+-- what holds of each item of a row, and of the one that is put at i, holds of each afterwards
+each-set : {X : Type 0} (P : ℕ → X → Type 0) (i : ℕ) (row : List X) (s t : X) → slice_get row i ≡ Some s → ((j : ℕ) (x : X) → slice_get row j ≡ Some x → P j x) → P i t
+    → (j : ℕ) (x : X) → slice_get (slice_set row i t) j ≡ Some x → P j x
+each-set P i row s t here each new j x e = elim (cases_eq j i) as (λ _. P j x) [
+  | inl same ↦
+      let put : t ≡ x = same_Some t x (sym (slice_get-set_same row i t (slice_get_within row i s here)) ∙ ap (λ n. slice_get (slice_set row i t) n) (sym same) ∙ e) in
+      subst (λ n. P n x) (sym same) (subst (P i) put new)
+  | inr other ↦ each j x (slice_get-set_other row i j t x other e)
+]
+
+-- one shard changed where it stood
+pub alone-set : {K V A S : Type 0} (w : Known K V A S) (base : S) (c i : ℕ) (row : List (RecState K V A S)) (s t : RecState K V A S) → IsAlone w (record { hasher = base; callers = c; row = row }) → slice_get row i ≡ Some s
+    → SameShard s.shard t.shard → t.callers ≡ s.callers → IsRecorded w t → IsAlone w (record { hasher = base; callers = c; row = slice_set row i t })
+alone-set w base c i row s t a here stays callers legal =
+    let long : length (slice_set row i t) ≡ length row = length-set row i t in
+    record {
+      amount = subst IsAmount (sym long) a.amount;
+      callers = a.callers;
+      tagged = λ j x e. subst (λ n. IsTagged w.keys base n c j x) (sym long)
+          (each-set (λ k y. IsTagged w.keys base (length row) c k y) i row s t here a.tagged (tagged-moved w.keys base (length row) c i s t (a.tagged i s here) stays callers) j x e);
+      recorded = each-set (λ _ y. IsRecorded w y) i row s t here a.recorded legal;
+    }
 
 -- the hash by a hasher that hashes alike
 pub hash-alike : {K V S : Type 0} (h : KeyHash K S) (x y : S) → HashAlike h x y → (l : Line K V) (hash : ℕ) → OfKey l (λ k. hash ≡ h.hash x k) ⊤ → OfKey l (λ k. hash ≡ h.hash y k) ⊤
@@ -70,7 +77,7 @@ past_row {K} {V} {A} {S} w base c row z view step p n long computed past =
 -- The map, the index that was computed, and the shard that an index lends there.
 module _ {K V A S : Type 0} (w : Known K V A S)
     (base : S) (c : ℕ) (row : List (RecState K V A S)) (z : AloneState K V A S) (view : record { hasher = base; callers = c; row = row } ≡ z)
-    (a : IsAlone w.keys (record { hasher = base; callers = c; row = row })) (step : ShardStep K V A) (p n : ℕ) (s : RecState K V A S)
+    (a : IsAlone w (record { hasher = base; callers = c; row = row })) (step : ShardStep K V A) (p n : ℕ) (s : RecState K V A S)
     (long : n ≡ length row) (computed : p ≡ step_shard (keys w.keys.eq (route_by w.keys base n) n) (step_of w.acts step)) (within : p < length row) (read : s ≡ get_or row p s) where
   abbrev old : AloneState K V A S
   old = record { hasher = base; callers = c; row = row }

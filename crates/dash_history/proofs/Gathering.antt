@@ -5,7 +5,7 @@ use Rattle.dash_shard.specs.Contents.{keys}
 use Rattle.dash_shard.specs.Hashing.{route_by}
 use Rattle.std.proofs.lemmas.List.{length-map}
 use Rattle.dash_history.specs.Alone.{AloneState, IsAlone, kinds_in}
-use Rattle.dash_history.specs.inner.Gathering.{EachLog, EachRecorded, KeepsCallers, Merges}
+use Rattle.dash_history.specs.inner.Gathering.{EachLog, KeepsCallers}
 use Rattle.dash_history.specs.History.{LogState, RecState}
 use Rattle.dash_history.specs.OneHistory.{AreCallers, IsMerge, Matches, IsOneHistory, IsGathered, histories}
 use Rattle.dash_steps.specs.Takes.{Known, rules}
@@ -15,14 +15,14 @@ use Rattle.dash_history.proofs.Matching.{order-from-match, shards-from-order, ma
 use Rattle.dash_history.proofs.Members.{contains-has}
 use Rattle.dash_history.proofs.Whole.{tidy, one-history, caller-below, all-has, has-all}
 
-module _ {K V A S : Type 0} (w : Known K V A S) (a : AloneState K V A S) (alone : IsAlone w.keys a) (each : EachRecorded w a.row) (laws : Lawful (kinds_in w a).rules)
+module _ {K V A S : Type 0} (w : Known K V A S) (a : AloneState K V A S) (alone : IsAlone w a) (laws : Lawful (kinds_in w a).rules)
     (ats : List At) (merge : IsMerge (histories a) ats) (logs : List (LogState K V A)) (lawful : EachLog logs) where
   long : length (histories a) ≡ length a.row
   long = length-map a.row (λ s. s.history)
 
   pub keeps-from-matches : Matches w a logs → KeepsCallers w (histories a) logs ats
   keeps-from-matches m i l e =
-      order-from-match w.alike_key w.alike_value w.alike_action (histories a) ats (tidy w a alone each laws) merge l.caller l.entries (lawful i l e).rises
+      order-from-match w.alike_key w.alike_value w.alike_action (histories a) ats (tidy w a alone laws) merge l.caller l.entries (lawful i l e).rises
       (λ r h. subst (λ n. r.shard < n) (sym long) (all-has (λ r. r.shard < length a.row) l.entries r (m.shards i l e) h))
       (λ s h f. m.same i l s h e f)
 
@@ -31,37 +31,37 @@ module _ {K V A S : Type 0} (w : Known K V A S) (a : AloneState K V A S) (alone 
     matches = record {
       callers = callers;
       shards = λ i l e. has-all (λ r. r.shard < length a.row) l.entries
-          (λ r h. subst (λ n. r.shard < n) long (shards-from-order w.alike_key w.alike_value w.alike_action (histories a) ats (tidy w a alone each laws) merge l.caller l.entries (keeps i l e) r h));
-      same = λ i l s h e f. match-from-order w.alike_key w.alike_value w.alike_action (histories a) ats (tidy w a alone each laws) merge l.caller l.entries (keeps i l e) s h f;
+          (λ r h. subst (λ n. r.shard < n) long (shards-from-order w.alike_key w.alike_value w.alike_action (histories a) ats (tidy w a alone laws) merge l.caller l.entries (keeps i l e) r h));
+      same = λ i l s h e f. match-from-order w.alike_key w.alike_value w.alike_action (histories a) ats (tidy w a alone laws) merge l.caller l.entries (keeps i l e) s h f;
     };
-    history = one-history w a alone each laws ats merge;
+    history = one-history w a alone laws ats merge;
     callers = keeps;
   }
 
 -- of the map, as its fields are seen
 module _ {K V A S : Type 0} (w : Known K V A S) (laws : (base : S) (n : ℕ) → Lawful (rules w.alike_key w.alike_value (keys w.keys.eq (route_by w.keys base n) n)))
-    (base : S) (c : ℕ) (row : List (RecState K V A S)) (z : AloneState K V A S) (view : record { hasher = base; callers = c; row = row } ≡ z) (alone : IsAlone w.keys (record { hasher = base; callers = c; row = row }))
-    (read : List (RecState K V A S)) (is : read ≡ row) (ats : List At) (m : Merges w read ats) where
+    (base : S) (c : ℕ) (row : List (RecState K V A S)) (z : AloneState K V A S) (view : record { hasher = base; callers = c; row = row } ≡ z) (alone : IsAlone w (record { hasher = base; callers = c; row = row }))
+    (read : List (RecState K V A S)) (is : read ≡ row) (ats : List At) (merge : IsMerge (map (λ s. s.history) read) ats) where
   abbrev seen : AloneState K V A S
   seen = record { hasher = base; callers = c; row = row }
 
-  there : Merges w row ats
-  there = subst (λ r. Merges w r ats) is m
+  there : IsMerge (map (λ s. s.history) row) ats
+  there = subst (λ (r : List (RecState K V A S)). IsMerge (map (λ s. s.history) r) ats) is merge
 
   pub below-seen : (x : At) → Contains ats x → x.caller < c
-  below-seen x h = caller-below w seen alone there.lawful (laws base (length row)) ats there.merge x (contains-has ats x h)
+  below-seen x h = caller-below w seen alone (laws base (length row)) ats there x (contains-has ats x h)
 
   pub one-seen : IsOneHistory w z ats
-  one-seen = subst (λ a. IsOneHistory w a ats) view (one-history w seen alone there.lawful (laws base (length row)) ats there.merge)
+  one-seen = subst (λ a. IsOneHistory w a ats) view (one-history w seen alone (laws base (length row)) ats there)
 
   module _ (logs : List (LogState K V A)) (lawful : EachLog logs) (again : List (RecState K V A S)) (same : again ≡ row) (places : List At) (all : places ≡ ats) where
     pub gathered-seen : AreCallers c logs → KeepsCallers w (map (λ s. s.history) again) logs places → IsGathered w z logs ats
     gathered-seen callers keeps =
         subst (λ a. IsGathered w a logs ats) view
-        (gathered w seen alone there.lawful (laws base (length row)) ats there.merge logs lawful callers
+        (gathered w seen alone (laws base (length row)) ats there logs lawful callers
         (subst (λ r. KeepsCallers w (map (λ s. s.history) r) logs ats) same (subst (λ l. KeepsCallers w (map (λ s. s.history) again) logs l) all keeps)))
 
     pub mismatch-seen : (KeepsCallers w (map (λ s. s.history) again) logs places → ⊥) → Matches w z logs → ⊥
     mismatch-seen other matches = other
         (subst (λ l. KeepsCallers w (map (λ s. s.history) again) logs l) (sym all) (subst (λ r. KeepsCallers w (map (λ s. s.history) r) logs ats) (sym same)
-        (keeps-from-matches w seen alone there.lawful (laws base (length row)) ats there.merge logs lawful (subst (λ a. Matches w a logs) (sym view) matches))))
+        (keeps-from-matches w seen alone (laws base (length row)) ats there logs lawful (subst (λ a. Matches w a logs) (sym view) matches))))

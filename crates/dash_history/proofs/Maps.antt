@@ -9,9 +9,9 @@ use Rattle.dash_shard.specs.Hashing.{KeyHash, IsAmount, HashAlike}
 use Rattle.dash_shard.specs.inner.Rows.{Moved}
 use Rattle.dash_shard.proofs.Rows.{moved-length, moved-from}
 use Rattle.dash_history.specs.declared.record.held.RecTag.{RecTag}
-use Rattle.dash_history.specs.History.{RecState, LogState, Recorded, shard_of}
+use Rattle.dash_history.specs.History.{RecState, LogState, Recorded, IsRecorded, shard_of}
 use Rattle.dash_history.specs.Alone.{IsTagged, IsAlone}
-use Rattle.dash_history.specs.Held.{FitsTag}
+use Rattle.dash_history.specs.Held.{FitsTag, Leaves}
 use Rattle.dash_history.specs.Map.{MapState, Logs, kinds_on}
 use Rattle.dash_history.specs.Refused.{Records}
 use Rattle.dash_steps.specs.Takes.{Known}
@@ -50,19 +50,23 @@ module _ {K V A S : Type 0} (h : KeyHash K S) where
     hashes = subst (λ x. HashAlike h x s.shard.hasher) (sym at.hasher) p.hashes;
   }
 
+module _ {K V A S : Type 0} (w : Known K V A S) where
+  -- the shards that left their locks are a map, and its locks are a map again
   pub alone-of_map : (base : S) (c : ℕ) (locks : List (CachePadded (RecTag S))) (row : List (RecState K V A S)) → IsMap (record { hasher = base; callers = c; amount = length locks }) locks
-      → Moved (λ _ lock s. FitsTag h (padded_value lock) s) 0 locks row → IsAlone h (record { hasher = base; callers = c; row = row })
+      → Moved (λ _ lock s. Leaves w (padded_value lock) s) 0 locks row → IsAlone w (record { hasher = base; callers = c; row = row })
   alone-of_map base c locks row m moved =
-      let long : length row ≡ length locks = moved-length (λ _ lock s. FitsTag h (padded_value lock) s) 0 locks row moved in
+      let R : ℕ → CachePadded (RecTag S) → RecState K V A S → Type 0 = λ _ lock s. Leaves w (padded_value lock) s in
+      let long : length row ≡ length locks = moved-length R 0 locks row moved in
       record {
         amount = subst IsAmount (sym long) m.amount;
         callers = m.callers;
         tagged = λ i s e.
-            let from = moved-from (λ _ lock s. FitsTag h (padded_value lock) s) locks row moved i s e in
-            subst (λ n. IsTagged h base n c i s) (sym long) (tagged-behind (record { hasher = base; callers = c; amount = length locks }) i from.0 s (m.tagged i from.0 from.1) from.2);
+            let from = moved-from R locks row moved i s e in
+            subst (λ n. IsTagged w.keys base n c i s) (sym long) (tagged-behind w.keys (record { hasher = base; callers = c; amount = length locks }) i from.0 s (m.tagged i from.0 from.1) from.2.0);
+        recorded = λ i s e. (moved-from R locks row moved i s e).2.1;
       }
 
-  pub map-of_alone : (base : S) (c n : ℕ) (row : List (RecState K V A S)) (locks : List (CachePadded (RecTag S))) → n ≡ length row → IsAlone h (record { hasher = base; callers = c; row = row })
+  pub map-of_alone : (base : S) (c n : ℕ) (row : List (RecState K V A S)) (locks : List (CachePadded (RecTag S))) → n ≡ length row → IsAlone w (record { hasher = base; callers = c; row = row })
       → Moved (λ i (_ : RecState K V A S) lock. IsAt (record { hasher = base; callers = c; amount = n }) i lock) 0 row locks → IsMap (record { hasher = base; callers = c; amount = length locks }) locks
   map-of_alone base c n row locks count a moved =
       let R : ℕ → RecState K V A S → CachePadded (RecTag S) → Type 0 = λ i s lock. IsAt (record { hasher = base; callers = c; amount = n }) i lock in
@@ -76,12 +80,13 @@ module _ {K V A S : Type 0} (h : KeyHash K S) where
 module _ {K V A S : Type 0} (w : Known K V A S) (lk : IsEquivalence w.alike_key) (lv : IsEquivalence w.alike_value) (lf : IsEquivalence w.alike_action) where
   -- what a step promises on its shard behind its lock, the call promises of the log
   pub logs-behind : (m : MapState S) (i : ℕ) (s s' : RecState K V A S) (l l' : LogState K V A) (step : ShardStep K V A) (result : Result (Reply K V) (ShardStep K V A × RecordFault))
-      → IsTagged w.keys m.hasher m.amount m.callers i s → i ≡ shard_of (kinds_on w m) step → i < m.amount → Records w s s' l l' step result → Logs w m l l' step result
-  logs-behind m i s s' l l' step result at goes within r =
+      → IsTagged w.keys m.hasher m.amount m.callers i s → IsRecorded w s → i ≡ shard_of (kinds_on w m) step → i < m.amount → Records w s s' l l' step result → Logs w m l l' step result
+  logs-behind m i s s' l l' step result at legal goes within r =
       let same : kinds_of w s.shard ≡ kinds_on w m = kinds-same w m.hasher m.amount m.callers i s at in
       record {
         ok = IfOk-weaker result (λ reply. Recorded (kinds_of w s.shard) s s' l l' step reply) _
             (λ reply recorded. logged (kinds_on w m) lk lv lf s s' l l' step reply (sym (at.number ∙ goes)) (subst (λ x. Recorded x s s' l l' step reply) same recorded)) r.ok;
         refused = MatchResult-weaker result r.refused (λ x p. p) (λ e h. (h.0, h.2));
         no_such_shard = (λ e. absurd (never-missing result step r.faults e), λ le. let past : m.amount ≤ shard_of (kinds_on w m) step = le in absurd (omega (arith, goes, within, past)));
+        last_stamp = λ e. (s, subst (λ k. IsTagged w.keys m.hasher m.amount m.callers k s) goes at, legal, r.last_stamp.0 e);
       }

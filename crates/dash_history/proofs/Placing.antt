@@ -1,10 +1,7 @@
 -- The places of all records, as they are listed.
-use Rattle.std.proofs.Common.{◌≡◌, ℕ, suc, ◌+◌, ◌<◌, ◌≤◌, List, [], ◌∷◌, ◌++◌, map, length, Some, slice_get, get_or, drop, sym, ap, subst, ◌∙◌, inl, inr, arith, drop-cons, add-one, drop_of_length-le, append_assoc, append-nil}
-use Rattle.std.proofs.lemmas.Bool.{cases_lt}
-use Rattle.std.proofs.lemmas.Option.{slice_get-get_or, same_Some}
+use Rattle.std.proofs.Common.{◌≡◌, ℕ, suc, ◌+◌, ◌<◌, ◌≤◌, List, [], ◌∷◌, ◌++◌, map, length, get_or, drop, sym, ap, ◌∙◌, drop-cons, add-one, drop_of_length-le, append_assoc, append-nil}
 use Rattle.dash_history.specs.inner.Gathering.{places, places_from, place_of}
-use Rattle.dash_history.specs.History.{RecState, IsRecorded}
-use Rattle.dash_steps.specs.Takes.{Known}
+use Rattle.dash_history.specs.History.{RecState}
 use Rattle.dash_steps.specs.declared.step.Record.{Record}
 use Rattle.dash_history.specs.declared.gather.At.{At}
 
@@ -40,15 +37,3 @@ module _ {K V A : Type 0} where
 
     pub listed-all : (ats start : List At) (i : ℕ) (row : List (RecState K V A S)) → length row ≤ i → ats ++ places i (map history (drop i row)) ≡ start → ats ≡ start
     listed-all ats start i row past so_far = sym (append-nil ats) ∙ ap (λ l. ats ++ places i (map history l)) (sym (drop_of_length-le row past)) ∙ so_far
-
-    -- the shards below i are lawful
-    abbrev pub LawfulBelow : Known K V A S → ℕ → List (RecState K V A S) → Type 0
-    LawfulBelow w i row = (k : ℕ) (s : RecState K V A S) → k < i → slice_get row k ≡ Some s → IsRecorded w s
-
-    pub lawful-more : (w : Known K V A S) (i : ℕ) (row : List (RecState K V A S)) (s : RecState K V A S) → i < length row → s ≡ get_or row i s → LawfulBelow w i row → IsRecorded w s → LawfulBelow w (i + 1) row
-    lawful-more w i row s within is so_far one k t below e = elim (cases_lt k i) as (λ _. IsRecorded w t) [
-      | inl before ↦ so_far k t before e
-      | inr past ↦
-          let same : k ≡ i = omega (arith, below, past) in
-          subst (IsRecorded w) (same_Some s t (ap Some is ∙ sym (slice_get-get_or row i s within) ∙ ap (slice_get row) (sym same) ∙ e)) one
-    ]

@@ -8,7 +8,6 @@ use Rattle.dash_shard.specs.Contents.{IsOnShard}
 use Rattle.dash_shard.specs.inner.Steps.{step_shard}
 use Rattle.dash_shard.specs.Shard.{pairs}
 use Rattle.dash_history.specs.Alone.{AloneState, IsAlone, kinds_in}
-use Rattle.dash_history.specs.inner.Gathering.{EachRecorded}
 use Rattle.dash_history.specs.History.{RecState, IsHistory, Rises, shard_of}
 use Rattle.dash_history.specs.OneHistory.{IsMerge, IsOneHistory, along, of_shard, histories, contents}
 use Rattle.dash_history.specs.inner.Done.{done}
@@ -51,7 +50,7 @@ module _ {X Y : Type 0} where
   blank-at (x ∷ xs) zero = refl
   blank-at (x ∷ xs) (suc i) = blank-at xs i
 
-module _ {K V A S : Type 0} (w : Known K V A S) (a : AloneState K V A S) (alone : IsAlone w.keys a) (each : EachRecorded w a.row) (laws : Lawful (kinds_in w a).rules) where
+module _ {K V A S : Type 0} (w : Known K V A S) (a : AloneState K V A S) (alone : IsAlone w a) (laws : Lawful (kinds_in w a).rules) where
   abbrev m : Kinds K V A
   m = kinds_in w a
 
@@ -60,7 +59,7 @@ module _ {K V A S : Type 0} (w : Known K V A S) (a : AloneState K V A S) (alone 
       let t = alone.tagged i s e in
       subst (λ n. IsHistory m a.callers n s.history (pairs s.shard)) t.number
       (subst (λ c. IsHistory m c s.shard.number s.history (pairs s.shard)) t.callers
-      (subst (λ k. IsHistory k s.callers s.shard.number s.history (pairs s.shard)) (kinds-same w a.hasher (length a.row) a.callers i s t) (each i s e).history))
+      (subst (λ k. IsHistory k s.callers s.shard.number s.history (pairs s.shard)) (kinds-same w a.hasher (length a.row) a.callers i s t) (alone.recorded i s e).history))
 
   of-shard : (i : ℕ) (h : List (Record K V A)) (r : Record K V A) → slice_get (histories a) i ≡ Some h → Has h r → (r.shard ≡ i) × (shard_of m r.step ≡ i) × (r.caller < a.callers)
   of-shard i h r e x =

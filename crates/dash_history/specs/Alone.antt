@@ -4,7 +4,7 @@ use Rattle.std.specs.Option.{option_map_or}
 use Rattle.dash_shard.specs.Hashing.{KeyHash, IsAmount, HashAlike}
 use Rattle.dash_shard.specs.Shard.{pairs}
 use Rattle.dash_steps.specs.Takes.{Known, kinds_at, Kinds}
-use Rattle.dash_history.specs.History.{LogState, RecState, Recorded, last_or, shard_of}
+use Rattle.dash_history.specs.History.{LogState, RecState, IsRecorded, Recorded, last_or, shard_of}
 use Rattle.dash_history.specs.Refused.{NoStamp}
 use Rattle.dash_steps.specs.declared.step.ShardStep.{ShardStep}
 use Rattle.dash_steps.specs.declared.step.Reply.{Reply}
@@ -43,11 +43,16 @@ module _ {K V A S : Type 0} where
     pub callers : s.callers ≡ c
     pub hashes : HashAlike h meaning s.shard.hasher
 
-  -- each shard has the number of its index
-  pub record IsAlone (h : KeyHash K S) (a : AloneState K V A S) : Type 0 where
+  -- each shard's history led to its pairs, and its last is the stamp of its last record
+  abbrev pub EachRecorded : Known K V A S → List (RecState K V A S) → Type 0
+  EachRecorded w row = (i : ℕ) (s : RecState K V A S) → slice_get row i ≡ Some s → IsRecorded w s
+
+  -- each shard has the number of its index, and a legal history
+  pub record IsAlone (w : Known K V A S) (a : AloneState K V A S) : Type 0 where
     pub amount : IsAmount (length a.row)
     pub callers : IsCallers a.callers
-    pub tagged : (i : ℕ) (s : RecState K V A S) → slice_get a.row i ≡ Some s → IsTagged h a.hasher (length a.row) a.callers i s
+    pub tagged : (i : ℕ) (s : RecState K V A S) → slice_get a.row i ≡ Some s → IsTagged w.keys a.hasher (length a.row) a.callers i s
+    pub recorded : EachRecorded w a.row
 
   -- what the map knows of its keys, values and actions
   abbrev pub kinds_in : Known K V A S → AloneState K V A S → Kinds K V A

@@ -3,13 +3,14 @@ use Rattle.std.specs.Prelude.{ℕ, ◌≡◌, ◌<◌, ◌↔◌, List, [], ◌�
 use Rattle.dash_shard.specs.Hashing.{KeyHash}
 use Rattle.dash_steps.specs.Steps.{step_of, reply_of}
 use Rattle.dash_steps.specs.Takes.{Known, kinds_at, Kinds, Answers}
-use Rattle.dash_history.specs.History.{RecState, LogState, IsCopy, NoShard, shard_of}
+use Rattle.dash_history.specs.History.{RecState, LogState, IsCopy, IsRecorded, NoShard, shard_of}
 use Rattle.dash_history.specs.Alone.{AloneState, IsTagged, IsAlone}
+use Rattle.dash_history.specs.Refused.{NoStamp}
 use Rattle.dash_steps.specs.declared.step.ShardStep.{ShardStep}
 use Rattle.dash_steps.specs.declared.step.Reply.{Reply}
 use Rattle.dash_steps.specs.declared.step.Record.{Record}
 use Rattle.dash_history.specs.declared.record.RecordFault.{RecordFault}
-use Rattle.dash_history.specs.declared.record.RecordFault.TheVariants.{NoSuchShard}
+use Rattle.dash_history.specs.declared.record.RecordFault.TheVariants.{LastStamp, NoSuchShard}
 
 -- what contracts see of the map: nothing of its pairs and histories
 pub record MapState (S : Type 0) : Type 0 where
@@ -31,11 +32,19 @@ module _ {K V A S : Type 0} (w : Known K V A S) where
     pub hasher : a.hasher ≡ m.hasher
     pub callers : a.callers ≡ m.callers
     pub amount : length a.row ≡ m.amount
-    pub lawful : IsAlone w.keys a
+    pub lawful : IsAlone w a
 
   -- P is so of shards that stood behind the locks
   abbrev pub SawShards : MapState S → (AloneState K V A S → Type 0) → Type 0
   SawShards m P = (a : AloneState K V A S) × IsBehind m a × P a
+
+  -- P is so of the shard i, as it stood behind its lock
+  abbrev pub SawShard : MapState S → ℕ → (RecState K V A S → Type 0) → Type 0
+  SawShard m i P = (s : RecState K V A S) × IsShardOf w.keys m i s × IsRecorded w s × P s
+
+  -- no stamp was above the log's last and that of the step's shard
+  abbrev pub SawNoStamp : MapState S → LogState K V A → ShardStep K V A → Type 0
+  SawNoStamp m l step = SawShard m (shard_of (kinds_on w m) step) (λ s. NoStamp s.last l.last)
 
 -- The log is longer by one record of the step, with the reply, the step's shard and a stamp above the log's last. The reply is one
 -- that the step gets from some contents of its shard.
@@ -49,8 +58,9 @@ pub record Logged {K V A : Type 0} (m : Kinds K V A) (l l' : LogState K V A) (st
   pub answers : Answers m.rules contents (step_of m.acts step) (reply_of reply)
 
 -- A step through the locks is taken, and logged with its reply. Or it is handed back, and the log is as it was: for want of its shard
--- exactly where the map has none.
+-- exactly where the map has none, for want of a stamp only where none was left.
 pub record Logs {K V A S : Type 0} (w : Known K V A S) (m : MapState S) (l l' : LogState K V A) (step : ShardStep K V A) (result : Result (Reply K V) (ShardStep K V A × RecordFault)) : Type 0 where
   pub ok : IfOk result (λ reply. Logged (kinds_on w m) l l' step reply)
   pub refused : IfErr result (λ e. (e.0 ≡ step) × (l' ≡ l))
   pub no_such_shard : (result ≡ Err (step, NoSuchShard)) ↔ NoShard (kinds_on w m) step
+  pub last_stamp : result ≡ Err (step, LastStamp) → SawNoStamp w m l step

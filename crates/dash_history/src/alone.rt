@@ -1,16 +1,18 @@
 //! A recorded map of one owner, without locks.
-ghost use Rattle.std.specs.Prelude.{◌∷◌, [], ◌≡◌, ℕ, ◌<◌, ◌↔◌, Some, IsErrOf, IfOk, IfErr, length, slice_get, Err, IsTrue, flat_map, option_map};
+ghost use Rattle.std.specs.Prelude.{◌∷◌, [], ◌≡◌, ℕ, ◌+◌, ◌<◌, max, ◌↔◌, Some, IsErrOf, IsSomeAnd, IfOk, IfErr, length, slice_get, Err, IsTrue, flat_map, option_map};
 ghost use Rattle.dash_shard.specs.Errors.{IsOneOf};
 ghost use Rattle.dash_shard.specs.Hashing.{IsAmount, HashAlike};
-ghost use Rattle.dash_history.specs.History.{NoShard};
-ghost use Rattle.dash_history.specs.Alone.{IsCallers, IsFresh, IsAlone, Applied, NoStampIn, fresh_logs, kinds_in, last_at};
+ghost use Rattle.dash_history.specs.History.{LogState, NoShard, shard_of};
+ghost use Rattle.dash_history.specs.Alone.{AloneState, IsCallers, IsFresh, IsAlone, Applied, NoStampIn, fresh_logs, kinds_in, last_at};
 ghost use Rattle.dash_history.specs.inner.Fresh.{FreshRow};
 ghost use Rattle.dash_shard.specs.Shard.{pairs};
 ghost use Rattle.dash_steps.specs.inner.Copied.{alike_pairs};
 ghost use Rattle.dash_history.specs.OneHistory.{IsOneHistory, Gathers, CopiesEntry, CopiesPairs, histories, record_at};
 ghost use Rattle.dash_history.specs.Refused.{HandsBack};
 ghost use Rattle.dash_history.specs.declared.record.RecordFault.TheVariants.{LastStamp, NoSuchShard, Locked};
-ghost use Rattle.dash_steps.specs.Takes.{known};
+ghost use Rattle.dash_steps.specs.Takes.{Known, known};
+ghost use Rattle.dash_steps.specs.declared.step.ShardStep.{ShardStep};
+ghost use Rattle.dash_steps.specs.declared.step.Reply.{Reply};
 
 use crate::gather::matching::{follows, index_of};
 use crate::gather::merge::merge;
@@ -41,13 +43,13 @@ pub struct RecAlone<K: KeptKey, V: Kept, S: BuildHasher, A: KeptAction<K, V> = (
 
 impl<K: KeptKey, V: Kept, S: BuildHasher, A: KeptAction<K, V>> Model for RecAlone<K, V, S, A> {
     ghost use Rattle.dash_history.specs.Alone.{AloneState, IsAlone};
-    ghost use Rattle.dash_shard.specs.Hashing.{key_hash};
+    ghost use Rattle.dash_steps.specs.Takes.{known_by};
 
     ghost Value = { AloneState K V A S };
 
     ghost view = { λ a. record { hasher = a.hasher; callers = a.callers; row = a.row } };
 
-    ghost invariant = { λ a. IsAlone (key_hash K.eq K.hash_input S.BuildHasher S.Hasher.Hasher) (record { hasher = a.hasher; callers = a.callers; row = a.row }) };
+    ghost invariant = { λ a. IsAlone (known_by K.eq K.hash_input K.alike V.alike A.alike A.acts S.BuildHasher S.Hasher.Hasher) (record { hasher = a.hasher; callers = a.callers; row = a.row }) };
 }
 
 impl<K: KeptKey, V: Kept, S: BuildHasher, A: KeptAction<K, V>> Recorded for RecAlone<K, V, S, A> {
@@ -72,7 +74,7 @@ fn fresh_row<K: KeptKey + Drop, V: Kept + Drop, S: BuildHasher + Clone, A: KeptA
     requires amount { IsAmount amount }
     requires alike { (s t : S) → S.is_clone s t → HashAlike ⟦<Shard<K, V, S> as Keyed>⟧.by s t }
     ensures len { IfOk result (λ row. length row.items ≡ amount) }
-    ensures made { IfOk result (λ row. FreshRow ⟦<Shard<K, V, S> as Keyed>⟧.by hasher.now amount callers row.items) }
+    ensures made { IfOk result (λ row. FreshRow ⟦<RecShard<K, V, S, A> as Recorded>⟧.known hasher.now amount callers row.items) }
 {
     let mut row = Vec::with_capacity(alloc, amount)?;
     for number in 0..amount {
@@ -137,7 +139,7 @@ impl<K: KeptKey + Drop, V: Kept + Drop, S: BuildHasher, A: KeptAction<K, V> + Dr
         ensures amount { IfOk result (λ m. length m.0.row ≡ amount) }
         ensures fresh { IfOk result (λ m. (i : ℕ) (s : _) → slice_get m.0.row i ≡ Some s → IsFresh s) }
         ensures logs { IfOk result (λ m. m.1.items ≡ fresh_logs callers) }
-        ensures lawful { IfOk result (λ m. IsAlone ⟦<Self as Recorded>⟧.known.keys m.0) }
+        ensures lawful { IfOk result (λ m. IsAlone ⟦<Self as Recorded>⟧.known m.0) }
 
         // In the order of the refusals' numbers.
         ensures bad_amount { IsErrOf result ConstructError.ShardAmount ↔ (IsAmount amount → ⊥) }
@@ -171,7 +173,7 @@ impl<K: KeptKey + Drop, V: Kept + Drop, S: BuildHasher, A: KeptAction<K, V> + Dr
     #[inline]
     pub fn callers(&self) -> u32
         ensures callers { result ≡ self.now.callers }
-        ensures lawful { IsAlone ⟦<Self as Recorded>⟧.known.keys self.now }
+        ensures lawful { IsAlone ⟦<Self as Recorded>⟧.known self.now }
     {
         self.callers
     }
@@ -180,7 +182,7 @@ impl<K: KeptKey + Drop, V: Kept + Drop, S: BuildHasher, A: KeptAction<K, V> + Dr
     #[inline]
     pub fn shard_count(&self) -> usize
         ensures count { result ≡ length self.now.row }
-        ensures lawful { IsAlone ⟦<Self as Recorded>⟧.known.keys self.now }
+        ensures lawful { IsAlone ⟦<Self as Recorded>⟧.known self.now }
     {
         self.row.len()
     }
@@ -196,6 +198,7 @@ impl<K: KeptKey + Drop, V: Kept + Drop, S: BuildHasher, A: KeptAction<K, V> + Dr
         requires { log.old.caller < self.old.callers }
         ensures ok { IfOk result (λ reply.
             Applied (kinds_in ⟦<Self as Recorded>⟧.known self.old) self.old self.new log.old log.new step reply) }
+        ensures lawful { IsAlone ⟦<Self as Recorded>⟧.known self.new }
         ensures refused { HandsBack step self.old self.new log.old log.new result }
 
         // In this order; else there was no memory.
@@ -276,7 +279,16 @@ impl<K: KeptKey + Drop, V: Kept + Drop, S: BuildHasher, A: KeptAction<K, V> + Dr
     pub fn last_of(&self, shard: usize) -> u64
         requires { shard < length self.now.row }
         ensures last { result ≡ last_at self.now shard }
+        ensures own { IsSomeAnd (slice_get self.now.row shard) (λ s. s.last ≡ result) }
+        ensures lawful { IsAlone ⟦<Self as Recorded>⟧.known self.now }
     {
         self.row[shard].last_stamp()
     }
 }
+
+/// A law, with no code: a step on a lawful map is stamped by the histories, one above the greater of the stamp of its shard's last record
+/// and the log's last.
+pub fn stamps_by_the_history<K, V, S, A>()
+    ensures { (w : Known K V A S) (a a' : AloneState K V A S) (l l' : LogState K V A) (step : ShardStep K V A) (reply : Reply K V) → IsAlone w a
+        → Applied (kinds_in w a) a a' l l' step reply → l'.last ≡ max (last_at a (shard_of (kinds_in w a) step)) l.last + 1 }
+{}

@@ -206,6 +206,7 @@ impl<K: KeptKey + Drop, V: Kept + Drop, S: BuildHasher, A: KeptAction<K, V> + Dr
         ensures hasher { IfOk result (λ s. s.shard.hasher ≡ hasher) }
         ensures callers { IfOk result (λ s. s.callers ≡ callers) }
         ensures fresh { IfOk result IsFresh }
+        ensures legal { IfOk result (IsRecorded ⟦<Self as Recorded>⟧.known) }
     {
         let Ok(shard) = Shard::new(alloc, hasher, number, amount, 0) else {
             return Err(AllocError);
@@ -276,6 +277,7 @@ impl<K: KeptKey + Drop, V: Kept + Drop, S: BuildHasher, A: KeptAction<K, V> + Dr
         ensures refused { IfErr result (λ back. (back ≡ step) × (self.new ≡ self.old)) }
         ensures stays { SameShard self.old.shard self.new.shard }
         ensures callers { self.new.callers ≡ self.old.callers }
+        ensures legal { IsRecorded ⟦<Self as Recorded>⟧.known self.new }
     {
         if !make_room(&mut self.history) {
             return Err(step);
@@ -318,6 +320,7 @@ impl<K: KeptKey + Drop, V: Kept + Drop, S: BuildHasher, A: KeptAction<K, V> + Dr
         requires caller { log.old.caller < self.old.callers }
         ensures records { Records ⟦<Self as Recorded>⟧.known self.old self.new log.old log.new step result }
         ensures last { self.old.last ≡ last_or 0 self.old.history }
+        ensures legal { IsRecorded ⟦<Self as Recorded>⟧.known self.new }
     {
         let last = self.last.max(log.last);
         if last == u64::MAX {

@@ -1,6 +1,6 @@
 -- What threads do on their map.
-use Rattle.std.proofs.Common.{◌≡◌, true, Bool, ℕ, zero, suc, ◌+◌, ◌*◌, ◌^◌, ◌<◌, ◌≤◌, List, [], ◌∷◌, ◌++◌, length, map, take, drop, get_or, None, refl, sym, ap, subst, ◌∙◌, inl, inr, arith, add-one}
-use Rattle.std.specs.Prelude.{nat_eq, IsTrue, IfNone, IfOk, Result, Ok, Err, All, sum_by}
+use Rattle.std.proofs.Common.{◌≡◌, ◌≢◌, true, Bool, ℕ, zero, suc, ◌+◌, ◌*◌, ◌^◌, ◌<◌, ◌≤◌, List, [], ◌∷◌, ◌++◌, length, map, take, drop, get_or, None, refl, sym, ap, subst, ◌∙◌, inl, inr, arith, add-one}
+use Rattle.std.specs.Prelude.{nat_eq, IsTrue, Option, Some, IsSomeAnd, IfNone, IfSome, IfOk, slice_get, Result, Ok, Err, All, sum_by}
 use Rattle.std.proofs.lemmas.Bool.{eqb-true, and_parts, cases_lt}
 use Rattle.std.proofs.lemmas.List.{map-append, get_or_append_left, get_or_push, length_push, length-map, get_or-map, drop_all, take_all, append-nil}
 use Rattle.std.proofs.lemmas.List.Sums.{sum_by-cons}
@@ -8,9 +8,11 @@ use Rattle.std.proofs.lemmas.Nat.{mul-le}
 use Rattle.std.proofs.lemmas.Option.{same_Some, slice_get_within, slice_get-get_or}
 use Rattle.dash_shard.specs.declared.hash.PlaceState.{PlaceState}
 use Rattle.dash_shard.specs.Contents.{Keys, keys}
-use Rattle.dash_history.specs.Alone.{fresh_logs}
+use Rattle.std.proofs.lemmas.Result.{IfOk-weaker}
+use Rattle.dash_history.specs.Alone.{AloneState, fresh_logs}
 use Rattle.dash_history.specs.History.{LogState, shard_of}
-use Rattle.dash_history.specs.Map.{Logged}
+use Rattle.dash_history.specs.Map.{Logged, MapState, SawShards}
+use Rattle.dash_history.specs.OneHistory.{Matches}
 use Rattle.dash_steps.specs.Steps.{alike_step}
 use Rattle.dash_steps.specs.Takes.{Known, rules}
 use Rattle.dash_steps.specs.inner.Kinds.{kinds}
@@ -18,10 +20,12 @@ use Rattle.dash_history.proofs.Telling.{tells-of}
 use Rattle.dash_steps.specs.declared.step.ShardStep.{ShardStep}
 use Rattle.dash_steps.specs.declared.step.ShardStep.TheVariants.{Get, Contains, Insert, Remove, RemoveIf, RemoveIfMut, Alter, Read, Count, AlterAll, Retain}
 use Rattle.dash_steps.specs.declared.step.Reply.{Reply}
+use Rattle.dashcheck.specs.declared.threads.Refusal.{Refusal}
+use Rattle.dashcheck.specs.declared.threads.Refusal.TheVariants.{Map, LastStamp, Memory, Mismatch, Gather}
 use Rattle.dashcheck.specs.declared.threads.Worker.{Worker}
 use Rattle.dashcheck.specs.Replay.{IsThreadStep}
-use Rattle.dashcheck.specs.Threads.{IsSize, HasDone, AreDone, IsJudged, thread_step}
-use Rattle.dashcheck.specs.inner.Threads.{LogsStep, IsIdle, Works, AllDone, HasTaken, IsJudgedBy, idle, steps_in, thread_steps}
+use Rattle.dashcheck.specs.Threads.{IsSize, HasDone, AreDone, IsJudged, IsSo, thread_step}
+use Rattle.dashcheck.specs.inner.Threads.{LogsStep, IsIdle, IsFirstRefusal, MayRefuse, Works, AllDone, HasTaken, IsJudgedOf, IsJudgedBy, idle, steps_in, thread_steps}
 
 -- steps of threads: they carry no action
 abbrev idle_acts : Unit {0} → ℕ → ℕ → ℕ × Bool
@@ -149,14 +153,43 @@ all-idle c ws is i w inside =
     let log = idle-at c i w ws is inside in
     record { caller = rw log (omega (arith, inside, many c ws is)); entries = ap (λ l. l.entries) log }
 
+-- what the workers of the same list did
+pub works-of : {w : Known ℕ ℕ (Unit {0}) PlaceState} {m : MapState PlaceState} {n : ℕ} {xs ys : List Worker} (vs : List Worker) → xs ≡ ys → ((i : ℕ) (d : Worker) → i < length xs → Works w m n (get_or xs i d) (get_or vs i d))
+    → (i : ℕ) (d : Worker) → i < length ys → Works w m n (get_or ys i d) (get_or vs i d)
+works-of {w} {m} {n} {xs} {ys} vs same each = subst (λ zs. (i : ℕ) (d : Worker) → i < length zs → Works w m n (get_or zs i d) (get_or vs i d)) same each
+
 -- what the workers did, where none was refused
-pub all-done : (c n : ℕ) (ws vs : List Worker) → map (λ w. w.log) ws ≡ fresh_logs c → length vs ≡ length ws → ((i : ℕ) (d : Worker) → i < length ws → Works n (get_or ws i d) (get_or vs i d)) → All (λ w. w.refused ≡ None) vs → AllDone n vs
+pub all-done : {w : Known ℕ ℕ (Unit {0}) PlaceState} {m : MapState PlaceState} (c n : ℕ) (ws vs : List Worker) → map (λ w. w.log) ws ≡ fresh_logs c → length vs ≡ length ws → ((i : ℕ) (d : Worker) → i < length ws → Works w m n (get_or ws i d) (get_or vs i d)) → All (λ w. w.refused ≡ None) vs → AllDone n vs
 all-done c n ws vs is long works none i d inside =
     let within : i < length ws = omega (arith, inside, long) in
     let did = works i d within in (
       did.caller ∙ ap (λ l. l.caller) (idle-at c i d ws is within),
       subst (λ r. IfNone r (HasTaken n (get_or vs i d).log)) (none i d inside) did.done,
     )
+
+-- why a worker stopped
+stopped : (w : Known ℕ ℕ (Unit {0}) PlaceState) (c n : ℕ) (m : MapState PlaceState) (log : LogState ℕ ℕ (Unit {0})) (r : Refusal) → m.amount ≡ 4 → log.caller < c → MayRefuse w m log r → IsSo w c n r
+stopped w c n m log Map four few may = absurd may
+stopped w c n m log Memory four few may = tt
+stopped w c n m log Gather four few may = absurd may
+stopped w c n m log LastStamp four few may = record { state = m; log = log; amount = four; caller = few; none = may }
+stopped w c n m log Mismatch four few may = absurd may
+
+refused-there : (o : Option Worker) (r : Refusal) → IsSomeAnd o (λ w. w.refused ≡ Some r) → (v : Worker) × (o ≡ Some v) × (v.refused ≡ Some r)
+refused-there None r here = absurd here
+refused-there (Some v) r here = (v, refl, here)
+
+-- why the first that was refused stopped
+pub first-refused : (w : Known ℕ ℕ (Unit {0}) PlaceState) (c n : ℕ) (m : MapState PlaceState) (ws vs : List Worker) (r : Refusal) → m.amount ≡ 4 → map (λ w. w.log) ws ≡ fresh_logs c → length vs ≡ length ws
+    → ((i : ℕ) (d : Worker) → i < length ws → Works w m n (get_or ws i d) (get_or vs i d)) → IsFirstRefusal vs r → IsSo w c n r
+first-refused w c n m ws vs r four is long works first =
+    let f = refused-there (slice_get vs first.index) r first.here in
+    let within : first.index < length vs = slice_get_within vs first.index f.0 f.1 in
+    let here : get_or vs first.index f.0 ≡ f.0 = same_Some _ f.0 (sym (slice_get-get_or vs first.index f.0 within) ∙ f.1) in
+    let inside : first.index < length ws = omega (arith, within, long) in
+    let did = subst (Works w m n (get_or ws first.index f.0)) here (works first.index f.0 inside) in
+    let caller : f.0.log.caller ≡ first.index = did.caller ∙ ap (λ l. l.caller) (idle-at c first.index f.0 ws is inside) in
+    stopped w c n m f.0.log r four (omega (arith, caller, inside, many c ws is)) (subst (λ q. IfSome q (MayRefuse w m f.0.log)) f.2 did.refused)
 
 pub logs-done : (c n : ℕ) (ws : List Worker) → length ws ≡ c → AllDone n ws → AreDone c n (map (λ w. w.log) ws)
 logs-done c n ws long done = record {
@@ -169,16 +202,33 @@ logs-done c n ws long done = record {
       (did.0, has-done n l did.1);
 }
 
+-- what was said of these shards, of the same logs
+pub judged-by : (w : Known ℕ ℕ (Unit {0}) PlaceState) (state : AloneState ℕ ℕ (Unit {0}) PlaceState) (shards : ℕ) (logs same : List (LogState ℕ ℕ (Unit {0}))) (r : Result Bool Refusal)
+    → length state.row ≡ shards → logs ≡ same → IfOk r (IsJudgedOf w state logs) → IfOk r (IsJudgedBy w shards same)
+judged-by w state shards logs same r long is =
+    IfOk-weaker r (IsJudgedOf w state logs) (IsJudgedBy w shards same) (λ legal j. record { state = state; amount = long; judged = subst (λ ls. IsJudgedOf w state ls legal) is j })
+
+-- why the history was not judged
+pub not-judged : (w : Known ℕ ℕ (Unit {0}) PlaceState) (c n : ℕ) (m : MapState PlaceState) (ws : List Worker) (r : Refusal) → length ws ≡ c → AllDone n ws → m.amount ≡ 4
+    → (r ≡ Mismatch → SawShards w m (λ a. Matches w a (map (λ w. w.log) ws) → ⊥)) → r ≢ LastStamp → IsSo w c n r
+not-judged w c n m ws Map long done four mismatch kind = tt
+not-judged w c n m ws Memory long done four mismatch kind = tt
+not-judged w c n m ws Gather long done four mismatch kind = tt
+not-judged w c n m ws LastStamp long done four mismatch kind = absurd (kind refl)
+not-judged w c n m ws Mismatch long done four mismatch kind =
+    let saw = mismatch refl in
+    record { logs = map (λ w. w.log) ws; state = saw.0; done = logs-done c n ws long done; amount = saw.1.amount ∙ four; lawful = saw.1.lawful; differ = saw.2 }
+
 -- what was said of the history
 pub judged : {w : Known ℕ ℕ (Unit {0}) PlaceState} (c n amount : ℕ) (ws : List Worker) (legal : Bool) → length ws ≡ c → AllDone n ws → amount ≡ 4 → IsJudgedBy w amount (map (λ w. w.log) ws) legal → IsJudged w c n legal
 judged c n amount ws legal long done four by = record {
   logs = map (λ w. w.log) ws;
   state = by.state;
-  ats = by.ats;
+  ats = by.judged.ats;
   done = logs-done c n ws long done;
   amount = by.amount ∙ four;
-  gathered = by.gathered;
-  exact = by.exact;
+  gathered = by.judged.gathered;
+  exact = by.judged.exact;
 }
 
 -- how many entries they logged

@@ -1,11 +1,13 @@
 -- `dashcheck threads`: its words, the steps of its threads, and what it prints.
-use Rattle.std.specs.Prelude.{◌≡◌, ◌↔◌, ℕ, Bool, IsTrue, ◌+◌, ◌*◌, ◌%◌, ◌<◌, ◌≤◌, ◌==◌, ◌++◌, List, [], ◌∷◌, Option, Some, codes, length, slice_get, if◌then◌else◌}
+use Rattle.std.specs.Prelude.{◌≡◌, ◌↔◌, ℕ, Bool, IsTrue, ⊤, ◌+◌, ◌*◌, ◌%◌, ◌<◌, ◌≤◌, ◌==◌, ◌++◌, List, [], ◌∷◌, Option, Some, codes, length, slice_get, if◌then◌else◌}
 use Rattle.std.specs.Fmt.{decimal}
 use Rattle.std.specs.Io.KnownBytes.{Appends}
 use Rattle.dash_shard.specs.declared.hash.PlaceState.{PlaceState}
-use Rattle.dash_history.specs.Alone.{AloneState}
+use Rattle.dash_history.specs.Alone.{AloneState, IsAlone}
 use Rattle.dash_history.specs.History.{LogState}
-use Rattle.dash_history.specs.OneHistory.{IsGathered, along, histories, contents}
+use Rattle.dash_history.specs.Map.{MapState, SawShard}
+use Rattle.dash_history.specs.OneHistory.{IsGathered, Matches, along, histories, contents}
+use Rattle.dash_history.specs.Refused.{NoStamp}
 use Rattle.dash_steps.specs.Takes.{Known}
 use Rattle.dash_history.specs.declared.gather.At.{At}
 use Rattle.dash_steps.specs.declared.step.Record.{Record}
@@ -49,6 +51,33 @@ pub record IsJudged (w : Known ℕ ℕ (Unit {0}) PlaceState) (c n : ℕ) (legal
   pub gathered : IsGathered w state logs ats
   pub exact : IsTrue legal ↔ IsReplay [] (along (histories state) ats) (contents state)
 
+-- NO MATCH: the logs of c threads, which took n steps each, don't match the histories of a lawful map of four shards
+pub record AreMismatched (w : Known ℕ ℕ (Unit {0}) PlaceState) (c n : ℕ) : Type 0 where
+  pub logs : List (LogState ℕ ℕ (Unit {0}))
+  pub state : AloneState ℕ ℕ (Unit {0}) PlaceState
+  pub done : AreDone c n logs
+  pub amount : length state.row ≡ 4
+  pub lawful : IsAlone w state
+  pub differ : Matches w state logs → ⊥
+
+-- no stamp is above the log's last and that of a shard of the map, as it stood behind its lock
+abbrev pub HasNoStamp : Known ℕ ℕ (Unit {0}) PlaceState → MapState PlaceState → LogState ℕ ℕ (Unit {0}) → Type 0
+HasNoStamp w m log = (i : ℕ) × SawShard w m i (λ s. NoStamp s.last log.last)
+
+-- LAST STAMP: one of c threads had no stamp for a step, on a map of four shards
+pub record IsOutOfStamps (w : Known ℕ ℕ (Unit {0}) PlaceState) (c : ℕ) : Type 0 where
+  pub state : MapState PlaceState
+  pub log : LogState ℕ ℕ (Unit {0})
+  pub amount : state.amount ≡ 4
+  pub caller : log.caller < c
+  pub none : HasNoStamp w state log
+
+-- what is so where c threads, of n steps each, are refused; want of memory says nothing more
+abbrev pub IsSo : Known ℕ ℕ (Unit {0}) PlaceState → ℕ → ℕ → Refusal → Type 0
+IsSo w c n LastStamp = IsOutOfStamps w c
+IsSo w c n Mismatch = AreMismatched w c n
+IsSo w c n _ = ⊤
+
 -- what is printed of so many entries, and of a history that is legal or isn't
 abbrev pub verdict_lines : ℕ → Bool → List ℕ
 verdict_lines n legal = codes "entries " ++ decimal n ++ 10 ∷ (if legal then codes "legal" else codes "not legal") ++ 10 ∷ []
@@ -61,6 +90,6 @@ refusal_text Memory = codes "refused: no memory (19)"
 refusal_text Mismatch = codes "refused: mismatch (22)"
 refusal_text Gather = codes "refused: no memory (23)"
 
--- a refusal was printed as one line
-abbrev pub SaysRefusal : Option (List ℕ) → Option (List ℕ) → Type 0
-SaysRefusal old new = (refusal : Refusal) × Appends old new (refusal_text refusal ++ 10 ∷ [])
+-- a refusal was printed as one line, and is so
+abbrev pub SaysRefusal : Known ℕ ℕ (Unit {0}) PlaceState → ℕ → ℕ → Option (List ℕ) → Option (List ℕ) → Type 0
+SaysRefusal w c n old new = (refusal : Refusal) × IsSo w c n refusal × Appends old new (refusal_text refusal ++ 10 ∷ [])

@@ -65,7 +65,8 @@ pub fn run_words<T: Threads + Wait + Clock + Sync, R: Read, O: Write, E: Write>(
     ensures threads_legal { (c n : ℕ) → IsThreads (map string_bytes words.now) c n → result ≡ Ok Status.Good
         → IsJudged ⟦<RecAlone<u64, u64, PlaceState> as Recorded>⟧.known c n true }
     ensures threads_refused { (c n : ℕ) → IsThreads (map string_bytes words.now) c n → result ≡ Ok Status.Refused
-        → (SaysRefusal (E.contents errors.old) (E.contents errors.new) × (output.new ≡ output.old))
+        → (SaysRefusal ⟦<RecAlone<u64, u64, PlaceState> as Recorded>⟧.known c n (E.contents errors.old) (E.contents errors.new)
+        × (output.new ≡ output.old))
         ⊎ (Appends (O.contents output.old) (O.contents output.new) (verdict_lines (c * n) false) × (errors.new ≡ errors.old)
         × IsJudged ⟦<RecAlone<u64, u64, PlaceState> as Recorded>⟧.known c n false) }
     ensures threads_input { (c n : ℕ) → IsThreads (map string_bytes words.now) c n → input.new ≡ input.old }

@@ -1,11 +1,13 @@
 //! `dashcheck threads`: threads that take steps on one recorded map, the count of what they logged, and whether the history that is
 //! gathered of it is legal.
-ghost use Rattle.std.specs.Prelude.{◌≡◌, ◌≢◌, ℕ, ◌+◌, ◌*◌, ◌%◌, ◌^◌, ◌<◌, ◌≤◌, ◌⊎◌, ◌↔◌, ◌∷◌, ◌++◌, [], All, Some, IsSomeAnd, IfOk, IfErr, IfSome, IfNone, OnOk, OnErr, IsTrue, length, map, sum_by, slice_get, slice_index_or, vec_len, if◌then◌else◌, true, false};
+ghost use Rattle.std.specs.Prelude.{◌≡◌, ◌≢◌, ℕ, ◌+◌, ◌*◌, ◌%◌, ◌^◌, ◌<◌, ◌≤◌, ◌⊎◌, ◌↔◌, ◌∷◌, ◌++◌, [], All, Err, IfOk, IfErr, IfSome, IfNone, OnOk, OnErr, IsTrue, length, map, sum_by, slice_index_or, vec_len, if◌then◌else◌, true, false};
 ghost use Rattle.std.specs.Io.KnownBytes.{Appends};
 ghost use Rattle.dash_history.specs.Alone.{fresh_logs};
+ghost use Rattle.dash_history.specs.Map.{SawShards};
+ghost use Rattle.dash_history.specs.OneHistory.{Matches};
 ghost use Rattle.dashcheck.specs.Replay.{IsThreadStep};
-ghost use Rattle.dashcheck.specs.Threads.{IsSize, IsJudged, thread_step, refusal_text, SaysRefusal, verdict_lines};
-ghost use Rattle.dashcheck.specs.inner.Threads.{LogsStep, IsIdle, Works, AllDone, HasTaken, idle, IsJudgedBy};
+ghost use Rattle.dashcheck.specs.Threads.{IsSize, IsJudged, IsSo, thread_step, refusal_text, SaysRefusal, verdict_lines};
+ghost use Rattle.dashcheck.specs.inner.Threads.{LogsStep, IsIdle, IsFirstRefusal, MayRefuse, Works, AllDone, HasTaken, idle, IsJudgedOf, IsJudgedBy};
 
 mod replay;
 
@@ -82,7 +84,8 @@ struct Outcome {
 /// it on a plain map. It prints how many entries the logs have, and whether each reply and the pairs at the end are those of the replay:
 /// where they aren't, it ends as refused.
 ///
-/// The first refusal, in the order of the threads, is printed on `errors` instead. It fails where a write does.
+/// The first refusal, in the order of the threads, is printed on `errors` instead: a mismatch only where the logs don't match the
+/// histories, and a last stamp only where a thread had none left. It fails where a write does.
 pub fn run<T: Threads + Wait + Clock + Sync, O: Write, E: Write>(
     rt: &T,
     alloc: Global,
@@ -97,7 +100,8 @@ pub fn run<T: Threads + Wait + Clock + Sync, O: Write, E: Write>(
         → Appends (O.contents output.old) (O.contents output.new) (verdict_lines (callers * steps) true) × (errors.new ≡ errors.old) }
     ensures legal { result ≡ Ok Status.Good → IsJudged ⟦<Alone as Recorded>⟧.known callers steps true }
     ensures refused { result ≡ Ok Status.Refused
-        → (SaysRefusal (E.contents errors.old) (E.contents errors.new) × (output.new ≡ output.old))
+        → (SaysRefusal ⟦<Alone as Recorded>⟧.known callers steps (E.contents errors.old) (E.contents errors.new)
+        × (output.new ≡ output.old))
         ⊎ (Appends (O.contents output.old) (O.contents output.new) (verdict_lines (callers * steps) false) × (errors.new ≡ errors.old)
         × IsJudged ⟦<Alone as Recorded>⟧.known callers steps false) }
 {
@@ -117,6 +121,7 @@ fn outcome_of<T: Threads + Wait + Clock + Sync>(
     requires { IsSize callers steps }
     ensures entries { IfOk result (λ o. o.entries ≡ callers * steps) }
     ensures judged { IfOk result (λ o. IsJudged ⟦<Alone as Recorded>⟧.known callers steps o.legal) }
+    ensures refused { IfErr result (IsSo ⟦<Alone as Recorded>⟧.known callers steps) }
 {
     let (map, workers) = work(rt, alloc, callers, steps)?;
     let entries = entries(workers.as_slice());
@@ -161,6 +166,7 @@ fn work<T: Threads + Wait + Clock + Sync>(
     ensures amount { IfOk result (λ done. done.0.amount ≡ 4) }
     ensures len { IfOk result (λ done. vec_len done.1 ≡ callers) }
     ensures done { IfOk result (λ done. AllDone steps done.1.items) }
+    ensures refused { IfErr result (IsSo ⟦<Alone as Recorded>⟧.known callers steps) }
 {
     let Ok((map, logs)) = Map::new(alloc, PlaceState, SHARDS, callers) else {
         return Err(Refusal::Map);
@@ -178,13 +184,25 @@ fn work<T: Threads + Wait + Clock + Sync>(
 // Whether the history that is gathered of the map with the workers' logs is legal: a replay of its steps on a plain map gets their
 // replies, and leaves the map's pairs.
 fn judge(alloc: Global, shared: Map, workers: Vec<Worker>) -> Result<bool, Refusal>
-    ensures { IfOk result (IsJudgedBy ⟦<Alone as Recorded>⟧.known shared.amount (map (λ w. w.log) workers.items)) }
+    ensures judged { IfOk result (IsJudgedBy ⟦<Alone as Recorded>⟧.known shared.amount (map (λ w. w.log) workers.items)) }
+    ensures mismatch { result ≡ Err Refusal.Mismatch
+        → SawShards ⟦<Alone as Recorded>⟧.known shared (λ a. Matches ⟦<Alone as Recorded>⟧.known a (map (λ w. w.log) workers.items) → ⊥) }
+    ensures kinds { IfErr result (λ refusal. refusal ≢ Refusal.LastStamp) }
 {
     let Ok(logs) = logs_of(alloc, workers) else {
         return Err(Refusal::Map);
     };
     let alone = shared.alone();
-    let ats = match alone.gather(logs.as_slice()) {
+    judge_alone(alloc, &alone, logs.as_slice())
+}
+
+// The same, of a map of one owner: these very shards.
+fn judge_alone(alloc: Global, alone: &Alone, logs: &[Log]) -> Result<bool, Refusal>
+    ensures judged { IfOk result (IsJudgedOf ⟦<Alone as Recorded>⟧.known alone.now logs.now) }
+    ensures mismatch { result ≡ Err Refusal.Mismatch → Matches ⟦<Alone as Recorded>⟧.known alone.now logs.now → ⊥ }
+    ensures kinds { IfErr result (λ refusal. refusal ≢ Refusal.LastStamp) }
+{
+    let ats = match alone.gather(logs) {
         Ok(ats) => ats,
         Err(GatherError::Mismatch) => return Err(Refusal::Mismatch),
         Err(GatherError::Memory) => return Err(Refusal::Gather),
@@ -192,7 +210,7 @@ fn judge(alloc: Global, shared: Map, workers: Vec<Worker>) -> Result<bool, Refus
     let Ok(pairs) = alone.pairs() else {
         return Err(Refusal::Map);
     };
-    let Ok(legal) = replay::agrees(alloc, &alone, ats.as_slice(), pairs.as_slice()) else {
+    let Ok(legal) = replay::agrees(alloc, alone, ats.as_slice(), pairs.as_slice()) else {
         return Err(Refusal::Map);
     };
     Ok(legal)
@@ -212,7 +230,8 @@ fn take_all<T: Threads + Wait + Clock + Sync>(rt: &T, map: &Map, workers: &mut [
     requires some { 0 < length workers.old }
     requires idle { All (IsIdle map.now.callers) workers.old }
     ensures len { length workers.new ≡ length workers.old }
-    ensures each { (i : ℕ) (d : _) → i < length workers.old → Works steps (slice_index_or workers.old i d) (slice_index_or workers.new i d) }
+    ensures each { (i : ℕ) (d : _) → i < length workers.old
+        → Works ⟦<Alone as Recorded>⟧.known map.now steps (slice_index_or workers.old i d) (slice_index_or workers.new i d) }
 {
     let threads = workers.len();
     thread::for_each_mut(
@@ -232,9 +251,10 @@ fn idle_workers(alloc: Global, logs: Vec<Log>) -> Result<Vec<Worker>, AllocError
         .collect(alloc)
 }
 
+// The first refusal, in the order of the workers.
 fn first_refusal(workers: &[Worker]) -> Option<Refusal>
     ensures none { IfNone result (All (λ w. w.refused ≡ None) workers.now) }
-    ensures some { IfSome result (λ refusal. (i : ℕ) × IsSomeAnd (slice_get workers.now i) (λ w. w.refused ≡ Some refusal)) }
+    ensures first { IfSome result (IsFirstRefusal workers.now) }
 {
     workers.iter().find_map(|worker| worker.refused)
 }
@@ -256,7 +276,7 @@ impl Worker {
         requires size { IsSize map.now.callers steps }
         requires shards { map.now.amount ≡ 4 }
         requires idle { IsIdle map.now.callers self.old }
-        ensures { Works steps self.old self.new }
+        ensures { Works ⟦<Alone as Recorded>⟧.known map.now steps self.old self.new }
     {
         self.refused = take_steps(rt, map, &mut self.log, steps).err();
     }
@@ -270,7 +290,7 @@ fn take_steps<T: Wait + Clock>(rt: &T, map: &Map, log: &mut Log, steps: u64) -> 
     requires idle { log.old.entries ≡ [] }
     ensures caller { log.new.caller ≡ log.old.caller }
     ensures done { OnOk result (HasTaken steps log.new) }
-    ensures kinds { IfErr result (λ refusal. refusal ≢ Refusal.Map) }
+    ensures refused { IfErr result (MayRefuse ⟦<Alone as Recorded>⟧.known map.now log.new) }
 {
     let thread = u64::from(log.caller());
     for number in 0..steps {
@@ -290,8 +310,8 @@ fn take<T: Wait + Clock>(
     requires caller { log.old.caller < map.now.callers }
     requires kind { IsThreadStep step }
     ensures taken { OnOk result (LogsStep log.old log.new step) }
-    ensures refused { OnErr result (log.new ≡ log.old) }
-    ensures kinds { IfErr result (λ refusal. refusal ≢ Refusal.Map) }
+    ensures unchanged { OnErr result (log.new ≡ log.old) }
+    ensures refused { IfErr result (MayRefuse ⟦<Alone as Recorded>⟧.known map.now log.new) }
 {
     match map.apply(rt, log, step) {
         Ok(_) => Ok(()),
@@ -321,6 +341,8 @@ fn step(thread: u64, number: u64) -> ShardStep<u64, u64>
 mod tests {
     use super::*;
     use dash_shard::error::ConstructError;
+    use dash_steps::step::Reply;
+    use std::process::Abort;
     use std::test::Fail;
 
     #[test]
@@ -335,6 +357,57 @@ mod tests {
             assert_eq!(rt; format!(in rt.alloc(); "{step:?}")?.as_str(), text);
         }
         Ok(())
+    }
+
+    // Four workers that have done nothing on a map of five callers, and the log of the fifth.
+    fn four_idle<T: Abort>(rt: &T, alloc: Global) -> (Map, Vec<Worker>, Log)
+        ensures callers { result.0.callers ≡ 5 }
+        ensures amount { result.0.amount ≡ 4 }
+        ensures some { 0 < length result.1.items }
+        ensures idle { All (IsIdle 5) result.1.items }
+    {
+        let (map, logs) = Map::new(alloc, PlaceState, SHARDS, 5).expect(rt, "refused");
+        let mut workers = idle_workers(alloc, logs).expect(rt, "refused");
+        let last = workers.pop().expect(rt, "no worker");
+        (map, workers, last.log)
+    }
+
+    // Waits until the key is there.
+    fn await_key<T: Wait + Clock + Abort>(rt: &T, map: &Map, log: &mut Log, key: u64) {
+        for _ in rt.forever() {
+            assert!(rt; log.caller() < map.callers());
+            if let Ok(Reply::Pair(Some(_))) = map.apply(rt, log, ShardStep::Get(key)) {
+                return;
+            }
+            // A look takes memory.
+            for _ in 0..1_000 {
+                thread::yield_now();
+            }
+        }
+    }
+
+    // Shard 1 is held, and each of four workers comes to it in its four steps. So none ends before the first steps of all are seen, and
+    // they are seen only where each worker has a thread of its own.
+    #[test]
+    fn each_worker_has_a_thread_of_its_own(rt: HostRuntime) {
+        let (map, mut workers, mut log) = four_idle(&rt, rt.alloc());
+        let held = map.held(&rt, 1);
+        let idle = workers.as_mut_slice();
+        thread::join(
+            &rt,
+            ||
+                requires { IsSize map.callers 4 × (map.amount ≡ 4) × (0 < length idle.now) × All (IsIdle map.callers) idle.now }
+            { take_all(&rt, &map, idle, 4) },
+            || {
+                for key in [0, 2, 3] {
+                    await_key(&rt, &map, &mut log, key);
+                }
+                drop(held);
+            },
+        );
+        for worker in &workers {
+            assert_eq!(rt; worker.log.entries().len(), 4);
+        }
     }
 
     #[test]

@@ -1,9 +1,9 @@
 -- How a merge is made, and how logs are followed along it.
-use Rattle.std.specs.Prelude.{ℕ, ◌+◌, ◌≡◌, ◌≢◌, ◌<◌, Bool, false, List, [], ◌∷◌, ◌++◌, length, map, Some, slice_get, slice_index, get_or}
+use Rattle.std.specs.Prelude.{ℕ, ◌+◌, ◌≡◌, ◌≢◌, ◌<◌, Bool, false, List, [], ◌∷◌, ◌++◌, length, Some, slice_get, slice_index, get_or}
 use Rattle.std.specs.Option.{option_map_or}
 use Rattle.dash_steps.specs.Takes.{Known}
-use Rattle.dash_history.specs.History.{LogState, RecState, IsLog, IsRecorded}
-use Rattle.dash_history.specs.OneHistory.{IsMerge, along, of_caller, Same}
+use Rattle.dash_history.specs.History.{LogState, IsLog}
+use Rattle.dash_history.specs.OneHistory.{along, of_caller, Same}
 use Rattle.dash_steps.specs.declared.step.Record.{Record}
 use Rattle.dash_history.specs.declared.gather.At.{At}
 
@@ -42,15 +42,6 @@ abbrev pub agrees : {K V A : Type 0} → (Record K V A → Record K V A → Bool
 agrees same r entries k = option_map_or (same r) (slice_get entries k) false
 
 module _ {K V A S : Type 0} (w : Known K V A S) where
-  -- each shard is lawful
-  abbrev pub EachRecorded : List (RecState K V A S) → Type 0
-  EachRecorded row = (i : ℕ) (s : RecState K V A S) → slice_get row i ≡ Some s → IsRecorded w s
-
-  -- the places are the merge of the histories of lawful shards
-  pub record Merges (row : List (RecState K V A S)) (ats : List At) : Type 0 where
-    pub merge : IsMerge (map (λ s. s.history) row) ats
-    pub lawful : EachRecorded row
-
   -- along the places each caller's records stand in its log's order
   abbrev pub KeepsCallers : List (List (Record K V A)) → List (LogState K V A) → List At → Type 0
   KeepsCallers hs logs ats = (i : ℕ) (l : LogState K V A) → slice_get logs i ≡ Some l → Same w (of_caller l.caller (along hs ats)) l.entries

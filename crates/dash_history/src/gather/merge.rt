@@ -1,6 +1,8 @@
 //! The merge of the histories of a row of shards.
 ghost use Rattle.std.specs.Prelude.{◌≡◌, ◌++◌, map, IfOk, OnOk};
-ghost use Rattle.dash_history.specs.inner.Gathering.{places, places_from, EachRecorded, Merges};
+ghost use Rattle.dash_history.specs.inner.Gathering.{places, places_from};
+ghost use Rattle.dash_history.specs.Alone.{EachRecorded};
+ghost use Rattle.dash_history.specs.OneHistory.{IsMerge};
 
 use crate::gather::At;
 use crate::known::Recorded;
@@ -46,8 +48,7 @@ fn places<K: KeptKey + Drop, V: Kept + Drop, S: BuildHasher, A: KeptAction<K, V>
     alloc: Global,
     row: &[RecShard<K, V, S, A>],
 ) -> Result<Vec<At>, AllocError>
-    ensures places { IfOk result (λ ats. ats.items ≡ places 0 (map (λ s. s.history) row.now)) }
-    ensures lawful { OnOk result (EachRecorded ⟦<RecShard<K, V, S, A> as Recorded>⟧.known row.now) }
+    ensures { IfOk result (λ ats. ats.items ≡ places 0 (map (λ s. s.history) row.now)) }
 {
     let mut ats = Vec::with_capacity(alloc, count(row))?;
     for idx in 0..row.len() {
@@ -61,7 +62,8 @@ pub(crate) fn merge<K: KeptKey + Drop, V: Kept + Drop, S: BuildHasher, A: KeptAc
     alloc: Global,
     row: &[RecShard<K, V, S, A>],
 ) -> Result<Vec<At>, AllocError>
-    ensures { IfOk result (λ ats. Merges ⟦<RecShard<K, V, S, A> as Recorded>⟧.known row.now ats.items) }
+    requires { EachRecorded ⟦<RecShard<K, V, S, A> as Recorded>⟧.known row.now }
+    ensures { IfOk result (λ ats. IsMerge (map (λ s. s.history) row.now) ats.items) }
 {
     let mut ats = places(alloc, row)?;
     ats.sort()?;

@@ -4,7 +4,7 @@ ghost use Rattle.crossbeam_utils.specs.Padded.{padded_value};
 ghost use Rattle.dash_shard.specs.Errors.{IsOneOf};
 ghost use Rattle.dash_shard.specs.Hashing.{by, IsAmount, HashAlike};
 ghost use Rattle.dash_history.specs.Alone.{IsCallers, IsTagged, fresh_logs, last_at};
-ghost use Rattle.dash_history.specs.Held.{FitsTag};
+ghost use Rattle.dash_history.specs.Held.{Leaves};
 ghost use Rattle.dash_history.specs.History.{IsRecorded, last_or, shard_of};
 ghost use Rattle.dash_history.specs.Map.{IsBehind, IsShardOf, SawShards, kinds_on};
 ghost use Rattle.dash_history.specs.OneHistory.{CopiesEntry, CopiesPairs};
@@ -160,8 +160,12 @@ impl<K: KeptKey + Drop, V: Kept + Drop, S: BuildHasher, A: KeptAction<K, V> + Dr
         } = self;
         let row = row.turn(
             |_: usize, lock: Locked<K, V, S, A>| -> RecShard<K, V, S, A>
-                ensures { FitsTag (by K.Hash S.BuildHasher S.Hasher.Hasher) (padded_value lock) result }
-            { lock.into_inner().into_inner() },
+                ensures { Leaves (known K.KeptKey V.alike A.KeptAction S.BuildHasher S.Hasher.Hasher) (padded_value lock) result }
+            {
+                let shard = lock.into_inner().into_inner();
+                let _ = &shard.last;
+                shard
+            },
         );
         RecAlone {
             hasher,

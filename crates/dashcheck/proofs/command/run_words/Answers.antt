@@ -1,18 +1,19 @@
 use Rattle.std.proofs.Common.{true, false, ℕ, ◌*◌, List, map, string_bytes, subst}
-use Rattle.std.specs.Prelude.{◌⊎◌}
+use Rattle.std.specs.Prelude.{◌⊎◌, Option}
 use Rattle.std.specs.Io.KnownBytes.{Appends}
 use Rattle.dash_shard.specs.declared.hash.PlaceState.{PlaceState}
 use Rattle.dash_steps.specs.Takes.{Known}
 use Rattle.dashcheck.specs.inner.Command.{Asks}
-use Rattle.dashcheck.specs.Threads.{IsThreads, IsJudged, verdict_lines}
+use Rattle.dashcheck.specs.Threads.{IsThreads, IsJudged, SaysRefusal, verdict_lines}
 use Rattle.dashcheck.proofs.OneWord.{at-size}
 use Rattle.dashcheck.proofs.command.run_words.Goals as goal
 
 legal-size : {w : Known ℕ ℕ (Unit {0}) PlaceState} (words : List (List ℕ)) (c n d m : ℕ) → IsThreads words c n → IsThreads words d m → IsJudged w c n true → IsJudged w d m true
 legal-size {w} words c n d m one other h = at-size (λ i k. IsJudged w i k true) words c n d m one other h
 
-refused-size : {w : Known ℕ ℕ (Unit {0}) PlaceState} {A B : Type 0} (Says : ℕ → Type 0) (words : List (List ℕ)) (c n d m : ℕ) → IsThreads words c n → IsThreads words d m → A ⊎ (Says (c * n) × B × IsJudged w c n false) → A ⊎ (Says (d * m) × B × IsJudged w d m false)
-refused-size {w} {A} {B} Says words c n d m one other h = at-size (λ i k. A ⊎ (Says (i * k) × B × IsJudged w i k false)) words c n d m one other h
+refused-size : {w : Known ℕ ℕ (Unit {0}) PlaceState} {A B : Type 0} (old new : Option (List ℕ)) (Says : ℕ → Type 0) (words : List (List ℕ)) (c n d m : ℕ) → IsThreads words c n → IsThreads words d m
+    → (SaysRefusal w c n old new × A) ⊎ (Says (c * n) × B × IsJudged w c n false) → (SaysRefusal w d m old new × A) ⊎ (Says (d * m) × B × IsJudged w d m false)
+refused-size {w} {A} {B} old new Says words c n d m one other h = at-size (λ i k. (SaysRefusal w i k old new × A) ⊎ (Says (i * k) × B × IsJudged w i k false)) words c n d m one other h
 
 pub returns-in-Some-Threads-clause-threads_good : goal.returns-in-Some-Threads-clause-threads_good
 returns-in-Some-Threads-clause-threads_good g c d m words good =
@@ -28,4 +29,4 @@ returns-in-Some-Threads-clause-threads_legal g c d m words good =
 pub returns-in-Some-Threads-clause-threads_refused : goal.returns-in-Some-Threads-clause-threads_refused
 returns-in-Some-Threads-clause-threads_refused g c d m words refused =
     let size = subst (Asks (map string_bytes c.args.words.now)) c.in-Some-Threads.field-0-is c.in-Some-Threads.ensures.some in
-    refused-size (λ k. Appends (g.O.Write.contents c.args.output.now) (g.O.Write.contents c.run-in-Some-Threads.new.output) (verdict_lines k false)) _ _ _ d m size words (c.run-in-Some-Threads.ensures.refused refused)
+    refused-size (g.E.Write.contents c.args.errors.now) (g.E.Write.contents c.run-in-Some-Threads.new.errors) (λ k. Appends (g.O.Write.contents c.args.output.now) (g.O.Write.contents c.run-in-Some-Threads.new.output) (verdict_lines k false)) _ _ _ d m size words (c.run-in-Some-Threads.ensures.refused refused)

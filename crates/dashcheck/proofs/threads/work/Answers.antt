@@ -1,6 +1,7 @@
 use Rattle.std.proofs.Common.{◌≡◌, length, ap, subst, None, ◌∙◌, arith}
 use Rattle.std.specs.Prelude.{All}
-use Rattle.dashcheck.proofs.Working.{written, logs-idle, many, all-idle, all-done}
+use Rattle.dashcheck.specs.inner.Threads.{IsFirstRefusal}
+use Rattle.dashcheck.proofs.Working.{written, logs-idle, many, all-idle, all-done, first-refused, works-of}
 use Rattle.dashcheck.proofs.threads.work.Goals as goal
 
 pub take_all-requires-clause-idle : goal.take_all-requires-clause-idle
@@ -17,4 +18,14 @@ returns-in-None-clause-done g c =
     let long : length vs ≡ length items = c.take_all.ensures.len ∙ ap length c.as_mut_slice.ensures.value in
     let whole = written vs items c.in-Ok-idle_workers.workers.len (omega (arith, long, c.in-Ok-idle_workers.workers.ok)) (omega (arith, c.in-Ok-idle_workers.workers.ok)) in
     let none = subst (All (λ w. w.refused ≡ None)) (c.as_slice.ensures.value ∙ whole) c.in-None.ensures.none in
-    rw whole (all-done c.args.callers c.args.steps items vs (logs-idle _ _ c.in-Ok-idle_workers.ensures ∙ c.in-Ok.ensures.logs) long (rw (← c.as_mut_slice.ensures.value) c.take_all.ensures.each) none)
+    rw whole (all-done c.args.callers c.args.steps items vs (logs-idle _ _ c.in-Ok-idle_workers.ensures ∙ c.in-Ok.ensures.logs) long (works-of vs c.as_mut_slice.ensures.value c.take_all.ensures.each) none)
+
+pub returns-in-Some-clause-refused : goal.returns-in-Some-clause-refused
+returns-in-Some-clause-refused g c =
+    let items = c.in-Ok-idle_workers.workers.items in
+    let vs = c.take_all.new.workers in
+    let long : length vs ≡ length items = c.take_all.ensures.len ∙ ap length c.as_mut_slice.ensures.value in
+    let whole = written vs items c.in-Ok-idle_workers.workers.len (omega (arith, long, c.in-Ok-idle_workers.workers.ok)) (omega (arith, c.in-Ok-idle_workers.workers.ok)) in
+    let first = subst (λ ws. IsFirstRefusal ws c.in-Some.refusal) (c.as_slice.ensures.value ∙ whole) c.in-Some.ensures.first in
+    first-refused _ c.args.callers c.args.steps c.in-Ok.map items vs c.in-Some.refusal (ap (λ m. m.amount) c.in-Ok.ensures.made) (logs-idle _ _ c.in-Ok-idle_workers.ensures ∙ c.in-Ok.ensures.logs) long
+    (works-of vs c.as_mut_slice.ensures.value c.take_all.ensures.each) first

@@ -6,7 +6,6 @@ use Rattle.dash_history.proofs.Alones.{here, alone-set, goes_there, callers_are,
 use Rattle.dash_history.proofs.Faults.{never-missing}
 use Rattle.dash_history.proofs.Refusals.{missing-last}
 use Rattle.dash_history.proofs.alone.RecAlone.apply.Goals as goal
-use Rattle.dash_shard.specs.Hashing.{key_hash}
 use Rattle.dash_steps.specs.Takes.{known_by}
 
 pub returns-then-idx-len-clause-no_such_shard : goal.returns-then-idx-len-clause-no_such_shard
@@ -40,9 +39,16 @@ record_hashed-requires-clause-caller g c =
 pub invariant_of-self : goal.invariant_of-self
 invariant_of-self g c =
     let within : c.route-hash.result.1 < length c.self.inside.row = omega (arith, c.if-idx-len.false, c.len-2.ensures) in
-    alone-set (key_hash g.K.PartialEq.eq g.K.Hash.hash_input g.S.BuildHasher g.S.Hasher.Hasher) _ _ c.route-hash.result.1 c.self.inside.row c.index_mut.result.now c.record_hashed.new.self c.self.invariant
+    alone-set (known_by g.K.PartialEq.eq g.K.Hash.hash_input g.K.Kept.alike g.V.Kept.alike g.A.Kept.alike g.A.Action.acts g.S.BuildHasher g.S.Hasher.Hasher) _ _ c.route-hash.result.1 c.self.inside.row c.index_mut.result.now c.record_hashed.new.self c.self.invariant
     (here (known_by g.K.PartialEq.eq g.K.Hash.hash_input g.K.Kept.alike g.V.Kept.alike g.A.Kept.alike g.A.Action.acts g.S.BuildHasher g.S.Hasher.Hasher) _ _ _ _ c.self.view_is c.self.invariant c.args.step c.route-hash.result.1 c.len.result c.index_mut.result.now c.len.ensures c.route-hash.ensures.shard within c.index_mut.ensures.value)
-    c.record_hashed.ensures.records.stays c.record_hashed.ensures.records.callers
+    c.record_hashed.ensures.records.stays c.record_hashed.ensures.records.callers c.record_hashed.ensures.legal
+
+pub returns-clause-lawful : goal.returns-clause-lawful
+returns-clause-lawful g c =
+    let within : c.route-hash.result.1 < length c.self.inside.row = omega (arith, c.if-idx-len.false, c.len-2.ensures) in
+    alone-set (known_by g.K.PartialEq.eq g.K.Hash.hash_input g.K.Kept.alike g.V.Kept.alike g.A.Kept.alike g.A.Action.acts g.S.BuildHasher g.S.Hasher.Hasher) _ _ c.route-hash.result.1 c.self.inside.row c.index_mut.result.now c.record_hashed.new.self c.self.invariant
+    (here (known_by g.K.PartialEq.eq g.K.Hash.hash_input g.K.Kept.alike g.V.Kept.alike g.A.Kept.alike g.A.Action.acts g.S.BuildHasher g.S.Hasher.Hasher) _ _ _ _ c.self.view_is c.self.invariant c.args.step c.route-hash.result.1 c.len.result c.index_mut.result.now c.len.ensures c.route-hash.ensures.shard within c.index_mut.ensures.value)
+    c.record_hashed.ensures.records.stays c.record_hashed.ensures.records.callers c.record_hashed.ensures.legal
 
 pub returns-clause-ok : goal.returns-clause-ok
 returns-clause-ok g c =

@@ -3,6 +3,7 @@ use Rattle.dash_shard.proofs.Rows.{moved-length}
 use Rattle.dash_history.specs.Alone.{IsTagged}
 use Rattle.dash_history.proofs.Maps.{map-of_alone}
 use Rattle.dash_shard.specs.Hashing.{key_hash}
+use Rattle.dash_steps.specs.Takes.{known_by}
 use Rattle.dash_history.proofs.alone.RecAlone.end.Goals as goal
 
 pub turn-row-requires : goal.turn-row-requires
@@ -10,7 +11,7 @@ turn-row-requires g c = λ i x e. subst (λ n. IsTagged (key_hash g.K.PartialEq.
 
 pub invariant_of-result : goal.invariant_of-result
 invariant_of-result g c =
-    map-of_alone (key_hash g.K.PartialEq.eq g.K.Hash.hash_input g.S.BuildHasher g.S.Hasher.Hasher) c.self.inside.hasher c.self.inside.callers c.len-amount.result c.self.inside.row c.turn-row.result c.len-amount.ensures c.self.invariant c.turn-row.ensures
+    map-of_alone (known_by g.K.PartialEq.eq g.K.Hash.hash_input g.K.Kept.alike g.V.Kept.alike g.A.Kept.alike g.A.Action.acts g.S.BuildHasher g.S.Hasher.Hasher) c.self.inside.hasher c.self.inside.callers c.len-amount.result c.self.inside.row c.turn-row.result c.len-amount.ensures c.self.invariant c.turn-row.ensures
 
 pub returns : goal.returns
 returns g c =

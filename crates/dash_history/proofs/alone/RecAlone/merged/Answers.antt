@@ -1,14 +1,17 @@
-use Rattle.std.proofs.Common.{length, subst}
-use Rattle.std.specs.Prelude.{IfOk}
-use Rattle.dash_history.specs.inner.Gathering.{Merges}
+use Rattle.std.proofs.Common.{List, length, map, subst, sym}
 use Rattle.std.proofs.lemmas.Result.{IfOk-weaker}
 use Rattle.dash_shard.proofs.Lawful.{lawful-of}
 use Rattle.dash_shard.specs.Hashing.{key_hash}
-use Rattle.dash_history.specs.OneHistory.{IsOneHistory}
+use Rattle.dash_history.specs.History.{RecState}
+use Rattle.dash_history.specs.Alone.{EachRecorded}
+use Rattle.dash_history.specs.OneHistory.{IsMerge, IsOneHistory}
 use Rattle.dash_steps.specs.Takes.{known_by}
 use Rattle.dash_steps.proofs.Copies.{lawful-by}
 use Rattle.dash_history.proofs.Whole.{one-history}
 use Rattle.dash_history.proofs.alone.RecAlone.merged.Goals as goal
+
+pub merge-requires : goal.merge-requires
+merge-requires g c = subst (EachRecorded _) (sym c.items.ensures) c.self.invariant.recorded
 
 pub returns : goal.returns
 returns g c =
@@ -18,5 +21,7 @@ returns g c =
     let laws = lawful-by (key_hash g.K.PartialEq.eq g.K.Hash.hash_input g.S.BuildHasher g.S.Hasher.Hasher) (lawful-of g.S.BuildHasher g.S.Hasher.Hasher g.met.K.Eq.laws g.met.K.Hash.respects_eq)
     g.K.Kept.alike g.V.Kept.alike g.met.K.Kept.alike_laws g.met.V.Kept.alike_laws g.met.K.KeptKey.alike_equal base (length row) in
     IfOk-weaker c.merge.result _ _
-    (λ ats m. subst (λ a. IsOneHistory w a ats.items) c.self.view_is (one-history w (record { hasher = base; callers = c.self.inside.callers; row = row }) c.self.invariant m.lawful laws ats.items m.merge))
-    (subst (λ r. IfOk c.merge.result (λ ats. Merges w r ats.items)) c.items.ensures c.merge.ensures)
+    (λ ats m.
+    let merge = subst (λ (r : List (RecState g.row.K.Denot g.row.V.Denot g.row.A.Denot g.row.S.Denot)). IsMerge (map (λ s. s.history) r) ats.items) c.items.ensures m in
+    subst (λ a. IsOneHistory w a ats.items) c.self.view_is (one-history w (record { hasher = base; callers = c.self.inside.callers; row = row }) c.self.invariant laws ats.items merge))
+    c.merge.ensures

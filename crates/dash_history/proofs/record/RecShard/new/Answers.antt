@@ -11,6 +11,13 @@ invariant_of-result g c = record {
   last = sym (ap (last_or 0) c.new-2.ensures.items);
 }
 
+pub returns-clause-legal : goal.returns-clause-legal
+returns-clause-legal g c = record {
+  shard = c.in-Ok.ensures.lawful;
+  history = history-none _ _ _ _ _ c.new-2.ensures.items c.in-Ok.ensures.empty;
+  last = sym (ap (last_or 0) c.new-2.ensures.items);
+}
+
 pub returns-clause-number : goal.returns-clause-number
 returns-clause-number g c = c.in-Ok.ensures.number
 
