@@ -6,11 +6,12 @@ use Rattle.std.specs.Cmp.{IsEquivalence}
 use Rattle.crossbeam_utils.specs.declared.cache_padded.CachePadded.{CachePadded}
 use Rattle.crossbeam_utils.specs.Padded.{padded_value}
 use Rattle.dash_shard.specs.Hashing.{KeyHash, IsAmount, HashAlike}
+use Rattle.dash_shard.specs.Lock.{FoundBehind, LeftBehind}
 use Rattle.dash_shard.specs.inner.Rows.{Moved}
-use Rattle.dash_shard.proofs.Rows.{moved-length, moved-from}
+use Rattle.dash_shard.proofs.Rows.{moved-length, moved-from, moved-to}
 use Rattle.dash_history.specs.declared.record.held.RecTag.{RecTag}
 use Rattle.dash_history.specs.History.{RecState, LogState, Recorded, IsRecorded, shard_of}
-use Rattle.dash_history.specs.Alone.{IsTagged, IsAlone}
+use Rattle.dash_history.specs.Alone.{AloneState, IsTagged, IsAlone}
 use Rattle.dash_history.specs.Held.{FitsTag, Leaves}
 use Rattle.dash_history.specs.Map.{MapState, Logs, kinds_on}
 use Rattle.dash_history.specs.Refused.{Records}
@@ -51,31 +52,44 @@ module _ {K V A S : Type 0} (h : KeyHash K S) where
   }
 
 module _ {K V A S : Type 0} (w : Known K V A S) where
+  -- the shard left the lock, where it was found, or has this lock now
+  abbrev pub Unlocks : ℕ → CachePadded (RecTag S) → RecState K V A S → Type 0
+  Unlocks i lock s = Leaves w (padded_value lock) s × FoundBehind s
+
+  abbrev pub Locks : MapState S → ℕ → RecState K V A S → CachePadded (RecTag S) → Type 0
+  Locks m i s lock = IsAt m i lock × LeftBehind s
+
   -- the shards that left their locks are a map, and its locks are a map again
   pub alone-of_map : (base : S) (c : ℕ) (locks : List (CachePadded (RecTag S))) (row : List (RecState K V A S)) → IsMap (record { hasher = base; callers = c; amount = length locks }) locks
-      → Moved (λ _ lock s. Leaves w (padded_value lock) s) 0 locks row → IsAlone w (record { hasher = base; callers = c; row = row })
+      → Moved Unlocks 0 locks row → IsAlone w (record { hasher = base; callers = c; row = row })
   alone-of_map base c locks row m moved =
-      let R : ℕ → CachePadded (RecTag S) → RecState K V A S → Type 0 = λ _ lock s. Leaves w (padded_value lock) s in
-      let long : length row ≡ length locks = moved-length R 0 locks row moved in
+      let long : length row ≡ length locks = moved-length Unlocks 0 locks row moved in
       record {
         amount = subst IsAmount (sym long) m.amount;
         callers = m.callers;
         tagged = λ i s e.
-            let from = moved-from R locks row moved i s e in
-            subst (λ n. IsTagged w.keys base n c i s) (sym long) (tagged-behind w.keys (record { hasher = base; callers = c; amount = length locks }) i from.0 s (m.tagged i from.0 from.1) from.2.0);
-        recorded = λ i s e. (moved-from R locks row moved i s e).2.1;
+            let from = moved-from Unlocks locks row moved i s e in
+            subst (λ n. IsTagged w.keys base n c i s) (sym long) (tagged-behind w.keys (record { hasher = base; callers = c; amount = length locks }) i from.0 s (m.tagged i from.0 from.1) from.2.0.0);
+        recorded = λ i s e. (moved-from Unlocks locks row moved i s e).2.0.1;
       }
 
   pub map-of_alone : (base : S) (c n : ℕ) (row : List (RecState K V A S)) (locks : List (CachePadded (RecTag S))) → n ≡ length row → IsAlone w (record { hasher = base; callers = c; row = row })
-      → Moved (λ i (_ : RecState K V A S) lock. IsAt (record { hasher = base; callers = c; amount = n }) i lock) 0 row locks → IsMap (record { hasher = base; callers = c; amount = length locks }) locks
+      → Moved (Locks (record { hasher = base; callers = c; amount = n })) 0 row locks → IsMap (record { hasher = base; callers = c; amount = length locks }) locks
   map-of_alone base c n row locks count a moved =
-      let R : ℕ → RecState K V A S → CachePadded (RecTag S) → Type 0 = λ i s lock. IsAt (record { hasher = base; callers = c; amount = n }) i lock in
+      let R : ℕ → RecState K V A S → CachePadded (RecTag S) → Type 0 = Locks (record { hasher = base; callers = c; amount = n }) in
       let long : length locks ≡ length row = moved-length R 0 row locks moved in
       record {
         amount = subst IsAmount (sym long) a.amount;
         callers = a.callers;
-        tagged = λ i lock e. subst (λ k. IsAt (record { hasher = base; callers = c; amount = k }) i lock) (count ∙ sym long) (moved-from R row locks moved i lock e).2;
+        tagged = λ i lock e. subst (λ k. IsAt (record { hasher = base; callers = c; amount = k }) i lock) (count ∙ sym long) (moved-from R row locks moved i lock e).2.0;
       }
+
+  -- each was behind its lock, or is
+  pub found-of_map : (locks : List (CachePadded (RecTag S))) (row : List (RecState K V A S)) → Moved Unlocks 0 locks row → (i : ℕ) (s : RecState K V A S) → slice_get row i ≡ Some s → FoundBehind s
+  found-of_map locks row moved i s e = (moved-from Unlocks locks row moved i s e).2.1
+
+  pub left-of_alone : (m : MapState S) (a z : AloneState K V A S) → a ≡ z → (locks : List (CachePadded (RecTag S))) → Moved (Locks m) 0 a.row locks → (i : ℕ) (s : RecState K V A S) → slice_get z.row i ≡ Some s → LeftBehind s
+  left-of_alone m a z view locks moved i s e = (moved-to (Locks m) a.row locks moved i s (subst (λ (x : AloneState K V A S). slice_get x.row i ≡ Some s) (sym view) e)).1.1
 
 module _ {K V A S : Type 0} (w : Known K V A S) (lk : IsEquivalence w.alike_key) (lv : IsEquivalence w.alike_value) (lf : IsEquivalence w.alike_action) where
   -- what a step promises on its shard behind its lock, the call promises of the log

@@ -1,6 +1,7 @@
 -- A recorded map behind its locks, and what a step through them leaves in the caller's log.
-use Rattle.std.specs.Prelude.{ℕ, ◌≡◌, ◌<◌, ◌↔◌, List, [], ◌∷◌, ◌++◌, length, Result, Err, IfOk, IfErr}
+use Rattle.std.specs.Prelude.{ℕ, ◌≡◌, ◌<◌, ◌↔◌, List, [], ◌∷◌, ◌++◌, length, Some, slice_get, Result, Err, IfOk, IfErr}
 use Rattle.dash_shard.specs.Hashing.{KeyHash}
+use Rattle.dash_shard.specs.Lock.{FoundBehind}
 use Rattle.dash_steps.specs.Steps.{step_of, reply_of}
 use Rattle.dash_steps.specs.Takes.{Known, kinds_at, Kinds, Answers}
 use Rattle.dash_history.specs.History.{RecState, LogState, IsCopy, IsRecorded, NoShard, shard_of}
@@ -27,12 +28,13 @@ abbrev pub IsShardOf : {K V A S : Type 0} → KeyHash K S → MapState S → ℕ
 IsShardOf h m i s = IsTagged h m.hasher m.amount m.callers i s
 
 module _ {K V A S : Type 0} (w : Known K V A S) where
-  -- shards that may stand behind the locks of this map
+  -- shards that were found behind the locks of this map
   pub record IsBehind (m : MapState S) (a : AloneState K V A S) : Type 0 where
     pub hasher : a.hasher ≡ m.hasher
     pub callers : a.callers ≡ m.callers
     pub amount : length a.row ≡ m.amount
     pub lawful : IsAlone w a
+    pub found : (i : ℕ) (s : RecState K V A S) → slice_get a.row i ≡ Some s → FoundBehind s
 
   -- P is so of shards that stood behind the locks
   abbrev pub SawShards : MapState S → (AloneState K V A S → Type 0) → Type 0

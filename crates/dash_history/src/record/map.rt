@@ -1,6 +1,7 @@
 //! A recorded map that threads share, and its two moves: shards out of their locks, and behind them again.
-ghost use Rattle.std.specs.Prelude.{◌∷◌, [], ◌≡◌, ◌<◌, ◌↔◌, IsErrOf, IfOk, IfErr, IfSome, IsSomeAnd, length, slice_get};
+ghost use Rattle.std.specs.Prelude.{◌∷◌, [], ◌≡◌, ℕ, ◌<◌, ◌↔◌, Some, IsErrOf, IfOk, IfErr, IfSome, IsSomeAnd, length, slice_get};
 ghost use Rattle.crossbeam_utils.specs.Padded.{padded_value};
+ghost use Rattle.dash_shard.specs.Lock.{FoundBehind, LeftBehind};
 ghost use Rattle.dash_shard.specs.Errors.{IsOneOf};
 ghost use Rattle.dash_shard.specs.Hashing.{by, IsAmount, HashAlike};
 ghost use Rattle.dash_history.specs.Alone.{IsCallers, IsTagged, fresh_logs, last_at};
@@ -160,7 +161,8 @@ impl<K: KeptKey + Drop, V: Kept + Drop, S: BuildHasher, A: KeptAction<K, V> + Dr
         } = self;
         let row = row.turn(
             |_: usize, lock: Locked<K, V, S, A>| -> RecShard<K, V, S, A>
-                ensures { Leaves (known K.KeptKey V.alike A.KeptAction S.BuildHasher S.Hasher.Hasher) (padded_value lock) result }
+                ensures leaves { Leaves (known K.KeptKey V.alike A.KeptAction S.BuildHasher S.Hasher.Hasher) (padded_value lock) result }
+                ensures found { FoundBehind result }
             {
                 let shard = lock.into_inner().into_inner();
                 let _ = &shard.last;
@@ -251,7 +253,8 @@ impl<K: KeptKey + Drop, V: Kept + Drop, S: BuildHasher, A: KeptAction<K, V> + Dr
 > {
     /// The map behind its locks again. It takes no memory.
     pub fn end(self) -> RecordedMap<K, V, S, A>
-        ensures { result ≡ record { hasher = self.hasher; callers = self.callers; amount = length self.row } }
+        ensures map { result ≡ record { hasher = self.hasher; callers = self.callers; amount = length self.row } }
+        ensures left { (i : ℕ) (s : _) → slice_get self.row i ≡ Some s → LeftBehind s }
     {
         let RecAlone {
             hasher,
@@ -262,7 +265,8 @@ impl<K: KeptKey + Drop, V: Kept + Drop, S: BuildHasher, A: KeptAction<K, V> + Dr
         let row = row.turn(
             |number: usize, shard: RecShard<K, V, S, A>| -> Locked<K, V, S, A>
                 requires { IsTagged (by K.Hash S.BuildHasher S.Hasher.Hasher) hasher amount callers number shard }
-                ensures { IsAt (record { hasher = hasher; callers = callers; amount = amount }) number result }
+                ensures at { IsAt (record { hasher = hasher; callers = callers; amount = amount }) number result }
+                ensures left { LeftBehind shard }
             {
                 let tag = RecTag {
                     number,

@@ -1,7 +1,7 @@
 use Rattle.std.proofs.Common.{◌≡◌, ◌∙◌, sym, subst, ap, length}
 use Rattle.dash_shard.proofs.Rows.{moved-length}
 use Rattle.dash_history.specs.Alone.{IsTagged}
-use Rattle.dash_history.proofs.Maps.{map-of_alone}
+use Rattle.dash_history.proofs.Maps.{map-of_alone, left-of_alone}
 use Rattle.dash_shard.specs.Hashing.{key_hash}
 use Rattle.dash_steps.specs.Takes.{known_by}
 use Rattle.dash_history.proofs.alone.RecAlone.end.Goals as goal
@@ -15,5 +15,9 @@ invariant_of-result g c =
 
 pub returns : goal.returns
 returns g c =
+    let w = known_by g.K.PartialEq.eq g.K.Hash.hash_input g.K.Kept.alike g.V.Kept.alike g.A.Kept.alike g.A.Action.acts g.S.BuildHasher g.S.Hasher.Hasher in
     let long : length c.turn-row.result ≡ length c.self.inside.row = moved-length _ 0 c.self.inside.row c.turn-row.result c.turn-row.ensures in
-    ap (λ n. record { hasher = c.self.inside.hasher; callers = c.self.inside.callers; amount = n }) long ∙ ap (λ a. record { hasher = a.hasher; callers = a.callers; amount = length a.row }) c.self.view_is
+    record {
+      map = ap (λ n. record { hasher = c.self.inside.hasher; callers = c.self.inside.callers; amount = n }) long ∙ ap (λ a. record { hasher = a.hasher; callers = a.callers; amount = length a.row }) c.self.view_is;
+      left = left-of_alone w (record { hasher = c.self.inside.hasher; callers = c.self.inside.callers; amount = c.len-amount.result }) _ _ c.self.view_is c.turn-row.result c.turn-row.ensures;
+    }

@@ -1,8 +1,6 @@
 use Rattle.std.proofs.Common.{◌∙◌, ap}
-use Rattle.crossbeam_utils.specs.Padded.{padded_value}
 use Rattle.dash_shard.proofs.Rows.{moved-length}
-use Rattle.dash_history.specs.Held.{Leaves}
-use Rattle.dash_history.proofs.Maps.{alone-of_map}
+use Rattle.dash_history.proofs.Maps.{Unlocks, alone-of_map, found-of_map}
 use Rattle.dash_steps.specs.Takes.{known_by}
 use Rattle.dash_history.proofs.record.map.RecordedMap.alone.Goals as goal
 
@@ -16,6 +14,7 @@ returns g c =
     record {
       hasher = ap (λ m. m.hasher) c.self.view_is;
       callers = ap (λ m. m.callers) c.self.view_is;
-      amount = moved-length (λ _ lock s. Leaves w (padded_value lock) s) 0 c.self.inside.row c.turn-row.result c.turn-row.ensures ∙ ap (λ m. m.amount) c.self.view_is;
+      amount = moved-length (Unlocks w) 0 c.self.inside.row c.turn-row.result c.turn-row.ensures ∙ ap (λ m. m.amount) c.self.view_is;
       lawful = alone-of_map w c.self.inside.hasher c.self.inside.callers c.self.inside.row c.turn-row.result c.self.invariant c.turn-row.ensures;
+      found = found-of_map w c.self.inside.row c.turn-row.result c.turn-row.ensures;
     }
