@@ -3,7 +3,8 @@ use Rattle.std.proofs.Common.{◌≡◌, ℕ, ◌+◌, ◌-◌, ◌*◌, ◌/◌
 use Rattle.std.proofs.lemmas.Bool.{cases_lt}
 use Rattle.std.proofs.lemmas.Nat.{pow-add}
 use Rattle.std.proofs.Math.Nat.{div-div-eq-div-mul, add-mul-div_left, mod-lt, zero-div, div-eq_of_lt, div-lt_iff_lt-mul, mul_comm}
-use Rattle.dash_shard.specs.inner.Marks.{class_of, count_of, OthersStay}
+use Rattle.dash_shard.specs.Search.{class_of}
+use Rattle.dash_shard.specs.inner.Marks.{count_of, OthersStay}
 
 pub class-small : (h : ℕ) → class_of h < 16
 class-small h = omega arith

@@ -5,7 +5,8 @@ use Rattle.std.proofs.lemmas.List.{get_or_past}
 use Rattle.std.proofs.lemmas.Option.{none-some}
 use Rattle.std.proofs.Math.ListN.{length-set}
 use Rattle.dash_shard.specs.Shard.{slot}
-use Rattle.dash_shard.specs.inner.Marks.{tag_of, round, step_to, goes_past, lane, IsFull, IsClean, IsAllTaken, KeepsTags, tally, stands_past, IsMarked, IsPlace, class_of, count_of, IsCount, IsRaised, IsLowered, CountsPast, UncountsPast}
+use Rattle.dash_shard.specs.Search.{class_of}
+use Rattle.dash_shard.specs.inner.Marks.{tag_of, round, step_to, goes_past, lane, IsFull, IsClean, IsAllTaken, KeepsTags, tally, stands_past, IsMarked, IsPlace, count_of, IsCount, IsRaised, IsLowered, CountsPast, UncountsPast}
 use Rattle.dash_shard.proofs.Fours.{class-small, count-word, count-zero}
 use Rattle.dash_shard.proofs.Counts.{count-raised, count-lowered, count-some, raised-some, lowered-some}
 use Rattle.dash_shard.proofs.Ways.{mod_below, round_below, round_step, step_round, step_below, past_yes, past_no}

@@ -5,7 +5,8 @@ use Rattle.std.proofs.lemmas.Option.{none-some, same_Some}
 use Rattle.dash_shard.specs.Contents.{at, Distinct}
 use Rattle.dash_shard.specs.Shard.{slot, taken}
 use Rattle.dash_shard.specs.declared.shard.table.Table.{Table}
-use Rattle.dash_shard.specs.inner.Marks.{tag_of, class_of, step_to, CountsPast, UncountsPast, IsFull, IsClean, KeepsTags, IsMarked}
+use Rattle.dash_shard.specs.Search.{class_of}
+use Rattle.dash_shard.specs.inner.Marks.{tag_of, step_to, CountsPast, UncountsPast, IsFull, IsClean, KeepsTags, IsMarked}
 use Rattle.dash_shard.specs.inner.Table.{IsTable, IsSpot, TellsTaken, limit, slots_in, groups_in, pairs_in, hashes_in, IsMoved}
 use Rattle.std.proofs.lemmas.List.{get_or-replicate}
 use Rattle.std.proofs.Math.ListN.{replicate, length-replicate}

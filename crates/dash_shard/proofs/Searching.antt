@@ -6,11 +6,11 @@ use Rattle.std.proofs.lemmas.Nat.Bits.{bit_at-trailing_zeros, bit_at-zero}
 use Rattle.std.proofs.lemmas.Option.{none-some, same_Some}
 use Rattle.std.specs.Int.{bit_at}
 use Rattle.std.specs.Option.{unwrap_or}
-use Rattle.dash_shard.specs.Search.{IsMask}
+use Rattle.dash_shard.specs.Search.{class_of, IsMask}
 use Rattle.dash_shard.specs.Shard.{slot, taken}
 use Rattle.dash_shard.specs.declared.shard.table.Table.{Table}
-use Rattle.dash_shard.specs.inner.Marks.{round, tag_of, class_of, count_of, group_at, step_to, lane, IsFull, IsAllTaken}
-use Rattle.dash_shard.specs.inner.Table.{IsTable, IsSpot, IsAbsent, MissesLanes, PassesFirst, limit, slots_in, groups_in, pairs_in, hashes_in}
+use Rattle.dash_shard.specs.inner.Marks.{round, tag_of, count_of, group_at, step_to, lane, IsFull, IsAllTaken}
+use Rattle.dash_shard.specs.inner.Table.{IsTable, IsSpot, IsAbsent, MissesLanes, PassesFirst, EndsWays, MayEnd, limit, slots_in, groups_in, pairs_in, hashes_in}
 use Rattle.dash_shard.proofs.Marked.{marked-passed, marked-reached, marked-empty}
 use Rattle.dash_shard.proofs.Ways.{mod_below, step-low, round-low, round_step, step_round, step_below}
 
@@ -88,6 +88,38 @@ module _ {K V : Type 0} where
       | inl lt ↦ before u lt
       | inr ge ↦ let same : u ≡ step = omega (arith, less, ge) in subst P (at.here ∙ ap (λ v. group_at (groups_in t) hash v) (sym same)) now
     ]
+
+    -- a way ends at a group, where no pair of the class stands past it
+    ends-unless : IsTable t → (group : ℕ) → group < groups_in t
+        → ((i : ℕ) (p : K × V) → slot (pairs_in t) i ≡ Some p → class_of (slice_index (hashes_in t) i) ≡ class_of hash
+        → IsFull t.tags.items group → 0 < count_of (slice_index t.counts.items group) (class_of hash) → ⊥) → EndsWays t hash group
+    ends-unless table group below not-past i p e alike =
+        let n = groups_in t in
+        let h = slice_index (hashes_in t) i in
+        let u = step_to n (h % n) group in
+        let here : round n (h % n + u) ≡ group = round_step n (h % n) group (mod_below n h (omega (arith, below))) below in
+        elim (cases_lt u (step_to n (h % n) (i / 16))) as (λ _. step_to n (h % n) (i / 16) ≤ u) [
+          | inl past ↦
+              let full = subst (IsFull t.tags.items) here (marked-reached table.marked i p e u past) in
+              let stands = subst (λ g. 0 < count_of (slice_index t.counts.items g) (class_of h)) here (marked-passed table.marked i p e u past) in
+              absurd (not-past i p e alike full (subst (λ c. 0 < count_of (slice_index t.counts.items group) c) alike stands))
+          | inr not ↦ omega (arith, not)
+        ]
+
+    -- a search may end at a group with an empty slot
+    pub ends-empty : IsTable t → (visits group : ℕ) → IsAt t hash (visits - 1) group → (e : (j : ℕ) × (j < 16) × (lane t.tags.items group j ≡ 128)) → MayEnd t hash visits
+    ends-empty table visits group at empty =
+        inr (subst (EndsWays t hash) at.here (ends-unless table group at.below (λ i p e alike full stands. full empty.0 empty.1 empty.2)))
+
+    -- and at one whose count of the class is 0
+    pub ends-passed : IsTable t → (visits group word class count : ℕ) → IsAt t hash (visits - 1) group
+        → word ≡ slice_index_or t.counts.items group word → class ≡ class_of hash → count ≡ count_of word class → count ≡ 0 → MayEnd t hash visits
+    ends-passed table visits group word class count at read of-hash of-class is-0 =
+        let below = at.below in
+        let counts-len = table.marked.counts_len in
+        let is = read ∙ get_or_default_zero t.counts.items group word (omega (arith, below, counts-len)) in
+        let none : count_of (slice_index t.counts.items group) (class_of hash) ≡ 0 = ap (λ w. count_of w (class_of hash)) (sym is) ∙ ap (count_of word) (sym of-hash) ∙ sym of-class ∙ is-0 in
+        inr (subst (EndsWays t hash) at.here (ends-unless table group below (λ i p e alike full stands. omega (arith, stands, none))))
 
   module _ (eq : K → K → Bool) (t : Table K V) (hash : ℕ) (k : K) where
     pub searching-first : Searching eq t hash k 0

@@ -1,8 +1,8 @@
 -- How a shard searches its slots: sixteen tags at a time.
-use Rattle.std.specs.Prelude.{◌≡◌, ℕ, ◌+◌, ◌-◌, ◌/◌, ◌%◌, ◌<◌, ◌≤◌, ◌↔◌, List, length, slice_index, IfSome}
+use Rattle.std.specs.Prelude.{◌≡◌, ◌⊎◌, ℕ, ◌+◌, ◌-◌, ◌/◌, ◌%◌, ◌^◌, ◌<◌, ◌≤◌, ◌↔◌, List, length, slice_index, Some, IfSome, IsNone}
 use Rattle.std.specs.Int.{bit_at}
 use Rattle.dash_shard.specs.Hashing.{KeyHash}
-use Rattle.dash_shard.specs.Shard.{ShardState}
+use Rattle.dash_shard.specs.Shard.{ShardState, slot}
 use Rattle.dash_shard.specs.Held.{Finds}
 use Rattle.dash_shard.specs.declared.shard.table.Search.{Search}
 
@@ -10,15 +10,39 @@ use Rattle.dash_shard.specs.declared.shard.table.Search.{Search}
 abbrev pub IsMask : List ℕ → ℕ → ℕ → Type 0
 IsMask group tag mask = (i : ℕ) → (bit_at mask i ≡ 1) ↔ ((i < 16) × (slice_index group i ≡ tag))
 
+-- the class of a hash, one of sixteen: its bits 32 to 35
+abbrev pub class_of : ℕ → ℕ
+class_of hash = hash / 2 ^ 32 % 16
+
 module _ {K V S : Type 0} where
   -- how many groups of sixteen slots a shard has
   abbrev pub groups : ShardState K V S → ℕ
   groups s = length s.slots / 16
 
-  -- all that a search promises: it finds the key's slot, and looks at the groups from the key's hash mod their number on, rising, round,
-  -- at one at least, at each at most once, and last at the slot's own
+  -- the group at a step of a hash's way: from the hash mod the groups' number on, rising, round
+  abbrev pub way : ShardState K V S → ℕ → ℕ → ℕ
+  way s hash step = (hash + step) % groups s
+
+  -- the way of a hash comes to the group g, and later to the group of the slot i
+  pub record StandsPast (s : ShardState K V S) (hash i g : ℕ) : Type 0 where
+    pub step : ℕ
+    pub own : ℕ
+    pub past : step < own
+    pub within : own < groups s
+    pub comes : way s hash step ≡ g
+    pub stands : way s hash own ≡ i / 16
+
+  -- no pair of the class of the key's hash stands, on its own way, past the group at a step of the key's
+  abbrev pub NonePast : KeyHash K S → ShardState K V S → K → ℕ → Type 0
+  NonePast h s key step = (i : ℕ) (p : K × V) → slot s.slots i ≡ Some p
+      → class_of (h.hash s.hasher p.0) ≡ class_of (h.hash s.hasher key)
+      → StandsPast s (h.hash s.hasher p.0) i (way s (h.hash s.hasher key) step) → ⊥
+
+  -- all that a search promises: it finds the key's slot, and looks at the groups of the way of the key's hash, at one at least, at each at
+  -- most once, and last at the slot's own. Where there is none it looks at all, or last at one that no pair of the class stands past
   pub record Searches (h : KeyHash K S) (s : ShardState K V S) (key : K) (r : Search) : Type 0 where
     pub finds : Finds h.eq s key r.position
     pub some : 0 < groups s → 0 < r.visits
     pub most : r.visits ≤ groups s
-    pub last : IfSome r.position (λ i. i / 16 ≡ (h.hash s.hasher key + (r.visits - 1)) % groups s)
+    pub last : IfSome r.position (λ i. i / 16 ≡ way s (h.hash s.hasher key) (r.visits - 1))
+    pub missed : IsNone r.position → (r.visits ≡ groups s) ⊎ NonePast h s key (r.visits - 1)

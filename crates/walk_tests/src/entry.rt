@@ -56,6 +56,27 @@ fn an_entry_holds_its_shard(rt: HostRuntime) {
     is(&rt, map.len(&rt), 1);
 }
 
+// Fourteen pairs fill the shard, so that room for one more takes memory. Where there is none, as `rt try --test --fail-alloc` makes it, the
+// key comes back, and not from a lock. Either way the pairs stand there still.
+#[test]
+fn an_entry_of_a_full_shard(rt: HostRuntime) {
+    let map: Map<u64> = map_of_four(&rt, rt.alloc());
+    for i in 0..14u64 {
+        put(&rt, &map, 4 * i + 1, i);
+    }
+    is(&rt, map.capacity(&rt), 14);
+    let key = match map.try_entry(57) {
+        Ok(entry) => entry.into_key(),
+        Err(TryEntryRefused::Memory(key)) => key,
+        Err(TryEntryRefused::Locked(_)) => 0,
+    };
+    is(&rt, key, 57);
+    for i in 0..14u64 {
+        is(&rt, value_of(&rt, &map, 4 * i + 1), Some(i));
+    }
+    is(&rt, map.len(&rt), 14);
+}
+
 #[test]
 fn noted_keys(rt: HostRuntime) {
     let a = |note| Noted { name: 5, note };

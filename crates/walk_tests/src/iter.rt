@@ -1,3 +1,4 @@
 //! The walks over a map, on maps that show which shard is held.
+mod borders;
 mod locked;
 mod writing;

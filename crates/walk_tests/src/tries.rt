@@ -2,6 +2,7 @@
 use crate::checks::is;
 use crate::maps::{map_of_four, put};
 use dash_map::map::DashMap;
+use dash_ref::mapref::entry::Entry;
 use dash_ref::try_result::TryResult;
 use dash_ref::util::SharedValue;
 use dash_shard::hash::FixedState;
@@ -38,6 +39,35 @@ fn try_get_mut(rt: HostRuntime) {
     assert!(rt; map.try_get_mut(&"Johnny").is_locked());
     drop(held);
     assert!(rt; map.try_get_mut(&"Sam").is_absent());
+}
+
+// A shard without pairs has no memory of its own.
+#[test]
+fn a_shard_without_pairs_is_no_held_one(rt: HostRuntime) {
+    let map = map_of_four::<u64>(&rt, rt.alloc());
+    for key in 0..4u64 {
+        assert!(rt; map.try_get(&key).is_absent(), "{key}");
+        assert!(rt; map.try_get_mut(&key).is_absent(), "{key}");
+        assert!(rt; matches!(map.try_entry(key), Ok(Entry::Vacant(_))), "{key}");
+    }
+}
+
+#[test]
+fn a_sum_over_all_shards_gives_up_its_holds(rt: HostRuntime) {
+    let map = map_of_four::<u64>(&rt, rt.alloc());
+    for key in 0..4u64 {
+        put(&rt, &map, key, key);
+    }
+    is(&rt, map.len(&rt), 4);
+    assert!(rt; !map.is_empty(&rt));
+    is(&rt, map.capacity(&rt), 56);
+    for key in 0..4u64 {
+        assert!(rt; map.try_get_mut(&key).is_present(), "{key}");
+        assert!(rt;
+            matches!(map.try_entry(key), Ok(Entry::Occupied(_))),
+            "{key}"
+        );
+    }
 }
 
 #[test]

@@ -30,6 +30,25 @@ fn prints_its_pairs(rt: HostRuntime) {
     is(&rt, text.as_str(), "{0: 5, 1: 6}");
 }
 
+// Two of the pairs stand in one shard, in either order.
+#[test]
+fn a_view_prints_each_pair(rt: HostRuntime) {
+    let map = map_of_four::<u64>(&rt, rt.alloc());
+    for (key, value) in [(0, 5), (1, 6), (5, 7), (3, 8)] {
+        put(&rt, &map, key, value);
+    }
+    let view = map.into_read_only();
+    let text = format!(in rt.alloc(); "{view:?}").expect(&rt, "refused");
+    is(&rt, text.len(), "{0: 5, 1: 6, 5: 7, 3: 8}".len());
+    assert!(rt;
+        text.starts_with("{0: 5, ") && text.ends_with(", 3: 8}"),
+        "{text}"
+    );
+    for pair in ["1: 6, ", "5: 7, "] {
+        assert!(rt; text.contains(pair), "{text}");
+    }
+}
+
 #[test]
 fn shards(rt: HostRuntime) {
     let map = DashMap::<&str, u64>::with_shard_amount(rt.alloc(), 4).expect(&rt, "refused");

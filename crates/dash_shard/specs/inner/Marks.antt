@@ -2,6 +2,7 @@
 -- an empty slot, 129 one whose pair was removed, and a lower one is the top seven bits of a stored pair's hash.
 use Rattle.std.specs.Prelude.{◌≡◌, ◌≢◌, ◌⊎◌, ℕ, suc, ◌+◌, ◌-◌, ◌*◌, ◌/◌, ◌%◌, ◌^◌, ◌<◌, ◌≤◌, List, [], ◌∷◌, length, Option, Some, None, slice_index, nat_lt, ◌==◌, if◌then◌else◌}
 use Rattle.dash_shard.specs.Shard.{slot}
+use Rattle.dash_shard.specs.Search.{class_of}
 
 -- the tag of a hash
 abbrev pub tag_of : ℕ → ℕ
@@ -22,10 +23,6 @@ step_to n a g = if nat_lt g a then n - a + g else g - a
 -- 1 where a way from the group a goes past the group g in its first s steps
 abbrev pub goes_past : ℕ → ℕ → ℕ → ℕ → ℕ
 goes_past n a s g = if nat_lt (step_to n a g) s then 1 else 0
-
--- the class of a hash, one of sixteen
-abbrev pub class_of : ℕ → ℕ
-class_of hash = hash / 2 ^ 32 % 16
 
 -- of the sixteen counts in a word, four bits each, the one of a class
 unfoldable pub count_of : ℕ → ℕ → ℕ

@@ -1,5 +1,5 @@
 -- An open table of pairs: slots in groups of sixteen, found by their marks.
-use Rattle.std.specs.Prelude.{ℕ, ◌≡◌, ◌+◌, ◌*◌, ◌/◌, ◌%◌, ◌<◌, ◌≤◌, true, false, Bool, List, [], length, slice_index, slice_set, Option, Some, None, IsSome, if◌then◌else◌}
+use Rattle.std.specs.Prelude.{ℕ, ◌≡◌, ◌⊎◌, ◌+◌, ◌-◌, ◌*◌, ◌/◌, ◌%◌, ◌<◌, ◌≤◌, true, false, Bool, List, [], length, slice_index, slice_set, Option, Some, None, IsSome, if◌then◌else◌}
 use Rattle.std.specs.Borrow.{Bor}
 use Rattle.std.specs.Cmp.{IsEquivalence}
 use Rattle.std.specs.Int.{bit_at}
@@ -8,7 +8,8 @@ use Rattle.dash_slots.specs.Slots.{SlotsState}
 use Rattle.dash_shard.specs.Hashing.{KeyHash}
 use Rattle.dash_shard.specs.Contents.{Keys, Distinct, EachOnce}
 use Rattle.dash_shard.specs.Shard.{ShardState, IsShard, shard_len, slot, taken}
-use Rattle.dash_shard.specs.inner.Marks.{step_to, IsFull, IsMarked, IsPlace}
+use Rattle.dash_shard.specs.Search.{class_of}
+use Rattle.dash_shard.specs.inner.Marks.{step_to, group_at, IsFull, IsMarked, IsPlace}
 use Rattle.dash_shard.specs.declared.shard.table.Table.{Table}
 
 -- how many pairs there may be in n slots: seven in eight
@@ -79,6 +80,15 @@ module _ {K V : Type 0} where
   -- none of their pairs has an equal key
   abbrev pub MissesLanes : (K → K → Bool) → List (Option (K × V)) → K → ℕ → ℕ → Type 0
   MissesLanes eq slots k start mask = (j : ℕ) (p : K × V) → j < 16 → bit_at mask j ≡ 1 → slot slots (start + j) ≡ Some p → eq p.0 k ≡ false
+
+  -- each pair of the hash's class stands on its way before it goes past the group g
+  abbrev pub EndsWays : Table K V → ℕ → ℕ → Type 0
+  EndsWays t hash g = (i : ℕ) (p : K × V) → slot (pairs_in t) i ≡ Some p → class_of (slice_index (hashes_in t) i) ≡ class_of hash
+      → steps_in t (slice_index (hashes_in t) i) i ≤ step_to (groups_in t) (slice_index (hashes_in t) i % groups_in t) g
+
+  -- a search for this hash may end without the pair after so many groups: they are all, or the last of them ends the ways
+  abbrev pub MayEnd : Table K V → ℕ → ℕ → Type 0
+  MayEnd t hash visits = (visits ≡ groups_in t) ⊎ EndsWays t hash (group_at (groups_in t) hash (visits - 1))
 
   -- the group g is the first on the way of this hash: it has no empty slot, and no pair of the hash whose key is equal
   pub record PassesFirst (eq : K → K → Bool) (t : Table K V) (hash : ℕ) (k : K) (g : ℕ) : Type 0 where

@@ -41,7 +41,8 @@ impl<K: Eq + Hash, V, S: BuildHasher> Shard<K, V, S> {
         self.table.groups()
     }
 
-    /// As `position_of`, with how many groups of slots were looked at: those from the key's hash modulo `groups()` on, rising, round.
+    /// As `position_of`, with how many groups of slots were looked at: those from the key's hash modulo `groups()` on, rising, round. With no
+    /// such slot it looks at all of them, or up to one that no pair of the hash's class stands past.
     #[inline]
     pub fn search(&self, key: &K) -> Search
         ensures searches { Searches ⟦<Self as Keyed>⟧.by self.now key.now result }

@@ -1,6 +1,6 @@
 //! A table of pairs, found by the tags of their hashes, sixteen at a time.
 ghost use Rattle.std.specs.Prelude.{ℕ, ◌≡◌, ◌+◌, ◌-◌, ◌*◌, ◌/◌, ◌^◌, ◌<◌, ◌≤◌, ◌++◌, IfSome, IfNone, IsOk, IfOk, IfErr, OnOk, OnErr, IsSome, length, [], vec_len, vec_capacity, slice_set, slice_index, replicate};
-ghost use Rattle.dash_shard.specs.inner.Table.{IsTable, IsHashed, Holds, IsAbsent, AreTaken, MissesLanes, PassesFirst, limit, slots_in, groups_in, pairs_in, hashes_in};
+ghost use Rattle.dash_shard.specs.inner.Table.{IsTable, IsHashed, Holds, IsAbsent, AreTaken, MissesLanes, PassesFirst, MayEnd, limit, slots_in, groups_in, pairs_in, hashes_in};
 ghost use Rattle.dash_shard.specs.inner.Marks.{group_at};
 ghost use Rattle.dash_shard.specs.Hashing.{hash_of};
 ghost use Rattle.dash_shard.specs.Shard.{slot, IsNextTaken};
@@ -127,6 +127,7 @@ impl<K, V> Table<K, V> {
         ensures absent { IfNone result.position (IsAbsent K.eq self.now hash key.now) }
         ensures visits { (result.visits ≤ groups_in self.now) × (0 < groups_in self.now → 0 < result.visits) }
         ensures last { IfSome result.position (λ i. i / 16 ≡ group_at (groups_in self.now) hash (result.visits - 1)) }
+        ensures ended { IfNone result.position (MayEnd self.now hash result.visits) }
     {
         let count = self.counts.len();
         if count == 0 {
@@ -173,6 +174,7 @@ impl<K, V> Table<K, V> {
         ensures found { IfOk result (Holds K.eq (pairs_in self.now) key.now) }
         ensures absent { OnErr result (IsAbsent K.eq self.now hash key.now) }
         ensures visits { IfErr result (λ visits. (visits ≤ groups_in self.now) × (0 < visits)) }
+        ensures ended { IfErr result (MayEnd self.now hash) }
     {
         let count = self.counts.len();
         let (tag, class) = (tag(hash), class(hash));

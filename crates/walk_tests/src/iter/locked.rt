@@ -8,7 +8,6 @@ use std::alloc::Global;
 use std::process::Abort;
 use std::rt::Clock;
 use std::sync::Wait;
-use std::thread;
 
 type Places = DashMap<u64, u64, PlaceState>;
 
@@ -97,62 +96,4 @@ fn holds_the_shard_that_it_is_in(rt: HostRuntime) {
     assert!(rt; walk.next().is_none());
     drop(walk);
     is(&rt, put(&rt, &map, 3, 31), Some(30));
-}
-
-// One of two threads: it has the shard 1, and answers whether the shard 0 is still held once the other one had it.
-fn keep_the_next_shard<R: Wait + Clock>(rt: &R, map: &Places) -> bool {
-    let Some(next) = map.get_mut(rt, &1) else {
-        return false;
-    };
-    let mut kept = true;
-    for _ in 0..100_000u64 {
-        if is_held(map, 0) {
-            break;
-        }
-        thread::yield_now();
-    }
-    if is_held(map, 0) {
-        for _ in 0..1_000u64 {
-            thread::yield_now();
-            kept = kept && is_held(map, 0);
-        }
-    }
-    drop(next);
-    kept
-}
-
-// The other one: it walks once the shard 1 is held, and answers whether all three pairs came.
-fn walk_to_the_end<R: Wait + Clock>(rt: &R, map: &Places) -> bool {
-    for _ in 0..100_000u64 {
-        if is_held(map, 1) {
-            break;
-        }
-        thread::yield_now();
-    }
-    let mut values = 0u64;
-    for item in map.iter(rt) {
-        let Ok(item) = item else {
-            return false;
-        };
-        values = values.wrapping_add(*item);
-    }
-    values == 45
-}
-
-#[test]
-fn takes_the_next_hold_before_it_gives_up_the_old(rt: HostRuntime) {
-    let map = three_pairs(&rt, rt.alloc());
-    let mut answers = [false, false];
-    thread::for_each_mut(
-        &rt,
-        answers.as_mut_slice(),
-        2,
-        &|thread, answer: &mut bool| {
-            *answer = match thread {
-                0 => keep_the_next_shard(&rt, &map),
-                _ => walk_to_the_end(&rt, &map),
-            };
-        },
-    );
-    is(&rt, answers, [true, true]);
 }

@@ -1,7 +1,8 @@
 //! The marks of a table: a tag for each slot, in groups of sixteen, and for each group how many pairs of each class stand past it on their ways.
 ghost use Rattle.std.specs.Prelude.{◌≡◌, ◌⊎◌, ℕ, ◌+◌, ◌*◌, ◌/◌, ◌%◌, ◌-◌, ◌^◌, ◌<◌, ◌≤◌, ◌↔◌, IsTrue, length, slice_index};
 ghost use Rattle.std.specs.Int.{bit_at};
-ghost use Rattle.dash_shard.specs.inner.Marks.{round, step_to, goes_past, tag_of, class_of, count_of, IsRaised, IsLowered, OthersStay, CountsPast, UncountsPast, IsClean, KeepsTags};
+ghost use Rattle.dash_shard.specs.Search.{class_of};
+ghost use Rattle.dash_shard.specs.inner.Marks.{round, step_to, goes_past, tag_of, count_of, IsRaised, IsLowered, OthersStay, CountsPast, UncountsPast, IsClean, KeepsTags};
 
 // What stands for a tag where a slot is empty, and where its pair was removed from a group that pairs stand past.
 pub(super) const EMPTY: u8 = 128;

@@ -1,5 +1,6 @@
 use Rattle.std.proofs.Common.{◌/◌, ◌%◌, ◌<◌, length, slice_set, refl, ap, subst, ◌∙◌, arith}
-use Rattle.dash_shard.specs.inner.Marks.{class_of, CountsPast}
+use Rattle.dash_shard.specs.Search.{class_of}
+use Rattle.dash_shard.specs.inner.Marks.{CountsPast}
 use Rattle.std.proofs.Math.ListN.{length-set}
 use Rattle.dash_shard.specs.inner.Table.{groups_in, pairs_in}
 use Rattle.dash_shard.proofs.Written.{written}

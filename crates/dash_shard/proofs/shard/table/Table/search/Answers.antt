@@ -1,7 +1,7 @@
 use Rattle.std.proofs.Common.{◌≡◌, ℕ, ◌+◌, ◌-◌, ◌/◌, ◌%◌, ◌<◌, List, sym, ap, subst, ◌∙◌, arith}
 use Rattle.dash_shard.specs.inner.Marks.{step_to, group_at}
 use Rattle.dash_shard.specs.inner.Table.{groups_in}
-use Rattle.dash_shard.proofs.Searching.{IsRow, at-first, searching-first, misses-seen, passes-first, empty-seen, absent-here}
+use Rattle.dash_shard.proofs.Searching.{IsRow, at-first, searching-first, misses-seen, passes-first, empty-seen, absent-here, ends-empty}
 use Rattle.dash_shard.proofs.Ways.{mod_below, round_step}
 use Rattle.dash_shard.proofs.shard.table.Table.search.Goals as goal
 
@@ -33,6 +33,14 @@ returns-then-seen-ne0-clause-absent g c =
     let row = subst (λ (l : List ℕ). IsRow l c.home-first.result c.group_of.result.now) c.deref.ensures.value c.group_of.ensures in
     let missing = misses-seen g.K.PartialEq.eq t c.args.hash c.args.key.now c.requires c.home-first.result _ _ _ row c.tag.ensures.is c.probe-seen.ensures.matches c.in_default.ensures.absent in
     absent-here g.K.PartialEq.eq t c.args.hash c.args.key.now 0 (searching-first _ _ _ _) c.requires c.home-first.result at missing (empty-seen _ _ _ _ row c.probe-seen.ensures.empty c.if-seen-ne0.true c.probe-seen.ensures.fits.1)
+
+pub returns-then-seen-ne0-clause-ended : goal.returns-then-seen-ne0-clause-ended
+returns-then-seen-ne0-clause-ended g c =
+    let t = c.args.self.now in
+    let long : c.len-count.result ≡ groups_in t = omega (arith, c.len-count.ensures, t.counts.ok.0) in
+    let at = at-first t c.args.hash c.home-first.result (omega (arith, c.home-first.ensures.below, long)) (c.home-first.ensures.is ∙ ap (λ n. c.args.hash % n) long) in
+    let row = subst (λ (l : List ℕ). IsRow l c.home-first.result c.group_of.result.now) c.deref.ensures.value c.group_of.ensures in
+    ends-empty t c.args.hash c.requires 1 c.home-first.result at (empty-seen _ _ _ _ row c.probe-seen.ensures.empty c.if-seen-ne0.true c.probe-seen.ensures.fits.1)
 
 pub search_past-requires-clause-passes : goal.search_past-requires-clause-passes
 search_past-requires-clause-passes g c =

@@ -1,5 +1,6 @@
 use Rattle.std.proofs.Common.{◌≡◌, ℕ, ◌/◌, ◌%◌, ◌<◌, ◌≤◌, List, length, set, None, sym, ap, subst, ◌∙◌, arith, slice_index}
-use Rattle.dash_shard.specs.inner.Marks.{class_of, count_of, goes_past, UncountsPast, IsFull, IsClean, KeepsTags}
+use Rattle.dash_shard.specs.Search.{class_of}
+use Rattle.dash_shard.specs.inner.Marks.{count_of, goes_past, UncountsPast, IsFull, IsClean, KeepsTags}
 use Rattle.std.proofs.Math.ListN.{length-set}
 use Rattle.dash_shard.specs.inner.Table.{groups_in, pairs_in, hashes_in}
 use Rattle.dash_shard.specs.Shard.{slot}

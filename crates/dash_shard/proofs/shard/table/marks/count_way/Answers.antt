@@ -1,5 +1,6 @@
 use Rattle.std.proofs.Common.{◌%◌, length, refl, sym, subst, arith}
-use Rattle.dash_shard.specs.inner.Marks.{class_of, CountsPast}
+use Rattle.dash_shard.specs.Search.{class_of}
+use Rattle.dash_shard.specs.inner.Marks.{CountsPast}
 use Rattle.dash_shard.proofs.Counts.{counting-first}
 use Rattle.dash_shard.proofs.Ways.{mod_below}
 use Rattle.dash_shard.proofs.shard.table.marks.count_way.Goals as goal

@@ -1,0 +1,127 @@
+//! A walk that comes to the end of a shard takes the next hold before it gives up the old one.
+//!
+//! One thread has the next shard, and another one walks. They wait for one another by what is held, and no longer than they have turns.
+use crate::checks::is;
+use crate::maps::{map_of_four, put};
+use dash_map::map::DashMap;
+use dash_shard::hash::PlaceState;
+use std::alloc::Global;
+use std::process::Abort;
+use std::rt::Clock;
+use std::sync::Wait;
+use std::thread;
+
+type Places = DashMap<u64, u64, PlaceState>;
+
+// A map of four shards with a pair in the shards 0, 1 and 3.
+fn three_pairs<R: Abort + Wait + Clock>(rt: &R, alloc: Global) -> Places {
+    let map = map_of_four(rt, alloc);
+    for (key, value) in [(3, 30), (0, 5), (1, 10)] {
+        put(rt, &map, key, value);
+    }
+    map
+}
+
+// Whether somebody holds the shard of a key.
+fn is_held(map: &Places, key: u64) -> bool {
+    map.try_get_mut(&key).is_locked()
+}
+
+// Waits until somebody holds the shard of a key, and says whether that came.
+fn is_held_soon(map: &Places, key: u64) -> bool {
+    for _ in 0..100_000u64 {
+        if is_held(map, key) {
+            return true;
+        }
+        thread::yield_now();
+    }
+    false
+}
+
+// Has the shard 1 and, once the walk is in the shard 0, the shard 3 as a sign. Says whether the walk keeps its shard while it wants the next.
+fn keep_the_next_shard<R: Wait + Clock>(rt: &R, map: &Places) -> bool {
+    let Some(_next) = map.get_mut(rt, &1) else {
+        return false;
+    };
+    if !is_held_soon(map, 0) {
+        return true;
+    }
+    let Some(_sign) = map.get_mut(rt, &3) else {
+        return false;
+    };
+    let mut kept = true;
+    for _ in 0..10_000u64 {
+        thread::yield_now();
+        kept = kept && is_held(map, 0);
+    }
+    kept
+}
+
+// Walks once the shard 1 is held, and goes on from the first pair at the sign. Says whether all three pairs came.
+fn read_to_the_end<R: Wait + Clock>(rt: &R, map: &Places) -> bool {
+    is_held_soon(map, 1);
+    let mut walk = map.iter(rt);
+    let mut values = 0u64;
+    if let Some(Ok(item)) = walk.next() {
+        values = *item;
+    }
+    is_held_soon(map, 3);
+    for item in walk {
+        if let Ok(item) = item {
+            values = values.wrapping_add(*item);
+        }
+    }
+    values == 45
+}
+
+// The same of a walk that writes.
+fn write_to_the_end<R: Wait + Clock>(rt: &R, map: &Places) -> bool {
+    is_held_soon(map, 1);
+    let mut walk = map.iter_mut(rt);
+    let mut values = 0u64;
+    for _ in 0..4 {
+        if let Some(value) = walk.next_mut() {
+            values = values.wrapping_add(*value);
+        }
+        if values == 5 {
+            is_held_soon(map, 3);
+        }
+    }
+    values == 45
+}
+
+#[test]
+fn a_walk_that_reads(rt: HostRuntime) {
+    let map = three_pairs(&rt, rt.alloc());
+    let mut answers = [false, false];
+    thread::for_each_mut(
+        &rt,
+        answers.as_mut_slice(),
+        2,
+        &|thread, answer: &mut bool| {
+            *answer = match thread {
+                0 => keep_the_next_shard(&rt, &map),
+                _ => read_to_the_end(&rt, &map),
+            };
+        },
+    );
+    is(&rt, answers, [true, true]);
+}
+
+#[test]
+fn a_walk_that_writes(rt: HostRuntime) {
+    let map = three_pairs(&rt, rt.alloc());
+    let mut answers = [false, false];
+    thread::for_each_mut(
+        &rt,
+        answers.as_mut_slice(),
+        2,
+        &|thread, answer: &mut bool| {
+            *answer = match thread {
+                0 => keep_the_next_shard(&rt, &map),
+                _ => write_to_the_end(&rt, &map),
+            };
+        },
+    );
+    is(&rt, answers, [true, true]);
+}
