@@ -160,6 +160,28 @@ fn a_shard_that_is_not_there(rt: HostRuntime) {
     is(&rt, alone.len(), 1);
 }
 
+#[test]
+fn each_shard_is_read(rt: HostRuntime) {
+    let mut map = map_of_four(&rt, rt.alloc());
+    for (key, value) in [(0, 5), (1, 10), (2, 20), (3, 30)] {
+        put(&rt, &map, key, value);
+    }
+    let outcome = map.run(vec![in rt.alloc();
+        ShardStep::Read(0),
+        ShardStep::Read(1),
+        ShardStep::Read(2),
+        ShardStep::Read(3),
+    ]
+    .expect(&rt, "refused"));
+    assert!(rt; outcome.stopped.is_none());
+    assert_eq!(rt;
+        replies(rt.alloc(), &outcome)
+            .expect(&rt, "refused")
+            .as_str(),
+        "[Pairs([(0, 5)]), Pairs([(1, 10)]), Pairs([(2, 20)]), Pairs([(3, 30)])]"
+    );
+}
+
 // Adds the number, wrapped, and answers yes where the new value is even.
 #[derive(Debug, Drop)]
 struct Adds(u64);
