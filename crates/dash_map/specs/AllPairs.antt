@@ -1,5 +1,5 @@
 -- What calls on all pairs of a map of one owner do and promise.
-use Rattle.std.specs.Prelude.{ℕ, ◌≡◌, ◌≤◌, Bool, [], length, Option, Some, option_and_then}
+use Rattle.std.specs.Prelude.{◌≡◌, ◌≤◌, Bool, [], length, Option, Some, option_and_then}
 use Rattle.dash_shard.specs.Contents.{at, EachOnce}
 use Rattle.dash_shard.specs.Steps.{changed, if_yes}
 use Rattle.dash_shard.specs.Each.{ByCalls, Shrinks}

@@ -1,4 +1,4 @@
-use Rattle.std.proofs.Common.{arith, ap, refl, is_some, ◌+◌, ◌≤◌, ◌<◌}
+use Rattle.std.proofs.Common.{arith, ap, refl, is_some, ◌<◌}
 use Rattle.dash_shard.specs.Shard.{shard_len}
 use Rattle.dash_ref.proofs.mapref.entry.Entry.find.Goals as goal
 
