@@ -94,13 +94,15 @@ module _ {K V A S : Type 0} (w : Known K V A S) where
 module _ {K V A S : Type 0} (w : Known K V A S) (lk : IsEquivalence w.alike_key) (lv : IsEquivalence w.alike_value) (lf : IsEquivalence w.alike_action) where
   -- what a step promises on its shard behind its lock, the call promises of the log
   pub logs-behind : (m : MapState S) (i : ℕ) (s s' : RecState K V A S) (l l' : LogState K V A) (step : ShardStep K V A) (result : Result (Reply K V) (ShardStep K V A × RecordFault))
-      → IsTagged w.keys m.hasher m.amount m.callers i s → IsRecorded w s → i ≡ shard_of (kinds_on w m) step → i < m.amount → Records w s s' l l' step result → Logs w m l l' step result
-  logs-behind m i s s' l l' step result at legal goes within r =
+      → IsTagged w.keys m.hasher m.amount m.callers i s → IsRecorded w s → FoundBehind s → LeftBehind s' → i ≡ shard_of (kinds_on w m) step → i < m.amount → Records w s s' l l' step result → Logs w m l l' step result
+  logs-behind m i s s' l l' step result at legal found put goes within r =
       let same : kinds_of w s.shard ≡ kinds_on w m = kinds-same w m.hasher m.amount m.callers i s at in
       record {
         ok = IfOk-weaker result (λ reply. Recorded (kinds_of w s.shard) s s' l l' step reply) _
             (λ reply recorded. logged (kinds_on w m) lk lv lf s s' l l' step reply (sym (at.number ∙ goes)) (subst (λ x. Recorded x s s' l l' step reply) same recorded)) r.ok;
+        left = IfOk-weaker result (λ reply. Recorded (kinds_of w s.shard) s s' l l' step reply) _
+            (λ reply recorded. (s, subst (λ n. IsTagged w.keys m.hasher m.amount m.callers n s) goes at, legal, found, (s', put, subst (λ x. Recorded x s s' l l' step reply) same recorded))) r.ok;
         refused = MatchResult-weaker result r.refused (λ x p. p) (λ e h. (h.0, h.2));
         no_such_shard = (λ e. absurd (never-missing result step r.faults e), λ le. let past : m.amount ≤ shard_of (kinds_on w m) step = le in absurd (omega (arith, goes, within, past)));
-        last_stamp = λ e. (s, subst (λ k. IsTagged w.keys m.hasher m.amount m.callers k s) goes at, legal, r.last_stamp.0 e);
+        last_stamp = λ e. (s, subst (λ k. IsTagged w.keys m.hasher m.amount m.callers k s) goes at, legal, found, r.last_stamp.0 e);
       }

@@ -1,10 +1,10 @@
 -- A recorded map behind its locks, and what a step through them leaves in the caller's log.
 use Rattle.std.specs.Prelude.{ℕ, ◌≡◌, ◌<◌, ◌↔◌, List, [], ◌∷◌, ◌++◌, length, Some, slice_get, Result, Err, IfOk, IfErr}
 use Rattle.dash_shard.specs.Hashing.{KeyHash}
-use Rattle.dash_shard.specs.Lock.{FoundBehind}
+use Rattle.dash_shard.specs.Lock.{FoundBehind, LeftBehind}
 use Rattle.dash_steps.specs.Steps.{step_of, reply_of}
 use Rattle.dash_steps.specs.Takes.{Known, kinds_at, Kinds, Answers}
-use Rattle.dash_history.specs.History.{RecState, LogState, IsCopy, IsRecorded, NoShard, shard_of}
+use Rattle.dash_history.specs.History.{RecState, LogState, IsCopy, IsRecorded, NoShard, Recorded, shard_of}
 use Rattle.dash_history.specs.Alone.{AloneState, IsTagged, IsAlone}
 use Rattle.dash_history.specs.Refused.{NoStamp}
 use Rattle.dash_steps.specs.declared.step.ShardStep.{ShardStep}
@@ -40,9 +40,13 @@ module _ {K V A S : Type 0} (w : Known K V A S) where
   abbrev pub SawShards : MapState S → (AloneState K V A S → Type 0) → Type 0
   SawShards m P = (a : AloneState K V A S) × IsBehind m a × P a
 
-  -- P is so of the shard i, as it stood behind its lock
+  -- P is so of the shard i, as it was found behind its lock
   abbrev pub SawShard : MapState S → ℕ → (RecState K V A S → Type 0) → Type 0
-  SawShard m i P = (s : RecState K V A S) × IsShardOf w.keys m i s × IsRecorded w s × P s
+  SawShard m i P = (s : RecState K V A S) × IsShardOf w.keys m i s × IsRecorded w s × FoundBehind s × P s
+
+  -- R of the shard i as it was found, and of the one that was left there
+  abbrev pub LeavesShard : MapState S → ℕ → (RecState K V A S → RecState K V A S → Type 0) → Type 0
+  LeavesShard m i R = SawShard m i (λ s. (t : RecState K V A S) × LeftBehind t × R s t)
 
   -- no stamp was above the log's last and that of the step's shard
   abbrev pub SawNoStamp : MapState S → LogState K V A → ShardStep K V A → Type 0
@@ -59,10 +63,11 @@ pub record Logged {K V A : Type 0} (m : Kinds K V A) (l l' : LogState K V A) (st
   pub contents : List (K × V)
   pub answers : Answers m.rules contents (step_of m.acts step) (reply_of reply)
 
--- A step through the locks is taken, and logged with its reply. Or it is handed back, and the log is as it was: for want of its shard
+-- A step through the locks is taken and recorded on its shard, and logged with its reply. Or it is handed back, and the log is as it was: for want of its shard
 -- exactly where the map has none, for want of a stamp only where none was left.
 pub record Logs {K V A S : Type 0} (w : Known K V A S) (m : MapState S) (l l' : LogState K V A) (step : ShardStep K V A) (result : Result (Reply K V) (ShardStep K V A × RecordFault)) : Type 0 where
   pub ok : IfOk result (λ reply. Logged (kinds_on w m) l l' step reply)
+  pub left : IfOk result (λ reply. LeavesShard w m (shard_of (kinds_on w m) step) (λ s t. Recorded (kinds_on w m) s t l l' step reply))
   pub refused : IfErr result (λ e. (e.0 ≡ step) × (l' ≡ l))
   pub no_such_shard : (result ≡ Err (step, NoSuchShard)) ↔ NoShard (kinds_on w m) step
   pub last_stamp : result ≡ Err (step, LastStamp) → SawNoStamp w m l step

@@ -5,6 +5,7 @@ use Rattle.std.specs.Option.{option_map_or}
 use Rattle.std.specs.Iterator.{size}
 use Rattle.std.proofs.lemmas.Bool.{cases_eq, true≢false}
 use Rattle.dash_shard.specs.Hashing.{KeyHash}
+use Rattle.dash_shard.specs.Lock.{FoundBehind}
 use Rattle.dash_shard.specs.Shard.{ShardState, IsNextTaken, IsTagged}
 use Rattle.dash_ref.specs.Ref.{RefState}
 use Rattle.dash_map.specs.Walking.{IterState, IsDone, IsEnded, IsOver, SawNone, GivesPair, StepsOn, steps_left}
@@ -19,35 +20,37 @@ more w within other = omega (arith, within, other)
 
 module _ {K V S : Type 0} (h : KeyHash K S) where
   -- a held shard with no pair from its first slot on was seen without pairs
-  held-none : (m : IterState K V S) (e n : ℕ) (o : Option (ShardState K V S)) → IsSome o → IfSome o (λ s. (e ≡ s.number + 1) × IsTagged h m.base.hasher m.base.amount s.number s) → IfSome o (λ s. IsNextTaken s.slots 0 None)
-      → e ≡ n + 1 → (s : ShardState K V S) × IsTagged h m.base.hasher m.base.amount n s × IsNextTaken s.slots 0 None
-  held-none m e n (Some s) some is none last = (s, subst (λ i. IsTagged h m.base.hasher m.base.amount i s) (omega (arith, is.0, last)) is.1, none)
-  held-none m e n None some is none last = absurd (true≢false (sym some))
+  held-none : (m : IterState K V S) (e n : ℕ) (o : Option (ShardState K V S)) → IsSome o → IfSome o (λ s. (e ≡ s.number + 1) × IsTagged h m.base.hasher m.base.amount s.number s) → IfSome o FoundBehind → IfSome o (λ s. IsNextTaken s.slots 0 None)
+      → e ≡ n + 1 → (s : ShardState K V S) × IsTagged h m.base.hasher m.base.amount n s × FoundBehind s × IsNextTaken s.slots 0 None
+  held-none m e n (Some s) some is found none last = (s, subst (λ i. IsTagged h m.base.hasher m.base.amount i s) (omega (arith, is.0, last)) is.1, found, none)
+  held-none m e n None some is found none last = absurd (true≢false (sym some))
 
   -- with the shard that is held, where no pair is left in it
   saw-all : (old w : IterState K V S) → IsLater h old w → IsWalk h w → IsDone w → SawNone h old w.entered
-  saw-all old w later is done i low high = elim (cases_eq (i + 1) w.entered) as (λ _. (s : ShardState K V S) × IsTagged h old.base.hasher old.base.amount i s × IsNextTaken s.slots 0 None) [
+  saw-all old w later is done i low high = elim (cases_eq (i + 1) w.entered) as (λ _. (s : ShardState K V S) × IsTagged h old.base.hasher old.base.amount i s × FoundBehind s × IsNextTaken s.slots 0 None) [
     | inl last ↦ held-none old w.entered i w.held later.held
-        (subst (λ m. IfSome w.held (λ s. (w.entered ≡ s.number + 1) × IsTagged h m.hasher m.amount s.number s)) later.same is.held)
+        (subst (λ m. IfSome w.held (λ s. (w.entered ≡ s.number + 1) × IsTagged h m.hasher m.amount s.number s)) later.same is.held) later.found
         (subst (λ p. IfSome w.held (λ s. IsNextTaken s.slots p None)) later.first done) (sym last)
     | inr other ↦ later.between i low (omega (arith, high, other))
   ]
 
-  pub goes-on : (old w next : IterState K V S) → HasPassed h old w → IsWalk h w → IsDone w → w.entered < w.base.amount → next.base ≡ w.base → next.entered ≡ w.entered + 1 → next.position ≡ 0 → IsSome next.held → HasPassed h old next
-  goes-on old w next (inl here) is done more same entered first held = inr (record {
+  pub goes-on : (old w next : IterState K V S) → HasPassed h old w → IsWalk h w → IsDone w → w.entered < w.base.amount → next.base ≡ w.base → next.entered ≡ w.entered + 1 → next.position ≡ 0 → IsSome next.held → IfSome next.held FoundBehind → HasPassed h old next
+  goes-on old w next (inl here) is done more same entered first held found = inr (record {
     same = same ∙ ap (λ x. x.base) here;
     later = omega (arith, entered, ap (λ x. x.entered) here);
     within = omega (arith, entered, more, ap (λ m. m.amount) same);
     held = held;
+    found = found;
     first = first;
     done = subst IsDone here done;
     between = λ i low high. absurd (omega (arith, low, high, entered, ap (λ x. x.entered) here));
   })
-  goes-on old w next (inr later) is done more same entered first held = inr (record {
+  goes-on old w next (inr later) is done more same entered first held found = inr (record {
     same = same ∙ later.same;
     later = omega (arith, entered, later.later);
     within = omega (arith, entered, more, ap (λ m. m.amount) same);
     held = held;
+    found = found;
     first = first;
     done = later.done;
     between = λ i low high. saw-all old w later is done i low (omega (arith, high, entered));
@@ -72,6 +75,7 @@ module _ {K V S : Type 0} (h : KeyHash K S) where
     stands = g.stands;
     order = inr (record {
       later = omega (arith, later.later, g.number);
+      found = subst (λ (o : Option (ShardState K V S)). IfSome o FoundBehind) g.here later.found;
       done = later.done;
       between = λ i low high. later.between i low (omega (arith, high, g.number));
       first = subst (λ p. IsNextTaken item.shard.slots p (Some item.position)) later.first g.next;

@@ -3,6 +3,7 @@ use Rattle.std.specs.Prelude.{ℕ, ◌≡◌, ◌+◌, ◌-◌, ◌*◌, ◌^◌
 use Rattle.std.specs.Option.{option_map_or}
 use Rattle.std.specs.Iterator.{Count, at_most}
 use Rattle.dash_shard.specs.Hashing.{KeyHash}
+use Rattle.dash_shard.specs.Lock.{FoundBehind}
 use Rattle.dash_shard.specs.Shard.{ShardState, IsNextTaken, IsTagged}
 use Rattle.dash_ref.specs.Ref.{RefState, Stands}
 use Rattle.dash_map.specs.Map.{MapState}
@@ -36,9 +37,9 @@ module _ {K V S : Type 0} where
   steps_left w = at_most ((w.base.amount - w.entered) * 2 ^ 64 + option_map_or (λ _. 2 ^ 64 - w.position) w.held 0)
 
   module _ (h : KeyHash K S) where
-    -- each shard that the walk had still to enter, below b, was held, and had no pair then
+    -- each shard that the walk had still to enter, below b, was found to have no pair
     abbrev pub SawNone : IterState K V S → ℕ → Type 0
-    SawNone old b = (i : ℕ) → old.entered ≤ i → i < b → (s : ShardState K V S) × IsTagged h old.base.hasher old.base.amount i s × IsNextTaken s.slots 0 None
+    SawNone old b = (i : ℕ) → old.entered ≤ i → i < b → (s : ShardState K V S) × IsTagged h old.base.hasher old.base.amount i s × FoundBehind s × IsNextTaken s.slots 0 None
 
     -- the item is the next pair of the shard that was held
     abbrev pub IsNextHere : IterState K V S → RefState K V S → Type 0
@@ -47,6 +48,7 @@ module _ {K V S : Type 0} where
     -- the item is the first pair of a later shard, and no pair was there before it
     pub record IsFirstLater (old : IterState K V S) (item : RefState K V S) : Type 0 where
       pub later : old.entered ≤ item.shard.number
+      pub found : FoundBehind item.shard
       pub done : IsDone old
       pub between : SawNone old item.shard.number
       pub first : IsNextTaken item.shard.slots 0 (Some item.position)

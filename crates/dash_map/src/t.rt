@@ -4,6 +4,7 @@ ghost use Rattle.std.specs.Map.Calls.{CalledAtPair, TakesPair};
 ghost use Rattle.dash_shard.specs.Closures.{MayAsk, Viewed, MayChange, ChangesOn, MayGive, Answered, Given};
 ghost use Rattle.dash_shard.specs.Each.{CalledOnPair, TakesOnPair};
 ghost use Rattle.dash_shard.specs.Hashing.{by};
+ghost use Rattle.dash_shard.specs.Lock.{FoundBehind};
 ghost use Rattle.dash_map.specs.Alone.{AloneState, contents};
 ghost use Rattle.dash_map.specs.Behind.{SawShards, LeavesShard, LeavesShards, CallableOnPairs, SawShard, StandsAt, LeavesBy};
 ghost use Rattle.dash_map.specs.Map.{MapState};
@@ -50,22 +51,26 @@ pub trait Map<K: Eq + Hash, V, S: BuildHasher> {
         shard: usize,
     ) -> RwLockReadGuard<'_, Shard<K, V, S>>
         requires { shard < (state self.now).amount }
-        ensures { IsTagged (by K.Hash S.BuildHasher S.Hasher.Hasher) (state self.now).hasher (state self.now).amount shard result.value };
+        ensures tagged { IsTagged (by K.Hash S.BuildHasher S.Hasher.Hasher) (state self.now).hasher (state self.now).amount shard result.value }
+        ensures found { FoundBehind result.value };
 
     /// As `DashMap::shards_mut`.
     fn _yield_write_shard<R: Wait + Clock>(&self, rt: &R, shard: usize) -> ShardMut<'_, K, V, S>
         requires { shard < (state self.now).amount }
-        ensures { IsTagged (by K.Hash S.BuildHasher S.Hasher.Hasher) (state self.now).hasher (state self.now).amount shard result };
+        ensures tagged { IsTagged (by K.Hash S.BuildHasher S.Hasher.Hasher) (state self.now).hasher (state self.now).amount shard result }
+        ensures found { FoundBehind result };
 
     /// As `_yield_read_shard`, for a caller who waits for nobody: none where `RwLock::try_read` doesn't get the shard.
     fn _try_yield_read_shard(&self, shard: usize) -> Option<RwLockReadGuard<'_, Shard<K, V, S>>>
         requires { shard < (state self.now).amount }
-        ensures { IfSome result (λ r. IsTagged (by K.Hash S.BuildHasher S.Hasher.Hasher) (state self.now).hasher (state self.now).amount shard r.value) };
+        ensures tagged { IfSome result (λ r. IsTagged (by K.Hash S.BuildHasher S.Hasher.Hasher) (state self.now).hasher (state self.now).amount shard r.value) }
+        ensures found { IfSome result (λ r. FoundBehind r.value) };
 
     /// As `_yield_write_shard`, for a caller who waits for nobody: none where `RwLock::try_write` doesn't get the shard.
     fn _try_yield_write_shard(&self, shard: usize) -> Option<ShardMut<'_, K, V, S>>
         requires { shard < (state self.now).amount }
-        ensures { IfSome result (IsTagged (by K.Hash S.BuildHasher S.Hasher.Hasher) (state self.now).hasher (state self.now).amount shard) };
+        ensures tagged { IfSome result (IsTagged (by K.Hash S.BuildHasher S.Hasher.Hasher) (state self.now).hasher (state self.now).amount shard) }
+        ensures found { IfSome result FoundBehind };
 
     /// As `DashMap::insert`.
     fn _insert<R: Wait + Clock>(

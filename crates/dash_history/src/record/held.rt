@@ -2,6 +2,7 @@
 ghost use Rattle.std.specs.Prelude.{◌≡◌, ◌<◌, ◌↔◌, IsTrue};
 ghost use Rattle.dash_shard.specs.Hashing.{by};
 ghost use Rattle.dash_shard.specs.Shard.{Routes};
+ghost use Rattle.dash_shard.specs.Lock.{LeftBehind};
 ghost use Rattle.dash_history.specs.History.{IsRecorded, GoesTo};
 ghost use Rattle.dash_steps.specs.inner.Hashed.{HasHash};
 ghost use Rattle.dash_history.specs.Held.{FitsTag};
@@ -66,7 +67,9 @@ impl<K: KeptKey, V: Kept, S: BuildHasher, A: KeptAction<K, V>> Recorded
 impl<K: KeptKey, V: Kept, S: BuildHasher, A: KeptAction<K, V>> Drop
     for RecShardMut<'_, K, V, S, A> {
     #[inline]
-    fn drop(self) {
+    fn drop(self)
+        ensures left { LeftBehind self.entry }
+    {
         let Self { guard } = self;
         drop(guard);
     }

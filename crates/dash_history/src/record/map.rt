@@ -134,6 +134,7 @@ impl<K: KeptKey + Drop, V: Kept + Drop, S: BuildHasher, A: KeptAction<K, V> + Dr
         requires { shard < self.now.amount }
         ensures tagged { IsShardOf ⟦<Self as Recorded>⟧.known.keys self.now shard result }
         ensures legal { IsRecorded ⟦<Self as Recorded>⟧.known result }
+        ensures found { FoundBehind result }
     {
         RecShardMut::of(self.row[shard].write(rt))
     }
@@ -143,6 +144,7 @@ impl<K: KeptKey + Drop, V: Kept + Drop, S: BuildHasher, A: KeptAction<K, V> + Dr
         requires { shard < self.now.amount }
         ensures tagged { IfSome result (IsShardOf ⟦<Self as Recorded>⟧.known.keys self.now shard) }
         ensures legal { IfSome result (IsRecorded ⟦<Self as Recorded>⟧.known) }
+        ensures found { IfSome result FoundBehind }
     {
         match self.row[shard].try_write() {
             Some(guard) => Some(RecShardMut::of(guard)),

@@ -1,6 +1,7 @@
 -- Where a walk over a map's locks stands, and how far a step of it has come.
 use Rattle.std.specs.Prelude.{◌≡◌, ◌+◌, ◌-◌, ◌<◌, ◌≤◌, ◌⊎◌, Some, IfSome, IsSome}
 use Rattle.dash_shard.specs.Hashing.{KeyHash}
+use Rattle.dash_shard.specs.Lock.{FoundBehind}
 use Rattle.dash_shard.specs.Shard.{IsTagged, IsNextTaken}
 use Rattle.dash_ref.specs.Ref.{RefState, Stands}
 use Rattle.dash_map.specs.Walking.{IterState, IsDone, SawNone}
@@ -28,6 +29,7 @@ module _ {K V S : Type 0} (h : KeyHash K S) where
     pub later : old.entered < w.entered
     pub within : w.entered ≤ w.base.amount
     pub held : IsSome w.held
+    pub found : IfSome w.held FoundBehind
     pub first : w.position ≡ 0
     pub done : IsDone old
     pub between : SawNone h old (w.entered - 1)

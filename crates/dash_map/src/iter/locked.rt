@@ -1,6 +1,7 @@
 //! The walks over a map that threads share, which hold one shard after the other.
 ghost use Rattle.std.specs.Prelude.{◌≡◌, ◌+◌, ◌<◌, ◌↔◌, IsTrue, IsSome, None, OnOk, OnErr, IfOk, IfSome, IfNone, ⊤};
 ghost use Rattle.std.specs.Iterator.{size};
+ghost use Rattle.dash_shard.specs.Lock.{FoundBehind};
 ghost use Rattle.dash_shard.specs.Hashing.{by};
 ghost use Rattle.dash_shard.specs.Shard.{IsTagged};
 ghost use Rattle.dash_map.specs.Walking.{IterState, StepsOn, IsDone, IsOver, at_start, steps_left};
@@ -138,6 +139,7 @@ impl<'a, K: Eq + Hash, V, S: BuildHasher, R: Wait + Clock> Iter<'a, K, V, S, R> 
         ensures entered { OnOk result (self.new.entered ≡ self.old.entered + 1) }
         ensures first { OnOk result (self.new.position ≡ 0) }
         ensures held { OnOk result (IsSome self.new.held) }
+        ensures found { OnOk result (IfSome self.new.held FoundBehind) }
         ensures refused { OnErr result (IsOver self.new) }
     {
         let map = self.map;

@@ -6,7 +6,7 @@ ghost use Rattle.std.specs.Iterator.{size};
 ghost use Rattle.std.specs.Borrow.{Lends, sem};
 ghost use Rattle.std.specs.Map.Iter.{deref_pair_mut};
 ghost use Rattle.dash_shard.specs.Hashing.{by};
-ghost use Rattle.dash_shard.specs.Lock.{LeftBehind};
+ghost use Rattle.dash_shard.specs.Lock.{FoundBehind, LeftBehind};
 ghost use Rattle.dash_shard.specs.inner.Loans.{MayLend};
 ghost use Rattle.dash_ref.specs.Multi.{lent_pair, lent_value};
 ghost use Rattle.dash_map.specs.Walking.{IterState, IsDone, at_start, steps_left};
@@ -205,6 +205,7 @@ impl<'a, K: Eq + Hash, V, S: BuildHasher, R: Wait + Clock> IterMut<'a, K, V, S, 
         ensures entered { self.new.entered ≡ self.old.entered + 1 }
         ensures first { self.new.position ≡ 0 }
         ensures held { IsSome self.new.held }
+        ensures found { IfSome self.new.held FoundBehind }
         ensures left { IfSome self.old.held LeftBehind }
     {
         let shard = self.map._yield_write_shard(self.rt, self.shard_i);

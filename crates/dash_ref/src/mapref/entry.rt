@@ -23,23 +23,12 @@ mod vacant;
 /// A key and a hold of its shard for writing, with the pair that stands there or with room for one, as the original's `Entry`.
 ///
 /// No call of it takes memory or waits, nor does the drop, which ends the hold.
+#[derive(Drop)]
 pub enum Entry<'a, K: Eq + Hash, V, S: BuildHasher> {
     /// A pair with an equal key stands there.
     Occupied(OccupiedEntry<'a, K, V, S>),
     /// There is none.
     Vacant(VacantEntry<'a, K, V, S>),
-}
-
-impl<K: Eq + Hash + Drop, V, S: BuildHasher> Drop for Entry<'_, K, V, S> {
-    #[inline]
-    fn drop(self)
-        ensures left { LeftBehind (entry_shard self.entry) }
-    {
-        match self {
-            Entry::Occupied(entry) => drop(entry),
-            Entry::Vacant(entry) => drop(entry),
-        }
-    }
 }
 
 /// No room for the pair of a vacant key (2), which comes back. The pairs are as they were, and the hold is over.

@@ -130,6 +130,12 @@ impl<K: Eq + Hash, V, S: BuildHasher, P: Projection<V>> fmt::Display for MappedR
 where
     P::Target: fmt::Display,
 {
+    ghost use Rattle.std.specs.Prelude.{option_and_then};
+
+    ghost output = { λ mapped. option_and_then P.Target.output (P.part mapped.by mapped.guard.value) };
+
+    ghost styled_output = { λ mapped style. option_and_then (λ part. P.Target.styled_output part style) (P.part mapped.by mapped.guard.value) };
+
     fn fmt<W: fmt::Write>(&self, f: &mut fmt::Formatter<W>) -> fmt::Result {
         self.value().fmt(f)
     }

@@ -69,4 +69,4 @@ loop-item-preserved g c =
     let entered = c.in_default-enter.ensures in
     let passed = subst (HasPassed (key_hash g.K.PartialEq.eq g.K.Hash.hash_input g.S.BuildHasher g.S.Hasher.Hasher) c.args.self.now) (sym done.0) c.loop-item.invariant in
     goes-on (key_hash g.K.PartialEq.eq g.K.Hash.hash_input g.S.BuildHasher g.S.Hasher.Hasher) c.args.self.now c.here.new.self c.enter.new.self passed c.is_last.ensures.walk
-    (subst IsDone (sym done.0) done.1) (more c.here.new.self c.is_last.ensures.walk.within (not-so c.if-is_last.ensures.last)) entered.same entered.entered entered.first entered.held
+    (subst IsDone (sym done.0) done.1) (more c.here.new.self c.is_last.ensures.walk.within (not-so c.if-is_last.ensures.last)) entered.same entered.entered entered.first entered.held entered.found

@@ -26,7 +26,7 @@ loop-self-preserved g c =
     let passed = subst (HasPassed h c.args.self.now) (sym done.0) c.loop-self.invariant.passed in
     record {
       passed = goes-on h c.args.self.now w c.enter.new.self passed c.is_last.ensures.walk (subst IsDone (sym done.0) done.1) (more w c.is_last.ensures.walk.within (not-so c.if-is_last.ensures.last))
-          c.enter.ensures.same c.enter.ensures.entered c.enter.ensures.first c.enter.ensures.held;
+          c.enter.ensures.same c.enter.ensures.entered c.enter.ensures.first c.enter.ensures.held c.enter.ensures.found;
       left = leaves-on h c.args.self.now w c.enter.new.self passed (subst (LeavesHeld c.args.self.now) (sym done.0) c.loop-self.invariant.left) c.enter.ensures.left;
     }
 
