@@ -8,7 +8,8 @@ FoundBehind x = Unit {0}
 pub LeftBehind : {X : Type 0} → X → Type 0
 LeftBehind x = Unit {0}
 
--- Both words are closed: they are read by their names alone, and only the lock's own functions show them, by these.
+-- Both words are closed: no proof unfolds them. These two lemmas show them, and only proofs of `lock.rt` cite these: that
+-- is kept by hand, since no module is seen by a crate's proofs and by no other crate's.
 pub found : {X : Type 0} (x : X) → FoundBehind x
 unfolding FoundBehind
 found x = tt
