@@ -6,7 +6,7 @@ use Rattle.std.proofs.lemmas.List.{get_or_past}
 use Rattle.std.proofs.lemmas.Option.{none-some, same_Some}
 use Rattle.std.proofs.Math.ListN.{drop, length-set}
 use Rattle.std.proofs.Math.Seq.{drop-cons, drop-length}
-use Rattle.dash_slots.specs.Slots.{SlotsState}
+use Rattle.dash_slots.specs.inner.Slots.{SlotsState}
 use Rattle.dash_shard.specs.Contents.{Keys, at, Distinct, EachOnce}
 use Rattle.dash_shard.specs.declared.shard.table.Table.{Table}
 use Rattle.dash_shard.specs.Shard.{slot, taken}

@@ -1,5 +1,5 @@
 -- What contracts see of a shard: a row of slots, each with a pair or none, and where the shard stands among the others.
-use Rattle.std.specs.Prelude.{◌≡◌, ℕ, ◌<◌, ◌≤◌, Bool, IsTrue, List, length, Option, Some, None, IsSome, IsSomeAnd, slice_index_or, slice_set, map, if◌then◌else◌}
+use Rattle.std.specs.Prelude.{◌≡◌, ℕ, ◌<◌, ◌≤◌, Bool, IsTrue, List, length, Option, Some, None, IsSome, IsSomeAnd, slice_get, slice_index_or, slice_set, map, if◌then◌else◌}
 use Rattle.std.specs.List.{filter_map}
 use Rattle.std.specs.Option.{option_map}
 use Rattle.dash_shard.specs.Hashing.{KeyHash, IsAmount, HashAlike, route_by}
@@ -12,6 +12,10 @@ pub record ShardState (K V S : Type 0) : Type 0 where
   pub amount : ℕ
   pub hasher : S
   pub capacity : ℕ
+
+-- each item of a row is at its index what P says
+abbrev pub EachAt : {X : Type 0} → List X → (ℕ → X → Type 0) → Type 0
+EachAt {X} xs P = (i : ℕ) (x : X) → slice_get xs i ≡ Some x → P i x
 
 -- the pair at a slot, or none
 abbrev pub slot : {A : Type 0} → List (Option A) → ℕ → Option A

@@ -2,7 +2,7 @@
 use Rattle.std.proofs.Common.{ℕ, ◌≡◌, refl, subst, sym, true≢false}
 use Rattle.std.specs.Prelude.{Option, Some, None, IsSome}
 use Rattle.circular_buffer.specs.Places.{IsFilled}
-use Rattle.dash_slots.specs.Slots.{SlotsState, value_at}
+use Rattle.dash_slots.specs.inner.Slots.{SlotsState, value_at}
 use Rattle.dash_slots.specs.inner.Block.{seen, IsBlock, IsRow}
 use Rattle.dash_slots.specs.declared.slots.Block.{Block}
 

@@ -1,3 +1,1 @@
-pub mod Slots
-pub mod Lends
 pub mod inner

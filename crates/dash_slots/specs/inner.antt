@@ -1,3 +1,5 @@
--- What only invariants and proofs use.
+-- What the contracts, invariants and proofs of rows use. A row is the memory of a table, and no contract above the table names it.
+pub mod Slots
+pub mod Lends
 pub mod Block
 pub mod Cells

@@ -1,8 +1,8 @@
 //! A row of slots that a caller fills and empties one by one.
 ghost use Rattle.std.specs.Prelude.{◌≡◌, ℕ, ◌<◌, ◌^◌, [], None, Some, Option, length, slice_set, IsOk, IfOk, IsSome};
 ghost use Rattle.std.specs.Borrow.{sem};
-ghost use Rattle.dash_slots.specs.Slots.{value_at, blank, IsBlank};
-ghost use Rattle.dash_slots.specs.Lends.{lends_value};
+ghost use Rattle.dash_slots.specs.inner.Slots.{value_at, blank, IsBlank};
+ghost use Rattle.dash_slots.specs.inner.Lends.{lends_value};
 
 use crate::cells::{Cells, Deed, Start, allocate, deallocate};
 use std::alloc::{AllocError, Global};
@@ -26,7 +26,7 @@ pub struct Slots<T> {
 }
 
 impl<T> Model for Slots<T> {
-    ghost use Rattle.dash_slots.specs.Slots.{SlotsState, slots_code};
+    ghost use Rattle.dash_slots.specs.inner.Slots.{SlotsState, slots_code};
     ghost use Rattle.dash_slots.specs.inner.Block.{seen, IsRow};
 
     ghost Value = { SlotsState T };

@@ -4,7 +4,7 @@ use Rattle.std.specs.Borrow.{Bor}
 use Rattle.std.specs.Cmp.{IsEquivalence}
 use Rattle.std.specs.Int.{bit_at}
 use Rattle.std.specs.Option.{option_map}
-use Rattle.dash_slots.specs.Slots.{SlotsState}
+use Rattle.dash_slots.specs.inner.Slots.{SlotsState}
 use Rattle.dash_shard.specs.Hashing.{KeyHash}
 use Rattle.dash_shard.specs.Contents.{Keys, Distinct, EachOnce}
 use Rattle.dash_shard.specs.Shard.{ShardState, IsShard, shard_len, slot, taken}

@@ -4,7 +4,7 @@ ghost use Rattle.dash_shard.specs.inner.Table.{IsTable, IsHashed, Holds, IsAbsen
 ghost use Rattle.dash_shard.specs.inner.Marks.{group_at};
 ghost use Rattle.dash_shard.specs.Hashing.{hash_of};
 ghost use Rattle.dash_shard.specs.Shard.{slot, IsNextTaken};
-ghost use Rattle.dash_slots.specs.Slots.{IsBlank};
+ghost use Rattle.dash_slots.specs.inner.Slots.{IsBlank};
 ghost use Rattle.std.specs.Int.{bit_at};
 ghost use Rattle.std.specs.Option.{option_map};
 ghost use Rattle.std.specs.Map.Iter.{deref_pair};

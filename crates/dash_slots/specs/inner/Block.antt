@@ -1,6 +1,6 @@
 -- The memory of a row.
 use Rattle.std.specs.Prelude.{◌≡◌, ℕ, [], length, Option, Some, None}
-use Rattle.dash_slots.specs.Slots.{SlotsState}
+use Rattle.dash_slots.specs.inner.Slots.{SlotsState}
 use Rattle.dash_slots.specs.declared.slots.Block.{Block}
 
 module _ {X : Type 0} where

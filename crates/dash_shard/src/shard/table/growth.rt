@@ -3,7 +3,7 @@ ghost use Rattle.std.specs.Prelude.{ℕ, ◌≡◌, ◌+◌, ◌*◌, ◌<◌, �
 ghost use Rattle.dash_shard.specs.Hashing.{hash_of};
 ghost use Rattle.dash_shard.specs.inner.Table.{IsTable, IsHashed, CarriesOnce, IsCarried, IsMoved, TellsTaken, limit, slots_in, groups_in, pairs_in, hashes_in};
 ghost use Rattle.dash_shard.specs.Shard.{taken};
-ghost use Rattle.dash_slots.specs.Slots.{IsBlank};
+ghost use Rattle.dash_slots.specs.inner.Slots.{IsBlank};
 
 use super::Table;
 use super::marks::EMPTY;

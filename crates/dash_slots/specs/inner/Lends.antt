@@ -1,7 +1,7 @@
 -- What a row ends as, once a `&mut` into it has ended.
 use Rattle.std.specs.Prelude.{ℕ}
 use Rattle.std.specs.Borrow.{Fml, RattleType, MutBor, Lends}
-use Rattle.dash_slots.specs.Slots.{SlotsState, with_value}
+use Rattle.dash_slots.specs.inner.Slots.{SlotsState, with_value}
 use Rattle.dash_slots.specs.contracts.slots.Slots.{the_row}
 
 -- the slot's value is the last one written through r
