@@ -18,10 +18,14 @@ use dash_shard::error::ConstructError;
 use dash_shard::keyed::Keyed;
 use dash_shard::shard::InsertRefused;
 use std::alloc::Global;
+use std::fmt::Debug;
 use std::hash::{BuildHasher, Hash};
+use thiserror::Error;
 
 /// No memory for this pair of a list (12). The pairs before it were inserted, and those behind it were let go.
-#[derive(Debug, Drop)]
+#[derive(Debug, Drop, Error)]
+#[error_bound(K: Debug, V: Debug)]
+#[error("no memory for a new key of the list")]
 pub struct ExtendRefused<K, V> {
     pub key: K,
     pub value: V,
@@ -37,11 +41,14 @@ impl<K, V> From<InsertRefused<K, V>> for ExtendRefused<K, V> {
 }
 
 /// Why no map was made of a list of pairs.
-#[derive(Debug, Drop)]
+#[derive(Debug, Drop, Error)]
+#[error_bound(K: Debug, V: Debug)]
 pub enum FromRefused<K, V> {
     /// The map can't be made, whatever its pairs (5 to 8).
+    #[error(transparent)]
     Construct(ConstructError),
     /// There is no memory for a pair (12).
+    #[error(transparent)]
     Pair(ExtendRefused<K, V>),
 }
 

@@ -55,9 +55,16 @@ impl<K: Eq + Hash, V, S: BuildHasher> Keyed for ReadOnlyView<K, V, S> {
 }
 
 /// No memory for a view's row of locks (15). The view comes back whole.
-#[derive(Drop)]
+#[derive(Drop, Error)]
+#[error("no memory for a row of locks")]
 pub struct ViewRefused<K: Eq + Hash, V, S: BuildHasher> {
     pub owner: ReadOnlyView<K, V, S>,
+}
+
+impl<K: Eq + Hash, V, S: BuildHasher> fmt::Debug for ViewRefused<K, V, S> {
+    fn fmt<W: fmt::Write>(&self, f: &mut fmt::Formatter<W>) -> fmt::Result {
+        f.write_str("ViewRefused { .. }")
+    }
 }
 
 impl<K: Eq + Hash, V, S: BuildHasher> ReadOnlyView<K, V, S> {

@@ -15,11 +15,13 @@ use crate::error::{ConstructError, TryReserveError};
 use crate::hash::determine_shard;
 use crate::keyed::{Keyed, Lender};
 pub use group::probe;
-use std::alloc::Global;
+use std::alloc::{AllocError, Global};
+use std::fmt::Debug;
 use std::hash::{BuildHasher, Hash};
 use std::marker::Model;
 pub use table::Search;
 use table::Table;
+use thiserror::Error;
 pub use table::walk::{IntoIter, Iter};
 
 mod all_pairs;
@@ -82,10 +84,19 @@ impl<K: Eq + Hash, V, S: BuildHasher> Lender for Shard<K, V, S> {
 }
 
 /// No memory for a new key (1). The pair comes back, and the shard or map is as it was.
-#[derive(Debug, Drop)]
+#[derive(Debug, Drop, Error)]
+#[error_bound(K: Debug, V: Debug)]
+#[error("no memory for a new key")]
 pub struct InsertRefused<K, V> {
     pub key: K,
     pub value: V,
+}
+
+/// So that `map.insert(rt, key, value)?` converts. The pair is dropped.
+impl<K: Drop, V: Drop> From<InsertRefused<K, V>> for AllocError {
+    fn from(_: InsertRefused<K, V>) -> Self {
+        AllocError
+    }
 }
 
 impl<K: Eq + Hash, V, S: BuildHasher> Shard<K, V, S> {

@@ -20,19 +20,84 @@ pub use dash_map::waiting::Waiting;
 pub use dash_ref::mapref::entry::{Entry, OccupiedEntry, VacantEntry};
 pub use dash_ref::util::SharedValue;
 pub use dash_shard::error::TryReserveError;
+pub use dash_steps::kept::{Kept, KeptKey};
 pub use set::DashSet;
 
-pub mod error;
-pub mod hash;
-pub mod iter;
 pub mod iter_set;
-pub mod keyed;
-pub mod lock;
-pub mod mapref;
-pub mod read_only;
-pub mod run;
 pub mod set;
 pub mod setref;
-pub mod shard;
-pub mod t;
-pub mod try_result;
+
+/// What calls are refused for.
+pub mod error {
+    pub use dash_map::extend::{ExtendRefused, FromRefused};
+    pub use dash_map::read_only::ViewRefused;
+    pub use dash_map::run::Fault;
+    pub use dash_ref::mapref::entry::{EntryRefused, InsertEntryRefused, TryEntryRefused};
+    pub use dash_shard::error::{ConstructError, TryReserveError};
+    pub use dash_shard::shard::InsertRefused;
+}
+
+/// Hashers, and the shard that a hash goes to.
+pub mod hash {
+    pub use dash_shard::hash::{FixedState, PlaceState, ZeroState, determine_shard, is_shard_amount};
+}
+
+/// Walks over the pairs of a map.
+pub mod iter {
+    pub use dash_map::iter::{AloneIterMut, Iter, IterMut, OwningIter};
+}
+
+/// Names for a type's keys, for contracts alone.
+pub mod keyed {
+    pub use dash_shard::keyed::{Keyed, Lender};
+}
+
+/// The lock of a shard.
+pub mod lock {
+    pub use dash_shard::lock::{RwLock, RwLockReadGuard, RwLockWriteGuard};
+}
+
+/// References into a map, each of which holds a shard.
+pub mod mapref {
+    /// A key of a map, with what stands there.
+    pub mod entry {
+        pub use dash_ref::mapref::entry::{Entry, OccupiedEntry, VacantEntry};
+    }
+
+    /// References that a walk gives.
+    pub mod multiple {
+        pub use dash_ref::mapref::multiple::{RefMulti, RefMutMulti};
+    }
+
+    /// References to one pair, or to a part of its value.
+    pub mod one {
+        pub use dash_ref::mapref::one::{Compose, MappedRef, MappedRefMut, Projection, Ref, RefMut};
+    }
+}
+
+/// A view of a map that nobody writes any more.
+pub mod read_only {
+    pub use dash_map::read_only::{Keys, ReadOnlyView, Values, ViewIter};
+}
+
+/// Lists of steps, taken one after the other.
+pub mod run {
+    pub use dash_map::run::{Fault, RunOutcome};
+    pub use dash_steps::step::{Reply, ShardStep};
+}
+
+/// One shard of a map.
+pub mod shard {
+    pub use dash_shard::shard::Shard;
+    pub use dash_shard::shard::held::ShardMut;
+}
+
+/// What is generic in a map that threads share.
+pub mod t {
+    pub use dash_map::t::Map;
+}
+
+/// What a look-up that waits for nobody answers.
+pub mod try_result {
+    pub use dash_ref::try_result::TryResult;
+}

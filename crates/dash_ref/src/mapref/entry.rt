@@ -14,7 +14,10 @@ use dash_shard::keyed::Keyed;
 use dash_shard::shard::held::ShardMut;
 use dash_steps::kept::KeptKey;
 pub use occupied::OccupiedEntry;
+use std::alloc::AllocError;
+use std::fmt::{self, Debug};
 use std::hash::{BuildHasher, Hash};
+use thiserror::Error;
 pub use vacant::VacantEntry;
 
 mod occupied;
@@ -32,24 +35,43 @@ pub enum Entry<'a, K: Eq + Hash, V, S: BuildHasher> {
 }
 
 /// No room for the pair of a vacant key (2), which comes back. The pairs are as they were, and the hold is over.
-#[derive(Debug, Drop)]
+#[derive(Debug, Drop, Error)]
+#[error_bound(K: Debug)]
+#[error("no memory for the pair of a vacant key")]
 pub struct EntryRefused<K> {
     pub key: K,
 }
 
+/// So that `map.entry(rt, key)?` converts. The key is dropped.
+impl<K: Drop> From<EntryRefused<K>> for AllocError {
+    fn from(_: EntryRefused<K>) -> Self {
+        AllocError
+    }
+}
+
 /// No memory for the copy of a vacant key (3). The pairs are as they were, and the entry goes on.
-#[derive(Drop)]
+#[derive(Drop, Error)]
+#[error("no memory for the copy of a vacant key")]
 pub struct InsertEntryRefused<'a, K: Eq + Hash, V, S: BuildHasher> {
     pub entry: VacantEntry<'a, K, V, S>,
     pub value: V,
 }
 
+impl<K: Eq + Hash, V, S: BuildHasher> Debug for InsertEntryRefused<'_, K, V, S> {
+    fn fmt<W: fmt::Write>(&self, f: &mut fmt::Formatter<W>) -> fmt::Result {
+        f.write_str("InsertEntryRefused { .. }")
+    }
+}
+
 /// Why an entry wasn't had without waiting. The key comes back, and the pairs are as they were.
-#[derive(Debug, Drop)]
+#[derive(Debug, Drop, Error)]
+#[error_bound(K: Debug)]
 pub enum TryEntryRefused<K> {
     /// The key's shard wasn't got (9), which says nothing of who has it.
+    #[error("locked")]
     Locked(K),
     /// No room for the pair of a vacant key (10).
+    #[error("no memory for the pair of a vacant key")]
     Memory(K),
 }
 

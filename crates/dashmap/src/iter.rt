@@ -1,2 +1,0 @@
-//! Walks over the pairs of a map.
-pub use dash_map::iter::{AloneIterMut, Iter, IterMut, OwningIter};

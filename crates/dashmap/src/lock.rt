@@ -1,2 +1,0 @@
-//! The lock of a shard.
-pub use dash_shard::lock::{RwLock, RwLockReadGuard, RwLockWriteGuard};

@@ -1,2 +1,0 @@
-//! References that a walk gives.
-pub use dash_ref::mapref::multiple::{RefMulti, RefMutMulti};
