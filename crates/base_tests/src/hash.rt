@@ -2,7 +2,8 @@
 ghost use Rattle.std.specs.Prelude.{◌≡◌, IfOk};
 ghost use Rattle.dash_shard.specs.Hashing.{by, HashAlike};
 
-use crate::places::{is, is_at, new_shard, put};
+use crate::by_hand::{new_shard, put};
+use crate::checks::{is, is_at};
 use dash_shard::hash::{FixedState, PlaceState, ZeroState, determine_shard, is_shard_amount};
 use std::alloc::{AllocError, Global};
 use std::hash::{BuildHasher, Hash, Hasher, RandomState};

@@ -1,5 +1,6 @@
 //! References into one shard behind its lock, as worked by hand.
-use crate::places::{is, is_at, lock_of_one};
+use crate::by_hand::lock_of_one;
+use crate::checks::{is, is_at};
 use dash_ref::mapref::one::Ref;
 use dash_shard::hash::PlaceState;
 use dash_shard::lock::RwLock;

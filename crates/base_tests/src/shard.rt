@@ -1,5 +1,6 @@
 //! One shard's calls, as worked by hand.
-use crate::places::{here, is, is_at, new_shard, put, shard_one};
+use crate::by_hand::{here, new_shard, put, shard_one};
+use crate::checks::{is, is_at};
 use crate::values::Noted;
 use dash_shard::hash::PlaceState;
 use dash_shard::shard::Shard;

@@ -9,8 +9,6 @@ mod alone;
 #[cfg(test)]
 mod calls;
 #[cfg(test)]
-mod checks;
-#[cfg(test)]
 mod error;
 #[cfg(test)]
 mod map;

@@ -1,6 +1,6 @@
 //! Runs of a few steps, as worked by hand.
-use crate::checks::is;
 use crate::maps::{map_of_four, put};
+use base_tests::checks::is;
 use base_tests::values::Uncopied;
 use dash_map::alone::Alone;
 use dash_map::run::{Fault, RunOutcome};

@@ -1,5 +1,5 @@
 //! A recorded map's refusals, its stamps and its replies, as worked by hand.
-use crate::places::{is, is_at};
+use crate::checks::{is, is_at};
 use dash_history::alone::RecAlone;
 use dash_history::plain::Plain;
 use dash_history::record::{CallerLog, RecordFault};

@@ -1,6 +1,6 @@
 //! Merging and gathering, as worked by hand: logs that match the histories, and logs that don't.
 use super::map::{Alone, Log, Map, apply, last_of, record_steps};
-use crate::places::{is, is_at};
+use crate::checks::{is, is_at};
 use crate::values::Uncopied;
 use dash_history::alone::RecAlone;
 use dash_history::gather::{At, GatherError, gather};

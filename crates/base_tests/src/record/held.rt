@@ -1,5 +1,5 @@
 //! A recorded shard behind its lock, as worked by hand.
-use crate::places::is;
+use crate::checks::is;
 use dash_history::record::CallerLog;
 use dash_history::record::held::RecShardMut;
 use dash_history::record::map::RecordedMap;

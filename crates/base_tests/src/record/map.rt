@@ -1,7 +1,7 @@
 //! A recorded map behind its locks: as worked by hand, shared by threads, and moved out of its locks and back.
 ghost use Rattle.std.specs.Prelude.{◌≡◌, ◌<◌};
 
-use crate::places::{is, is_at};
+use crate::checks::{is, is_at};
 use dash_history::alone::RecAlone;
 use dash_history::record::CallerLog;
 use dash_history::record::map::RecordedMap;

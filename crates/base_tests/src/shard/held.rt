@@ -1,5 +1,6 @@
 //! One shard behind its lock, as worked by hand.
-use crate::places::{here_held, is, is_at, lock_of_one, put_held};
+use crate::by_hand::{here_held, lock_of_one, put_held};
+use crate::checks::{is, is_at};
 use dash_shard::hash::PlaceState;
 use dash_shard::lock::RwLock;
 use dash_shard::shard::Shard;

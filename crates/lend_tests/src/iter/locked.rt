@@ -1,6 +1,6 @@
 //! A walk over a map that threads share: rising shards, each pair once, and which shard it holds.
-use crate::checks::is;
 use crate::maps::{map_of_four, put};
+use base_tests::checks::is;
 use dash_map::map::DashMap;
 use dash_map::t::Map;
 use dash_shard::hash::PlaceState;

@@ -1,7 +1,7 @@
 //! Parts of values, for the tests of references that are mapped: a field, and what an option has.
 ghost use Rattle.std.specs.Prelude.{Some};
 ghost use Rattle.std.specs.Borrow.{Lends, sem};
-ghost use Rattle.walk_tests.specs.Parts.{field_is_part, payload_is_part, with_payload};
+ghost use Rattle.lend_tests.specs.Parts.{field_is_part, payload_is_part, with_payload};
 
 use dash_ref::mapref::one::Projection;
 use std::convert::AsRef;
@@ -25,7 +25,7 @@ pub struct Left;
 
 impl Projection<Sides> for Left {
     ghost use Rattle.std.specs.Prelude.{Some, refl};
-    ghost use Rattle.walk_tests.specs.Parts.{field_is_part};
+    ghost use Rattle.lend_tests.specs.Parts.{field_is_part};
 
     type Target = u64;
 
@@ -53,7 +53,7 @@ impl Projection<Sides> for Left {
 pub struct Payload;
 
 impl<T> Projection<Option<T>> for Payload {
-    ghost use Rattle.walk_tests.specs.Parts.{payload_is_part, with_payload};
+    ghost use Rattle.lend_tests.specs.Parts.{payload_is_part, with_payload};
 
     type Target = T;
 
