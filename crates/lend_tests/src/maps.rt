@@ -25,3 +25,19 @@ where
 {
     map.insert(rt, key, value).expect(rt, "refused")
 }
+
+pub(crate) type Places = DashMap<u64, u64, PlaceState>;
+
+/// A map of four shards with a pair in the shards 0, 1 and 3.
+pub(crate) fn three_pairs<R: Abort + Wait + Clock>(rt: &R, alloc: Global) -> Places {
+    let map = map_of_four(rt, alloc);
+    for (key, value) in [(3, 30), (0, 5), (1, 10)] {
+        put(rt, &map, key, value);
+    }
+    map
+}
+
+/// Whether somebody holds the shard of a key.
+pub(crate) fn is_held(map: &Places, key: u64) -> bool {
+    map.try_get_mut(&key).is_locked()
+}

@@ -1,31 +1,11 @@
 //! A walk that comes to the end of a shard takes the next hold before it gives up the old one.
 //!
 //! One thread has the next shard, and another one walks. They wait for one another by what is held, and no longer than they have turns.
-use crate::maps::{map_of_four, put};
+use crate::maps::{Places, is_held, three_pairs};
 use base_tests::checks::is;
-use dash_map::map::DashMap;
-use dash_shard::hash::PlaceState;
-use std::alloc::Global;
-use std::process::Abort;
 use std::rt::Clock;
 use std::sync::Wait;
 use std::thread;
-
-type Places = DashMap<u64, u64, PlaceState>;
-
-// A map of four shards with a pair in the shards 0, 1 and 3.
-fn three_pairs<R: Abort + Wait + Clock>(rt: &R, alloc: Global) -> Places {
-    let map = map_of_four(rt, alloc);
-    for (key, value) in [(3, 30), (0, 5), (1, 10)] {
-        put(rt, &map, key, value);
-    }
-    map
-}
-
-// Whether somebody holds the shard of a key.
-fn is_held(map: &Places, key: u64) -> bool {
-    map.try_get_mut(&key).is_locked()
-}
 
 // Waits until somebody holds the shard of a key, and says whether that came.
 fn is_held_soon(map: &Places, key: u64) -> bool {
@@ -90,38 +70,31 @@ fn write_to_the_end<R: Wait + Clock>(rt: &R, map: &Places) -> bool {
     values == 45
 }
 
-#[test]
-fn a_walk_that_reads(rt: HostRuntime) {
-    let map = three_pairs(&rt, rt.alloc());
+// Both threads, where the walk writes or reads. Ends the test where a hold was given up too early or a pair didn't come.
+fn meet(rt: &HostRuntime, writes: bool) {
+    let map = three_pairs(rt, rt.alloc());
     let mut answers = [false, false];
     thread::for_each_mut(
-        &rt,
+        rt,
         answers.as_mut_slice(),
         2,
         &|thread, answer: &mut bool| {
             *answer = match thread {
-                0 => keep_the_next_shard(&rt, &map),
-                _ => read_to_the_end(&rt, &map),
+                0 => keep_the_next_shard(rt, &map),
+                _ if writes => write_to_the_end(rt, &map),
+                _ => read_to_the_end(rt, &map),
             };
         },
     );
-    is(&rt, answers, [true, true]);
+    is(rt, answers, [true, true]);
+}
+
+#[test]
+fn a_walk_that_reads(rt: HostRuntime) {
+    meet(&rt, false);
 }
 
 #[test]
 fn a_walk_that_writes(rt: HostRuntime) {
-    let map = three_pairs(&rt, rt.alloc());
-    let mut answers = [false, false];
-    thread::for_each_mut(
-        &rt,
-        answers.as_mut_slice(),
-        2,
-        &|thread, answer: &mut bool| {
-            *answer = match thread {
-                0 => keep_the_next_shard(&rt, &map),
-                _ => write_to_the_end(&rt, &map),
-            };
-        },
-    );
-    is(&rt, answers, [true, true]);
+    meet(&rt, true);
 }

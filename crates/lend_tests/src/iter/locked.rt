@@ -1,29 +1,7 @@
 //! A walk over a map that threads share: rising shards, each pair once, and which shard it holds.
-use crate::maps::{map_of_four, put};
+use crate::maps::{is_held, map_of_four, put, three_pairs};
 use base_tests::checks::is;
-use dash_map::map::DashMap;
 use dash_map::t::Map;
-use dash_shard::hash::PlaceState;
-use std::alloc::Global;
-use std::process::Abort;
-use std::rt::Clock;
-use std::sync::Wait;
-
-type Places = DashMap<u64, u64, PlaceState>;
-
-// A map of four shards with a pair in the shards 0, 1 and 3.
-fn three_pairs<R: Abort + Wait + Clock>(rt: &R, alloc: Global) -> Places {
-    let map = map_of_four(rt, alloc);
-    for (key, value) in [(3, 30), (0, 5), (1, 10)] {
-        put(rt, &map, key, value);
-    }
-    map
-}
-
-// Whether somebody holds the shard of a key.
-fn is_held(map: &Places, key: u64) -> bool {
-    map.try_get_mut(&key).is_locked()
-}
 
 #[test]
 fn gives_each_pair_by_rising_shard(rt: HostRuntime) {
