@@ -1,5 +1,5 @@
 //! Copies of steps and replies, and the shards of steps.
-use crate::checks::is;
+use crate::checks::prints;
 use dash_shard::hash::{PlaceState, is_shard_amount};
 use dash_steps::step::{Reply, ShardStep};
 
@@ -13,13 +13,7 @@ fn copies(rt: HostRuntime) {
         (Step::Remove(1), "Remove(1)"),
     ] {
         let copy = step.copy().expect(&rt, "refused");
-        is(
-            &rt,
-            format!(in rt.alloc(); "{copy:?}")
-                .expect(&rt, "refused")
-                .as_str(),
-            text,
-        );
+        prints(&rt, rt.alloc(), &copy, text);
     }
     for (reply, text) in [
         (Reply::Pair(None), "Pair(None)"),
@@ -28,13 +22,7 @@ fn copies(rt: HostRuntime) {
         (Reply::Old(Some(10)), "Old(Some(10))"),
     ] {
         let copy = reply.copy().expect(&rt, "refused");
-        is(
-            &rt,
-            format!(in rt.alloc(); "{copy:?}")
-                .expect(&rt, "refused")
-                .as_str(),
-            text,
-        );
+        prints(&rt, rt.alloc(), &copy, text);
     }
 }
 

@@ -1,6 +1,6 @@
 //! Runs of a few steps, as worked by hand.
 use crate::maps::{map_of_four, put};
-use base_tests::checks::is;
+use base_tests::checks::{is, prints};
 use base_tests::values::Uncopied;
 use dash_map::alone::Alone;
 use dash_map::run::{Fault, RunOutcome};
@@ -8,7 +8,7 @@ use dash_shard::hash::PlaceState;
 use dash_steps::action::Action;
 use dash_steps::kept::Kept;
 use dash_steps::step::{Reply, ShardStep};
-use std::alloc::{AllocError, Global};
+use std::alloc::Global;
 use std::process::Abort;
 
 fn six_steps(rt: &impl Abort, alloc: Global) -> Vec<ShardStep<u64, u64>> {
@@ -89,10 +89,6 @@ fn a_refused_step_comes_back(rt: HostRuntime) {
 }
 
 // The replies as text.
-fn replies(alloc: Global, outcome: &RunOutcome<u64, u64>) -> Result<String, AllocError> {
-    format!(in alloc; "{:?}", outcome.replies)
-}
-
 #[test]
 fn counts_may_miss_every_pair(rt: HostRuntime) {
     let mut map = map_of_four(&rt, rt.alloc());
@@ -106,11 +102,11 @@ fn counts_may_miss_every_pair(rt: HostRuntime) {
         ShardStep::Count(3),
     ]
     .expect(&rt, "refused"));
-    assert_eq!(rt;
-        replies(rt.alloc(), &outcome)
-            .expect(&rt, "refused")
-            .as_str(),
-        "[Number(0), Number(0), Number(0), Old(None), Pair(Some((3, 30))), Number(0)]"
+    prints(
+        &rt,
+        rt.alloc(),
+        &outcome.replies,
+        "[Number(0), Number(0), Number(0), Old(None), Pair(Some((3, 30))), Number(0)]",
     );
 }
 
@@ -127,11 +123,11 @@ fn counts_may_see_pairs_that_never_met(rt: HostRuntime) {
         ShardStep::Count(3),
     ]
     .expect(&rt, "refused"));
-    assert_eq!(rt;
-        replies(rt.alloc(), &outcome)
-            .expect(&rt, "refused")
-            .as_str(),
-        "[Number(1), Number(0), Number(0), Pair(Some((0, 5))), Old(None), Number(1)]"
+    prints(
+        &rt,
+        rt.alloc(),
+        &outcome.replies,
+        "[Number(1), Number(0), Number(0), Pair(Some((0, 5))), Old(None), Number(1)]",
     );
 }
 
@@ -144,17 +140,10 @@ fn a_shard_that_is_not_there(rt: HostRuntime) {
         ShardStep::Insert(2, 20),
     ]
     .expect(&rt, "refused"));
-    is(
-        &rt,
-        replies(rt.alloc(), &outcome)
-            .expect(&rt, "refused")
-            .as_str(),
-        "[Old(None)]",
-    );
+    prints(&rt, rt.alloc(), &outcome.replies, "[Old(None)]");
     let (rest, fault) = outcome.stopped.expect(&rt, "no stop");
     is(&rt, fault, Fault::NoSuchShard);
-    let rest = format!(in rt.alloc(); "{rest:?}").expect(&rt, "refused");
-    is(&rt, rest.as_str(), "[Count(4), Insert(2, 20)]");
+    prints(&rt, rt.alloc(), &rest, "[Count(4), Insert(2, 20)]");
     let alone = map.alone();
     is(&rt, alone.get(&1), Some((&1, &10)));
     is(&rt, alone.len(), 1);
@@ -174,11 +163,11 @@ fn each_shard_is_read(rt: HostRuntime) {
     ]
     .expect(&rt, "refused"));
     assert!(rt; outcome.stopped.is_none());
-    assert_eq!(rt;
-        replies(rt.alloc(), &outcome)
-            .expect(&rt, "refused")
-            .as_str(),
-        "[Pairs([(0, 5)]), Pairs([(1, 10)]), Pairs([(2, 20)]), Pairs([(3, 30)])]"
+    prints(
+        &rt,
+        rt.alloc(),
+        &outcome.replies,
+        "[Pairs([(0, 5)]), Pairs([(1, 10)]), Pairs([(2, 20)]), Pairs([(3, 30)])]",
     );
 }
 
@@ -228,8 +217,7 @@ fn steps_on_each_pair_of_a_shard(rt: HostRuntime) {
     );
     let (rest, fault) = outcome.stopped.expect(&rt, "no stop");
     is(&rt, fault, Fault::NoSuchShard);
-    let rest = format!(in rt.alloc(); "{rest:?}").expect(&rt, "refused");
-    is(&rt, rest.as_str(), "[Read(4), Retain(4, Adds(1))]");
+    prints(&rt, rt.alloc(), &rest, "[Read(4), Retain(4, Adds(1))]");
 }
 
 #[test]
