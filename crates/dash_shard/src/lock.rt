@@ -2,7 +2,7 @@
 //!
 //! The word is 0 where nobody has the lock, r for r readers, at most 2^62 - 2, and 2^64 - 1 for a writer. It changes in four kinds of
 //! atomic step: a reader counts itself and a writer the whole lock by a compare-exchange, a reader goes by a subtraction and a writer
-//! by a swap to 0. Whoever can't have the lock turns: it pauses, for longer each time, and then yields the processor.
+//! by a swap to 0. Whoever can't have the lock spins: it pauses, for longer each time, and then yields the processor.
 ghost use Rattle.std.specs.Prelude.{◌≡◌, IfOk, IfSome};
 ghost use Rattle.std.specs.Fn.{FnOnceReturnsAtMut, FnOnceTakesAtMut};
 ghost use Rattle.dash_shard.specs.Guarded.{KeepsFit};
@@ -183,13 +183,13 @@ impl<T: Tagged> RwLock<T> {
         ensures fits { IfSome result (λ guard. T.fits self.now guard.value) }
         ensures found { IfSome result (λ guard. FoundBehind guard.value) }
     {
-        let turns = Backoff::new();
+        let backoff = Backoff::new();
         let mut seen = seen;
         for _ in 1..TRIES {
             if seen >= MOST_READERS {
                 return None;
             }
-            turns.spin();
+            backoff.spin();
             match self.read_once(seen) {
                 Ok(guard) => return Some(guard),
                 Err(found) => seen = found,
@@ -198,7 +198,7 @@ impl<T: Tagged> RwLock<T> {
         None
     }
 
-    /// Turns until it has the lock for reading.
+    /// Spins until it has the lock for reading.
     #[cold]
     #[inline(never)]
     fn wait_to_read<R: Wait + Clock>(&self, rt: &R) -> RwLockReadGuard<'_, T>
@@ -206,17 +206,17 @@ impl<T: Tagged> RwLock<T> {
         ensures fits { T.fits self.now result.value }
         ensures found { FoundBehind result.value }
     {
-        let turns = Backoff::new();
+        let backoff = Backoff::new();
         for _ in rt.forever() {
             if let Ok(guard) = self.read_once(self.word()) {
                 return guard;
             }
-            turns.snooze();
+            backoff.snooze();
         }
         unreachable!()
     }
 
-    /// Turns until it has the lock for writing. It tries only where it saw the lock free.
+    /// Spins until it has the lock for writing. It tries only where it saw the lock free.
     #[cold]
     #[inline(never)]
     fn wait_to_write<R: Wait + Clock>(&self, rt: &R) -> RwLockWriteGuard<'_, T>
@@ -224,14 +224,14 @@ impl<T: Tagged> RwLock<T> {
         ensures fits { T.fits self.now result.value }
         ensures found { FoundBehind result.value }
     {
-        let turns = Backoff::new();
+        let backoff = Backoff::new();
         for _ in rt.forever() {
             if self.word() == 0 {
                 if let Some(guard) = self.try_write() {
                     return guard;
                 }
             }
-            turns.snooze();
+            backoff.snooze();
         }
         unreachable!()
     }

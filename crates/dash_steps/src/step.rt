@@ -46,7 +46,7 @@ pub enum Reply<K, V> {
     Old(Option<V>),
     /// The pairs, each once, in any order.
     Pairs(Vec<(K, V)>),
-    /// How many pairs, held at 2^64 - 1.
+    /// How many pairs, saturating at 2^64 - 1.
     Number(u64),
     /// The step returns nothing.
     Done,
@@ -67,7 +67,7 @@ impl<K, V: Kept, A> ShardStep<K, V, A> {
     ghost use Rattle.dash_shard.specs.Hashing.{IsAmount, route_by};
     ghost use Rattle.dash_shard.specs.Steps.{line, line_shard};
     ghost use Rattle.dash_steps.specs.Steps.{alike_step, step_of};
-    ghost use Rattle.dash_steps.specs.inner.Hashed.{shard_by, IsHashBy, Asks, OfKey};
+    ghost use Rattle.dash_steps.specs.inner.Hashed.{shard_by, IsAbout, IsHashBy, Asks, OfKey};
 
     /// The number of the step's shard: the route of its key among `amount` shards, or the number that it names.
     #[inline]
@@ -92,6 +92,23 @@ impl<K, V: Kept, A> ShardStep<K, V, A> {
         ensures hash { IsHashBy A.acts (by K.Hash S.BuildHasher S.Hasher.Hasher) hasher.now self.now result.0 }
         ensures shard { result.1 ≡ shard_by A.acts (by K.Hash S.BuildHasher S.Hasher.Hasher) hasher.now amount self.now }
     {
+        match self.key() {
+            Ok(key) => {
+                let hash = hasher.hash_one(key);
+                (hash, determine_shard(hash, amount))
+            }
+            Err(shard) => (0, shard),
+        }
+    }
+
+    /// The step's key, or the number of the shard that it names.
+    #[inline]
+    pub fn key(&self) -> Result<&K, usize>
+    where
+        K: Kept,
+        A: Action<K, V>,
+        ensures { IsAbout (line (step_of A.acts self.now)) result }
+    {
         match self {
             ShardStep::Get(key)
             | ShardStep::Contains(key)
@@ -99,14 +116,11 @@ impl<K, V: Kept, A> ShardStep<K, V, A> {
             | ShardStep::Remove(key)
             | ShardStep::RemoveIf(key, _)
             | ShardStep::RemoveIfMut(key, _)
-            | ShardStep::Alter(key, _) => {
-                let hash = hasher.hash_one(key);
-                (hash, determine_shard(hash, amount))
-            }
+            | ShardStep::Alter(key, _) => Ok(key),
             ShardStep::Read(shard)
             | ShardStep::Count(shard)
             | ShardStep::AlterAll(shard, _)
-            | ShardStep::Retain(shard, _) => (0, *shard),
+            | ShardStep::Retain(shard, _) => Err(*shard),
         }
     }
 

@@ -3,7 +3,7 @@
 //! Names stand where the Rust crate `dashmap` has them. They come from the crates below, which say what each call promises.
 //!
 //! - *Who waits.* A call that takes `rt` waits for a shard's lock. A reference, an entry or a walk holds its shard until it is dropped: a
-//!   call on that shard from the same thread then waits for ever, unless both only read. The `try_` calls wait for nobody.
+//!   call on that shard from the same thread then deadlocks, unless both only read. The `try_` calls wait for nobody.
 //! - *Who allocates.* Constructors, `insert` and `entry` of a new key in a full shard, `try_reserve` and `into_inner`. Each answers a
 //!   `Result`, and what is refused comes back. Look-ups take no memory.
 //! - *How many shards.* `new` takes four for each processor, rounded up to a power of two. More shards means less waiting, and some

@@ -29,18 +29,9 @@ pub(super) fn find<K: KeptKey, V: Kept, S: BuildHasher, A: KeptAction<K, V>>(
     requires { HasHash ⟦<RecShard<K, V, S, A> as Recorded>⟧.known shard.now step.now hash }
     ensures { IsFound ⟦<RecShard<K, V, S, A> as Recorded>⟧.known shard.now step.now result }
 {
-    match step {
-        ShardStep::Get(key)
-        | ShardStep::Contains(key)
-        | ShardStep::Insert(key, _)
-        | ShardStep::Remove(key)
-        | ShardStep::RemoveIf(key, _)
-        | ShardStep::RemoveIfMut(key, _)
-        | ShardStep::Alter(key, _) => shard.position_of_hashed(hash, key),
-        ShardStep::Read(_)
-        | ShardStep::Count(_)
-        | ShardStep::AlterAll(_, _)
-        | ShardStep::Retain(_, _) => None,
+    match step.key() {
+        Ok(key) => shard.position_of_hashed(hash, key),
+        Err(_) => None,
     }
 }
 

@@ -1,5 +1,6 @@
 -- The key of a step, its hash, and its shard.
-use Rattle.std.specs.Prelude.{ℕ, ◌≡◌, ⊤}
+use Rattle.std.specs.Prelude.{ℕ, ◌≡◌, ⊤, Result, Ok, Err}
+use denote.Ref.{Bor}
 use Rattle.dash_shard.specs.Contents.{keys}
 use Rattle.dash_shard.specs.Hashing.{KeyHash, route_by}
 use Rattle.dash_shard.specs.Shard.{ShardState}
@@ -14,6 +15,11 @@ use Rattle.dash_steps.specs.declared.step.ShardStep.TheVariants.{RemoveIf, Remov
 abbrev pub OfKey : {K V : Type 0} → table.Line K V → (K → Type 0) → Type 0 → Type 0
 OfKey (table.at_key k _ _) P Q = P k
 OfKey (table.on_shard i _ _) P Q = Q
+
+-- the result is the line's key, or the number of the shard that it names
+abbrev pub IsAbout : {K V : Type 0} → table.Line K V → Result (Bor K) ℕ → Type 0
+IsAbout {K = K} (table.at_key k _ _) result = (b : Bor K) × (b.now ≡ k) × (result ≡ Ok b)
+IsAbout (table.on_shard i _ _) result = result ≡ Err i
 
 -- the step asks its action of the pair at its key
 abbrev pub Asks : {K V A : Type 0} → ShardStep K V A → Type 0
