@@ -1,5 +1,5 @@
 -- What was decided for a step is what the step leaves.
-use Rattle.std.proofs.Common.{◌≡◌, ℕ, ◌==◌, ◌∙◌, Bool, IsTrue, cond, List, [], ◌∷◌, ◌++◌, ◌<◌, Option, Some, None, refl, sym, ap, subst, inl, inr}
+use Rattle.std.proofs.Common.{◌≡◌, ℕ, ◌==◌, ◌∙◌, Bool, IsTrue, cond, List, [], ◌∷◌, ◌++◌, ◌<◌, Option, Some, None, Ok, refl, sym, ap, subst, inl, inr}
 use Rattle.std.specs.Cmp.{IsEquivalence}
 use Rattle.std.proofs.lemmas.Bool.{cases_Bool}
 use Rattle.std.proofs.lemmas.List.Elements.{filter-append}
@@ -8,9 +8,10 @@ use Rattle.dash_shard.specs.Contents.{Keys, at, on, Distinct}
 use Rattle.dash_shard.specs.Steps.{Step, Reply, Get, Pair, LineReplies, at_key, line, line_shard, line_after, Line, on_shard}
 use Rattle.dash_shard.specs.inner.Steps.{Becomes, key_or, after}
 use Rattle.dash_shard.proofs.Equals.{at-equal}
+use denote.Ref.{Bor}
 use Rattle.dash_steps.specs.declared.step.Reply as program
 use Rattle.dash_steps.specs.Steps.{reply_of}
-use Rattle.dash_steps.specs.inner.Hashed.{OfKey}
+use Rattle.dash_steps.specs.inner.Hashed.{OfKey, IsAbout}
 use Rattle.dash_steps.specs.declared.change.Change.{Change}
 use Rattle.dash_steps.specs.declared.change.Change.TheVariants as change
 use Rattle.dash_steps.specs.Takes.{Rules, Answers, Takes, rules}
@@ -100,6 +101,16 @@ module _ {K V : Type 0} where
 pub same-key : {K V : Type 0} (l : Line K V) (i j : K) → OfKey l (λ k. i ≡ k) ⊥ → OfKey l (λ k. j ≡ k) ⊥ → i ≡ j
 same-key (at_key k b r) i j first second = first ∙ sym second
 same-key (on_shard n b r) i j first second = absurd first
+
+-- what is so of the key that a line was found to be about is so of the line's key
+pub about-key : {K V : Type 0} (l : Line K V) (b : Bor K) (P : K → Type 0) (Q : Type 0) → IsAbout l (Ok b) → P b.now → OfKey l P Q
+about-key (at_key k b r) key P Q is so = subst P is so
+about-key (on_shard n b r) key P Q is so = absurd is
+
+-- and the line goes where that key does
+pub about-route : {K V : Type 0} (w : Keys K) (l : Line K V) (b : Bor K) → IsAbout l (Ok b) → w.route b.now ≡ line_shard w l
+about-route w (at_key k b r) key is = ap w.route is
+about-route w (on_shard n b r) key is = absurd is
 
 -- and goes where the key does
 pub keyed-shard : {K V : Type 0} (w : Keys K) (l : Line K V) (j : K) → OfKey l (λ k. j ≡ k) ⊥ → w.route j ≡ line_shard w l

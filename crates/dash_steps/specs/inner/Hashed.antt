@@ -1,5 +1,6 @@
 -- The key of a step, its hash, and its shard.
-use Rattle.std.specs.Prelude.{ℕ, ◌≡◌, ⊤, Result, Ok, Err}
+use Rattle.std.specs.Prelude.{ℕ, ◌≡◌, ⊤, Result}
+use Rattle.std.specs.Result.{MatchResult}
 use denote.Ref.{Bor}
 use Rattle.dash_shard.specs.Contents.{keys}
 use Rattle.dash_shard.specs.Hashing.{KeyHash, route_by}
@@ -18,8 +19,8 @@ OfKey (table.on_shard i _ _) P Q = Q
 
 -- the result is the line's key, or the number of the shard that it names
 abbrev pub IsAbout : {K V : Type 0} → table.Line K V → Result (Bor K) ℕ → Type 0
-IsAbout {K = K} (table.at_key k _ _) result = (b : Bor K) × (b.now ≡ k) × (result ≡ Ok b)
-IsAbout (table.on_shard i _ _) result = result ≡ Err i
+IsAbout (table.at_key k _ _) result = MatchResult result (λ b. b.now ≡ k) (λ _. ⊥)
+IsAbout (table.on_shard i _ _) result = MatchResult result (λ _. ⊥) (λ j. j ≡ i)
 
 -- the step asks its action of the pair at its key
 abbrev pub Asks : {K V A : Type 0} → ShardStep K V A → Type 0
