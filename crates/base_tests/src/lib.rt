@@ -1,12 +1,13 @@
 //! The tests of `dash_slots`, `dash_shard`, `dash_steps`, `dash_history` and `dash_ref`, over their public items alone.
 //!
 //! They stand in a crate of their own, so that each library is proved once, without them. Modules are named as those that they test.
-//! `checks` and `values`, what tests ask and their keys and values, serve the tests of maps too.
+//! `values` has keys and values that tests of maps use too.
 #![tactic(auto)]
 
 #[cfg(test)]
 mod by_hand;
-pub mod checks;
+#[cfg(test)]
+mod checks;
 #[cfg(test)]
 mod hash;
 #[cfg(test)]

@@ -1,6 +1,6 @@
 //! Entries of a map that threads share, as worked by hand.
+use crate::checks::is;
 use crate::maps::{map_of_four, put};
-use base_tests::checks::is;
 use base_tests::values::Noted;
 use dash_map::map::DashMap;
 use dash_ref::mapref::entry::{Entry, OccupiedEntry, TryEntryRefused, VacantEntry};

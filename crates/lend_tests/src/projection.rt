@@ -1,7 +1,7 @@
 //! References that are mapped to a part of their value.
+use crate::checks::is;
 use crate::maps::{map_of_four, put};
 use crate::parts::{Left, Payload, Sides};
-use base_tests::checks::is;
 use dash_ref::mapref::one::Compose;
 use std::convert::AsRef;
 

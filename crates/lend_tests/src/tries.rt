@@ -1,6 +1,6 @@
 //! References that may be written, and calls that wait for nobody.
+use crate::checks::is;
 use crate::maps::{map_of_four, put};
-use base_tests::checks::is;
 use dash_map::map::DashMap;
 use dash_ref::mapref::entry::Entry;
 use dash_ref::try_result::TryResult;

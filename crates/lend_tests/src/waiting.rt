@@ -1,6 +1,6 @@
 //! The operators of a map, its shards, and what it prints.
+use crate::checks::is;
 use crate::maps::{map_of_four, put};
-use base_tests::checks::is;
 use dash_map::map::DashMap;
 
 #[test]

@@ -1,5 +1,5 @@
 //! The texts of all refusals.
-use base_tests::checks::is;
+use crate::checks::is;
 use dash_history::gather::GatherError;
 use dash_history::record::RecordFault;
 use dash_map::run::Fault;

@@ -9,6 +9,8 @@ mod alone;
 #[cfg(test)]
 mod calls;
 #[cfg(test)]
+mod checks;
+#[cfg(test)]
 mod error;
 #[cfg(test)]
 mod map;

@@ -1,5 +1,5 @@
 //! A page whose words two threads count.
-use base_tests::checks::{is, is_at};
+use crate::checks::{is, is_at};
 use dashmap::DashMap;
 use std::thread;
 use uses::words::{count, count_words, start_anew};

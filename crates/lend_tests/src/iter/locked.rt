@@ -1,6 +1,6 @@
 //! A walk over a map that threads share: rising shards, each pair once, and which shard it holds.
+use crate::checks::is;
 use crate::maps::{is_held, map_of_four, put, three_pairs};
-use base_tests::checks::is;
 use dash_map::t::Map;
 
 #[test]
