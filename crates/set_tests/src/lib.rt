@@ -4,12 +4,4 @@
 #![tactic(auto)]
 
 #[cfg(test)]
-mod checks;
-#[cfg(test)]
-mod extend;
-#[cfg(test)]
-mod names;
-#[cfg(test)]
-mod set;
-#[cfg(test)]
-mod words;
+mod tests;

@@ -1,0 +1,9 @@
+//! The tests, in modules that are named as those that they test.
+mod checks;
+mod entry;
+mod iter;
+mod maps;
+mod projection;
+mod tries;
+mod view;
+mod waiting;

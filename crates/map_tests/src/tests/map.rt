@@ -1,0 +1,88 @@
+//! Amounts, capacities and routes of a map, as worked by hand.
+use crate::tests::checks::{is, is_at};
+use crate::tests::maps::map_of_four;
+use dash_map::map::DashMap;
+use dash_map::t::Map as _;
+use dash_shard::error::ConstructError;
+use std::rt::Clock;
+use std::sync::Wait;
+
+type Map = DashMap<u64, u64>;
+
+#[test]
+fn amounts_that_are_refused(rt: HostRuntime) {
+    for amount in [0, 1, 3] {
+        let refused = Map::with_shard_amount(rt.alloc(), amount).err();
+        assert_eq!(rt;
+            refused,
+            Some(ConstructError::ShardAmount),
+            "{amount} shards"
+        );
+    }
+    for parallelism in [0, (1 << 61) + 1] {
+        let refused = Map::new(rt.alloc(), parallelism).err();
+        assert_eq!(rt;
+            refused,
+            Some(ConstructError::Parallelism),
+            "{parallelism} processors"
+        );
+    }
+}
+
+#[test]
+fn amounts_that_are_taken(rt: HostRuntime) {
+    let map = Map::with_shard_amount(rt.alloc(), 2).expect(&rt, "refused");
+    is(&rt, map.alone().shard_count(), 2);
+    for (parallelism, amount) in [(1, 4), (3, 16)] {
+        let map = Map::new(rt.alloc(), parallelism).expect(&rt, "refused");
+        assert_eq!(rt;
+            map.alone().shard_count(),
+            amount,
+            "{parallelism} processors"
+        );
+        let map = Map::default(rt.alloc(), parallelism).expect(&rt, "refused");
+        assert_eq!(rt;
+            map.alone().shard_count(),
+            amount,
+            "{parallelism} processors"
+        );
+    }
+}
+
+// The least room of a shard.
+fn least_room<R: Wait + Clock>(rt: &R, map: &Map) -> usize {
+    let mut least = usize::MAX;
+    for shard in 0..map._shard_count() {
+        least = map._yield_write_shard(rt, shard).capacity().min(least);
+    }
+    least
+}
+
+#[test]
+fn capacities(rt: HostRuntime) {
+    let map = Map::with_capacity_and_shard_amount(rt.alloc(), 5, 4).expect(&rt, "refused");
+    assert!(rt; least_room(&rt, &map) >= 2);
+    let map = Map::with_capacity(rt.alloc(), 5, 1).expect(&rt, "refused");
+    assert!(rt; least_room(&rt, &map) >= 2);
+    let most = usize::MAX;
+    let refused = Map::with_capacity_and_shard_amount(rt.alloc(), most, 4).err();
+    is(&rt, refused, Some(ConstructError::CapacityOverflow));
+    let refused = Map::with_capacity_and_shard_amount(rt.alloc(), most - 3, 4).err();
+    is(&rt, refused, Some(ConstructError::Memory));
+}
+
+#[test]
+fn routes(rt: HostRuntime) {
+    let four = Map::with_shard_amount(rt.alloc(), 4).expect(&rt, "refused");
+    for (hash, shard) in [(1 << 55, 1), (1 << 56, 2), (1 << 57, 0), (usize::MAX, 3)] {
+        is_at(&rt, four.determine_shard(hash), shard, hash);
+    }
+    let two = Map::with_shard_amount(rt.alloc(), 2).expect(&rt, "refused");
+    is(&rt, two.determine_shard((1 << 56) - 1), 0);
+    is(&rt, two.determine_shard(1 << 56), 1);
+
+    let places = map_of_four::<u64>(&rt, rt.alloc());
+    for key in 0..16u64 {
+        is_at(&rt, places.determine_map(&key) as u64, key % 4, key);
+    }
+}

@@ -1,0 +1,6 @@
+//! The tests, in modules that are named as those that they test.
+mod checks;
+mod extend;
+mod names;
+mod set;
+mod words;
