@@ -82,7 +82,7 @@ impl<K, V: Kept, A> ShardStep<K, V, A> {
         self.route(hasher, amount).1
     }
 
-    /// The hash of the step's key, or 0 where it has none, and the number of its shard.
+    /// The hash of the step's key, or 0 where it has none, and the number of its shard. For the crates here alone.
     #[inline]
     pub fn route<S: BuildHasher>(&self, hasher: &S, amount: usize) -> (u64, usize)
     where
@@ -124,7 +124,7 @@ impl<K, V: Kept, A> ShardStep<K, V, A> {
         }
     }
 
-    /// The key of a step that asks its action of the pair there.
+    /// The key of a step that asks its action of the pair there. For the crates here alone.
     pub fn asked_key(&self) -> &K
     where
         K: Kept,

@@ -85,6 +85,7 @@ impl<K: Eq + Hash, V, S: BuildHasher> Keyed for Entry<'_, K, V, S> {
 
 impl<'a, K: Eq + Hash + Drop, V: Drop, S: BuildHasher> Entry<'a, K, V, S> {
     /// The entry of a key that goes to the held shard, for a caller who has the key's hash. It makes one look-up.
+    /// For the crates here alone.
     ///
     /// It takes memory for a vacant key where the shard is full, and is refused (2) only for want of it.
     #[inline]

@@ -67,7 +67,7 @@ impl<K: Eq + Hash, V, S: BuildHasher> Drop for RefMulti<'_, K, V, S> {
 }
 
 impl<'a, K: Eq + Hash, V, S: BuildHasher> RefMulti<'a, K, V, S> {
-    /// The pair at a taken slot of the shard that the guard holds.
+    /// The pair at a taken slot of the shard that the guard holds. For the crates here alone.
     #[inline]
     pub fn new(
         guard: Rc<RwLockReadGuard<'a, Shard<K, V, S>>>,
@@ -161,7 +161,7 @@ impl<K, V> Lender for RefMutMulti<'_, K, V> {
 }
 
 impl<'a, K, V> RefMutMulti<'a, K, V> {
-    /// The pair of a key and a value that are lent.
+    /// The pair of a key and a value that are lent. For the crates here alone.
     #[inline]
     pub fn new(key: &'a K, value: &'a mut V) -> RefMutMulti<'a, K, V>
         ensures pair { lent_pair result ≡ (key.now, value.old) }

@@ -75,7 +75,7 @@ impl<K: Eq + Hash, V, S: BuildHasher> Drop for Ref<'_, K, V, S> {
 }
 
 impl<'a, K: Eq + Hash, V, S: BuildHasher> Ref<'a, K, V, S> {
-    /// The pair at a taken slot of the shard that the guard holds.
+    /// The pair at a taken slot of the shard that the guard holds. For the crates here alone.
     #[inline]
     pub fn new(guard: RwLockReadGuard<'a, Shard<K, V, S>>, position: usize) -> Ref<'a, K, V, S>
         requires { IsSome (slot guard.value.slots position) }
@@ -95,7 +95,7 @@ impl<'a, K: Eq + Hash, V, S: BuildHasher> Ref<'a, K, V, S> {
     }
 
     /// The pair whose key equals `key`, in the shard that the guard holds, for a caller who has the key's hash. Where there is no such
-    /// pair, the hold ends.
+    /// pair, the hold ends. For the crates here alone.
     #[inline]
     pub fn find(
         guard: RwLockReadGuard<'a, Shard<K, V, S>>,

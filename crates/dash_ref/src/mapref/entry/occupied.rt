@@ -67,7 +67,7 @@ impl<K: Eq + Hash + Drop, V, S: BuildHasher> Drop for OccupiedEntry<'_, K, V, S>
 }
 
 impl<'a, K: Eq + Hash + Drop, V: Drop, S: BuildHasher> OccupiedEntry<'a, K, V, S> {
-    /// The entry of a key, at the slot of the pair with an equal one.
+    /// The entry of a key, at the slot of the pair with an equal one. For the crates here alone.
     #[inline]
     pub fn new(shard: ShardMut<'a, K, V, S>, position: usize, key: K) -> OccupiedEntry<'a, K, V, S>
         requires { HasKey K.eq shard key position }

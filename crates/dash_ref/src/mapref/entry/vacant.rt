@@ -60,6 +60,7 @@ impl<K: Eq + Hash + Drop, V, S: BuildHasher> Drop for VacantEntry<'_, K, V, S> {
 
 impl<'a, K: Eq + Hash + Drop, V: Drop, S: BuildHasher> VacantEntry<'a, K, V, S> {
     /// The entry of a key that goes to the held shard, which has no equal one, and room, for a caller who has the key's hash.
+    /// For the crates here alone.
     #[inline]
     pub fn new(shard: ShardMut<'a, K, V, S>, hash: u64, key: K) -> VacantEntry<'a, K, V, S>
         requires hash { hash ≡ ⟦<Self as Keyed>⟧.by.hash shard.hasher key }

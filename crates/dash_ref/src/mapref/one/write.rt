@@ -81,7 +81,7 @@ impl<K: Eq + Hash, V, S: BuildHasher> Drop for RefMut<'_, K, V, S> {
 }
 
 impl<'a, K: Eq + Hash, V, S: BuildHasher> RefMut<'a, K, V, S> {
-    /// The pair at a taken slot of the held shard.
+    /// The pair at a taken slot of the held shard. For the crates here alone.
     #[inline]
     pub fn new(shard: ShardMut<'a, K, V, S>, position: usize) -> RefMut<'a, K, V, S>
         requires { IsSome (slot shard.slots position) }
@@ -97,6 +97,7 @@ impl<'a, K: Eq + Hash, V, S: BuildHasher> RefMut<'a, K, V, S> {
     }
 
     /// The pair whose key equals `key`, in the held shard, for a caller who has the key's hash. Where there is no such pair, the hold ends.
+    /// For the crates here alone.
     #[inline]
     pub fn find(shard: ShardMut<'a, K, V, S>, hash: u64, key: &K) -> Option<RefMut<'a, K, V, S>>
         requires { hash ≡ ⟦<Self as Keyed>⟧.by.hash shard.hasher key.now }

@@ -1,4 +1,5 @@
 //! A held shard in two parts, for references that lend a value of it: the guard of its lock, and what was taken out from behind it.
+//! For the crates here alone.
 ghost use Rattle.std.specs.Prelude.{◌≡◌, ◌-◌, ◌^◌, ◌<◌, IfSome, IsSome, IsTrue, Some};
 ghost use Rattle.std.specs.Borrow.{Lends, sem};
 ghost use Rattle.std.specs.Option.{option_map};
