@@ -1,5 +1,5 @@
 -- A shard that is being copied, pair by pair.
-use Rattle.std.proofs.Common.{◌≡◌, ◌<◌, ◌≤◌, Bool, true, false, cond, List, [], ◌∷◌, length, Option, Some, None, refl, sym, ap, subst, ◌∙◌, inl, inr, arith}
+use Rattle.std.proofs.Common.{◌≡◌, ◌≤◌, Bool, true, false, cond, List, [], ◌∷◌, length, Option, Some, None, refl, sym, ap, subst, ◌∙◌, inl, inr, arith}
 use Rattle.std.specs.Cmp.{IsEquivalence}
 use Rattle.std.specs.Option.{option_eq, option_map_or}
 use Rattle.std.proofs.lemmas.Bool.{cases_Bool, cases_eq, and_parts, and_from}
@@ -10,7 +10,6 @@ use Rattle.dash_shard.specs.Shard.{ShardState, pairs, shard_len, Routes, IsShard
 use Rattle.dash_shard.specs.inner.Keys.{IsLawful, keys_of}
 use Rattle.dash_shard.proofs.Equals.{along, apart, at-equal}
 use Rattle.dash_steps.specs.Alike.{alike_pair}
-use Rattle.dash_map.specs.Copies.{CopyRules, copy_rules}
 use Rattle.dash_map.specs.inner.Copies.{or_else, PutsCopy, IsCopying, IsCopied}
 
 pub none-of-length : {A : Type 0} (xs : List A) → length xs ≡ 0 → xs ≡ []
@@ -37,9 +36,6 @@ module _ {K V : Type 0} (k : K → K → Bool) (v : V → V → Bool) (laws-k : 
       and_from (k r.0 q.0) (v r.1 q.1) (laws-k.congr r.0 p.0 q.0 parts.0 ∙ a) (laws-v.congr r.1 p.1 q.1 parts.1 ∙ b)
 
   module _ {S : Type 0} (h : KeyHash K S) (law : IsLawful h) (equal : (i j : K) → k i j ≡ true → h.eq i j ≡ true) (C : S → S → Type 0) where
-    abbrev c : CopyRules K V S
-    c = copy_rules h.eq k v C
-
     -- what stands behind the first pair
     tail-none : (p : K × V) (ps : List (K × V)) (j : K) → at h.eq (p ∷ ps) j ≡ None → at h.eq ps j ≡ None
     tail-none p ps j none = elim (cases_Bool (h.eq p.0 j)) as (λ _. at h.eq ps j ≡ None) [
@@ -52,7 +48,7 @@ module _ {K V : Type 0} (k : K → K → Bool) (v : V → V → Bool) (laws-k : 
 
     module _ (s : ShardState K V S) where
       pub begins : (t : ShardState K V S) → shard_len t ≡ 0 → shard_len s ≤ t.capacity → t.number ≡ s.number → t.amount ≡ s.amount → C s.hasher t.hasher → HashAlike h s.hasher t.hasher → IsShard h s → IsShard h t
-          → IsCopying c h s t (pairs s)
+          → IsCopying h.eq k v C h s t (pairs s)
       begins t empty room number amount clone hashes is lawful =
           let none : (j : K) → at h.eq (pairs t) j ≡ None = λ j. ap (λ ps. at h.eq ps j) (none-of-length (pairs t) empty) in
           record {
@@ -68,7 +64,7 @@ module _ {K V : Type 0} (k : K → K → Bool) (v : V → V → Bool) (laws-k : 
             lawful = lawful;
           }
 
-      pub ends : (t : ShardState K V S) → IsCopying c h s t [] → IsCopied c h s t
+      pub ends : (t : ShardState K V S) → IsCopying h.eq k v C h s t [] → IsCopied h.eq k v C h s t
       ends t x = record {
         copies = record {
           pairs = λ j. ap (λ o. found (at h.eq (pairs s) j) o) (or_else-none (at h.eq (pairs t) j)) ∙ x.found j;
@@ -81,12 +77,9 @@ module _ {K V : Type 0} (k : K → K → Bool) (v : V → V → Bool) (laws-k : 
         lawful = x.lawful;
       }
 
-      module _ (t : ShardState K V S) (p : K × V) (ps : List (K × V)) (x : IsCopying c h s t (p ∷ ps)) where
+      module _ (t : ShardState K V S) (p : K × V) (ps : List (K × V)) (x : IsCopying h.eq k v C h s t (p ∷ ps)) where
         pub put-absent : at h.eq (pairs t) p.0 ≡ None
         put-absent = x.apart p.0 p (own p ps)
-
-        pub put-room : shard_len t < t.capacity
-        put-room = omega (arith, x.len, x.room)
 
         pub put-route : Routes h t p.0
         put-route = elim (cases_eq (route_by h s.hasher s.amount p.0) s.number) as (λ _. Routes h t p.0) [
@@ -94,7 +87,7 @@ module _ {K V : Type 0} (k : K → K → Bool) (v : V → V → Bool) (laws-k : 
           | inr away ↦ absurd (none-some p (sym (x.on.routed p.0 away) ∙ own p ps))
         ]
 
-        module _ (u : ShardState K V S) (y : PutsCopy c t u p.0 p.1) (lawful : IsShard h u) where
+        module _ (u : ShardState K V S) (y : PutsCopy h.eq k v C t u p.0 p.1) (lawful : IsShard h u) where
           key : h.eq p.0 y.key_copy ≡ true
           key = equal p.0 y.key_copy y.alike_key
 
@@ -115,7 +108,7 @@ module _ {K V : Type 0} (k : K → K → Bool) (v : V → V → Bool) (laws-k : 
             ap (λ b. cond b (Some p) (at h.eq ps j)) (apart law.laws p.0 y.key_copy j key fails),
           )
 
-          pub goes-on : IsCopying c h s u ps
+          pub goes-on : IsCopying h.eq k v C h s u ps
           goes-on = record {
             found = λ j. elim (cases_Bool (h.eq y.key_copy j)) as (λ _. found (at h.eq (pairs s) j) (or_else (at h.eq (pairs u) j) (at h.eq ps j)) ≡ true) [
               | inl holds ↦

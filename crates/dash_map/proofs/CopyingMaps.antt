@@ -1,38 +1,38 @@
 -- A map that was copied, shard by shard.
-use Rattle.std.proofs.Common.{◌≡◌, ℕ, ◌+◌, List, [], ◌∷◌, ◌++◌, Some, slice_get, refl, sym, ap, subst, ◌∙◌, inl, inr, arith, get_or}
+use Rattle.std.proofs.Common.{◌≡◌, ℕ, ◌+◌, Bool, List, [], ◌∷◌, ◌++◌, Some, slice_get, refl, sym, ap, subst, ◌∙◌, inl, inr, arith, get_or}
 use Rattle.std.proofs.lemmas.List.{length_push}
 use Rattle.std.proofs.lemmas.Option.{none-some, slice_get_within, slice_get-get_or}
 use Rattle.dash_shard.specs.Hashing.{KeyHash, HashAlike, IsAmount}
 use Rattle.dash_shard.specs.Shard.{ShardState}
 use Rattle.dash_shard.specs.Lock.{FoundBehind}
 use Rattle.dash_map.specs.Alone.{AloneState, IsAlone}
-use Rattle.dash_map.specs.Copies.{CopyRules, CopiesAlone}
+use Rattle.dash_map.specs.Copies.{CopiesAlone}
 use Rattle.dash_map.specs.inner.Copies.{IsCopied, AreCopied}
 use Rattle.dash_map.specs.Behind.{SawShards}
 use Rattle.dash_map.specs.Map.{MapState}
 use Rattle.dash_map.proofs.Seeing.{append-cases, SoFar, all-found}
 
-module _ {K V S : Type 0} (c : CopyRules K V S) (h : KeyHash K S) where
-  pub none-copied : AreCopied c h [] []
+module _ {K V S : Type 0} (eq k : K → K → Bool) (v : V → V → Bool) (C : S → S → Type 0) (h : KeyHash K S) where
+  pub none-copied : AreCopied eq k v C h [] []
   none-copied = record { len = refl; each = λ i s t e f. absurd (none-some s e) }
 
-  pub more-copied : (row copies : List (ShardState K V S)) → AreCopied c h row copies → (s t : ShardState K V S) → IsCopied c h s t → AreCopied c h (row ++ s ∷ []) (copies ++ t ∷ [])
+  pub more-copied : (row copies : List (ShardState K V S)) → AreCopied eq k v C h row copies → (s t : ShardState K V S) → IsCopied eq k v C h s t → AreCopied eq k v C h (row ++ s ∷ []) (copies ++ t ∷ [])
   more-copied row copies are s t is = record {
     len = length_push copies t ∙ ap (λ n. n + 1) are.len ∙ sym (length_push row s);
-    each = λ i x y e f. elim (append-cases row s i x e) as (λ _. IsCopied c h x y) [
-      | inl old ↦ elim (append-cases copies t i y f) as (λ _. IsCopied c h x y) [
+    each = λ i x y e f. elim (append-cases row s i x e) as (λ _. IsCopied eq k v C h x y) [
+      | inl old ↦ elim (append-cases copies t i y f) as (λ _. IsCopied eq k v C h x y) [
         | inl also ↦ are.each i x y old also
         | inr new ↦ absurd (omega (arith, slice_get_within row i x old, new.0, are.len))
       ]
-      | inr new ↦ elim (append-cases copies t i y f) as (λ _. IsCopied c h x y) [
+      | inr new ↦ elim (append-cases copies t i y f) as (λ _. IsCopied eq k v C h x y) [
         | inl old ↦ absurd (omega (arith, slice_get_within copies i y old, new.0, are.len))
-        | inr also ↦ subst (λ z. IsCopied c h z y) new.1 (subst (λ z. IsCopied c h s z) also.1 is)
+        | inr also ↦ subst (λ z. IsCopied eq k v C h z y) new.1 (subst (λ z. IsCopied eq k v C h s z) also.1 is)
       ]
     ];
   }
 
-  module _ (a : AloneState K V S) (copies : List (ShardState K V S)) (are : AreCopied c h a.row copies) (hasher : S) (clone : c.is_clone a.hasher hasher) where
-    pub all-copied : CopiesAlone c a (record { hasher = hasher; row = copies })
+  module _ (a : AloneState K V S) (copies : List (ShardState K V S)) (are : AreCopied eq k v C h a.row copies) (hasher : S) (clone : C a.hasher hasher) where
+    pub all-copied : CopiesAlone eq k v C a (record { hasher = hasher; row = copies })
     all-copied = record {
       shards = λ i s t e f. (are.each i s t e f).copies;
       amount = are.len;
@@ -56,14 +56,14 @@ module _ {K V S : Type 0} (c : CopyRules K V S) (h : KeyHash K S) where
     }
 
   -- a map behind its locks that was copied, each shard when it was held
-  pub copied-map : (m : MapState S) (n : ℕ) (row copies : List (ShardState K V S)) → SoFar h m FoundBehind n row → n ≡ m.amount → IsAmount m.amount → AreCopied c h row copies
-      → (base : S) → base ≡ m.hasher → (hasher : S) → c.is_clone base hasher → ((s t : S) → c.is_clone s t → HashAlike h s t) → (made : List (ShardState K V S)) → made ≡ copies
-      → SawShards h m (λ a. CopiesAlone c a (record { hasher = hasher; row = made })) × IsAlone h (record { hasher = hasher; row = made })
+  pub copied-map : (m : MapState S) (n : ℕ) (row copies : List (ShardState K V S)) → SoFar h m FoundBehind n row → n ≡ m.amount → IsAmount m.amount → AreCopied eq k v C h row copies
+      → (base : S) → base ≡ m.hasher → (hasher : S) → C base hasher → ((s t : S) → C s t → HashAlike h s t) → (made : List (ShardState K V S)) → made ≡ copies
+      → SawShards h m (λ a. CopiesAlone eq k v C a (record { hasher = hasher; row = made })) × IsAlone h (record { hasher = hasher; row = made })
   copied-map m n row copies so all amount are base is hasher clone alike made same =
       let a : AloneState K V S = record { hasher = m.hasher; row = row } in
       let found = all-found h m n row so all amount in
-      let cloned : c.is_clone m.hasher hasher = subst (λ z. c.is_clone z hasher) is clone in
-      let made-of = subst (λ l. AreCopied c h row l) (sym same) are in (
+      let cloned : C m.hasher hasher = subst (λ z. C z hasher) is clone in
+      let made-of = subst (λ l. AreCopied eq k v C h row l) (sym same) are in (
         (a, found, all-copied a made made-of hasher cloned),
         copied-lawful a made made-of hasher cloned found.behind.lawful (alike _ _ cloned),
       )

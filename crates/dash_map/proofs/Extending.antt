@@ -118,12 +118,15 @@ module _ {K V S : Type 0} (h : KeyHash K S) where
   }
 
   pub made-of : (none : AloneState K V S) (ps : List (K × V)) (a : AloneState K V S) → contents none ≡ [] → InsertsEach h none ps a → MadeOf h ps a
-  made-of none ps a empty r = record {
-    none = none;
-    empty = empty;
-    steps = r;
-    settles = settles-more [] ps none a (λ k. ap (λ l. at h.eq l k) empty) r;
-  }
+  made-of none ps a empty r = (
+    none,
+    empty,
+    record {
+      steps = r;
+      settles = λ k. settles-more [] ps none a (λ j. ap (λ l. at h.eq l j) empty) r k ∙ ap (λ l. first_with_last h.eq (l ++ ps) k) (sym empty);
+      stays = stays-each none ps a r;
+    },
+  )
 
   module _ {U T : Type 0} (becomes : U → T → Type 0) (gives : T → Option (K × V) → T → Type 0) (iter : U) (old new : AloneState K V S) where
     -- the pair that came last found no room

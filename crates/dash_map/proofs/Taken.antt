@@ -6,8 +6,7 @@ use Rattle.std.specs.Vec.Iter.{into_iter_items, into_iter_steps}
 use Rattle.std.specs.declared.vec.IntoIter.{IntoIter}
 use Rattle.std.proofs.IntoIterSteps.{All-taken}
 use Rattle.dash_shard.specs.Hashing.{KeyHash}
-use Rattle.dash_shard.specs.declared.error.ConstructError.{ConstructError}
-use Rattle.dash_map.specs.Extend.{MatchFrom, Overfills, IsRefusedAmong}
+use Rattle.dash_map.specs.Extend.{NotMade, Overfills, IsRefusedAmong}
 use Rattle.dash_map.specs.declared.extend.ExtendRefused.{ExtendRefused}
 use Rattle.dash_map.specs.declared.extend.FromRefused.{FromRefused}
 use Rattle.dash_map.specs.declared.extend.FromRefused.TheVariants.{Construct, Pair}
@@ -35,15 +34,15 @@ module _ {X A : Type 0} (B : IntoIter X A → Type 0) where
     g.5,
   )
 
-module _ {K V M : Type 0} (P : ConstructError → Type 0) where
+module _ {K V M : Type 0} where
   -- what is so of the pair that is refused is so of why no map was made
-  pub pair-refused : (Q : ExtendRefused K V → Type 0) (back : ExtendRefused K V) (r : Result M (FromRefused K V)) → IsErrAnd r (λ e. e ≡ Pair back) → Q back → IfErr r (λ e. MatchFrom e P Q)
+  pub pair-refused : (Q : ExtendRefused K V → Type 0) (back : ExtendRefused K V) (r : Result M (FromRefused K V)) → IsErrAnd r (λ e. e ≡ Pair back) → Q back → IfErr r (NotMade Q)
   pair-refused Q back (Ok m) told is = absurd told
-  pair-refused Q back (Err e) told is = subst (λ x. MatchFrom x P Q) (sym told) is
+  pair-refused Q back (Err e) told is = subst (NotMade Q) (sym told) is
 
   -- the pair that is refused is one of the list
-  pub among : {S A : Type 0} (h : KeyHash K S) (B : IntoIter (K × V) A → Type 0) (r : Result M (FromRefused K V)) → IfErr r (λ e. MatchFrom e P (λ x. GaveFrom B (Some (x.key, x.value)) (λ ps. Overfills h ps x.key)))
-      → (items : List (K × V)) → ((it : IntoIter (K × V) A) → B it → into_iter_items it ≡ items) → IfErr r (λ e. MatchFrom e P (λ x. IsRefusedAmong h items x))
+  pub among : {S A : Type 0} (h : KeyHash K S) (B : IntoIter (K × V) A → Type 0) (r : Result M (FromRefused K V)) → IfErr r (NotMade (λ x. GaveFrom B (Some (x.key, x.value)) (λ ps. Overfills h ps x.key)))
+      → (items : List (K × V)) → ((it : IntoIter (K × V) A) → B it → into_iter_items it ≡ items) → IfErr r (NotMade (IsRefusedAmong h items))
   among h B (Ok m) g items is = tt
   among h B (Err (Construct e)) g items is = g
   among h B (Err (Pair e)) g items is = front-came B (e.key, e.value) (λ ps. Overfills h ps e.key) g items is

@@ -1,9 +1,9 @@
 -- A map of one owner: a row of shards.
-use Rattle.std.specs.Prelude.{ℕ, ◌≡◌, ◌+◌, ◌<◌, ◌≤◌, Bool, List, length, flat_map, Some, Result, OnOk, OnErr, IsSomeAnd, slice_get}
+use Rattle.std.specs.Prelude.{ℕ, ◌≡◌, ◌+◌, ◌-◌, ◌^◌, ◌<◌, ◌≤◌, min, sum_by, Bool, List, length, flat_map, Some, Result, OnOk, OnErr, IsSomeAnd, slice_get}
 use Rattle.dash_shard.specs.Hashing.{KeyHash, IsAmount, route_by}
 use Rattle.dash_shard.specs.Contents.{Keys, keys, at, EachOnce}
-use Rattle.dash_shard.specs.Steps.{Act, Step, Reply, line, LineReplies, IsTaken, BySome}
-use Rattle.dash_shard.specs.Shard.{ShardState, IsTagged, pairs, shard_len}
+use Rattle.dash_shard.specs.Steps.{Act, Step, Reply, IsTaken, BySome}
+use Rattle.dash_shard.specs.Shard.{ShardState, EachAt, IsTagged, pairs, shard_len}
 
 -- what contracts see of the map
 pub record AloneState (K V S : Type 0) : Type 0 where
@@ -15,12 +15,19 @@ module _ {K V S : Type 0} where
   abbrev pub contents : AloneState K V S → List (K × V)
   contents a = flat_map pairs a.row
 
+  -- how many pairs there are, and how many there is room for, saturating at 2^64 - 1
+  abbrev pub len_in : AloneState K V S → ℕ
+  len_in a = min (length (contents a)) (2 ^ 64 - 1)
+
+  abbrev pub room_in : AloneState K V S → ℕ
+  room_in a = min (sum_by (λ s. s.capacity) a.row) (2 ^ 64 - 1)
+
   -- hasher and amount stay
   pub record SameMap (old new : AloneState K V S) : Type 0 where
     pub hasher : new.hasher ≡ old.hasher
     pub amount : length new.row ≡ length old.row
 
-  -- each shard is to the one that stood at its index what R says
+  -- R relates each old shard to the new one at its index
   abbrev pub EachShard : (ShardState K V S → ShardState K V S → Type 0) → AloneState K V S → AloneState K V S → Type 0
   EachShard R old new = (i : ℕ) (s t : ShardState K V S) → slice_get old.row i ≡ Some s → slice_get new.row i ≡ Some t → R s t
 
@@ -33,7 +40,7 @@ module _ {K V S : Type 0} where
   -- room in each shard for so many pairs more, or in some of them where it is refused, which comes only where room was wanting; the pairs
   -- stay, and so does a shard that had room
   pub record ReservesAlone (eq : K → K → Bool) (additional : ℕ) (old new : AloneState K V S) {E : Type 0} (result : Result (Unit {0}) E) : Type 0 where
-    pub room : OnOk result ((i : ℕ) (s : ShardState K V S) → slice_get new.row i ≡ Some s → shard_len s + additional ≤ s.capacity)
+    pub room : OnOk result (EachAt new.row (λ _ s. shard_len s + additional ≤ s.capacity))
     pub pairs : EachOnce eq (contents old) (contents new)
     pub len : length (contents new) ≡ length (contents old)
     pub kept : EachShard (λ s t. shard_len s + additional ≤ s.capacity → t ≡ s) old new
@@ -44,15 +51,11 @@ module _ {K V S : Type 0} where
     -- each shard has the number of its index
     pub record IsAlone (a : AloneState K V S) : Type 0 where
       pub amount : IsAmount (length a.row)
-      pub tagged : (i : ℕ) (s : ShardState K V S) → slice_get a.row i ≡ Some s → IsTagged h a.hasher (length a.row) i s
+      pub tagged : EachAt a.row (IsTagged h a.hasher (length a.row))
 
     -- what the map knows of its keys
     abbrev pub keys_in : AloneState K V S → Keys K
     keys_in a = keys h.eq (route_by h a.hasher (length a.row)) (length a.row)
-
-    -- the step may get this reply on the map
-    abbrev pub RepliesAlone : AloneState K V S → Step K V → Reply K V → Type 0
-    RepliesAlone a step reply = LineReplies (keys_in a) (line step) (contents a) reply
 
     -- the step is taken on the map, which stays lawful
     pub record TakesAlone (old new : AloneState K V S) (step : Step K V) (reply : Reply K V) : Type 0 where

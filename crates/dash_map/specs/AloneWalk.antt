@@ -94,6 +94,11 @@ module _ {K V S : Type 0} where
     abbrev pub Passed : AloneIterMut K V S H → AloneIterMut K V S H → V → Type 0
     Passed old new v = (item : K × V) × Passes old new item v
 
+    -- a step that lent the value of a pair, where w was left, passed it; one that lent none stays
+    abbrev pub PassesLending : AloneIterMut K V S H → Option (V × V) → AloneIterMut K V S H → Type 0
+    PassesLending old (Some (_, w)) new = Passed old new w
+    PassesLending old None new = Rests old new
+
     -- steps from w to z passed a pair each, and left these values, one after the other
     abbrev pub PassesAlong : AloneIterMut K V S H → List V → AloneIterMut K V S H → Type 0
     PassesAlong w [] z = Rests w z

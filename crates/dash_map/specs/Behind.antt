@@ -1,10 +1,12 @@
 -- What calls of a map promise where others may change it: of shards that stood behind its locks, and of what they left there.
-use Rattle.std.specs.Prelude.{ℕ, ◌≡◌, Bool, List, Some, length, slice_get}
+use Rattle.std.specs.Prelude.{ℕ, ◌≡◌, Bool, List, Option, length}
 use Rattle.std.specs.Map.Calls.{CallableOnEachPair}
 use Rattle.dash_shard.specs.Hashing.{KeyHash, route_by}
+use Rattle.dash_shard.specs.Contents.{at}
+use Rattle.dash_shard.specs.Held.{Loses}
 use Rattle.dash_shard.specs.Lock.{FoundBehind, LeftBehind}
-use Rattle.dash_shard.specs.Steps.{Act, Step, Reply}
-use Rattle.dash_shard.specs.Shard.{ShardState, IsTagged, TakesBy}
+use Rattle.dash_shard.specs.Steps.{Act, Step, Remove, Alter, Pair, Done}
+use Rattle.dash_shard.specs.Shard.{ShardState, EachAt, IsTagged, TakesInPlace, TakesBy, pairs, shard_len}
 use Rattle.dash_map.specs.Alone.{AloneState, IsAlone}
 use Rattle.dash_map.specs.Map.{MapState}
 
@@ -13,13 +15,21 @@ abbrev pub CallableOnPairs : {F K V : Type 0} → (F → K → V → Bool → V 
 CallableOnPairs {K = K} {V = V} T Q f = (ps : List (K × V)) → CallableOnEachPair T Q f ps
 
 module _ {K V S : Type 0} (h : KeyHash K S) where
+  -- the shard is shard i of the map
+  abbrev pub IsShardOf : MapState S → ℕ → ShardState K V S → Type 0
+  IsShardOf m i s = IsTagged h m.hasher m.amount i s
+
   -- the shard is the one where the key goes
   abbrev pub StandsAt : MapState S → K → ShardState K V S → Type 0
-  StandsAt m key s = IsTagged h m.hasher m.amount (route_by h m.hasher m.amount key) s
+  StandsAt m key s = IsShardOf m (route_by h m.hasher m.amount key) s
 
   -- P is so of a shard that stood where the key goes
   abbrev pub SawShard : MapState S → K → (ShardState K V S → Type 0) → Type 0
   SawShard m key P = (s : ShardState K V S) × StandsAt m key s × FoundBehind s × P s
+
+  -- P is so of what stood at the key: a pair, or none
+  abbrev pub SawAt : MapState S → K → (Option (K × V) → Type 0) → Type 0
+  SawAt m key P = SawShard m key (λ s. P (at h.eq (pairs s) key))
 
   -- P is so of a shard that was left there
   abbrev pub LeftShard : MapState S → K → (ShardState K V S → Type 0) → Type 0
@@ -29,9 +39,17 @@ module _ {K V S : Type 0} (h : KeyHash K S) where
   abbrev pub LeavesShard : MapState S → K → (ShardState K V S → ShardState K V S → Type 0) → Type 0
   LeavesShard m key R = SawShard m key (λ s. LeftShard m key (R s))
 
-  -- the same of a step in place, by some action that may do on the pair with an equal key what it does, and of the counts of pairs
-  abbrev pub LeavesBy : MapState S → (K → Act K V → Step K V) → K → Reply K V → (K × V → V × Bool → Type 0) → (ShardState K V S → ShardState K V S → Type 0) → Type 0
-  LeavesBy m step key reply may counts = LeavesShard m key (λ s t. TakesBy h.eq s t step key reply may × counts s t)
+  -- the pair that is answered, if one is, was taken out in place
+  abbrev pub Removes : MapState S → K → Option (K × V) → Type 0
+  Removes m key result = LeavesShard m key (λ s t. TakesInPlace h.eq s t (Remove key) (Pair result) × Loses s t result)
+
+  -- the same of a step by some action, which may do on the pair with an equal key what it does
+  abbrev pub RemovesBy : MapState S → (K → Act K V → Step K V) → K → Option (K × V) → (K × V → V × Bool → Type 0) → Type 0
+  RemovesBy m step key result may = LeavesShard m key (λ s t. TakesBy h.eq s t step key (Pair result) may × Loses s t result)
+
+  -- the value of the pair with an equal key was changed in place by such an action
+  abbrev pub AltersBy : MapState S → K → (K × V → V × Bool → Type 0) → Type 0
+  AltersBy m key may = LeavesShard m key (λ s t. TakesBy h.eq s t Alter key Done may × (shard_len t ≡ shard_len s))
 
   -- shards that may stand behind the locks of this map
   pub record IsBehind (m : MapState S) (a : AloneState K V S) : Type 0 where
@@ -42,12 +60,12 @@ module _ {K V S : Type 0} (h : KeyHash K S) where
   -- that were found there
   pub record IsFound (m : MapState S) (a : AloneState K V S) : Type 0 where
     pub behind : IsBehind m a
-    pub found : (i : ℕ) (s : ShardState K V S) → slice_get a.row i ≡ Some s → FoundBehind s
+    pub found : EachAt a.row (λ _. FoundBehind)
 
   -- and that were put there
   pub record IsLeft (m : MapState S) (a : AloneState K V S) : Type 0 where
     pub behind : IsBehind m a
-    pub left : (i : ℕ) (s : ShardState K V S) → slice_get a.row i ≡ Some s → LeftBehind s
+    pub left : EachAt a.row (λ _. LeftBehind)
 
   -- P is so of the shards, each as it stood at a moment of its own
   abbrev pub SawShards : MapState S → (AloneState K V S → Type 0) → Type 0

@@ -5,8 +5,11 @@ use Rattle.dash_shard.specs.Hashing.{KeyHash}
 use Rattle.dash_shard.specs.Contents.{at}
 use Rattle.dash_shard.specs.Steps.{Insert, Old}
 use Rattle.dash_shard.specs.Shard.{shard_len}
-use Rattle.dash_shard.specs.declared.error.ConstructError.{ConstructError}
+use Rattle.dash_shard.specs.Errors.{IsOneOf}
+use Rattle.dash_shard.specs.declared.error.ConstructError.TheVariants.{Parallelism, Memory}
 use Rattle.dash_map.specs.Alone.{AloneState, KeepsRoom, TakesAlone, contents, keys_in}
+use Rattle.dash_map.specs.Behind.{LeavesShards}
+use Rattle.dash_map.specs.Map.{MapState}
 use Rattle.dash_map.specs.declared.extend.ExtendRefused.{ExtendRefused}
 use Rattle.dash_map.specs.declared.extend.FromRefused.{FromRefused}
 use Rattle.dash_map.specs.declared.extend.FromRefused.TheVariants.{Construct, Pair}
@@ -25,10 +28,10 @@ module _ {K V : Type 0} where
   refused_pair (Ok _) = None
   refused_pair (Err e) = Some (e.key, e.value)
 
-  -- why no map was made: P of the refusal of a map, or Q of that of a pair
-  abbrev pub MatchFrom : FromRefused K V → (ConstructError → Type 0) → (ExtendRefused K V → Type 0) → Type 0
-  MatchFrom (Construct e) P Q = P e
-  MatchFrom (Pair e) P Q = Q e
+  -- why no map was made: its amount is bad or it found no memory, or P of the refusal of a pair
+  abbrev pub NotMade : (ExtendRefused K V → Type 0) → FromRefused K V → Type 0
+  NotMade P (Construct e) = IsOneOf (Parallelism ∷ Memory ∷ []) e
+  NotMade P (Pair e) = P e
 
 module _ {K V S : Type 0} (h : KeyHash K S) where
   -- a step of the table for each pair, one after the other
@@ -43,11 +46,8 @@ module _ {K V S : Type 0} (h : KeyHash K S) where
     pub stays : KeepsRoom old new
 
   -- the pairs were inserted into a map without pairs
-  pub record MadeOf (ps : List (K × V)) (a : AloneState K V S) : Type 0 where
-    pub none : AloneState K V S
-    pub empty : contents none ≡ []
-    pub steps : InsertsEach none ps a
-    pub settles : (k : K) → at h.eq (contents a) k ≡ first_with_last h.eq ps k
+  abbrev pub MadeOf : List (K × V) → AloneState K V S → Type 0
+  MadeOf ps a = (none : AloneState K V S) × (contents none ≡ []) × Gains none ps a
 
   -- no equal key is there, and the key's shard is full
   pub record HasNoRoom (key : K) (a : AloneState K V S) : Type 0 where
@@ -63,7 +63,15 @@ module _ {K V S : Type 0} (h : KeyHash K S) where
   IsRefusedAmong ps e = (front : List (K × V)) × (behind : List (K × V)) × (ps ≡ front ++ (e.key, e.value) ∷ behind) × Overfills front e.key
 
   module _ {U T : Type 0} (becomes : U → T → Type 0) (gives : T → Option (K × V) → T → Type 0) (iter : U) where
+    -- the items up to this pair were inserted into a map without pairs, and leave no room for it
+    abbrev pub IsRefusedOf : ExtendRefused K V → Type 0
+    IsRefusedOf e = Gave becomes gives iter (Some (e.key, e.value)) (λ ps. Overfills ps e.key)
+
     -- all that `extend` promises: the pairs up to the end, or up to the one that is refused, were inserted
     pub record Extends (old new : AloneState K V S) (result : Result (Unit {0}) (ExtendRefused K V)) : Type 0 where
       pub gains : Gave becomes gives iter (refused_pair result) (λ ps. Gains old ps new)
       pub refused : IfErr result (λ e. HasNoRoom e.key new)
+
+    -- the same of shards that stood behind the locks of this map, and of those that were left there
+    abbrev pub ExtendsBehind : MapState S → Result (Unit {0}) (ExtendRefused K V) → Type 0
+    ExtendsBehind m result = LeavesShards h m (λ old new. Extends old new result)

@@ -11,7 +11,7 @@ pub mod AloneWalk
 pub mod Lends
 pub mod Locks
 pub mod Tries
-pub mod Waiting
+pub mod Gets
 pub mod Walks
 pub mod Walking
 pub mod WalkingMut

@@ -1,8 +1,9 @@
 -- The locks of a map.
-use Rattle.std.specs.Prelude.{ℕ, ◌≡◌, List, Some, slice_get}
+use Rattle.std.specs.Prelude.{ℕ, ◌≡◌, List}
 use Rattle.crossbeam_utils.specs.declared.cache_padded.CachePadded.{CachePadded}
 use Rattle.crossbeam_utils.specs.Padded.{padded_value}
 use Rattle.dash_shard.specs.Hashing.{IsAmount}
+use Rattle.dash_shard.specs.Shard.{EachAt}
 use Rattle.dash_shard.specs.declared.shard.held.ShardTag.{ShardTag}
 use Rattle.dash_map.specs.Map.{MapState}
 
@@ -16,4 +17,4 @@ module _ {S : Type 0} where
   -- a lawful map, whose locks stand in rising order of their shards
   pub record IsMap (m : MapState S) (locks : List (CachePadded (ShardTag S))) : Type 0 where
     pub amount : IsAmount m.amount
-    pub tagged : (i : ℕ) (lock : CachePadded (ShardTag S)) → slice_get locks i ≡ Some lock → IsAt m i lock
+    pub tagged : EachAt locks (IsAt m)

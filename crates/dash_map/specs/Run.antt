@@ -6,7 +6,7 @@ use Rattle.dash_steps.specs.Steps.{step_of, reply_of}
 use Rattle.dash_steps.specs.Takes.{Rules, rules, Runs}
 use Rattle.dash_steps.specs.declared.step.ShardStep.{ShardStep}
 use Rattle.dash_steps.specs.declared.step.Reply.{Reply}
-use Rattle.dash_map.specs.Alone.{contents, keys_in}
+use Rattle.dash_map.specs.Alone.{AloneState, contents, keys_in}
 use Rattle.dash_map.specs.Behind.{LeavesShards}
 use Rattle.dash_map.specs.Map.{MapState}
 use Rattle.dash_map.specs.declared.run.Fault.{Fault}
@@ -27,6 +27,10 @@ pub record Ran {K V A : Type 0} (m : Rules K V) (acts : A → table.Act K V) (P 
   pub taken : Runs m P (map (λ d. (step_of acts d.0, reply_of d.1)) front) Q
   pub stops : IfSome outcome.stopped (λ stop. IsRefused m acts stop.0.items stop.1)
 
+-- the same from the map old to the map new, by what the map knows of its keys and values
+abbrev pub RanAlone : {K V A S : Type 0} → KeyHash K S → (K → K → Bool) → (V → V → Bool) → (A → table.Act K V) → AloneState K V S → AloneState K V S → List (ShardStep K V A) → RunOutcome K V A → Type 0
+RanAlone h k v acts old new steps outcome = Ran (rules k v (keys_in h old)) acts (contents old) (contents new) steps outcome
+
 -- the run was one on shards that stood behind the locks of this map, and what it left stands there
 abbrev pub RanBehind : {K V A S : Type 0} → KeyHash K S → (K → K → Bool) → (V → V → Bool) → (A → table.Act K V) → MapState S → List (ShardStep K V A) → RunOutcome K V A → Type 0
-RanBehind h k v acts m steps outcome = LeavesShards h m (λ a b. Ran (rules k v (keys_in h a)) acts (contents a) (contents b) steps outcome)
+RanBehind h k v acts m steps outcome = LeavesShards h m (λ old new. RanAlone h k v acts old new steps outcome)

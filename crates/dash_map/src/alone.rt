@@ -1,18 +1,22 @@
 //! A map of one owner, without locks.
-ghost use Rattle.std.specs.Prelude.{◌≡◌, ◌⊎◌, ℕ, ◌+◌, ◌-◌, ◌^◌, ◌<◌, ◌≤◌, ◌↔◌, min, IsErrOf, IfOk, IfErr, Some, None, length, slice_get, OnErr, is_some, IsSomeAnd, IfSome, sum_by, map, ◌==◌};
+ghost use Rattle.std.specs.Prelude.{◌≡◌, ◌∷◌, [], ◌+◌, ◌<◌, ◌≤◌, ◌↔◌, IsErrOf, IfOk, IfErr, length, OnErr, is_some, IfSome, map, ◌==◌};
 ghost use Rattle.crossbeam_utils.specs.Padded.{padded_value};
 ghost use Rattle.dash_shard.specs.Hashing.{by, IsAmount, HashAlike};
-ghost use Rattle.dash_shard.specs.Shard.{shard_len, IsTagged};
+ghost use Rattle.dash_shard.specs.Errors.{IsOneOf};
+ghost use Rattle.dash_shard.specs.Shard.{EachAt, IsTagged};
+ghost use Rattle.dash_shard.specs.declared.error.ConstructError.TheVariants.{ShardAmount, CapacityOverflow, Memory};
 ghost use Rattle.dash_shard.specs.Held.{FitsTag};
 ghost use Rattle.dash_shard.specs.Lock.{FoundBehind, LeftBehind};
 ghost use Rattle.dash_map.specs.Amounts.{Overflows};
+ghost use Rattle.dash_map.specs.Extend.{HasNoRoom};
 ghost use Rattle.dash_map.specs.inner.Amounts.{share};
+ghost use Rattle.dash_map.specs.inner.Rooms.{IsFresh};
 ghost use Rattle.std.specs.Option.{option_map};
 ghost use Rattle.std.specs.Map.Iter.{deref_pair};
 ghost use Rattle.dash_shard.specs.Contents.{at};
-ghost use Rattle.dash_shard.specs.Steps.{Get, Contains, Insert, Remove, Pair, Found, Old, RemoveIf};
+ghost use Rattle.dash_shard.specs.Steps.{Insert, Remove, Pair, Old, RemoveIf};
 ghost use Rattle.dash_shard.specs.Closures.{MayAsk, Viewed, Answered};
-ghost use Rattle.dash_map.specs.Alone.{IsAlone, ReservesAlone, TakesAlone, contents, keys_in, RepliesAlone, TakesAloneBy};
+ghost use Rattle.dash_map.specs.Alone.{IsAlone, ReservesAlone, TakesAlone, contents, keys_in, len_in, room_in, TakesAloneBy};
 ghost use Rattle.dash_map.specs.Locks.{IsAt};
 ghost use Rattle.dash_map.specs.Behind.{IsFound, IsLeft};
 
@@ -73,9 +77,9 @@ fn fresh_row<K: Eq + Hash + Drop, V: Drop, S: BuildHasher + Clone + Drop>(
     requires amount { IsAmount amount }
     requires alike { (s t : S) → S.is_clone s t → HashAlike ⟦<Alone<K, V, S> as Keyed>⟧.by s t }
     ensures len { IfOk result (λ row. length row.items ≡ amount) }
-    ensures tagged { IfOk result (λ row. (i : ℕ) (s : _) → slice_get row.items i ≡ Some s → IsTagged ⟦<Alone<K, V, S> as Keyed>⟧.by hasher.now amount i s) }
-    ensures fresh { IfOk result (λ row. (i : ℕ) (s : _) → slice_get row.items i ≡ Some s → (shard_len s ≡ 0) × (capacity ≤ s.capacity)) }
-    ensures memory { IfErr result (λ e. e ≡ ConstructError.Memory) }
+    ensures tagged { IfOk result (λ row. EachAt row.items (IsTagged ⟦<Alone<K, V, S> as Keyed>⟧.by hasher.now amount)) }
+    ensures fresh { IfOk result (λ row. EachAt row.items (λ _. IsFresh capacity)) }
+    ensures memory { IfErr result (λ e. e ≡ Memory) }
 {
     let Ok(mut row) = Vec::with_capacity(alloc, amount) else {
         return Err(ConstructError::Memory);
@@ -102,10 +106,10 @@ impl<K: Eq + Hash + Drop, V: Drop, S: BuildHasher> Alone<K, V, S> {
         requires { (s t : S) → S.is_clone s t → HashAlike ⟦<Self as Keyed>⟧.by s t }
         ensures hasher { IfOk result (λ a. a.hasher ≡ hasher) }
         ensures amount { IfOk result (λ a. length a.row ≡ amount) }
-        ensures fresh { IfOk result (λ a. (i : ℕ) (s : _) → slice_get a.row i ≡ Some s → (shard_len s ≡ 0) × (share capacity amount ≤ s.capacity)) }
-        ensures bad_amount { IsErrOf result ConstructError.ShardAmount ↔ (IsAmount amount → ⊥) }
-        ensures overflow { IsErrOf result ConstructError.CapacityOverflow ↔ (IsAmount amount × Overflows capacity amount) }
-        ensures kinds { IfErr result (λ e. (e ≡ ConstructError.ShardAmount) ⊎ (e ≡ ConstructError.CapacityOverflow) ⊎ (e ≡ ConstructError.Memory)) }
+        ensures fresh { IfOk result (λ a. EachAt a.row (λ _. IsFresh (share capacity amount))) }
+        ensures bad_amount { IsErrOf result ShardAmount ↔ (IsAmount amount → ⊥) }
+        ensures overflow { IsErrOf result CapacityOverflow ↔ (IsAmount amount × Overflows capacity amount) }
+        ensures kinds { IfErr result (IsOneOf (ShardAmount ∷ CapacityOverflow ∷ Memory ∷ [])) }
     {
         if !is_shard_amount(amount) {
             return Err(ConstructError::ShardAmount);
@@ -171,8 +175,7 @@ impl<K: Eq + Hash + Drop, V: Drop, S: BuildHasher> Alone<K, V, S> {
     pub fn insert(&mut self, key: K, value: V) -> Result<Option<V>, InsertRefused<K, V>>
         ensures taken { IfOk result (λ old. TakesAlone ⟦<Self as Keyed>⟧.by self.old self.new (Insert key value) (Old old)) }
         ensures refused { IfErr result (λ e. (e.key ≡ key) × (e.value ≡ value) × (self.new ≡ self.old)) }
-        ensures absent { OnErr result (at K.eq (contents self.old) key ≡ None) }
-        ensures full { OnErr result (IsSomeAnd (slice_get self.old.row ((keys_in ⟦<Self as Keyed>⟧.by self.old).route key)) (λ s. shard_len s ≡ s.capacity)) }
+        ensures no_room { OnErr result (HasNoRoom ⟦<Self as Keyed>⟧.by key self.old) }
     {
         let (hash, idx) = self.route_of(&key);
         self.row[idx].insert_hashed(hash, key, value)
@@ -211,7 +214,7 @@ impl<K: Eq + Hash + Drop, V: Drop, S: BuildHasher> Alone<K, V, S> {
     /// The pair whose key equals `key`.
     #[inline]
     pub fn get(&self, key: &K) -> Option<(&K, &V)>
-        ensures pair { RepliesAlone ⟦<Self as Keyed>⟧.by self.now (Get key.now) (Pair (option_map deref_pair result)) }
+        ensures pair { option_map deref_pair result ≡ at K.eq (contents self.now) key.now }
         ensures lawful { IsAlone ⟦<Self as Keyed>⟧.by self.now }
     {
         self.lent().get(key)
@@ -220,7 +223,7 @@ impl<K: Eq + Hash + Drop, V: Drop, S: BuildHasher> Alone<K, V, S> {
     /// Whether there is a pair whose key equals `key`.
     #[inline]
     pub fn contains_key(&self, key: &K) -> bool
-        ensures found { RepliesAlone ⟦<Self as Keyed>⟧.by self.now (Contains key.now) (Found result) }
+        ensures found { result ≡ is_some (at K.eq (contents self.now) key.now) }
         ensures lawful { IsAlone ⟦<Self as Keyed>⟧.by self.now }
     {
         self.get(key).is_some()
@@ -239,7 +242,7 @@ impl<K: Eq + Hash + Drop, V: Drop, S: BuildHasher> Alone<K, V, S> {
 
     /// How many pairs there are, held at 2^64 - 1. It asks each shard once. The original's `len` locks shard after shard for this.
     pub fn len(&self) -> usize
-        ensures len { result ≡ min (length (contents self.now)) (2 ^ 64 - 1) }
+        ensures len { result ≡ len_in self.now }
         ensures lawful { IsAlone ⟦<Self as Keyed>⟧.by self.now }
     {
         self.lent().len()
@@ -256,8 +259,8 @@ impl<K: Eq + Hash + Drop, V: Drop, S: BuildHasher> Alone<K, V, S> {
     /// How many pairs there may be before some shard takes memory, if they spread as the shards' room does, held at 2^64 - 1. It asks each
     /// shard once.
     pub fn capacity(&self) -> usize
-        ensures capacity { result ≡ min (sum_by (λ s. s.capacity) self.now.row) (2 ^ 64 - 1) }
-        ensures holds { min (length (contents self.now)) (2 ^ 64 - 1) ≤ result }
+        ensures capacity { result ≡ room_in self.now }
+        ensures holds { len_in self.now ≤ result }
         ensures lawful { IsAlone ⟦<Self as Keyed>⟧.by self.now }
     {
         self.lent().capacity()

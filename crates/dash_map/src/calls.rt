@@ -1,19 +1,18 @@
 //! Calls of threads on a map that they share. Each takes one lock.
-ghost use Rattle.std.specs.Prelude.{◌≡◌, ◌<◌, ◌==◌, ◌-◌, ◌^◌, min, length, sum_by, Option, IsTrue, IfSome, IfErr, is_some};
+ghost use Rattle.std.specs.Prelude.{◌≡◌, ◌<◌, ◌==◌, length, Option, IsTrue, IfSome, is_some};
 ghost use Rattle.std.specs.Option.{option_map};
 ghost use Rattle.std.specs.Map.Iter.{deref_pair};
 ghost use Rattle.dash_shard.specs.Closures.{MayAsk, Viewed, MayChange, ChangesOn, MayGive, Answered, Given};
 ghost use Rattle.dash_shard.specs.Contents.{at};
 ghost use Rattle.dash_shard.specs.Lock.{FoundBehind};
-ghost use Rattle.dash_shard.specs.Shard.{shard_len, pairs, HasKey, IsShard, RepliesOn, TakesInPlace, IsTagged, ShardState};
-ghost use Rattle.dash_map.specs.Behind.{SawShards, LeavesShard, SawShard, LeavesShards, StandsAt, LeavesBy};
+ghost use Rattle.dash_shard.specs.Shard.{pairs, IsShard};
+ghost use Rattle.dash_map.specs.Behind.{SawShards, LeavesShard, SawAt, LeavesShards, IsShardOf, Removes, RemovesBy, AltersBy};
+ghost use Rattle.dash_map.specs.Gets.{IsGot, IsGotMut};
 ghost use Rattle.dash_shard.specs.Hashing.{route_by};
-ghost use Rattle.dash_map.specs.Alone.{AloneState, contents, ReservesAlone};
+ghost use Rattle.dash_map.specs.Alone.{contents, len_in, room_in, ReservesAlone};
 ghost use Rattle.dash_map.specs.Walking.{at_start};
-ghost use Rattle.dash_ref.specs.Ref.{Stands, pair_of};
-ghost use Rattle.dash_ref.specs.RefMut.{GetsMut};
-ghost use Rattle.dash_shard.specs.Held.{Inserts, Loses};
-ghost use Rattle.dash_shard.specs.Steps.{Remove, RemoveIf, RemoveIfMut, Alter, Done, Pair, Found, Get, Contains};
+ghost use Rattle.dash_shard.specs.Held.{Inserts};
+ghost use Rattle.dash_shard.specs.Steps.{RemoveIf, RemoveIfMut};
 
 use crate::iter::{Iter, IterMut};
 use crate::map::DashMap;
@@ -63,7 +62,7 @@ impl<K: Eq + Hash, V, S: BuildHasher> DashMap<K, V, S> {
     #[inline]
     pub fn shards_mut<R: Wait + Clock>(&self, rt: &R, shard: usize) -> ShardMut<'_, K, V, S>
         requires { shard < self.now.amount }
-        ensures tagged { IsTagged ⟦<Self as Keyed>⟧.by self.now.hasher self.now.amount shard result }
+        ensures tagged { IsShardOf ⟦<Self as Keyed>⟧.by self.now shard result }
         ensures found { FoundBehind result }
     {
         self.row[shard].write(rt).shard()
@@ -92,7 +91,7 @@ impl<K: Eq + Hash, V, S: BuildHasher> DashMap<K, V, S> {
     #[inline]
     pub fn remove<R: Wait + Clock>(&self, rt: &R, key: &K) -> Option<(K, V)>
         ensures equal { IfSome result (λ pair. IsTrue (K.eq pair.0 key.now)) }
-        ensures leaves { LeavesShard ⟦<Self as Keyed>⟧.by self.now key.now (λ s t. TakesInPlace K.eq s t (Remove key.now) (Pair result) × Loses s t result) }
+        ensures leaves { Removes ⟦<Self as Keyed>⟧.by self.now key.now result }
     {
         let (hash, idx) = self.route_of(key);
         self.shards_mut(rt, idx).remove_hashed(hash, key)
@@ -119,10 +118,7 @@ impl<K: Eq + Hash, V, S: BuildHasher> DashMap<K, V, S> {
     /// Till the reference is dropped, whoever wants to write the shard waits, this thread too. It takes no memory.
     #[inline(always)]
     pub fn get<R: Wait + Clock>(&self, rt: &R, key: &K) -> Option<Ref<'_, K, V, S>>
-        ensures saw { SawShard ⟦<Self as Keyed>⟧.by self.now key.now (λ s. RepliesOn K.eq s (Get key.now) (Pair (option_map pair_of result))) }
-        ensures equal { IfSome result (λ found. IsTrue (K.eq found.key key.now)) }
-        ensures stands { IfSome result Stands }
-        ensures tagged { IfSome result (λ found. StandsAt ⟦<Self as Keyed>⟧.by self.now key.now found.shard) }
+        ensures { IsGot ⟦<Self as Keyed>⟧.by self.now key.now result }
     {
         let (hash, idx) = self.route_of(key);
         Ref::find(self.row[idx].read(rt), hash, key)
@@ -133,9 +129,7 @@ impl<K: Eq + Hash, V, S: BuildHasher> DashMap<K, V, S> {
     /// Till the reference is dropped, whoever wants the shard waits, this thread too. It takes no memory.
     #[inline]
     pub fn get_mut<R: Wait + Clock>(&self, rt: &R, key: &K) -> Option<RefMut<'_, K, V, S>>
-        ensures saw { SawShard ⟦<Self as Keyed>⟧.by self.now key.now (λ s. GetsMut K.eq s key.now result) }
-        ensures equal { IfSome result (λ found. HasKey K.eq found.shard key.now found.position) }
-        ensures tagged { IfSome result (λ found. StandsAt ⟦<Self as Keyed>⟧.by self.now key.now found.shard) }
+        ensures { IsGotMut ⟦<Self as Keyed>⟧.by self.now key.now result }
     {
         let (hash, idx) = self.route_of(key);
         RefMut::find(self.shards_mut(rt, idx), hash, key)
@@ -152,7 +146,7 @@ impl<K: Eq + Hash, V, S: BuildHasher> DashMap<K, V, S> {
         f: F,
     ) -> Option<(K, V)>
         requires { (p : K × V) → IsTrue (K.eq p.0 key.now) → MayAsk F.FnOnce f p }
-        ensures { LeavesBy ⟦<Self as Keyed>⟧.by self.now RemoveIf key.now (Pair result) (Answered F.FnOnce f) (λ s t. Loses s t result) }
+        ensures { RemovesBy ⟦<Self as Keyed>⟧.by self.now RemoveIf key.now result (Answered F.FnOnce f) }
     {
         let (hash, idx) = self.route_of(key);
         self.shards_mut(rt, idx).remove_if_hashed(hash, key, f)
@@ -170,7 +164,7 @@ impl<K: Eq + Hash, V, S: BuildHasher> DashMap<K, V, S> {
         f: F,
     ) -> Option<(K, V)>
         requires { (p : K × V) → IsTrue (K.eq p.0 key.now) → MayChange F.FnOnce f p }
-        ensures { LeavesBy ⟦<Self as Keyed>⟧.by self.now RemoveIfMut key.now (Pair result) (ChangesOn F.FnOnce f) (λ s t. Loses s t result) }
+        ensures { RemovesBy ⟦<Self as Keyed>⟧.by self.now RemoveIfMut key.now result (ChangesOn F.FnOnce f) }
     {
         let (hash, idx) = self.route_of(key);
         self.shards_mut(rt, idx).remove_if_mut_hashed(hash, key, f)
@@ -187,7 +181,7 @@ impl<K: Eq + Hash, V, S: BuildHasher> DashMap<K, V, S> {
         f: F,
     ) -> Option<T>
         requires { (p : K × V) → IsTrue (K.eq p.0 key.now) → MayAsk F.FnOnce f p }
-        ensures { SawShard ⟦<Self as Keyed>⟧.by self.now key.now (λ s. Viewed F.FnOnce f (at K.eq (pairs s) key.now) result) }
+        ensures { SawAt ⟦<Self as Keyed>⟧.by self.now key.now (λ p. Viewed F.FnOnce f p result) }
     {
         let (hash, idx) = self.route_of(key);
         let guard = self.row[idx].read(rt);
@@ -202,7 +196,7 @@ impl<K: Eq + Hash, V, S: BuildHasher> DashMap<K, V, S> {
     #[inline]
     pub fn alter<R: Wait + Clock, F: FnOnce(&K, V) -> V>(&self, rt: &R, key: &K, f: F)
         requires { (p : K × V) → IsTrue (K.eq p.0 key.now) → MayGive F.FnOnce f p }
-        ensures { LeavesBy ⟦<Self as Keyed>⟧.by self.now Alter key.now Done (Given F.FnOnce f) (λ s t. shard_len t ≡ shard_len s) }
+        ensures { AltersBy ⟦<Self as Keyed>⟧.by self.now key.now (Given F.FnOnce f) }
     {
         let (hash, idx) = self.route_of(key);
         self.shards_mut(rt, idx).alter_hashed(hash, key, f);
@@ -211,7 +205,7 @@ impl<K: Eq + Hash, V, S: BuildHasher> DashMap<K, V, S> {
     /// Whether there is a pair whose key equals `key`. Waits until no writer has the key's shard. It takes no memory.
     #[inline(always)]
     pub fn contains_key<R: Wait + Clock>(&self, rt: &R, key: &K) -> bool
-        ensures { SawShard ⟦<Self as Keyed>⟧.by self.now key.now (λ (s : ShardState K V S). RepliesOn K.eq s (Contains key.now) (Found result)) }
+        ensures { SawAt {V = V} ⟦<Self as Keyed>⟧.by self.now key.now (λ p. result ≡ is_some p) }
     {
         let (hash, idx) = self.route_of(key);
         let guard = self.row[idx].read(rt);
@@ -221,7 +215,7 @@ impl<K: Eq + Hash, V, S: BuildHasher> DashMap<K, V, S> {
     /// How many pairs there are, held at 2^64 - 1. Waits until no writer has a shard, for one shard after the other: others may change
     /// those that it asked before. It takes no memory.
     pub fn len<R: Wait + Clock>(&self, rt: &R) -> usize
-        ensures { SawShards ⟦<Self as Keyed>⟧.by self.now (λ (a : AloneState K V S). result ≡ min (length (contents a)) (2 ^ 64 - 1)) }
+        ensures { SawShards {V = V} ⟦<Self as Keyed>⟧.by self.now (λ a. result ≡ len_in a) }
     {
         let mut len: usize = 0;
         for lock in self.row.items() {
@@ -233,7 +227,7 @@ impl<K: Eq + Hash, V, S: BuildHasher> DashMap<K, V, S> {
 
     /// Whether there are no pairs. It waits as `len` does.
     pub fn is_empty<R: Wait + Clock>(&self, rt: &R) -> bool
-        ensures { SawShards ⟦<Self as Keyed>⟧.by self.now (λ (a : AloneState K V S). result ≡ (length (contents a) == 0)) }
+        ensures { SawShards {V = V} ⟦<Self as Keyed>⟧.by self.now (λ a. result ≡ (length (contents a) == 0)) }
     {
         self.len(rt) == 0
     }
@@ -241,7 +235,7 @@ impl<K: Eq + Hash, V, S: BuildHasher> DashMap<K, V, S> {
     /// How many pairs there may be before some shard takes memory, if they spread as the shards' room does, held at 2^64 - 1. It waits as
     /// `len` does.
     pub fn capacity<R: Wait + Clock>(&self, rt: &R) -> usize
-        ensures { SawShards ⟦<Self as Keyed>⟧.by self.now (λ (a : AloneState K V S). result ≡ min (sum_by (λ s. s.capacity) a.row) (2 ^ 64 - 1)) }
+        ensures { SawShards {V = V} ⟦<Self as Keyed>⟧.by self.now (λ a. result ≡ room_in a) }
     {
         let mut capacity: usize = 0;
         for lock in self.row.items() {

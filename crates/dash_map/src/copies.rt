@@ -5,7 +5,7 @@ ghost use Rattle.dash_shard.specs.Contents.{at};
 ghost use Rattle.dash_shard.specs.Shard.{pairs, shard_len, Routes, IsShard};
 ghost use Rattle.dash_map.specs.Alone.{IsAlone};
 ghost use Rattle.dash_map.specs.Behind.{SawShards, LeftShards};
-ghost use Rattle.dash_map.specs.Copies.{copy_rules, CopiesAlone};
+ghost use Rattle.dash_map.specs.Copies.{CopiesAlone};
 ghost use Rattle.dash_map.specs.inner.Copies.{PutsCopy, IsCopied, AreCopied};
 
 use crate::alone::Alone;
@@ -28,7 +28,7 @@ fn put_copy<K: KeptKey + Drop, V: Kept + Drop, S: BuildHasher + Clone>(
     requires route { Routes ⟦<Shard<K, V, S> as Keyed>⟧.by shard.old key.now }
     requires absent { at K.eq (pairs shard.old) key.now ≡ None }
     requires room { shard_len shard.old < shard.old.capacity }
-    ensures puts { OnOk result (PutsCopy (copy_rules K.eq K.alike V.alike S.is_clone) shard.old shard.new key.now value.now) }
+    ensures puts { OnOk result (PutsCopy K.eq K.alike V.alike S.is_clone shard.old shard.new key.now value.now) }
     ensures lawful { OnOk result (IsShard ⟦<Shard<K, V, S> as Keyed>⟧.by shard.new) }
 {
     let key = key.copy()?;
@@ -43,7 +43,7 @@ fn copy_shard<K: KeptKey + Drop, V: Kept + Drop, S: BuildHasher + Clone + Drop>(
     shard: &Shard<K, V, S>,
 ) -> Result<Shard<K, V, S>, AllocError>
     requires { (s t : S) → S.is_clone s t → HashAlike ⟦<Shard<K, V, S> as Keyed>⟧.by s t }
-    ensures { IfOk result (IsCopied (copy_rules K.eq K.alike V.alike S.is_clone) ⟦<Shard<K, V, S> as Keyed>⟧.by shard.now) }
+    ensures { IfOk result (IsCopied K.eq K.alike V.alike S.is_clone ⟦<Shard<K, V, S> as Keyed>⟧.by shard.now) }
 {
     let hasher = shard.hasher().clone()?;
     let Ok(mut copy) = Shard::new(alloc, hasher, shard.number(), shard.amount(), shard.len()) else {
@@ -61,7 +61,7 @@ pub(crate) fn copy_shards<K: KeptKey + Drop, V: Kept + Drop, S: BuildHasher + Cl
     shards: &[Shard<K, V, S>],
 ) -> Result<Vec<Shard<K, V, S>>, AllocError>
     requires { (s t : S) → S.is_clone s t → HashAlike ⟦<Shard<K, V, S> as Keyed>⟧.by s t }
-    ensures { IfOk result (λ copies. AreCopied (copy_rules K.eq K.alike V.alike S.is_clone) ⟦<Shard<K, V, S> as Keyed>⟧.by shards.now copies.items) }
+    ensures { IfOk result (λ copies. AreCopied K.eq K.alike V.alike S.is_clone ⟦<Shard<K, V, S> as Keyed>⟧.by shards.now copies.items) }
 {
     let mut copies = Vec::with_capacity(alloc, shards.len())?;
     for shard in shards {
@@ -74,7 +74,7 @@ impl<K: KeptKey + Drop, V: Kept + Drop, S: BuildHasher + Clone + Drop> DashMap<K
     // A copy of the map without locks.
     fn copied<R: Wait + Clock>(&self, rt: &R) -> Result<Alone<K, V, S>, AllocError>
         requires { (s t : S) → S.is_clone s t → HashAlike ⟦<Self as Keyed>⟧.by s t }
-        ensures saw { IfOk result (λ copy. SawShards ⟦<Self as Keyed>⟧.by self.now (λ a. CopiesAlone (copy_rules K.eq K.alike V.alike S.is_clone) a copy)) }
+        ensures saw { IfOk result (λ copy. SawShards ⟦<Self as Keyed>⟧.by self.now (λ a. CopiesAlone K.eq K.alike V.alike S.is_clone a copy)) }
         ensures lawful { IfOk result (IsAlone ⟦<Self as Keyed>⟧.by) }
     {
         let alloc = self.row.allocator();
@@ -96,7 +96,7 @@ impl<K: KeptKey + Drop, V: Kept + Drop, S: BuildHasher + Clone + Drop> DashMap<K
     pub fn clone<R: Wait + Clock>(&self, rt: &R) -> Result<Self, AllocError>
         requires { (s t : S) → S.is_clone s t → HashAlike ⟦<Self as Keyed>⟧.by s t }
         ensures { IfOk result (λ copy. SawShards ⟦<Self as Keyed>⟧.by self.now
-            (λ a. LeftShards ⟦<Self as Keyed>⟧.by copy (CopiesAlone (copy_rules K.eq K.alike V.alike S.is_clone) a))) }
+            (λ a. LeftShards ⟦<Self as Keyed>⟧.by copy (CopiesAlone K.eq K.alike V.alike S.is_clone a))) }
     {
         Ok(self.copied(rt)?.end())
     }

@@ -1,14 +1,13 @@
 //! Lists of pairs that are put into a map, or make one.
-ghost use Rattle.std.specs.Prelude.{◌≡◌, ◌∷◌, [], ◌↔◌, None, Some, IfErr, IfOk, IsErrOf, length};
+ghost use Rattle.std.specs.Prelude.{◌≡◌, ◌↔◌, None, IfErr, IfOk, IsErrOf, length};
 ghost use Rattle.std.specs.Iterator.{IsFiniteIterable};
 ghost use Rattle.dash_shard.specs.Contents.{EachOnce};
-ghost use Rattle.dash_shard.specs.Errors.{IsOneOf};
 ghost use Rattle.dash_shard.specs.Hashing.{HashAlike};
-ghost use Rattle.dash_shard.specs.declared.error.ConstructError.TheVariants.{Memory, Parallelism};
+ghost use Rattle.dash_shard.specs.declared.error.ConstructError.TheVariants.{Parallelism};
 ghost use Rattle.dash_map.specs.Alone.{IsAlone, KeepsRoom, contents};
 ghost use Rattle.dash_map.specs.Amounts.{IsDefault, IsParallelism};
-ghost use Rattle.dash_map.specs.Behind.{LeavesShards, LeftShards};
-ghost use Rattle.dash_map.specs.Extend.{Extends, Gave, MadeOf, MatchFrom, IsRefusedAmong, Overfills};
+ghost use Rattle.dash_map.specs.Behind.{LeftShards};
+ghost use Rattle.dash_map.specs.Extend.{Extends, ExtendsBehind, Gave, MadeOf, NotMade, IsRefusedAmong, IsRefusedOf};
 ghost use Rattle.dash_map.specs.declared.extend.FromRefused.TheVariants.{Construct, Pair};
 
 use crate::alone::Alone;
@@ -120,8 +119,7 @@ impl<K: Eq + Hash + Drop, V: Drop, S: BuildHasher + Clone + Default + Drop> Alon
         ensures amount { IfOk result (λ a. IsDefault parallelism (length a.row)) }
         ensures lawful { IfOk result (IsAlone ⟦<Self as Keyed>⟧.by) }
         ensures bad_parallelism { IsErrOf result (Construct Parallelism) ↔ (IsParallelism parallelism → ⊥) }
-        ensures refused { IfErr result (λ r. MatchFrom r (IsOneOf (Parallelism ∷ Memory ∷ []))
-            (λ e. Gave U.into_iter_gives U.IntoIter.next_gives iter (Some (e.key, e.value)) (λ ps. Overfills ⟦<Self as Keyed>⟧.by ps e.key))) }
+        ensures refused { IfErr result (NotMade (IsRefusedOf ⟦<Self as Keyed>⟧.by U.into_iter_gives U.IntoIter.next_gives iter)) }
     {
         let iter = iter.into_iter();
         let amount = default_shard_amount(parallelism)?;
@@ -143,7 +141,7 @@ impl<K: Eq + Hash + Drop, V: Drop, S: BuildHasher + Clone + Default + Drop> Alon
         ensures amount { IfOk result (λ a. IsDefault parallelism (length a.row)) }
         ensures lawful { IfOk result (IsAlone ⟦<Self as Keyed>⟧.by) }
         ensures bad_parallelism { IsErrOf result (Construct Parallelism) ↔ (IsParallelism parallelism → ⊥) }
-        ensures refused { IfErr result (λ r. MatchFrom r (IsOneOf (Parallelism ∷ Memory ∷ [])) (λ e. IsRefusedAmong ⟦<Self as Keyed>⟧.by list.items e)) }
+        ensures refused { IfErr result (NotMade (IsRefusedAmong ⟦<Self as Keyed>⟧.by list.items)) }
     {
         Self::from_iter(alloc, list, parallelism)
     }
@@ -158,7 +156,7 @@ impl<K: Eq + Hash + Drop, V: Drop, S: BuildHasher> DashMap<K, V, S> {
         iter: U,
     ) -> Result<(), ExtendRefused<K, V>>
         requires { IsFiniteIterable U.into_iter_gives U.IntoIter.can_next U.IntoIter.remaining iter }
-        ensures extends { LeavesShards ⟦<Self as Keyed>⟧.by self.old (λ a b. Extends ⟦<Self as Keyed>⟧.by U.into_iter_gives U.IntoIter.next_gives iter a b result) }
+        ensures extends { ExtendsBehind ⟦<Self as Keyed>⟧.by U.into_iter_gives U.IntoIter.next_gives iter self.old result }
         ensures same { self.new ≡ self.old }
     {
         replace_with(self, iter, Self::extend_alone::<U>)
@@ -170,7 +168,7 @@ impl<K: Eq + Hash + Drop, V: Drop, S: BuildHasher> DashMap<K, V, S> {
         iter: U,
     ) -> (Self, Result<(), ExtendRefused<K, V>>)
         requires { IsFiniteIterable U.into_iter_gives U.IntoIter.can_next U.IntoIter.remaining iter }
-        ensures extends { LeavesShards ⟦<Self as Keyed>⟧.by self (λ a b. Extends ⟦<Self as Keyed>⟧.by U.into_iter_gives U.IntoIter.next_gives iter a b result.1) }
+        ensures extends { ExtendsBehind ⟦<Self as Keyed>⟧.by U.into_iter_gives U.IntoIter.next_gives iter self result.1 }
         ensures same { result.0 ≡ self }
     {
         let mut alone = self.alone();
@@ -193,8 +191,7 @@ impl<K: Eq + Hash + Drop, V: Drop, S: BuildHasher + Clone + Default + Drop> Dash
         ensures hasher { IfOk result (λ m. S.is_default m.hasher) }
         ensures amount { IfOk result (λ m. IsDefault parallelism m.amount) }
         ensures bad_parallelism { IsErrOf result (Construct Parallelism) ↔ (IsParallelism parallelism → ⊥) }
-        ensures refused { IfErr result (λ r. MatchFrom r (IsOneOf (Parallelism ∷ Memory ∷ []))
-            (λ e. Gave U.into_iter_gives U.IntoIter.next_gives iter (Some (e.key, e.value)) (λ ps. Overfills ⟦<Self as Keyed>⟧.by ps e.key))) }
+        ensures refused { IfErr result (NotMade (IsRefusedOf ⟦<Self as Keyed>⟧.by U.into_iter_gives U.IntoIter.next_gives iter)) }
     {
         Ok(Alone::from_iter(alloc, iter, parallelism)?.end())
     }
@@ -210,7 +207,7 @@ impl<K: Eq + Hash + Drop, V: Drop, S: BuildHasher + Clone + Default + Drop> Dash
         ensures hasher { IfOk result (λ m. S.is_default m.hasher) }
         ensures amount { IfOk result (λ m. IsDefault parallelism m.amount) }
         ensures bad_parallelism { IsErrOf result (Construct Parallelism) ↔ (IsParallelism parallelism → ⊥) }
-        ensures refused { IfErr result (λ r. MatchFrom r (IsOneOf (Parallelism ∷ Memory ∷ [])) (λ e. IsRefusedAmong ⟦<Self as Keyed>⟧.by list.items e)) }
+        ensures refused { IfErr result (NotMade (IsRefusedAmong ⟦<Self as Keyed>⟧.by list.items)) }
     {
         Ok(Alone::from_pairs(alloc, list, parallelism)?.end())
     }

@@ -1,13 +1,12 @@
 //! A view of a map that nobody writes any more.
-ghost use Rattle.std.specs.Prelude.{◌≡◌, ◌≤◌, ◌-◌, ◌^◌, ◌==◌, IfOk, IfErr, min, length, map, sum_by};
+ghost use Rattle.std.specs.Prelude.{◌≡◌, ◌≤◌, ◌==◌, IfOk, IfErr, is_some, length, map};
 ghost use Rattle.std.specs.Option.{option_map};
 ghost use Rattle.std.specs.Map.Iter.{deref_pair};
 ghost use Rattle.dash_shard.specs.Hashing.{by};
 ghost use Rattle.dash_shard.specs.Contents.{at};
-ghost use Rattle.dash_shard.specs.Steps.{Get, Contains, Found, Pair};
-ghost use Rattle.dash_map.specs.Alone.{IsAlone, RepliesAlone, contents};
+ghost use Rattle.dash_map.specs.Alone.{IsAlone, contents, len_in, room_in};
 ghost use Rattle.dash_map.specs.Behind.{IsFound, IsLeft};
-ghost use Rattle.dash_map.specs.Copies.{copy_rules, CopiesAlone};
+ghost use Rattle.dash_map.specs.Copies.{CopiesAlone};
 ghost use Rattle.dash_shard.specs.Hashing.{HashAlike};
 
 use crate::alone::Alone;
@@ -79,7 +78,7 @@ impl<K: Eq + Hash, V, S: BuildHasher> ReadOnlyView<K, V, S> {
 
     /// How many pairs there are, held at 2^64 - 1. It asks each shard once.
     pub fn len(&self) -> usize
-        ensures len { result ≡ min (length (contents self.now)) (2 ^ 64 - 1) }
+        ensures len { result ≡ len_in self.now }
         ensures lawful { IsAlone ⟦<Self as Keyed>⟧.by self.now }
     {
         self.lent().len()
@@ -95,8 +94,8 @@ impl<K: Eq + Hash, V, S: BuildHasher> ReadOnlyView<K, V, S> {
 
     /// How many pairs the shards have room for, held at 2^64 - 1. It asks each shard once.
     pub fn capacity(&self) -> usize
-        ensures capacity { result ≡ min (sum_by (λ s. s.capacity) self.now.row) (2 ^ 64 - 1) }
-        ensures holds { min (length (contents self.now)) (2 ^ 64 - 1) ≤ result }
+        ensures capacity { result ≡ room_in self.now }
+        ensures holds { len_in self.now ≤ result }
         ensures lawful { IsAlone ⟦<Self as Keyed>⟧.by self.now }
     {
         self.lent().capacity()
@@ -105,7 +104,7 @@ impl<K: Eq + Hash, V, S: BuildHasher> ReadOnlyView<K, V, S> {
     /// Whether there is a pair whose key equals `key`.
     #[inline]
     pub fn contains_key(&self, key: &K) -> bool
-        ensures found { RepliesAlone ⟦<Self as Keyed>⟧.by self.now (Contains key.now) (Found result) }
+        ensures found { result ≡ is_some (at K.eq (contents self.now) key.now) }
         ensures lawful { IsAlone ⟦<Self as Keyed>⟧.by self.now }
     {
         self.get_key_value(key).is_some()
@@ -124,7 +123,7 @@ impl<K: Eq + Hash, V, S: BuildHasher> ReadOnlyView<K, V, S> {
     /// The pair whose key equals `key`.
     #[inline]
     pub fn get_key_value(&self, key: &K) -> Option<(&K, &V)>
-        ensures pair { RepliesAlone ⟦<Self as Keyed>⟧.by self.now (Get key.now) (Pair (option_map deref_pair result)) }
+        ensures pair { option_map deref_pair result ≡ at K.eq (contents self.now) key.now }
         ensures lawful { IsAlone ⟦<Self as Keyed>⟧.by self.now }
     {
         self.lent().get(key)
@@ -188,7 +187,7 @@ impl<K: KeptKey + Drop, V: Kept + Drop, S: BuildHasher + Clone + Drop> ReadOnlyV
     /// is none it is refused (4), and keeps nothing. Which slots the pairs have is left open.
     pub fn clone(&self) -> Result<Self, AllocError>
         requires { (s t : S) → S.is_clone s t → HashAlike ⟦<Self as Keyed>⟧.by s t }
-        ensures copies { IfOk result (CopiesAlone (copy_rules K.eq K.alike V.alike S.is_clone) self.now) }
+        ensures copies { IfOk result (CopiesAlone K.eq K.alike V.alike S.is_clone self.now) }
         ensures lawful { IfOk result (IsAlone ⟦<Self as Keyed>⟧.by) }
     {
         let hasher = self.hasher.clone()?;

@@ -10,7 +10,8 @@ ghost use Rattle.dash_steps.specs.inner.Plan.{change_step, HasPair};
 ghost use Rattle.dash_steps.specs.inner.Sweep.{keeping};
 ghost use Rattle.dash_map.specs.Alone.{IsAlone, contents, keys_in, KeepsRoom};
 ghost use Rattle.dash_map.specs.Walks.{WalksGive};
-ghost use Rattle.dash_map.specs.inner.Run.{TakesLike, IsMissing};
+ghost use Rattle.dash_map.specs.declared.run.Fault.TheVariants.{NoSuchShard};
+ghost use Rattle.dash_map.specs.inner.Run.{TakesLike, IsMissing, swept};
 
 use crate::alone::Alone;
 use crate::map::DashMap;
@@ -44,7 +45,7 @@ pub struct RunOutcome<K, V, A = ()> {
 }
 
 impl<K: KeptKey + Drop, V: Kept + Drop, S: BuildHasher> Alone<K, V, S> {
-    ghost use Rattle.dash_map.specs.Run.{Ran, IsRefused};
+    ghost use Rattle.dash_map.specs.Run.{RanAlone, IsRefused};
     ghost use Rattle.dash_map.specs.inner.Run.{IsBare, NamesShard};
 
     // Makes of the pair at a key what was decided.
@@ -77,8 +78,8 @@ impl<K: KeptKey + Drop, V: Kept + Drop, S: BuildHasher> Alone<K, V, S> {
 
     // The pairs of a shard, as a reply.
     fn read(&self, shard: usize) -> Result<Reply<K, V>, Fault>
-        ensures taken { IfOk result (λ reply. TakesLike ⟦<Self as Keyed>⟧.by K.alike V.alike self.now self.now (table.Read shard) reply) }
-        ensures fault { IfErr result (λ fault. (fault ≡ Fault.NoSuchShard) ↔ (length self.now.row ≤ shard)) }
+        ensures taken { IfOk result (TakesLike ⟦<Self as Keyed>⟧.by K.alike V.alike self.now self.now (table.Read shard)) }
+        ensures fault { IfErr result (λ e. (e ≡ NoSuchShard) ↔ (length self.now.row ≤ shard)) }
     {
         if shard >= self.row.len() {
             return Err(Fault::NoSuchShard);
@@ -91,8 +92,8 @@ impl<K: KeptKey + Drop, V: Kept + Drop, S: BuildHasher> Alone<K, V, S> {
 
     // How many pairs a shard has, as a reply.
     fn count(&self, shard: usize) -> Result<Reply<K, V>, Fault>
-        ensures taken { IfOk result (λ reply. TakesLike ⟦<Self as Keyed>⟧.by K.alike V.alike self.now self.now (table.Count shard) reply) }
-        ensures fault { IfErr result (λ fault. (fault ≡ Fault.NoSuchShard) ↔ (length self.now.row ≤ shard)) }
+        ensures taken { IfOk result (TakesLike ⟦<Self as Keyed>⟧.by K.alike V.alike self.now self.now (table.Count shard)) }
+        ensures fault { IfErr result (λ e. (e ≡ NoSuchShard) ↔ (length self.now.row ≤ shard)) }
     {
         if shard >= self.row.len() {
             return Err(Fault::NoSuchShard);
@@ -107,8 +108,8 @@ impl<K: KeptKey + Drop, V: Kept + Drop, S: BuildHasher> Alone<K, V, S> {
         action: &A,
         all: bool,
     ) -> Result<Reply<K, V>, Fault>
-        ensures taken { IfOk result (λ reply. TakesLike ⟦<Self as Keyed>⟧.by K.alike V.alike self.old self.new (table.Retain shard (keeping all (A.acts action.now))) reply) }
-        ensures refused { IfErr result (λ fault. (fault ≡ Fault.NoSuchShard) × (length self.old.row ≤ shard) × (self.new ≡ self.old)) }
+        ensures taken { IfOk result (TakesLike ⟦<Self as Keyed>⟧.by K.alike V.alike self.old self.new (swept shard all (A.acts action.now))) }
+        ensures refused { IfErr result (λ e. (e ≡ NoSuchShard) × (length self.old.row ≤ shard) × (self.new ≡ self.old)) }
         ensures stays { KeepsRoom self.old self.new }
         ensures lawful { IsAlone ⟦<Self as Keyed>⟧.by self.new }
     {
@@ -134,7 +135,7 @@ impl<K: KeptKey + Drop, V: Kept + Drop, S: BuildHasher> Alone<K, V, S> {
     ) -> Result<Reply<K, V>, (ShardStep<K, V, A>, Fault)>
         requires asked { Asks step }
         requires lawful { IsAlone ⟦<Self as Keyed>⟧.by self.old }
-        ensures taken { IfOk result (λ reply. TakesLike ⟦<Self as Keyed>⟧.by K.alike V.alike self.old self.new (step_of A.acts step) reply) }
+        ensures taken { IfOk result (TakesLike ⟦<Self as Keyed>⟧.by K.alike V.alike self.old self.new (step_of A.acts step)) }
         ensures refused { IfErr result (λ e. (e.0 ≡ step) × (self.new ≡ self.old)) }
         ensures fault { IfErr result (λ e. IsMissing ⟦<Self as Keyed>⟧.by self.old (step_of A.acts step) e.1) }
         ensures stays { KeepsRoom self.old self.new }
@@ -156,9 +157,9 @@ impl<K: KeptKey + Drop, V: Kept + Drop, S: BuildHasher> Alone<K, V, S> {
     ) -> Result<Reply<K, V>, Fault>
         requires named { NamesShard step.now }
         requires lawful { IsAlone ⟦<Self as Keyed>⟧.by self.old }
-        ensures taken { IfOk result (λ reply. TakesLike ⟦<Self as Keyed>⟧.by K.alike V.alike self.old self.new (step_of A.acts step.now) reply) }
+        ensures taken { IfOk result (TakesLike ⟦<Self as Keyed>⟧.by K.alike V.alike self.old self.new (step_of A.acts step.now)) }
         ensures refused { IfErr result (λ fault. self.new ≡ self.old) }
-        ensures fault { IfErr result (λ fault. IsMissing ⟦<Self as Keyed>⟧.by self.old (step_of A.acts step.now) fault) }
+        ensures fault { IfErr result (IsMissing ⟦<Self as Keyed>⟧.by self.old (step_of A.acts step.now)) }
         ensures stays { KeepsRoom self.old self.new }
         ensures lawful { IsAlone ⟦<Self as Keyed>⟧.by self.new }
     {
@@ -177,7 +178,7 @@ impl<K: KeptKey + Drop, V: Kept + Drop, S: BuildHasher> Alone<K, V, S> {
         step: ShardStep<K, V, A>,
     ) -> Result<Reply<K, V>, (ShardStep<K, V, A>, Fault)>
         requires { IsAlone ⟦<Self as Keyed>⟧.by self.old }
-        ensures taken { IfOk result (λ reply. TakesLike ⟦<Self as Keyed>⟧.by K.alike V.alike self.old self.new (step_of A.acts step) reply) }
+        ensures taken { IfOk result (TakesLike ⟦<Self as Keyed>⟧.by K.alike V.alike self.old self.new (step_of A.acts step)) }
         ensures refused { IfErr result (λ e. (e.0 ≡ step) × (self.new ≡ self.old)) }
         ensures fault { IfErr result (λ e. IsMissing ⟦<Self as Keyed>⟧.by self.old (step_of A.acts step) e.1) }
         ensures stays { KeepsRoom self.old self.new }
@@ -214,7 +215,7 @@ impl<K: KeptKey + Drop, V: Kept + Drop, S: BuildHasher> Alone<K, V, S> {
         &mut self,
         mut steps: Vec<ShardStep<K, V, A>>,
     ) -> RunOutcome<K, V, A>
-        ensures ran { Ran (rules K.alike V.alike (keys_in ⟦<Self as Keyed>⟧.by self.old)) A.acts (contents self.old) (contents self.new) steps.items result }
+        ensures ran { RanAlone ⟦<Self as Keyed>⟧.by K.alike V.alike A.acts self.old self.new steps.items result }
         ensures walks { WalksGive (rules K.alike V.alike (keys_in ⟦<Self as Keyed>⟧.by self.old)) }
         ensures stays { KeepsRoom self.old self.new }
         ensures lawful { IsAlone ⟦<Self as Keyed>⟧.by self.new }

@@ -1,10 +1,10 @@
 //! The shards of a map without locks, lent to be read.
-ghost use Rattle.std.specs.Prelude.{◌≡◌, ◌<◌, ◌≤◌, ◌-◌, ◌^◌, min, length, sum_by};
+ghost use Rattle.std.specs.Prelude.{◌≡◌, ◌<◌, ◌≤◌, length};
 ghost use Rattle.std.specs.Option.{option_map};
 ghost use Rattle.std.specs.Map.Iter.{deref_pair};
 ghost use Rattle.dash_shard.specs.Hashing.{by};
-ghost use Rattle.dash_shard.specs.Steps.{Get, Pair};
-ghost use Rattle.dash_map.specs.Alone.{IsAlone, RepliesAlone, contents, keys_in};
+ghost use Rattle.dash_shard.specs.Contents.{at};
+ghost use Rattle.dash_map.specs.Alone.{IsAlone, contents, keys_in, len_in, room_in};
 
 use crate::read_only::ViewIter;
 use dash_shard::hash::determine_shard;
@@ -62,7 +62,7 @@ impl<'a, K: Eq + Hash, V, S: BuildHasher> Shards<'a, K, V, S> {
     // The pair whose key equals `key`, by one hash and one search.
     #[inline]
     pub(crate) fn get(&self, key: &K) -> Option<(&'a K, &'a V)>
-        ensures { RepliesAlone ⟦<Self as Keyed>⟧.by self.now (Get key.now) (Pair (option_map deref_pair result)) }
+        ensures { option_map deref_pair result ≡ at K.eq (contents self.now) key.now }
     {
         let (hash, idx) = self.route_of(key);
         self.get_hashed(hash, idx, key)
@@ -74,7 +74,7 @@ impl<'a, K: Eq + Hash, V, S: BuildHasher> Shards<'a, K, V, S> {
         requires hash { hash ≡ ⟦<Self as Keyed>⟧.by.hash self.now.hasher key.now }
         requires idx { idx ≡ (keys_in ⟦<Self as Keyed>⟧.by self.now).route key.now }
         requires below { idx < length self.now.row }
-        ensures { RepliesAlone ⟦<Self as Keyed>⟧.by self.now (Get key.now) (Pair (option_map deref_pair result)) }
+        ensures { option_map deref_pair result ≡ at K.eq (contents self.now) key.now }
     {
         prove!(idx < self.shards.len());
         let shard = &self.shards[idx];
@@ -84,7 +84,7 @@ impl<'a, K: Eq + Hash, V, S: BuildHasher> Shards<'a, K, V, S> {
 
     // How many pairs there are, held at 2^64 - 1.
     pub(crate) fn len(&self) -> usize
-        ensures len { result ≡ min (length (contents self.now)) (2 ^ 64 - 1) }
+        ensures len { result ≡ len_in self.now }
     {
         let mut len: usize = 0;
         for shard in self.shards {
@@ -95,8 +95,8 @@ impl<'a, K: Eq + Hash, V, S: BuildHasher> Shards<'a, K, V, S> {
 
     // How many pairs there may be before some shard takes memory, held at 2^64 - 1.
     pub(crate) fn capacity(&self) -> usize
-        ensures capacity { result ≡ min (sum_by (λ s. s.capacity) self.now.row) (2 ^ 64 - 1) }
-        ensures holds { min (length (contents self.now)) (2 ^ 64 - 1) ≤ result }
+        ensures capacity { result ≡ room_in self.now }
+        ensures holds { len_in self.now ≤ result }
     {
         let mut capacity: usize = 0;
         for shard in self.shards {

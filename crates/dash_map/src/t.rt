@@ -1,30 +1,25 @@
 //! The calls of a map that threads share, as a trait: code may be written for any such map.
-ghost use Rattle.std.specs.Prelude.{◌≡◌, ◌<◌, ◌==◌, ◌-◌, ◌^◌, min, length, sum_by, Option, IsTrue, IfOk, IfSome, IfErr, is_some, option_map};
+ghost use Rattle.std.specs.Prelude.{◌≡◌, ◌<◌, ◌==◌, length, IsTrue, IfOk, IfSome, is_some};
 ghost use Rattle.std.specs.Map.Calls.{CalledAtPair, TakesPair};
 ghost use Rattle.dash_shard.specs.Closures.{MayAsk, Viewed, MayChange, ChangesOn, MayGive, Answered, Given};
 ghost use Rattle.dash_shard.specs.Each.{CalledOnPair, TakesOnPair};
-ghost use Rattle.dash_shard.specs.Hashing.{by};
+ghost use Rattle.dash_shard.specs.Held.{Inserts};
 ghost use Rattle.dash_shard.specs.Lock.{FoundBehind};
-ghost use Rattle.dash_map.specs.Alone.{AloneState, contents};
-ghost use Rattle.dash_map.specs.Behind.{SawShards, LeavesShard, LeavesShards, CallableOnPairs, SawShard, StandsAt, LeavesBy};
+ghost use Rattle.dash_shard.specs.Steps.{RemoveIf, RemoveIfMut};
+ghost use Rattle.dash_map.specs.Alone.{contents, len_in, room_in};
+ghost use Rattle.dash_map.specs.AllPairs.{ClearsAlone, ShrinksAlone, RetainsAlone, AltersAllAlone};
+ghost use Rattle.dash_map.specs.Behind.{SawShards, LeavesShard, LeavesShards, CallableOnPairs, SawAt, IsShardOf, Removes, RemovesBy, AltersBy};
+ghost use Rattle.dash_map.specs.Gets.{IsGot, IsGotMut, IsGotEntry};
 ghost use Rattle.dash_map.specs.Map.{MapState};
 ghost use Rattle.dash_map.specs.Tries.{UnlessLocked, UnlessLockedOut};
 ghost use Rattle.dash_map.specs.Walking.{at_start};
-ghost use Rattle.dash_map.specs.AllPairs.{ClearsAlone, ShrinksAlone, RetainsAlone, AltersAllAlone};
-ghost use Rattle.dash_ref.specs.EntryCases.{IsEntryOf, entry_shard};
-ghost use Rattle.dash_ref.specs.Ref.{Stands, pair_of};
-ghost use Rattle.dash_ref.specs.RefMut.{GetsMut};
-ghost use Rattle.dash_ref.specs.Try.{found};
-ghost use Rattle.dash_shard.specs.Contents.{at};
-ghost use Rattle.dash_shard.specs.Shard.{shard_len, HasKey, RepliesOn, TakesInPlace, IsTagged, ShardState, pairs};
-ghost use Rattle.dash_shard.specs.Held.{Inserts, Loses};
-ghost use Rattle.dash_shard.specs.Steps.{Remove, RemoveIf, RemoveIfMut, Alter, Done, Pair, Found, Get, Contains};
 
 use crate::iter::{Iter, IterMut};
 use crate::map::DashMap;
 use dash_ref::mapref::entry::{Entry, EntryRefused, TryEntryRefused};
 use dash_ref::mapref::one::{Ref, RefMut};
 use dash_ref::try_result::TryResult;
+use dash_shard::keyed::Keyed;
 use dash_shard::lock::RwLockReadGuard;
 use dash_shard::shard::held::ShardMut;
 use dash_shard::shard::{InsertRefused, Shard};
@@ -51,25 +46,25 @@ pub trait Map<K: Eq + Hash, V, S: BuildHasher> {
         shard: usize,
     ) -> RwLockReadGuard<'_, Shard<K, V, S>>
         requires { shard < (state self.now).amount }
-        ensures tagged { IsTagged (by K.Hash S.BuildHasher S.Hasher.Hasher) (state self.now).hasher (state self.now).amount shard result.value }
+        ensures tagged { IsShardOf ⟦<DashMap<K, V, S> as Keyed>⟧.by (state self.now) shard result.value }
         ensures found { FoundBehind result.value };
 
     /// As `DashMap::shards_mut`.
     fn _yield_write_shard<R: Wait + Clock>(&self, rt: &R, shard: usize) -> ShardMut<'_, K, V, S>
         requires { shard < (state self.now).amount }
-        ensures tagged { IsTagged (by K.Hash S.BuildHasher S.Hasher.Hasher) (state self.now).hasher (state self.now).amount shard result }
+        ensures tagged { IsShardOf ⟦<DashMap<K, V, S> as Keyed>⟧.by (state self.now) shard result }
         ensures found { FoundBehind result };
 
     /// As `_yield_read_shard`, for a caller who waits for nobody: none where `RwLock::try_read` doesn't get the shard.
     fn _try_yield_read_shard(&self, shard: usize) -> Option<RwLockReadGuard<'_, Shard<K, V, S>>>
         requires { shard < (state self.now).amount }
-        ensures tagged { IfSome result (λ r. IsTagged (by K.Hash S.BuildHasher S.Hasher.Hasher) (state self.now).hasher (state self.now).amount shard r.value) }
+        ensures tagged { IfSome result (λ r. IsShardOf ⟦<DashMap<K, V, S> as Keyed>⟧.by (state self.now) shard r.value) }
         ensures found { IfSome result (λ r. FoundBehind r.value) };
 
     /// As `_yield_write_shard`, for a caller who waits for nobody: none where `RwLock::try_write` doesn't get the shard.
     fn _try_yield_write_shard(&self, shard: usize) -> Option<ShardMut<'_, K, V, S>>
         requires { shard < (state self.now).amount }
-        ensures tagged { IfSome result (IsTagged (by K.Hash S.BuildHasher S.Hasher.Hasher) (state self.now).hasher (state self.now).amount shard) }
+        ensures tagged { IfSome result (IsShardOf ⟦<DashMap<K, V, S> as Keyed>⟧.by (state self.now) shard) }
         ensures found { IfSome result FoundBehind };
 
     /// As `DashMap::insert`.
@@ -82,13 +77,12 @@ pub trait Map<K: Eq + Hash, V, S: BuildHasher> {
     where
         K: Drop,
         V: Drop,
-        ensures { LeavesShard (by K.Hash S.BuildHasher S.Hasher.Hasher) (state self.now) key (λ s t. Inserts K.eq s t key value result) };
+        ensures { LeavesShard ⟦<DashMap<K, V, S> as Keyed>⟧.by (state self.now) key (λ s t. Inserts K.eq s t key value result) };
 
     /// As `DashMap::remove`.
     fn _remove<R: Wait + Clock>(&self, rt: &R, key: &K) -> Option<(K, V)>
         ensures equal { IfSome result (λ pair. IsTrue (K.eq pair.0 key.now)) }
-        ensures leaves { LeavesShard (by K.Hash S.BuildHasher S.Hasher.Hasher) (state self.now) key.now
-            (λ s t. TakesInPlace K.eq s t (Remove key.now) (Pair result) × Loses s t result) };
+        ensures leaves { Removes ⟦<DashMap<K, V, S> as Keyed>⟧.by (state self.now) key.now result };
 
     /// As `DashMap::remove_if`.
     fn _remove_if<R: Wait + Clock, F: FnOnce(&K, &V) -> bool>(
@@ -98,7 +92,7 @@ pub trait Map<K: Eq + Hash, V, S: BuildHasher> {
         f: F,
     ) -> Option<(K, V)>
         requires { (p : K × V) → IsTrue (K.eq p.0 key.now) → MayAsk F.FnOnce f p }
-        ensures { LeavesBy (by K.Hash S.BuildHasher S.Hasher.Hasher) (state self.now) RemoveIf key.now (Pair result) (Answered F.FnOnce f) (λ s t. Loses s t result) };
+        ensures { RemovesBy ⟦<DashMap<K, V, S> as Keyed>⟧.by (state self.now) RemoveIf key.now result (Answered F.FnOnce f) };
 
     /// As `DashMap::remove_if_mut`.
     fn _remove_if_mut<R: Wait + Clock, F: FnOnce(&K, &mut V) -> bool>(
@@ -108,7 +102,7 @@ pub trait Map<K: Eq + Hash, V, S: BuildHasher> {
         f: F,
     ) -> Option<(K, V)>
         requires { (p : K × V) → IsTrue (K.eq p.0 key.now) → MayChange F.FnOnce f p }
-        ensures { LeavesBy (by K.Hash S.BuildHasher S.Hasher.Hasher) (state self.now) RemoveIfMut key.now (Pair result) (ChangesOn F.FnOnce f) (λ s t. Loses s t result) };
+        ensures { RemovesBy ⟦<DashMap<K, V, S> as Keyed>⟧.by (state self.now) RemoveIfMut key.now result (ChangesOn F.FnOnce f) };
 
     /// As `DashMap::iter`.
     fn _iter<'a, R>(&'a self, rt: &'a R) -> Iter<'a, K, V, S, R>
@@ -120,54 +114,40 @@ pub trait Map<K: Eq + Hash, V, S: BuildHasher> {
 
     /// As `DashMap::get`.
     fn _get<R: Wait + Clock>(&self, rt: &R, key: &K) -> Option<Ref<'_, K, V, S>>
-        ensures saw { SawShard (by K.Hash S.BuildHasher S.Hasher.Hasher) (state self.now) key.now (λ s. RepliesOn K.eq s (Get key.now) (Pair (option_map pair_of result))) }
-        ensures equal { IfSome result (λ found. IsTrue (K.eq found.key key.now)) }
-        ensures stands { IfSome result Stands }
-        ensures tagged { IfSome result (λ found. StandsAt (by K.Hash S.BuildHasher S.Hasher.Hasher) (state self.now) key.now found.shard) };
+        ensures { IsGot ⟦<DashMap<K, V, S> as Keyed>⟧.by (state self.now) key.now result };
 
     /// As `DashMap::get_mut`.
     fn _get_mut<R: Wait + Clock>(&self, rt: &R, key: &K) -> Option<RefMut<'_, K, V, S>>
-        ensures saw { SawShard (by K.Hash S.BuildHasher S.Hasher.Hasher) (state self.now) key.now (λ s. GetsMut K.eq s key.now result) }
-        ensures equal { IfSome result (λ found. HasKey K.eq found.shard key.now found.position) }
-        ensures tagged { IfSome result (λ found. StandsAt (by K.Hash S.BuildHasher S.Hasher.Hasher) (state self.now) key.now found.shard) };
+        ensures { IsGotMut ⟦<DashMap<K, V, S> as Keyed>⟧.by (state self.now) key.now result };
 
     /// As `DashMap::try_get`.
     fn _try_get(&self, key: &K) -> TryResult<Ref<'_, K, V, S>>
-        ensures saw { UnlessLocked result (λ r.
-            SawShard (by K.Hash S.BuildHasher S.Hasher.Hasher) (state self.now) key.now (λ s. RepliesOn K.eq s (Get key.now) (Pair (option_map pair_of r)))) }
-        ensures equal { IfSome (found result) (λ r. IsTrue (K.eq r.key key.now)) }
-        ensures stands { IfSome (found result) Stands }
-        ensures tagged { IfSome (found result) (λ r. StandsAt (by K.Hash S.BuildHasher S.Hasher.Hasher) (state self.now) key.now r.shard) };
+        ensures { UnlessLocked result (IsGot ⟦<DashMap<K, V, S> as Keyed>⟧.by (state self.now) key.now) };
 
     /// As `DashMap::try_get_mut`.
     fn _try_get_mut(&self, key: &K) -> TryResult<RefMut<'_, K, V, S>>
-        ensures saw { UnlessLocked result (λ r.
-            SawShard (by K.Hash S.BuildHasher S.Hasher.Hasher) (state self.now) key.now (λ s. GetsMut K.eq s key.now r)) }
-        ensures equal { IfSome (found result) (λ r. HasKey K.eq r.shard key.now r.position) }
-        ensures tagged { IfSome (found result) (λ r. StandsAt (by K.Hash S.BuildHasher S.Hasher.Hasher) (state self.now) key.now r.shard) };
+        ensures { UnlessLocked result (IsGotMut ⟦<DashMap<K, V, S> as Keyed>⟧.by (state self.now) key.now) };
 
     /// As `DashMap::entry`.
     fn _entry<R: Wait + Clock>(&self, rt: &R, key: K) -> Result<Entry<'_, K, V, S>, EntryRefused<K>>
     where
         K: Drop,
         V: Drop,
-        ensures saw { SawShard (by K.Hash S.BuildHasher S.Hasher.Hasher) (state self.now) key (λ s. IsEntryOf K.eq s key result) }
-        ensures tagged { IfOk result (λ e. StandsAt (by K.Hash S.BuildHasher S.Hasher.Hasher) (state self.now) key (entry_shard e)) };
+        ensures { IsGotEntry ⟦<DashMap<K, V, S> as Keyed>⟧.by (state self.now) key result };
 
     /// As `DashMap::try_entry`.
     fn _try_entry(&self, key: K) -> Result<Entry<'_, K, V, S>, TryEntryRefused<K>>
     where
         K: Drop,
         V: Drop,
-        ensures saw { UnlessLockedOut key result (λ r. SawShard (by K.Hash S.BuildHasher S.Hasher.Hasher) (state self.now) key (λ s. IsEntryOf K.eq s key r)) }
-        ensures tagged { IfOk result (λ e. StandsAt (by K.Hash S.BuildHasher S.Hasher.Hasher) (state self.now) key (entry_shard e)) };
+        ensures { UnlessLockedOut key result (IsGotEntry ⟦<DashMap<K, V, S> as Keyed>⟧.by (state self.now) key) };
 
     /// As `DashMap::shrink_to_fit`.
     fn _shrink_to_fit<R: Wait + Clock>(&self, rt: &R)
     where
         K: Drop,
         V: Drop,
-        ensures { LeavesShards {V = V} (by K.Hash S.BuildHasher S.Hasher.Hasher) (state self.now) (ShrinksAlone K.eq) };
+        ensures { LeavesShards {V = V} ⟦<DashMap<K, V, S> as Keyed>⟧.by (state self.now) (ShrinksAlone K.eq) };
 
     /// As `DashMap::retain`.
     fn _retain<R: Wait + Clock, F: FnMut(&K, &mut V) -> bool>(&self, rt: &R, f: F)
@@ -175,30 +155,30 @@ pub trait Map<K: Eq + Hash, V, S: BuildHasher> {
         K: Drop,
         V: Drop,
         requires { CallableOnPairs (CalledAtPair F.FnMut) (TakesPair F.FnMut) f }
-        ensures { LeavesShards (by K.Hash S.BuildHasher S.Hasher.Hasher) (state self.now) (RetainsAlone K.eq (CalledAtPair F.FnMut) f) };
+        ensures { LeavesShards ⟦<DashMap<K, V, S> as Keyed>⟧.by (state self.now) (RetainsAlone K.eq (CalledAtPair F.FnMut) f) };
 
     /// As `DashMap::len`.
     fn _len<R: Wait + Clock>(&self, rt: &R) -> usize
-        ensures { SawShards (by K.Hash S.BuildHasher S.Hasher.Hasher) (state self.now) (λ (a : AloneState K V S). result ≡ min (length (contents a)) (2 ^ 64 - 1)) };
+        ensures { SawShards {V = V} ⟦<DashMap<K, V, S> as Keyed>⟧.by (state self.now) (λ a. result ≡ len_in a) };
 
     /// As `DashMap::capacity`.
     fn _capacity<R: Wait + Clock>(&self, rt: &R) -> usize
-        ensures { SawShards (by K.Hash S.BuildHasher S.Hasher.Hasher) (state self.now) (λ (a : AloneState K V S). result ≡ min (sum_by (λ s. s.capacity) a.row) (2 ^ 64 - 1)) };
+        ensures { SawShards {V = V} ⟦<DashMap<K, V, S> as Keyed>⟧.by (state self.now) (λ a. result ≡ room_in a) };
 
     /// As `DashMap::alter`.
     fn _alter<R: Wait + Clock, F: FnOnce(&K, V) -> V>(&self, rt: &R, key: &K, f: F)
         requires { (p : K × V) → IsTrue (K.eq p.0 key.now) → MayGive F.FnOnce f p }
-        ensures { LeavesBy (by K.Hash S.BuildHasher S.Hasher.Hasher) (state self.now) Alter key.now Done (Given F.FnOnce f) (λ s t. shard_len t ≡ shard_len s) };
+        ensures { AltersBy ⟦<DashMap<K, V, S> as Keyed>⟧.by (state self.now) key.now (Given F.FnOnce f) };
 
     /// As `DashMap::alter_all`.
     fn _alter_all<R: Wait + Clock, F: FnMut(&K, V) -> V>(&self, rt: &R, f: F)
         requires { CallableOnPairs (CalledOnPair F.FnMut) (TakesOnPair F.FnMut) f }
-        ensures { LeavesShards (by K.Hash S.BuildHasher S.Hasher.Hasher) (state self.now) (AltersAllAlone K.eq (CalledOnPair F.FnMut) f) };
+        ensures { LeavesShards ⟦<DashMap<K, V, S> as Keyed>⟧.by (state self.now) (AltersAllAlone K.eq (CalledOnPair F.FnMut) f) };
 
     /// As `DashMap::view`.
     fn _view<R: Wait + Clock, T, F: FnOnce(&K, &V) -> T>(&self, rt: &R, key: &K, f: F) -> Option<T>
         requires { (p : K × V) → IsTrue (K.eq p.0 key.now) → MayAsk F.FnOnce f p }
-        ensures { SawShard (by K.Hash S.BuildHasher S.Hasher.Hasher) (state self.now) key.now (λ s. Viewed F.FnOnce f (at K.eq (pairs s) key.now) result) };
+        ensures { SawAt ⟦<DashMap<K, V, S> as Keyed>⟧.by (state self.now) key.now (λ p. Viewed F.FnOnce f p result) };
 
     /// A copy of `DashMap::hasher`, refused where it finds no memory.
     fn _hasher(&self) -> Result<S, AllocError>
@@ -211,15 +191,15 @@ pub trait Map<K: Eq + Hash, V, S: BuildHasher> {
     where
         K: Drop,
         V: Drop,
-        ensures { LeavesShards {V = V} (by K.Hash S.BuildHasher S.Hasher.Hasher) (state self.now) ClearsAlone };
+        ensures { LeavesShards {V = V} ⟦<DashMap<K, V, S> as Keyed>⟧.by (state self.now) ClearsAlone };
 
     /// As `DashMap::contains_key`.
     fn _contains_key<R: Wait + Clock>(&self, rt: &R, key: &K) -> bool
-        ensures { SawShard (by K.Hash S.BuildHasher S.Hasher.Hasher) (state self.now) key.now (λ (s : ShardState K V S). RepliesOn K.eq s (Contains key.now) (Found result)) };
+        ensures { SawAt {V = V} ⟦<DashMap<K, V, S> as Keyed>⟧.by (state self.now) key.now (λ p. result ≡ is_some p) };
 
     /// As `DashMap::is_empty`.
     fn _is_empty<R: Wait + Clock>(&self, rt: &R) -> bool
-        ensures { SawShards (by K.Hash S.BuildHasher S.Hasher.Hasher) (state self.now) (λ (a : AloneState K V S). result ≡ (length (contents a) == 0)) };
+        ensures { SawShards {V = V} ⟦<DashMap<K, V, S> as Keyed>⟧.by (state self.now) (λ a. result ≡ (length (contents a) == 0)) };
 }
 
 impl<K: Eq + Hash, V, S: BuildHasher> Map<K, V, S> for DashMap<K, V, S> {

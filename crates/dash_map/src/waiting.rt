@@ -1,11 +1,9 @@
 //! A map that threads share, with the right to wait: the operators of the original stand on it.
-ghost use Rattle.std.specs.Prelude.{◌≡◌, ⊤};
-ghost use Rattle.dash_shard.specs.Held.{Inserts, Loses};
-ghost use Rattle.dash_shard.specs.Shard.{RepliesOn, ShardState, TakesInPlace};
-ghost use Rattle.dash_shard.specs.Steps.{Contains, Found, Pair, Remove};
+ghost use Rattle.std.specs.Prelude.{◌≡◌, ⊤, is_some};
+ghost use Rattle.dash_shard.specs.Held.{Inserts};
 ghost use Rattle.dash_shard.specs.Hashing.{by};
-ghost use Rattle.dash_map.specs.Behind.{LeavesShard, SawShard};
-ghost use Rattle.dash_map.specs.Waiting.{IsGot, IsGotMut};
+ghost use Rattle.dash_map.specs.Behind.{LeavesShard, Removes, SawAt};
+ghost use Rattle.dash_map.specs.Gets.{IsGot, IsGotMut};
 ghost use Rattle.dash_map.specs.Walking.{at_start};
 
 use crate::iter::Iter;
@@ -94,7 +92,7 @@ impl<'a, K: Eq + Hash, V, S: BuildHasher, R: Wait + Clock> BitOr<&K> for Waiting
 impl<K: Eq + Hash, V, S: BuildHasher, R: Wait + Clock> Sub<&K> for Waiting<'_, K, V, S, R> {
     type Output = Option<(K, V)>;
 
-    ghost sub_gives = { λ w key result. LeavesShard (by K.Hash S.BuildHasher S.Hasher.Hasher) w.map.now key.now (λ s t. TakesInPlace K.eq s t (Remove key.now) (Pair result) × Loses s t result) };
+    ghost sub_gives = { λ w key result. Removes (by K.Hash S.BuildHasher S.Hasher.Hasher) w.map.now key.now result };
 
     #[inline]
     fn sub(self, key: &K) -> Option<(K, V)> {
@@ -106,7 +104,7 @@ impl<K: Eq + Hash, V, S: BuildHasher, R: Wait + Clock> Sub<&K> for Waiting<'_, K
 impl<K: Eq + Hash, V, S: BuildHasher, R: Wait + Clock> BitAnd<&K> for Waiting<'_, K, V, S, R> {
     type Output = bool;
 
-    ghost bitand_gives = { λ w key result. SawShard (by K.Hash S.BuildHasher S.Hasher.Hasher) w.map.now key.now (λ (s : ShardState K V S). RepliesOn K.eq s (Contains key.now) (Found result)) };
+    ghost bitand_gives = { λ w key result. SawAt {V = V} (by K.Hash S.BuildHasher S.Hasher.Hasher) w.map.now key.now (λ p. result ≡ is_some p) };
 
     #[inline]
     fn bitand(self, key: &K) -> bool {

@@ -6,10 +6,9 @@ use Rattle.std.specs.List.{FoldsTo}
 use Rattle.std.specs.Map.Calls.{CallableOnEachPair, SomeCallAtPair}
 use Rattle.dash_shard.specs.Each.{CalledAlong}
 use Rattle.dash_shard.specs.Steps.{Act}
-use Rattle.dash_shard.specs.declared.error.ConstructError.{ConstructError}
 use Rattle.dash_map.specs.Alone.{AloneState}
 use Rattle.dash_map.specs.AllPairs.{RetainsAlone}
-use Rattle.dash_map.specs.Extend.{Gave, MatchFrom}
+use Rattle.dash_map.specs.Extend.{Gave, NotMade}
 use Rattle.dash_map.specs.declared.extend.ExtendRefused.{ExtendRefused}
 use Rattle.dash_map.specs.declared.extend.FromRefused.{FromRefused}
 use Rattle.dash_map.specs.declared.extend.FromRefused.TheVariants.{Construct, Pair}
@@ -33,11 +32,11 @@ pub by-inside : {K V : Type 0} (R R' : Act K V → K × V → Type 0) (there : O
 by-inside R R' there P r each = (r.0, r.1, if-inside (R r.0) (R' r.0) there r.2 (each r.0))
 
 -- why no set is made is why no map is
-pub refused-inside : {K V M : Type 0} (P : ConstructError → Type 0) (Q Q' : ExtendRefused K V → Type 0) (back : FromRefused K V) (r : Result M (FromRefused K V)) → IsErrAnd r (λ e. e ≡ back) → MatchFrom back P Q
-    → ((e : ExtendRefused K V) → Q e → Q' e) → IfErr r (λ e. MatchFrom e P Q')
-refused-inside P Q Q' back (Ok m) told is each = absurd told
-refused-inside P Q Q' (Construct x) (Err e) told is each = subst (λ y. MatchFrom y P Q') (sym told) is
-refused-inside P Q Q' (Pair x) (Err e) told is each = subst (λ y. MatchFrom y P Q') (sym told) (each x is)
+pub refused-inside : {K V M : Type 0} (P Q : ExtendRefused K V → Type 0) (back : FromRefused K V) (r : Result M (FromRefused K V)) → IsErrAnd r (λ e. e ≡ back) → NotMade P back
+    → ((e : ExtendRefused K V) → P e → Q e) → IfErr r (NotMade Q)
+refused-inside P Q back (Ok m) told is each = absurd told
+refused-inside P Q (Construct x) (Err e) told is each = subst (NotMade Q) (sym told) is
+refused-inside P Q (Pair x) (Err e) told is each = subst (NotMade Q) (sym told) (each x is)
 
 module _ {X T A : Type 0} (inner : X → T) (gives : T → Option A → T → Type 0) where
   -- what an iterator gave is what the one inside it gave

@@ -5,7 +5,7 @@ use Rattle.std.specs.Fn.{Once, Mut, FnOnceReturnsAt, CalledAt, TakesAt}
 use denote.Ref.{Bor}
 use Rattle.dash_shard.specs.declared.shard.InsertRefused.{InsertRefused}
 use Rattle.dash_map.specs.Alone.{AloneState}
-use Rattle.dash_map.specs.Copies.{copy_rules, CopiesAlone}
+use Rattle.dash_map.specs.Copies.{CopiesAlone}
 
 -- the old value of a key that an `insert` said to be new, or not to be
 abbrev pub stood : Bool → Option (Unit {0})
@@ -31,7 +31,7 @@ module _ {K : Type 0} where
 
 -- a set has copies of the keys of another
 abbrev pub CopiesKeys : {K S : Type 0} → (K → K → Bool) → (K → K → Bool) → (S → S → Type 0) → AloneState K (Unit {0}) S → AloneState K (Unit {0}) S → Type 0
-CopiesKeys eq alike clone = CopiesAlone (copy_rules eq alike (λ _ _. true) clone)
+CopiesKeys eq alike clone = CopiesAlone eq alike (λ _ _. true) clone
 
 module _ {F K : Type 0} where
   -- f may be called at the key

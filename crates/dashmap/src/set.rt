@@ -1,17 +1,15 @@
 //! A set that threads share: a map to unit.
-ghost use Rattle.std.specs.Prelude.{◌≡◌, ◌<◌, ◌∷◌, [], ◌-◌, ◌^◌, ◌==◌, ◌↔◌, min, length, sum_by, IsTrue, IfSome, IfOk, IfErr, IsErrOf};
-ghost use Rattle.std.specs.Option.{option_map};
+ghost use Rattle.std.specs.Prelude.{◌≡◌, ◌<◌, ◌∷◌, [], ◌==◌, ◌↔◌, length, IsTrue, IfSome, IfOk, IfErr, IsErrOf, is_some};
 ghost use Rattle.dash_shard.specs.Hashing.{by, HashAlike, hash_of, route_of_hash, route_by};
 ghost use Rattle.dash_shard.specs.Errors.{IsOneOf};
-ghost use Rattle.dash_shard.specs.Held.{Inserts, Loses};
-ghost use Rattle.dash_shard.specs.Shard.{RepliesOn, ShardState, TakesInPlace};
-ghost use Rattle.dash_shard.specs.Steps.{Contains, Found, Get, Pair, Remove, RemoveIf};
+ghost use Rattle.dash_shard.specs.Held.{Inserts};
+ghost use Rattle.dash_shard.specs.Steps.{RemoveIf};
 ghost use Rattle.dash_shard.specs.declared.error.ConstructError.TheVariants.{CapacityOverflow, Memory, Parallelism};
-ghost use Rattle.dash_ref.specs.Ref.{Stands, pair_of};
-ghost use Rattle.dash_map.specs.Alone.{AloneState, contents};
+ghost use Rattle.dash_map.specs.Alone.{contents, len_in, room_in};
 ghost use Rattle.dash_map.specs.AllPairs.{ClearsAlone, RetainsAlone, ShrinksAlone};
 ghost use Rattle.dash_map.specs.Amounts.{IsDefault, IsParallelism, OverflowsDefault};
-ghost use Rattle.dash_map.specs.Behind.{CallableOnPairs, LeavesBy, LeavesShard, LeavesShards, LeftShards, SawShard, SawShards, StandsAt};
+ghost use Rattle.dash_map.specs.Behind.{CallableOnPairs, LeavesShard, LeavesShards, LeftShards, Removes, RemovesBy, SawAt, SawShards};
+ghost use Rattle.dash_map.specs.Gets.{IsGot};
 ghost use Rattle.dash_map.specs.Locks.{IsMap};
 ghost use Rattle.dash_map.specs.Walking.{at_start};
 ghost use Rattle.dashmap.specs.Set.{AnsweredKey, CalledAtKey, CopiesKeys, MayAskKey, TakesKey, inserted, keys_of, member};
@@ -187,8 +185,7 @@ impl<K: Eq + Hash, S: BuildHasher> DashSet<K, S> {
     #[inline]
     pub fn remove<R: Wait + Clock>(&self, rt: &R, key: &K) -> Option<K>
         ensures equal { IfSome result (λ found. IsTrue (K.eq found key.now)) }
-        ensures leaves { LeavesShard ⟦<Self as Keyed>⟧.by self.now key.now
-            (λ s t. TakesInPlace K.eq s t (Remove key.now) (Pair (member result)) × Loses s t (member result)) }
+        ensures leaves { Removes ⟦<Self as Keyed>⟧.by self.now key.now (member result) }
     {
         let (key, _) = self.inner.remove(rt, key)?;
         Some(key)
@@ -205,7 +202,7 @@ impl<K: Eq + Hash, S: BuildHasher> DashSet<K, S> {
         f: F,
     ) -> Option<K>
         requires { (k : K) → IsTrue (K.eq k key.now) → MayAskKey F.FnOnce f k }
-        ensures { LeavesBy ⟦<Self as Keyed>⟧.by self.now RemoveIf key.now (Pair (member result)) (AnsweredKey F.FnOnce f) (λ s t. Loses s t (member result)) }
+        ensures { RemovesBy ⟦<Self as Keyed>⟧.by self.now RemoveIf key.now (member result) (AnsweredKey F.FnOnce f) }
     {
         let (key, _) = self.inner.remove_if(
             rt,
@@ -231,10 +228,7 @@ impl<K: Eq + Hash, S: BuildHasher> DashSet<K, S> {
     /// Till the reference is dropped, whoever wants to write the shard waits, this thread too. It takes no memory.
     #[inline]
     pub fn get<R: Wait + Clock>(&self, rt: &R, key: &K) -> Option<Ref<'_, K, S>>
-        ensures saw { SawShard ⟦<Self as Keyed>⟧.by self.now key.now (λ s. RepliesOn K.eq s (Get key.now) (Pair (option_map pair_of result))) }
-        ensures equal { IfSome result (λ found. IsTrue (K.eq found.key key.now)) }
-        ensures stands { IfSome result Stands }
-        ensures tagged { IfSome result (λ found. StandsAt ⟦<Self as Keyed>⟧.by self.now key.now found.shard) }
+        ensures { IsGot ⟦<Self as Keyed>⟧.by self.now key.now result }
     {
         let found = self.inner.get(rt, key)?;
         Some(Ref::new(found))
@@ -272,14 +266,14 @@ impl<K: Eq + Hash, S: BuildHasher> DashSet<K, S> {
     /// How many keys there are, held at 2^64 - 1. Waits until no writer has a shard, for one shard after the other: others may change
     /// those that it asked before. It takes no memory.
     pub fn len<R: Wait + Clock>(&self, rt: &R) -> usize
-        ensures { SawShards ⟦<Self as Keyed>⟧.by self.now (λ (a : AloneState K (Unit {0}) S). result ≡ min (length (contents a)) (2 ^ 64 - 1)) }
+        ensures { SawShards {V = Unit {0}} ⟦<Self as Keyed>⟧.by self.now (λ a. result ≡ len_in a) }
     {
         self.inner.len(rt)
     }
 
     /// Whether there are no keys. It waits as `len` does.
     pub fn is_empty<R: Wait + Clock>(&self, rt: &R) -> bool
-        ensures { SawShards ⟦<Self as Keyed>⟧.by self.now (λ (a : AloneState K (Unit {0}) S). result ≡ (length (contents a) == 0)) }
+        ensures { SawShards {V = Unit {0}} ⟦<Self as Keyed>⟧.by self.now (λ a. result ≡ (length (contents a) == 0)) }
     {
         self.inner.is_empty(rt)
     }
@@ -297,7 +291,7 @@ impl<K: Eq + Hash, S: BuildHasher> DashSet<K, S> {
     /// How many keys there may be before some shard takes memory, if they spread as the shards' room does, held at 2^64 - 1. It waits as
     /// `len` does.
     pub fn capacity<R: Wait + Clock>(&self, rt: &R) -> usize
-        ensures { SawShards ⟦<Self as Keyed>⟧.by self.now (λ (a : AloneState K (Unit {0}) S). result ≡ min (sum_by (λ s. s.capacity) a.row) (2 ^ 64 - 1)) }
+        ensures { SawShards {V = Unit {0}} ⟦<Self as Keyed>⟧.by self.now (λ a. result ≡ room_in a) }
     {
         self.inner.capacity(rt)
     }
@@ -305,7 +299,7 @@ impl<K: Eq + Hash, S: BuildHasher> DashSet<K, S> {
     /// Whether there is a key that equals `key`. Waits until no writer has the key's shard. It takes no memory.
     #[inline]
     pub fn contains<R: Wait + Clock>(&self, rt: &R, key: &K) -> bool
-        ensures { SawShard ⟦<Self as Keyed>⟧.by self.now key.now (λ (s : ShardState K (Unit {0}) S). RepliesOn K.eq s (Contains key.now) (Found result)) }
+        ensures { SawAt {V = Unit {0}} ⟦<Self as Keyed>⟧.by self.now key.now (λ p. result ≡ is_some p) }
     {
         self.inner.contains_key(rt, key)
     }

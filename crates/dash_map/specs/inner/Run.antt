@@ -1,5 +1,5 @@
 -- What the parts of a run ask and promise.
-use Rattle.std.specs.Prelude.{◌≡◌, ◌≤◌, ◌↔◌, Bool, length, ⊤}
+use Rattle.std.specs.Prelude.{ℕ, ◌≡◌, ◌≤◌, ◌↔◌, Bool, length, ⊤}
 use Rattle.dash_shard.specs.Steps as table
 use Rattle.dash_steps.specs.Steps.{step_of, reply_of}
 use Rattle.dash_steps.specs.Takes.{Rules, rules, Takes}
@@ -11,6 +11,7 @@ use Rattle.dash_map.specs.declared.run.Fault.{Fault}
 use Rattle.dash_map.specs.declared.run.Fault.TheVariants.{NoSuchShard}
 use Rattle.dash_shard.specs.Hashing.{KeyHash}
 use Rattle.dash_shard.specs.inner.Steps.{step_shard}
+use Rattle.dash_steps.specs.inner.Sweep.{keeping}
 
 -- a step with its reply, in the words of the step table
 abbrev pub answered : {K V A : Type 0} → (A → table.Act K V) → ShardStep K V A × Reply K V → table.Step K V × table.Reply K V
@@ -32,6 +33,10 @@ module _ {K V A : Type 0} where
   NamesShard (AlterAll i f) = ⊤
   NamesShard (Retain i f) = ⊤
   NamesShard _ = ⊥
+
+-- the step that gives each pair of a shard its new value, and lets go those of which the action answers no, where not all stay
+abbrev pub swept : {K V : Type 0} → ℕ → Bool → table.Act K V → table.Step K V
+swept shard all act = table.Retain shard (keeping all act)
 
 -- what the map knows of its keys and values
 abbrev pub rules_in : {K V S : Type 0} → KeyHash K S → (K → K → Bool) → (V → V → Bool) → AloneState K V S → Rules K V

@@ -1,7 +1,5 @@
 //! Calls of threads on a map that they share, for a key and what stands there.
-ghost use Rattle.std.specs.Prelude.{IfOk};
-ghost use Rattle.dash_ref.specs.EntryCases.{IsEntryOf, entry_shard};
-ghost use Rattle.dash_map.specs.Behind.{SawShard, StandsAt};
+ghost use Rattle.dash_map.specs.Gets.{IsGotEntry};
 ghost use Rattle.dash_map.specs.Tries.{UnlessLockedOut};
 
 use crate::map::DashMap;
@@ -22,8 +20,7 @@ impl<K: Eq + Hash + Drop, V: Drop, S: BuildHasher> DashMap<K, V, S> {
         rt: &R,
         key: K,
     ) -> Result<Entry<'_, K, V, S>, EntryRefused<K>>
-        ensures saw { SawShard ⟦<Self as Keyed>⟧.by self.now key (λ s. IsEntryOf K.eq s key result) }
-        ensures tagged { IfOk result (λ e. StandsAt ⟦<Self as Keyed>⟧.by self.now key (entry_shard e)) }
+        ensures { IsGotEntry ⟦<Self as Keyed>⟧.by self.now key result }
     {
         let (hash, idx) = self.route_of(&key);
         Entry::find(self.shards_mut(rt, idx), hash, key)
@@ -33,8 +30,7 @@ impl<K: Eq + Hash + Drop, V: Drop, S: BuildHasher> DashMap<K, V, S> {
     /// nothing of who has it.
     #[inline]
     pub fn try_entry(&self, key: K) -> Result<Entry<'_, K, V, S>, TryEntryRefused<K>>
-        ensures saw { UnlessLockedOut key result (λ r. SawShard ⟦<Self as Keyed>⟧.by self.now key (λ s. IsEntryOf K.eq s key r)) }
-        ensures tagged { IfOk result (λ e. StandsAt ⟦<Self as Keyed>⟧.by self.now key (entry_shard e)) }
+        ensures { UnlessLockedOut key result (IsGotEntry ⟦<Self as Keyed>⟧.by self.now key) }
     {
         let (hash, idx) = self.route_of(&key);
         let Some(shard) = self.try_shards_mut(idx) else {

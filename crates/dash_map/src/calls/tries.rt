@@ -1,13 +1,8 @@
 //! Calls of threads on a map that they share, for those who wait for nobody.
-ghost use Rattle.std.specs.Prelude.{◌<◌, IsTrue, IfSome};
-ghost use Rattle.std.specs.Option.{option_map};
+ghost use Rattle.std.specs.Prelude.{◌<◌, IfSome};
 ghost use Rattle.dash_shard.specs.Lock.{FoundBehind};
-ghost use Rattle.dash_shard.specs.Shard.{HasKey, RepliesOn, IsTagged};
-ghost use Rattle.dash_shard.specs.Steps.{Get, Pair};
-ghost use Rattle.dash_ref.specs.Ref.{Stands, pair_of};
-ghost use Rattle.dash_ref.specs.RefMut.{GetsMut};
-ghost use Rattle.dash_ref.specs.Try.{found};
-ghost use Rattle.dash_map.specs.Behind.{SawShard, StandsAt};
+ghost use Rattle.dash_map.specs.Behind.{IsShardOf};
+ghost use Rattle.dash_map.specs.Gets.{IsGot, IsGotMut};
 ghost use Rattle.dash_map.specs.Tries.{UnlessLocked};
 
 use crate::map::DashMap;
@@ -24,7 +19,7 @@ impl<K: Eq + Hash, V, S: BuildHasher> DashMap<K, V, S> {
     #[inline]
     pub(crate) fn try_shard(&self, shard: usize) -> Option<RwLockReadGuard<'_, Shard<K, V, S>>>
         requires { shard < self.now.amount }
-        ensures tagged { IfSome result (λ r. IsTagged ⟦<Self as Keyed>⟧.by self.now.hasher self.now.amount shard r.value) }
+        ensures tagged { IfSome result (λ r. IsShardOf ⟦<Self as Keyed>⟧.by self.now shard r.value) }
         ensures found { IfSome result (λ r. FoundBehind r.value) }
     {
         self.row[shard].try_read()
@@ -34,10 +29,7 @@ impl<K: Eq + Hash, V, S: BuildHasher> DashMap<K, V, S> {
     /// nothing of who has it. It takes no memory.
     #[inline]
     pub fn try_get(&self, key: &K) -> TryResult<Ref<'_, K, V, S>>
-        ensures saw { UnlessLocked result (λ r. SawShard ⟦<Self as Keyed>⟧.by self.now key.now (λ s. RepliesOn K.eq s (Get key.now) (Pair (option_map pair_of r)))) }
-        ensures equal { IfSome (found result) (λ r. IsTrue (K.eq r.key key.now)) }
-        ensures stands { IfSome (found result) Stands }
-        ensures tagged { IfSome (found result) (λ r. StandsAt ⟦<Self as Keyed>⟧.by self.now key.now r.shard) }
+        ensures { UnlessLocked result (IsGot ⟦<Self as Keyed>⟧.by self.now key.now) }
     {
         let (hash, idx) = self.route_of(key);
         let Some(guard) = self.try_shard(idx) else {
@@ -53,7 +45,7 @@ impl<K: Eq + Hash, V, S: BuildHasher> DashMap<K, V, S> {
     #[inline]
     pub(crate) fn try_shards_mut(&self, shard: usize) -> Option<ShardMut<'_, K, V, S>>
         requires { shard < self.now.amount }
-        ensures tagged { IfSome result (IsTagged ⟦<Self as Keyed>⟧.by self.now.hasher self.now.amount shard) }
+        ensures tagged { IfSome result (IsShardOf ⟦<Self as Keyed>⟧.by self.now shard) }
         ensures found { IfSome result FoundBehind }
     {
         match self.row[shard].try_write() {
@@ -66,9 +58,7 @@ impl<K: Eq + Hash, V, S: BuildHasher> DashMap<K, V, S> {
     /// says nothing of who has it. It takes no memory.
     #[inline]
     pub fn try_get_mut(&self, key: &K) -> TryResult<RefMut<'_, K, V, S>>
-        ensures saw { UnlessLocked result (λ r. SawShard ⟦<Self as Keyed>⟧.by self.now key.now (λ s. GetsMut K.eq s key.now r)) }
-        ensures equal { IfSome (found result) (λ r. HasKey K.eq r.shard key.now r.position) }
-        ensures tagged { IfSome (found result) (λ r. StandsAt ⟦<Self as Keyed>⟧.by self.now key.now r.shard) }
+        ensures { UnlessLocked result (IsGotMut ⟦<Self as Keyed>⟧.by self.now key.now) }
     {
         let (hash, idx) = self.route_of(key);
         let Some(shard) = self.try_shards_mut(idx) else {

@@ -1,9 +1,9 @@
 //! The walk over a map of one owner that writes.
-ghost use Rattle.std.specs.Prelude.{◌≡◌, ◌<◌, ◌-◌, ◌^◌, [], ◌++◌, Option, Some, IsSome, IfSome, IfNone, OnSome, slice_get};
+ghost use Rattle.std.specs.Prelude.{◌≡◌, ◌<◌, ◌-◌, ◌^◌, [], ◌++◌, Option, Some, IsSome, IfSome, IfNone, slice_get};
 ghost use Rattle.std.specs.Bool.{OnTrue, OnFalse};
 ghost use Rattle.std.specs.Option.{option_map, option_copied_mut};
 ghost use Rattle.std.specs.Map.Iter.{deref_pair, deref_pair_mut};
-ghost use Rattle.std.specs.Borrow.{Lends, LendsSo, sem};
+ghost use Rattle.std.specs.Borrow.{Lends, sem};
 ghost use Rattle.dash_shard.specs.Hashing.{by};
 ghost use Rattle.dash_ref.specs.Multi.{lent_pair, lent_value};
 ghost use Rattle.dash_map.specs.Alone.{IsAlone, contents};
@@ -91,7 +91,8 @@ impl<K: Eq + Hash, V, S: BuildHasher> Alone<K, V, S> {
 }
 
 impl<K: Eq + Hash, V, S: BuildHasher> AloneIterMut<'_, K, V, S> {
-    ghost use Rattle.dash_map.specs.AloneWalk.{passed, to_come, walked, here, rewritten, Passed, Advances, Rests, Rewrites};
+    ghost use Rattle.dash_map.specs.AloneWalk.{passed, to_come, walked, here, rewritten, PassesLending, Advances, Rests, Rewrites};
+    ghost use Rattle.dash_map.specs.WalkingMut.{LendsItem};
 
     /// Goes to the next pair, and says whether there is one. At the end it stays where it is.
     #[inline]
@@ -139,7 +140,7 @@ impl<K: Eq + Hash, V, S: BuildHasher> AloneIterMut<'_, K, V, S> {
     /// For the stored key beside the value there are `advance` and `item_mut`, which make the same step.
     #[inline]
     pub fn next_mut(&mut self) -> Option<&mut V>
-        ensures* writes_back { sem 𝓛 (LendsSo ⟦<Self as Lender>⟧.row V.row self.entry result (λ n v. OnSome result (Passed self.old n v)) (λ n. IfNone result (Rests self.old n))) }
+        ensures* writes_back { sem 𝓛 (LendsItem ⟦<Self as Lender>⟧.row V.row self.entry result (PassesLending self.old)) }
         ensures value { option_copied_mut result ≡ option_map (λ p. p.1) (slice_get (to_come self.old) 0) }
         ensures whole { contents (walked self.old) ≡ passed self.old ++ to_come self.old }
     {

@@ -1,11 +1,11 @@
 //! A set of one owner, without locks.
-ghost use Rattle.std.specs.Prelude.{◌≡◌, ◌-◌, ◌^◌, ◌==◌, min, length, IfErr, IfOk, IfSome, OnErr, None, IsSomeAnd, slice_get};
+ghost use Rattle.std.specs.Prelude.{◌≡◌, ◌==◌, length, is_some, IfErr, IfOk, IfSome, OnErr};
 ghost use Rattle.std.specs.Option.{option_map};
 ghost use Rattle.std.specs.Map.Calls.{CallableOnEachPair};
 ghost use Rattle.dash_shard.specs.Hashing.{by};
 ghost use Rattle.dash_shard.specs.Contents.{at};
-ghost use Rattle.dash_shard.specs.Steps.{Contains, Found, Get, Insert, Old, Pair, Remove, RemoveIf};
-ghost use Rattle.dash_map.specs.Alone.{IsAlone, RepliesAlone, TakesAlone, TakesAloneBy, contents};
+ghost use Rattle.dash_shard.specs.Steps.{Insert, Old, Pair, Remove, RemoveIf};
+ghost use Rattle.dash_map.specs.Alone.{IsAlone, TakesAlone, TakesAloneBy, contents, len_in};
 ghost use Rattle.dash_map.specs.AllPairs.{ClearsAlone, RetainsAlone};
 ghost use Rattle.dash_map.specs.Behind.{IsFound, IsLeft};
 ghost use Rattle.dash_map.specs.Extend.{HasNoRoom};
@@ -51,7 +51,7 @@ impl<K: Eq + Hash + Drop, S: BuildHasher> AloneSet<K, S> {
     pub fn insert(&mut self, key: K) -> Result<bool, K>
         ensures taken { IfOk result (λ new. TakesAlone ⟦<Self as Keyed>⟧.by self.old self.new (Insert key tt) (Old (stood new))) }
         ensures refused { IfErr result (λ k. (k ≡ key) × (self.new ≡ self.old)) }
-        ensures full { OnErr result (HasNoRoom ⟦<Self as Keyed>⟧.by key self.old) }
+        ensures no_room { OnErr result (HasNoRoom ⟦<Self as Keyed>⟧.by key self.old) }
     {
         match self.inner.insert(key, ()) {
             Ok(old) => Ok(old.is_none()),
@@ -87,7 +87,7 @@ impl<K: Eq + Hash + Drop, S: BuildHasher> AloneSet<K, S> {
     /// The key that equals `key`.
     #[inline]
     pub fn get(&self, key: &K) -> Option<&K>
-        ensures key { RepliesAlone ⟦<Self as Keyed>⟧.by self.now (Get key.now) (Pair (member (option_map (λ k. k.now) result))) }
+        ensures key { member (option_map (λ k. k.now) result) ≡ at K.eq (contents self.now) key.now }
         ensures lawful { IsAlone ⟦<Self as Keyed>⟧.by self.now }
     {
         let (key, _) = self.inner.get(key)?;
@@ -97,7 +97,7 @@ impl<K: Eq + Hash + Drop, S: BuildHasher> AloneSet<K, S> {
     /// Whether there is a key that equals `key`.
     #[inline]
     pub fn contains(&self, key: &K) -> bool
-        ensures found { RepliesAlone ⟦<Self as Keyed>⟧.by self.now (Contains key.now) (Found result) }
+        ensures found { result ≡ is_some (at K.eq (contents self.now) key.now) }
         ensures lawful { IsAlone ⟦<Self as Keyed>⟧.by self.now }
     {
         self.inner.contains_key(key)
@@ -129,7 +129,7 @@ impl<K: Eq + Hash + Drop, S: BuildHasher> AloneSet<K, S> {
 
     /// How many keys there are, held at 2^64 - 1. It asks each shard once.
     pub fn len(&self) -> usize
-        ensures len { result ≡ min (length (contents self.now)) (2 ^ 64 - 1) }
+        ensures len { result ≡ len_in self.now }
         ensures lawful { IsAlone ⟦<Self as Keyed>⟧.by self.now }
     {
         self.inner.len()

@@ -1,13 +1,12 @@
 //! Lists of keys that are put into a set, or make one.
-ghost use Rattle.std.specs.Prelude.{◌≡◌, ◌∷◌, [], ◌↔◌, None, Some, IfErr, IfOk, IsErrOf, length};
+ghost use Rattle.std.specs.Prelude.{◌≡◌, ◌↔◌, None, IfErr, IfOk, IsErrOf, length};
 ghost use Rattle.std.specs.Iterator.{IsFiniteIterable};
-ghost use Rattle.dash_shard.specs.Errors.{IsOneOf};
 ghost use Rattle.dash_shard.specs.Hashing.{HashAlike};
-ghost use Rattle.dash_shard.specs.declared.error.ConstructError.TheVariants.{Memory, Parallelism};
+ghost use Rattle.dash_shard.specs.declared.error.ConstructError.TheVariants.{Parallelism};
 ghost use Rattle.dash_map.specs.Alone.{IsAlone};
 ghost use Rattle.dash_map.specs.Amounts.{IsDefault, IsParallelism};
-ghost use Rattle.dash_map.specs.Behind.{LeavesShards, LeftShards};
-ghost use Rattle.dash_map.specs.Extend.{Extends, Gave, MadeOf, MatchFrom, Overfills};
+ghost use Rattle.dash_map.specs.Behind.{LeftShards};
+ghost use Rattle.dash_map.specs.Extend.{Extends, ExtendsBehind, Gave, MadeOf, NotMade, IsRefusedOf};
 ghost use Rattle.dash_map.specs.declared.extend.FromRefused.TheVariants.{Construct};
 ghost use Rattle.dashmap.specs.Set.{of_members};
 
@@ -79,8 +78,7 @@ impl<K: Eq + Hash + Drop, S: BuildHasher + Clone + Default + Drop> AloneSet<K, S
         ensures amount { IfOk result (λ s. IsDefault parallelism (length s.row)) }
         ensures lawful { IfOk result (IsAlone ⟦<Self as Keyed>⟧.by) }
         ensures bad_parallelism { IsErrOf result (Construct Parallelism) ↔ (IsParallelism parallelism → ⊥) }
-        ensures refused { IfErr result (λ r. MatchFrom r (IsOneOf (Parallelism ∷ Memory ∷ []))
-            (λ e. Gave U.into_iter_gives (of_members U.IntoIter.next_gives) iter (Some (e.key, e.value)) (λ ps. Overfills ⟦<Self as Keyed>⟧.by ps e.key))) }
+        ensures refused { IfErr result (NotMade (IsRefusedOf ⟦<Self as Keyed>⟧.by U.into_iter_gives (of_members U.IntoIter.next_gives) iter)) }
     {
         let keys = iter.into_iter();
         let inner = Alone::from_iter(alloc, Members { keys }, parallelism)?;
@@ -94,8 +92,7 @@ impl<K: Eq + Hash + Drop, S: BuildHasher> DashSet<K, S> {
     /// The shards leave their locks for it and go back, which takes no memory.
     pub fn extend<U: IntoIterator<Item = K>>(&mut self, iter: U) -> Result<(), ExtendRefused<K, ()>>
         requires { IsFiniteIterable U.into_iter_gives U.IntoIter.can_next U.IntoIter.remaining iter }
-        ensures extends { LeavesShards ⟦<Self as Keyed>⟧.by self.old
-            (λ a b. Extends ⟦<Self as Keyed>⟧.by U.into_iter_gives (of_members U.IntoIter.next_gives) iter a b result) }
+        ensures extends { ExtendsBehind ⟦<Self as Keyed>⟧.by U.into_iter_gives (of_members U.IntoIter.next_gives) iter self.old result }
         ensures same { self.new ≡ self.old }
     {
         let keys = iter.into_iter();
@@ -117,8 +114,7 @@ impl<K: Eq + Hash + Drop, S: BuildHasher + Clone + Default + Drop> DashSet<K, S>
         ensures hasher { IfOk result (λ s. S.is_default s.hasher) }
         ensures amount { IfOk result (λ s. IsDefault parallelism s.amount) }
         ensures bad_parallelism { IsErrOf result (Construct Parallelism) ↔ (IsParallelism parallelism → ⊥) }
-        ensures refused { IfErr result (λ r. MatchFrom r (IsOneOf (Parallelism ∷ Memory ∷ []))
-            (λ e. Gave U.into_iter_gives (of_members U.IntoIter.next_gives) iter (Some (e.key, e.value)) (λ ps. Overfills ⟦<Self as Keyed>⟧.by ps e.key))) }
+        ensures refused { IfErr result (NotMade (IsRefusedOf ⟦<Self as Keyed>⟧.by U.into_iter_gives (of_members U.IntoIter.next_gives) iter)) }
     {
         Ok(AloneSet::from_iter(alloc, iter, parallelism)?.end())
     }

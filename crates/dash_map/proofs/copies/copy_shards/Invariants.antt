@@ -1,6 +1,5 @@
 use Rattle.std.proofs.Common.{◌≡◌, ◌≤◌, ℕ, Some, length, slice_get, vec_capacity}
 use Rattle.dash_shard.specs.Hashing.{key_hash}
-use Rattle.dash_map.specs.Copies.{copy_rules}
 use Rattle.dash_map.specs.inner.Copies.{IsCopied}
 use Rattle.dash_map.proofs.copies.copy_shards.Given as goal
 
@@ -9,5 +8,5 @@ invariant-loop-shard g l = record {
   len : length l.copies.items ≡ l.shard-index;
   room : length l.shards ≤ vec_capacity l.copies;
   each : (i : ℕ) (t : _) → slice_get l.copies.items i ≡ Some t → (s : _) → slice_get l.shards i ≡ Some s
-      → IsCopied (copy_rules g.K.PartialEq.eq g.K.Kept.alike g.V.Kept.alike g.S.Clone.is_clone) (key_hash g.K.PartialEq.eq g.K.Hash.hash_input g.S.BuildHasher g.S.Hasher.Hasher) s t;
+      → IsCopied g.K.PartialEq.eq g.K.Kept.alike g.V.Kept.alike g.S.Clone.is_clone (key_hash g.K.PartialEq.eq g.K.Hash.hash_input g.S.BuildHasher g.S.Hasher.Hasher) s t;
 }

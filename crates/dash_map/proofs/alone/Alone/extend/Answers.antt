@@ -51,7 +51,7 @@ returns-in_err-insert-clause-extends g c =
     let back = c.in_err-insert.ensures in
     let same = sym back.refused.2 in
     let steps = subst (λ (a : AloneState g.row.K.Denot g.row.V.Denot g.row.S.Denot). InsertsEach h c.args.self.now c.loop-key.yielded a) same c.loop-key.invariant in
-    let full = subst (λ (a : AloneState g.row.K.Denot g.row.V.Denot g.row.S.Denot). HasNoRoom h c.in-Some.key a) same (record { absent = back.absent; full = back.full }) in
+    let full = subst (λ (a : AloneState g.row.K.Denot g.row.V.Denot g.row.S.Denot). HasNoRoom h c.in-Some.key a) same back.no_room in
     refused-extends h g.U.IntoIterator.into_iter_gives g.U.IntoIter.Iterator.next_gives c.args.iter c.args.self.now c.insert.new.self c.in-Some.key c.in-Some.value c.in_err-insert.field-0.0 c.from_residual.result
     (back.refused.0, back.refused.1) c.from_residual.ensures.1 (
       it.result,

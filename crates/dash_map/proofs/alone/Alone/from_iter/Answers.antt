@@ -31,7 +31,7 @@ pub returns-in_err-extend-clause-refused : goal.returns-in_err-extend-clause-ref
 returns-in_err-extend-clause-refused g c =
     let said = c.in_err-extend.ensures.extends in
     let came = said.gains in
-    pair-refused _ _ c.in_err-extend.field-0.0 c.from_residual-in_err-extend.result c.from_residual-in_err-extend.ensures.1 (
+    pair-refused _ c.in_err-extend.field-0.0 c.from_residual-in_err-extend.result c.from_residual-in_err-extend.ensures.1 (
       came.0,
       came.1,
       came.2,

@@ -7,4 +7,4 @@ pub returns-clause-made : goal.returns-clause-made
 returns-clause-made g c = all-came _ (MadeOf (key_hash g.K.PartialEq.eq g.K.Hash.hash_input g.S.BuildHasher g.S.Hasher.Hasher)) c.from_iter.result c.from_iter.ensures.made c.args.list.items (λ it is. is.0)
 
 pub returns-clause-refused : goal.returns-clause-refused
-returns-clause-refused g c = among _ (key_hash g.K.PartialEq.eq g.K.Hash.hash_input g.S.BuildHasher g.S.Hasher.Hasher) _ c.from_iter.result c.from_iter.ensures.refused c.args.list.items (λ it is. is.0)
+returns-clause-refused g c = among (key_hash g.K.PartialEq.eq g.K.Hash.hash_input g.S.BuildHasher g.S.Hasher.Hasher) _ c.from_iter.result c.from_iter.ensures.refused c.args.list.items (λ it is. is.0)

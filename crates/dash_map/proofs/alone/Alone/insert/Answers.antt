@@ -4,6 +4,7 @@ use Rattle.dash_shard.specs.Steps.{Insert, Old}
 use Rattle.dash_shard.specs.Shard.{TakesStep}
 use Rattle.dash_map.proofs.Lifting.{settled}
 use Rattle.dash_map.proofs.Spots.{Spot, spot-route, spot-hash, spot-alone, spot-takes, spot-stands, spot-full, spot-unchanged}
+use Rattle.dash_map.proofs.Trying.{on-both}
 use Rattle.dash_map.proofs.alone.Alone.insert.Given.{Over}
 use Rattle.dash_map.proofs.alone.Alone.insert.Goals.{After-index_mut}
 use Rattle.dash_map.proofs.alone.Alone.insert.Goals as goal
@@ -44,8 +45,8 @@ pub returns-clause-refused : goal.returns-clause-refused
 returns-clause-refused g c =
     MatchResult-weaker c.insert_hashed.result c.insert_hashed.ensures.inserts.refused (λ x p. p) (λ e h. (h.0, h.1, spot-unchanged (spot g (goal.at.returns-clause-refused g c).After-index_mut) c.insert_hashed.new.self h.2))
 
-pub returns-clause-absent : goal.returns-clause-absent
-returns-clause-absent g c = MatchResult-weaker c.insert_hashed.result c.insert_hashed.ensures.inserts.absent (λ x p. p) (λ e h. spot-stands (spot g (goal.at.returns-clause-absent g c).After-index_mut) ∙ h)
-
-pub returns-clause-full : goal.returns-clause-full
-returns-clause-full g c = MatchResult-weaker c.insert_hashed.result c.insert_hashed.ensures.inserts.full (λ x p. p) (λ e h. spot-full (spot g (goal.at.returns-clause-full g c).After-index_mut) h)
+pub returns-clause-no_room : goal.returns-clause-no_room
+returns-clause-no_room g c =
+    let x = spot g (goal.at.returns-clause-no_room g c).After-index_mut in
+    let r = c.insert_hashed.ensures.inserts in
+    on-both c.insert_hashed.result r.absent r.full (λ absent full. record { absent = spot-stands x ∙ absent; full = spot-full x full })

@@ -1,6 +1,5 @@
 use Rattle.std.proofs.Common.{◌<◌, ◌∙◌, ap, sym, length, arith, subst}
 use Rattle.std.specs.Prelude.{is_some}
-use Rattle.dash_shard.specs.Steps.{Found}
 use Rattle.dash_shard.specs.Lock.{FoundBehind}
 use Rattle.dash_map.proofs.Seeing.{seen, shown}
 use Rattle.dash_map.proofs.map.DashMap.contains_key.Goals as goal
@@ -22,5 +21,5 @@ returns g c =
       c.deref-2.result.now,
       seen (key_hash g.K.PartialEq.eq g.K.Hash.hash_input g.S.BuildHasher g.S.Hasher.Hasher) _ _ c.self.view_is row c.self.invariant i within c.index.result.now c.index.ensures _ c.deref.ensures c.read-guard.result.value c.read-guard.ensures.fits c.args.key.now c.route_of-hash.ensures.route c.deref-2.result.now c.deref-2.ensures.0,
       subst FoundBehind (sym c.deref-2.ensures.0) c.read-guard.ensures.found,
-      ap Found (c.is_some.ensures ∙ shown c.find.result ∙ ap is_some c.find.ensures.pair),
+      c.is_some.ensures ∙ shown c.find.result ∙ ap is_some c.find.ensures.pair,
     )

@@ -24,8 +24,9 @@ returns-in-Ok g c =
       tagged = entered h m c.args.key c.in-Some.shard here (Ok c.in-Ok.entry) c.in-Ok.ensures.case c.in-Ok.ensures.lawful;
     }
 
-pub returns-in-Err-clause-saw : goal.returns-in-Err-clause-saw
-returns-in-Err-clause-saw g c =
+pub returns-in-Err : goal.returns-in-Err
+returns-in-Err g c =
     let h = key_hash g.K.PartialEq.eq g.K.Hash.hash_input g.S.BuildHasher g.S.Hasher.Hasher in
     let m = c.args.self.now in
-    (c.in-Some.shard, subst (λ n. IsTagged h m.hasher m.amount n c.in-Some.shard) c.route_of-hash.ensures.route c.in-Some.ensures.tagged, c.in-Some.ensures.found, c.in-Err.ensures.case)
+    let here = subst (λ n. IsTagged h m.hasher m.amount n c.in-Some.shard) c.route_of-hash.ensures.route c.in-Some.ensures.tagged in
+    record { saw = (c.in-Some.shard, here, c.in-Some.ensures.found, c.in-Err.ensures.case); tagged = tt }

@@ -6,22 +6,22 @@ use Rattle.dash_map.proofs.map.DashMap.try_get_mut.Goals as goal
 pub find-requires : goal.find-requires
 find-requires g c = c.route_of-hash.ensures.hash ∙ sym (c.in-Some.ensures.tagged.hashes c.args.key.now)
 
-pub returns-in-Some-find-clause-saw : goal.returns-in-Some-find-clause-saw
-returns-in-Some-find-clause-saw g c =
+pub returns-in-Some-find : goal.returns-in-Some-find
+returns-in-Some-find g c =
     let h = key_hash g.K.PartialEq.eq g.K.Hash.hash_input g.S.BuildHasher g.S.Hasher.Hasher in
     let m = c.args.self.now in
     let held = c.in-Some.shard in
-    (held, subst (λ n. IsTagged h m.hasher m.amount n held) c.route_of-hash.ensures.route c.in-Some.ensures.tagged, c.in-Some.ensures.found, c.in-Some-find.ensures.gets)
+    let here = subst (λ n. IsTagged h m.hasher m.amount n held) c.route_of-hash.ensures.route c.in-Some.ensures.tagged in
+    record {
+      saw = (held, here, c.in-Some.ensures.found, c.in-Some-find.ensures.gets);
+      equal = c.in-Some-find.ensures.equal;
+      tagged = rw c.in-Some-find.ensures.shard here;
+    }
 
-pub returns-in-Some-find-clause-tagged : goal.returns-in-Some-find-clause-tagged
-returns-in-Some-find-clause-tagged g c =
-    let h = key_hash g.K.PartialEq.eq g.K.Hash.hash_input g.S.BuildHasher g.S.Hasher.Hasher in
-    let m = c.args.self.now in
-    rw c.in-Some-find.ensures.shard (subst (λ n. IsTagged h m.hasher m.amount n c.in-Some.shard) c.route_of-hash.ensures.route c.in-Some.ensures.tagged)
-
-pub returns-in-None-clause-saw : goal.returns-in-None-clause-saw
-returns-in-None-clause-saw g c =
+pub returns-in-None : goal.returns-in-None
+returns-in-None g c =
     let h = key_hash g.K.PartialEq.eq g.K.Hash.hash_input g.S.BuildHasher g.S.Hasher.Hasher in
     let m = c.args.self.now in
     let held = c.in-Some.shard in
-    (held, subst (λ n. IsTagged h m.hasher m.amount n held) c.route_of-hash.ensures.route c.in-Some.ensures.tagged, c.in-Some.ensures.found, c.in-None.ensures.gets)
+    let here = subst (λ n. IsTagged h m.hasher m.amount n held) c.route_of-hash.ensures.route c.in-Some.ensures.tagged in
+    record { saw = (held, here, c.in-Some.ensures.found, c.in-None.ensures.gets); equal = tt; tagged = tt }

@@ -1,5 +1,4 @@
 use Rattle.std.proofs.Common.{◌∙◌, refl, ap, sym, length, arith, get_or}
-use Rattle.dash_shard.specs.Steps.{Pair}
 use Rattle.dash_shard.specs.Shard.{ShardState}
 use Rattle.dash_shard.specs.Hashing.{key_hash}
 use Rattle.dash_shard.proofs.Lawful.{lawful-of}
@@ -36,7 +35,7 @@ returns-in_err-position g c =
       within = omega (arith, c.requires.below, ap (λ a. length a.row) c.self.view_is);
       read = ap (λ (d : Shown g). get_or c.self.inside.shards.now c.args.idx d) c.index-self-idx.is;
     } in
-    rw c.from_residual.ensures (ap Pair (sym (spot-stands x ∙ c.in_err-position.ensures.finds.absent.0 refl)))
+    rw c.from_residual.ensures (sym (spot-stands x ∙ c.in_err-position.ensures.finds.absent.0 refl))
 
 pub returns : goal.returns
 returns g c =
@@ -50,4 +49,4 @@ returns g c =
       within = omega (arith, c.requires.below, ap (λ a. length a.row) c.self.view_is);
       read = ap (λ (d : Shown g). get_or c.self.inside.shards.now c.args.idx d) c.index-self-idx.is;
     } in
-    ap Pair (sym c.at.ensures.pair ∙ c.in_ok-position.ensures.finds.pair ∙ sym (spot-stands x))
+    sym c.at.ensures.pair ∙ c.in_ok-position.ensures.finds.pair ∙ sym (spot-stands x)

@@ -12,5 +12,5 @@ returns-clause-made g c =
 
 pub returns-in_err-inner-clause-refused : goal.returns-in_err-inner-clause-refused
 returns-in_err-inner-clause-refused g c =
-    refused-inside _ _ _ c.in_err-inner.field-0.0 c.from_residual.result c.from_residual.ensures.1 c.in_err-inner.ensures.refused
+    refused-inside _ _ c.in_err-inner.field-0.0 c.from_residual.result c.from_residual.ensures.1 c.in_err-inner.ensures.refused
     (λ e came. came-inside (λ m. m.keys) (of_members g.U.IntoIter.Iterator.next_gives) _ (Some (e.key, e.value)) (λ ps. Overfills (key_hash g.K.PartialEq.eq g.K.Hash.hash_input g.S.BuildHasher g.S.Hasher.Hasher) ps e.key) (g.U.IntoIterator.into_iter_gives c.args.iter) c.into_iter-keys.ensures.into_iter_gives came)
