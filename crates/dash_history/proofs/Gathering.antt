@@ -51,9 +51,6 @@ module _ {K V A S : Type 0} (w : Known K V A S) (laws : (base : S) (n : ℕ) →
   pub below-seen : (x : At) → Contains ats x → x.caller < c
   below-seen x h = caller-below w seen alone (laws base (length row)) ats there x (contains-has ats x h)
 
-  pub one-seen : IsOneHistory w z ats
-  one-seen = subst (λ a. IsOneHistory w a ats) view (one-history w seen alone (laws base (length row)) ats there)
-
   module _ (logs : List (LogState K V A)) (lawful : EachLog logs) (again : List (RecState K V A S)) (same : again ≡ row) (places : List At) (all : places ≡ ats) where
     pub gathered-seen : AreCallers c logs → KeepsCallers w (map (λ s. s.history) again) logs places → IsGathered w z logs ats
     gathered-seen callers keeps =

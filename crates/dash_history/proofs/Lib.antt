@@ -5,11 +5,8 @@ mod Growing
 mod Logging
 pub mod Telling
 mod Maps
-mod Plains
 mod Recording
 mod Refusals
-mod PlainSweeps
-mod PlainTakes
 mod Preparing
 mod Placing
 mod Members

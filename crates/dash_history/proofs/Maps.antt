@@ -42,15 +42,6 @@ module _ {K V A S : Type 0} (h : KeyHash K S) where
       let there : slice_get locks i ≡ Some lock = slice_get-get_or locks i lock within ∙ ap Some (sym here) in
       subst (λ m. IsTagged h m.hasher m.amount m.callers i s) same (tagged-behind m i lock s (map.tagged i lock there) fits)
 
-  -- and the other way round
-  pub fits-at : (m : MapState S) (i : ℕ) (lock : CachePadded (RecTag S)) (s : RecState K V A S) → IsAt m i lock → IsTagged h m.hasher m.amount m.callers i s → FitsTag h (padded_value lock) s
-  fits-at m i lock s at p = record {
-    number = p.number ∙ sym at.number;
-    amount = p.amount ∙ sym at.amount;
-    callers = p.callers ∙ sym at.callers;
-    hashes = subst (λ x. HashAlike h x s.shard.hasher) (sym at.hasher) p.hashes;
-  }
-
 module _ {K V A S : Type 0} (w : Known K V A S) where
   -- the shard left the lock, where it was found, or has this lock now
   abbrev pub Unlocks : ℕ → CachePadded (RecTag S) → RecState K V A S → Type 0

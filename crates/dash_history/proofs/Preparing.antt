@@ -1,6 +1,7 @@
 -- What a step replies on a shard, before anything changes.
-use Rattle.std.proofs.Common.{◌≡◌, ℕ, Bool, List, Option, IsTrue, sym, subst}
+use Rattle.std.proofs.Common.{◌≡◌, ℕ, Bool, List, Option, Some, None, IsTrue, refl, sym, subst, is_some}
 use Rattle.std.specs.Cmp.{IsEquivalence}
+use Rattle.std.specs.Option.{option_map}
 use Rattle.dash_shard.specs.Hashing.{KeyHash}
 use Rattle.dash_shard.specs.Contents.{on, EachOnce, IsOnShard}
 use Rattle.dash_shard.specs.Shard.{ShardState, pairs, IsShard}
@@ -9,6 +10,11 @@ use Rattle.dash_shard.specs.inner.Keys.{keys_of}
 use Rattle.dash_shard.proofs.Remade.{each-once}
 use Rattle.dash_steps.specs.Alike.{alike_reply}
 use Rattle.dash_steps.specs.Takes.{rules, Answers}
+
+-- a reference to what is there
+pub mapped : {A B : Type 0} (f : A → B) (o : Option A) → is_some o ≡ is_some (option_map f o)
+mapped f None = refl
+mapped f (Some x) = refl
 
 -- the pairs of the step's shard, each once
 pub all-once : {K V S : Type 0} (h : KeyHash K S) (laws : IsEquivalence h.eq) (s : ShardState K V S) → IsShard h s → (i : ℕ) → i ≡ s.number → EachOnce h.eq (on (keys_of h s) i (pairs s)) (pairs s)

@@ -1,6 +1,5 @@
 pub mod History
 pub mod Alone
-pub mod Plain
 pub mod Held
 pub mod Map
 pub mod Refused

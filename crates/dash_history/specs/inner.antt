@@ -4,5 +4,4 @@ pub mod Fresh
 pub mod Gathering
 pub mod Grows
 pub mod Locks
-pub mod Plain
 pub mod Tells

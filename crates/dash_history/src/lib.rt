@@ -5,5 +5,4 @@ pub mod alone;
 mod apply;
 pub mod gather;
 pub mod known;
-pub mod plain;
 pub mod record;

@@ -1,5 +1,5 @@
 -- The words of a command line.
-use Rattle.std.proofs.Common.{◌≡◌, ℕ, ◌*◌, ◌<◌, ◌^◌, List, [], ◌∷◌, length, get_or, map, refl, ap, sym, subst, ◌∙◌, arith}
+use Rattle.std.proofs.Common.{◌≡◌, ℕ, ◌<◌, ◌^◌, List, [], ◌∷◌, length, get_or, map, refl, ap, sym, subst, ◌∙◌, arith}
 use Rattle.std.specs.Fmt.{decimal}
 use Rattle.std.proofs.lemmas.Fmt.{decimal_injective}
 use Rattle.dashcheck.specs.Threads.{IsThreads}
@@ -34,11 +34,6 @@ same-threads words c n d m one other = same-size words threads c n d m (omega (a
 -- what is said of one size is said of the other
 pub at-size : (P : ℕ → ℕ → Type 0) (words : List (List ℕ)) (c n d m : ℕ) → IsThreads words c n → IsThreads words d m → P c n → P d m
 at-size P words c n d m one other h = let same = same-threads words c n d m one other in subst (P d) same.1 (subst (λ k. P k n) same.0 h)
-
-pub same-product : (words : List (List ℕ)) (c n d m : ℕ) → IsThreads words c n → IsThreads words d m → c * n ≡ d * m
-same-product words c n d m one other =
-    let same = same-size words threads c n d m (omega (arith, one.1.few)) (omega (arith, one.1.short)) one.0 other in
-    ap (λ k. k * n) same.0 ∙ ap (λ k. d * k) same.1
 
 pub first-word : {B : Type 0} {v w : B} → v ∷ [] ≡ w ∷ [] → v ≡ w
 first-word {B} {v} {w} same = ap (λ ws. get_or ws 0 v) same

@@ -226,12 +226,6 @@ pub record Left (hs : List (List (Record ℕ ℕ (Unit {0})))) (ats : List At) (
   pub same : IsReplay [] (along hs ats) ps ↔ IsReplay P (along hs (drop i ats)) ps
 
 module _ (hs : List (List (Record ℕ ℕ (Unit {0})))) (ats : List At) (ps : List (ℕ × ℕ)) where
-  pub left-all : (P : List (ℕ × ℕ)) → P ≡ [] → IsDistinct nat_eq (keys_of P) → Left hs ats ps 0 P
-  left-all P none unique = record {
-    unique = unique;
-    same = subst (λ Q. IsReplay [] (along hs ats) ps ↔ IsReplay Q (along hs ats) ps) (sym none) (λ h. h, λ h. h);
-  }
-
   module _ (i : ℕ) (d : At) (r : Record ℕ ℕ (Unit {0})) (within : i < length ats) (is : record_at hs (get_or ats i d).shard (get_or ats i d).place ≡ Some r) (P : List (ℕ × ℕ)) (left : Left hs ats ps i P) where
     pub left-no : (Fits P r → ⊥) → IsReplay [] (along hs ats) ps → ⊥
     left-no not h = replay-no P r (along hs (drop (i + 1) ats)) ps not (subst (λ rs. IsReplay P rs ps) (along-first hs ats i d r within is) (left.same.0 h))

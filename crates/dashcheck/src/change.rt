@@ -72,10 +72,14 @@ mod tests {
     use super::*;
     use crate::step::{Printed, in_order};
     use dash_history::alone::RecAlone;
-    use dash_history::plain::Plain;
-    use dash_shard::hash::{PlaceState, is_shard_amount};
-    use dash_steps::step::ShardStep;
+    use dash_shard::hash::PlaceState;
+    use dash_steps::step::{Reply, ShardStep};
+    use std::alloc::Global;
+    use std::collections::HashMap;
     use std::test::Fail;
+
+    // How many keys the steps have: the numbers below it.
+    const KEYS: u64 = 12;
 
     // The next of a fixed row of numbers.
     fn next(state: &mut u64) -> u64 {
@@ -95,7 +99,7 @@ mod tests {
 
     fn step(state: &mut u64) -> ShardStep<u64, u64, Change> {
         let kind = next(state) % 14;
-        let key = next(state) % 12;
+        let key = next(state) % KEYS;
         let number = next(state);
         let shard = (key % 4) as usize;
         match kind {
@@ -113,6 +117,85 @@ mod tests {
         }
     }
 
+    // Lets the change act on the value at a key, if there is one.
+    fn change_at(plain: &mut HashMap<u64, u64>, key: u64, change: &Change) -> bool {
+        match plain.get_mut(&key) {
+            Some(value) => change.act(&key, value),
+            None => false,
+        }
+    }
+
+    // Takes a step on a shard of std's map, where key `k` goes to shard `k` modulo 4.
+    fn replay_shard(
+        alloc: Global,
+        plain: &mut HashMap<u64, u64>,
+        shard: usize,
+        step: &ShardStep<u64, u64, Change>,
+    ) -> Result<Reply<u64, u64>, AllocError> {
+        let mut pairs = Vec::new(alloc);
+        for key in 0..KEYS {
+            if key % 4 != shard as u64 {
+                continue;
+            }
+            match step {
+                ShardStep::AlterAll(_, change) => drop(change_at(plain, key, change)),
+                ShardStep::Retain(_, change) if !change_at(plain, key, change) => {
+                    plain.remove(&key);
+                }
+                _ => (),
+            }
+            if let Some(value) = plain.get(&key) {
+                pairs.push((key, *value))?;
+            }
+        }
+        Ok(match step {
+            ShardStep::Read(_) => Reply::Pairs(pairs),
+            ShardStep::Count(_) => Reply::Number(pairs.len() as u64),
+            _ => Reply::Done,
+        })
+    }
+
+    // The pair of a key, if it has a value.
+    fn pair(key: u64, value: Option<u64>) -> Reply<u64, u64> {
+        match value {
+            Some(value) => Reply::Pair(Some((key, value))),
+            None => Reply::Pair(None),
+        }
+    }
+
+    // Takes a step on std's map.
+    fn replay(
+        alloc: Global,
+        plain: &mut HashMap<u64, u64>,
+        step: &ShardStep<u64, u64, Change>,
+    ) -> Result<Reply<u64, u64>, AllocError> {
+        match step {
+            ShardStep::Get(key) => Ok(pair(*key, plain.get(key).copied())),
+            ShardStep::Contains(key) => Ok(Reply::Found(plain.contains_key(key))),
+            ShardStep::Insert(key, value) => Ok(Reply::Old(plain.insert(*key, *value)?)),
+            ShardStep::Remove(key) => Ok(pair(*key, plain.remove(key))),
+            ShardStep::RemoveIf(key, change) => match plain.get(key).copied() {
+                Some(mut value) if change.act(key, &mut value) => Ok(pair(*key, plain.remove(key))),
+                _ => Ok(Reply::Pair(None)),
+            },
+            ShardStep::RemoveIfMut(key, change) => {
+                if change_at(plain, *key, change) {
+                    Ok(pair(*key, plain.remove(key)))
+                } else {
+                    Ok(Reply::Pair(None))
+                }
+            }
+            ShardStep::Alter(key, change) => {
+                change_at(plain, *key, change);
+                Ok(Reply::Done)
+            }
+            ShardStep::Read(shard)
+            | ShardStep::Count(shard)
+            | ShardStep::AlterAll(shard, _)
+            | ShardStep::Retain(shard, _) => replay_shard(alloc, plain, *shard, step),
+        }
+    }
+
     #[test]
     fn random_steps_get_the_replies_of_the_plain_map(rt: HostRuntime) -> Result<(), Fail> {
         let (mut alone, mut logs) = RecAlone::<u64, u64, PlaceState, Change>::new(
@@ -121,17 +204,15 @@ mod tests {
             4,
             1,
         )?;
-        assert!(rt; is_shard_amount(4));
-        let mut plain = Plain::new(rt.alloc(), PlaceState, 4);
+        let mut plain = HashMap::new(rt.alloc());
         assert_eq!(rt; logs.len(), 1);
         let log = &mut logs[0];
         let mut state = 1;
         for i in 0..3000u64 {
             let step = step(&mut state);
-            let copy = step.copy()?;
+            let want = replay(rt.alloc(), &mut plain, &step)?;
             assert!(rt; log.caller() < alone.callers());
             let reply = alone.apply(log, step)?;
-            let want = plain.take(copy)?;
             let reply = format!(in rt.alloc(); "{}", Printed(&in_order(reply)))?;
             let want = format!(in rt.alloc(); "{}", Printed(&in_order(want)))?;
             assert_eq!(rt; reply, want, "at {i}");

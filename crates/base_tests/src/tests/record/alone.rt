@@ -1,12 +1,12 @@
 //! A recorded map's refusals, its stamps and its replies, as worked by hand.
 use crate::tests::checks::{is, is_at};
 use dash_history::alone::RecAlone;
-use dash_history::plain::Plain;
 use dash_history::record::{CallerLog, RecordFault};
 use dash_shard::error::ConstructError;
-use dash_shard::hash::{PlaceState, is_shard_amount};
+use dash_shard::hash::PlaceState;
 use dash_steps::step::{Reply, ShardStep};
-use std::alloc::Global;
+use std::alloc::{AllocError, Global};
+use std::collections::HashMap;
 use std::process::Abort;
 
 type Alone = RecAlone<u64, u64, PlaceState>;
@@ -141,11 +141,20 @@ fn next(state: &mut u64) -> u64 {
     *state >> 33
 }
 
+// Takes a step on std's map.
+fn replay(plain: &mut HashMap<u64, u64>, step: &Step) -> Result<Reply<u64, u64>, AllocError> {
+    match step {
+        Step::Insert(key, value) => Ok(Reply::Old(plain.insert(*key, *value)?)),
+        Step::Remove(key) => Ok(Reply::Pair(plain.remove(key).map(|value| (*key, value)))),
+        Step::Get(key) => Ok(Reply::Pair(plain.get(key).map(|value| (*key, *value)))),
+        _ => Ok(Reply::Done),
+    }
+}
+
 #[test]
 fn replies_as_the_plain_map(rt: HostRuntime) {
     let (mut alone, mut log) = alone_of_one(&rt, rt.alloc());
-    assert!(rt; is_shard_amount(4));
-    let mut plain = Plain::new(rt.alloc(), PlaceState, 4);
+    let mut plain = HashMap::new(rt.alloc());
     let mut state = 1;
     for i in 0..300u64 {
         let number = next(&mut state);
@@ -155,9 +164,7 @@ fn replies_as_the_plain_map(rt: HostRuntime) {
             1 => Step::Remove(key),
             _ => Step::Insert(key, i),
         };
-        let want = plain
-            .take(step.copy().expect(&rt, "refused"))
-            .expect(&rt, "refused");
+        let want = replay(&mut plain, &step).expect(&rt, "refused");
         let want = format!(in rt.alloc(); "{want:?}").expect(&rt, "refused");
         let reply = apply(&rt, &mut alone, &mut log, step);
         let reply = format!(in rt.alloc(); "{reply:?}").expect(&rt, "refused");
