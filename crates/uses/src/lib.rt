@@ -1,8 +1,6 @@
-//! Programs as users of the map write them, against `dashmap` alone. `docs/CALLING.md` shows them.
+//! Programs as users of the map write them, against `dashmap` alone. The README shows `tally`.
 #![tactic(auto)]
 
-pub mod interner;
 pub mod names;
-pub mod sessions;
 pub mod tally;
 pub mod words;
