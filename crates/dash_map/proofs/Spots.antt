@@ -30,6 +30,20 @@ module _ {K V S : Type 0} (h : KeyHash K S) where
     pub within : p < length row
     pub read : s ≡ get_or row p s
 
+  -- the same from what a call knows: of the map's fields, of the key's route, and of what an index lends
+  abbrev pub spot-of : {z : AloneState K V S} {k : K} {p : ℕ} {s : ShardState K V S} → IsLawful h → (base : S) (row : List (ShardState K V S)) → record { hasher = base; row = row } ≡ z
+      → IsAlone h (record { hasher = base; row = row }) → p ≡ (keys_in h z).route k → p < length z.row → s ≡ get_or row p s → Spot z k p s
+  spot-of law base row view lawful computed below read = record {
+    law = law;
+    base = base;
+    row = row;
+    view = view;
+    lawful = lawful;
+    computed = computed;
+    within = omega (arith, below, ap (λ a. length a.row) view);
+    read = read;
+  }
+
 module _ {K V S : Type 0} {h : KeyHash K S} {z : AloneState K V S} {k : K} {p : ℕ} {s : ShardState K V S} (x : Spot h z k p s) where
   abbrev w : Keys K
   w = keys h.eq (route_by h x.base (length x.row)) (length x.row)

@@ -1,5 +1,5 @@
 -- A closure that is called along the shards of a map, one after the other.
-use Rattle.std.proofs.Common.{◌≡◌, ℕ, suc, ◌+◌, ◌≤◌, Bool, List, [], ◌∷◌, ◌++◌, length, Option, Some, None, slice_get, slice_set, flat_map, sym, ap, subst, refl, ◌∙◌, arith, append_assoc, append-nil}
+use Rattle.std.proofs.Common.{◌≡◌, ℕ, suc, ◌+◌, ◌<◌, ◌≤◌, Bool, List, [], ◌∷◌, ◌++◌, length, Option, Some, None, slice_get, get_or, slice_set, flat_map, sym, ap, subst, refl, ◌∙◌, arith, append_assoc, append-nil}
 use Rattle.std.specs.Prelude.{option_and_then}
 use Rattle.std.specs.Cmp.{IsEquivalence}
 use Rattle.std.specs.Map.Calls.{CallableOnEachPair}
@@ -7,7 +7,7 @@ use Rattle.std.proofs.Math.ListN.{take, drop}
 use Rattle.std.proofs.Math.Seq.{drop-cons, take-length}
 use Rattle.std.proofs.lemmas.Grind.{flat_map-append}
 use Rattle.std.proofs.lemmas.List.{take_more, take_more_set, drop-set-lt}
-use Rattle.std.proofs.lemmas.Option.{slice_get_within, get_or_from_slice_get}
+use Rattle.std.proofs.lemmas.Option.{slice_get_within, slice_get-get_or, get_or_from_slice_get}
 use Rattle.dash_shard.specs.Contents.{Keys, at, Distinct}
 use Rattle.dash_shard.specs.Shard.{ShardState, IsShard, taken, pairs}
 use Rattle.dash_shard.specs.Each.{CalledAlong}
@@ -71,7 +71,10 @@ module _ {K V S F : Type 0} (h : KeyHash K S)
     ready = subst (λ x. CallableOnEachPair T Q first (contents x)) (sym same) callable;
   }
 
-  module _ (i : ℕ) (old : AloneState K V S) (base : S) (row : List (ShardState K V S)) (f : F) (r : Sweeping i old (record { hasher = base; row = row }) f) (s : ShardState K V S) (here : slice_get row i ≡ Some s) where
+  module _ (i : ℕ) (old : AloneState K V S) (base : S) (row : List (ShardState K V S)) (f : F) (r : Sweeping i old (record { hasher = base; row = row }) f) (s : ShardState K V S) (within : i < length row) (read : s ≡ get_or row i s) where
+    here : slice_get row i ≡ Some s
+    here = slice_get-get_or row i s within ∙ ap Some (sym read)
+
     splits : drop i row ≡ s ∷ drop (i + 1) row
     splits =
         let lt = slice_get_within row i s here in

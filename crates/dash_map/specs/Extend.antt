@@ -28,7 +28,7 @@ module _ {K V : Type 0} where
   refused_pair (Ok _) = None
   refused_pair (Err e) = Some (e.key, e.value)
 
-  -- why no map was made: its amount is bad or it found no memory, or P of the refusal of a pair
+  -- why no map was made: a bad parallelism or no memory for a map, or P of the pair that is refused
   abbrev pub NotMade : (ExtendRefused K V → Type 0) → FromRefused K V → Type 0
   NotMade P (Construct e) = IsOneOf (Parallelism ∷ Memory ∷ []) e
   NotMade P (Pair e) = P e

@@ -1,8 +1,8 @@
-use Rattle.std.proofs.Common.{refl, sym, ap, subst, arith, ◌∙◌}
+use Rattle.std.proofs.Common.{refl, sym, ap, subst, ◌∙◌}
 use Rattle.std.specs.Option.{option_map, ghost_name_of}
 use Rattle.dash_shard.specs.Contents.{at}
 use Rattle.dash_map.specs.Alone.{AloneState, IsAlone, contents}
-use Rattle.dash_map.proofs.Spots.{Spot, spot-hash, spot-here, spot-stands, spot-unchanged}
+use Rattle.dash_map.proofs.Spots.{Spot, spot-of, spot-hash, spot-here, spot-stands, spot-unchanged}
 use Rattle.dash_map.proofs.alone.Alone.get_mut.Given.{Over}
 use Rattle.dash_map.proofs.alone.Alone.get_mut.Goals.{After-index_mut}
 use Rattle.dash_map.proofs.Lending.{lent-lawful, lent-state}
@@ -13,16 +13,8 @@ use Rattle.dash_shard.specs.Hashing.{key_hash}
 
 -- the fields are taken before the loan, so the map is seen as they are
 abbrev spot : (g : Over) (c : After-index_mut g) → Spot (key_hash g.K.PartialEq.eq g.K.Hash.hash_input g.S.BuildHasher g.S.Hasher.Hasher) (record { hasher = c.self.inside.hasher; row = c.self.inside.row }) c.args.key.now c.route_of-hash.result.1 c.index_mut.result.now
-spot g c = record {
-  law = lawful-of g.S.BuildHasher g.S.Hasher.Hasher g.met.K.Eq.laws g.met.K.Hash.respects_eq;
-  base = c.self.inside.hasher;
-  row = c.self.inside.row;
-  view = refl;
-  lawful = c.self.invariant;
-  computed = c.route_of-hash.ensures.idx;
-  within = omega (arith, c.route_of-hash.ensures.below);
-  read = c.index_mut.ensures.value;
-}
+spot g c =
+    spot-of _ (lawful-of g.S.BuildHasher g.S.Hasher.Hasher g.met.K.Eq.laws g.met.K.Hash.respects_eq) c.self.inside.hasher c.self.inside.row refl c.self.invariant c.route_of-hash.ensures.idx c.route_of-hash.ensures.below c.index_mut.ensures.value
 
 pub get_mut_hashed-requires : goal.get_mut_hashed-requires
 get_mut_hashed-requires g c =

@@ -1,6 +1,6 @@
-use Rattle.std.proofs.Common.{refl, ap, length, arith}
+use Rattle.std.proofs.Common.{refl, arith}
 use Rattle.dash_shard.specs.Steps.{Remove, Pair}
-use Rattle.dash_map.proofs.Spots.{Spot, spot-route, spot-hash, spot-alone, spot-takes}
+use Rattle.dash_map.proofs.Spots.{Spot, spot-of, spot-route, spot-hash, spot-alone, spot-takes}
 use Rattle.dash_map.proofs.alone.Alone.remove_hashed.Given.{Over}
 use Rattle.dash_map.proofs.alone.Alone.remove_hashed.Goals.{After-index_mut}
 use Rattle.dash_map.proofs.alone.Alone.remove_hashed.Goals as goal
@@ -8,16 +8,8 @@ use Rattle.dash_shard.proofs.Lawful.{lawful-of}
 use Rattle.dash_shard.specs.Hashing.{key_hash}
 
 abbrev spot : (g : Over) (c : After-index_mut g) → Spot (key_hash g.K.PartialEq.eq g.K.Hash.hash_input g.S.BuildHasher g.S.Hasher.Hasher) c.args.self.now c.args.key.now c.args.idx c.index_mut.result.now
-spot g c = record {
-  law = lawful-of g.S.BuildHasher g.S.Hasher.Hasher g.met.K.Eq.laws g.met.K.Hash.respects_eq;
-  base = c.self.inside.hasher;
-  row = c.self.inside.row;
-  view = c.self.view_is;
-  lawful = c.self.invariant;
-  computed = c.requires.idx;
-  within = omega (arith, c.requires.below, ap (λ a. length a.row) c.self.view_is);
-  read = c.index_mut.ensures.value;
-}
+spot g c =
+    spot-of _ (lawful-of g.S.BuildHasher g.S.Hasher.Hasher g.met.K.Eq.laws g.met.K.Hash.respects_eq) c.self.inside.hasher c.self.inside.row c.self.view_is c.self.invariant c.requires.idx c.requires.below c.index_mut.ensures.value
 
 pub remove_hashed-requires-clause-hash : goal.remove_hashed-requires-clause-hash
 remove_hashed-requires-clause-hash g c = spot-hash (spot g c) c.args.hash c.requires.hash

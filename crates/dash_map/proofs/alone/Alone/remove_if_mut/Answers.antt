@@ -1,7 +1,7 @@
-use Rattle.std.proofs.Common.{refl, ap, length, arith}
+use Rattle.std.proofs.Common.{refl}
 use Rattle.dash_shard.specs.Closures.{MayChange, ChangesOn}
 use Rattle.dash_shard.specs.Steps.{RemoveIfMut, Pair}
-use Rattle.dash_map.proofs.Spots.{Spot, spot-route, spot-hash, spot-known, spot-alone, spot-by}
+use Rattle.dash_map.proofs.Spots.{Spot, spot-of, spot-route, spot-hash, spot-known, spot-alone, spot-by}
 use Rattle.dash_map.proofs.alone.Alone.remove_if_mut.Given.{Over}
 use Rattle.dash_map.proofs.alone.Alone.remove_if_mut.Goals.{After-index_mut}
 use Rattle.dash_map.proofs.alone.Alone.remove_if_mut.Goals as goal
@@ -9,16 +9,8 @@ use Rattle.dash_shard.proofs.Lawful.{lawful-of}
 use Rattle.dash_shard.specs.Hashing.{key_hash}
 
 abbrev spot : (g : Over) (c : After-index_mut g) → Spot (key_hash g.K.PartialEq.eq g.K.Hash.hash_input g.S.BuildHasher g.S.Hasher.Hasher) c.args.self.now c.args.key.now c.route_of-hash.result.1 c.index_mut.result.now
-spot g c = record {
-  law = lawful-of g.S.BuildHasher g.S.Hasher.Hasher g.met.K.Eq.laws g.met.K.Hash.respects_eq;
-  base = c.self.inside.hasher;
-  row = c.self.inside.row;
-  view = c.self.view_is;
-  lawful = c.self.invariant;
-  computed = c.route_of-hash.ensures.idx;
-  within = omega (arith, c.route_of-hash.ensures.below, ap (λ a. length a.row) c.self.view_is);
-  read = c.index_mut.ensures.value;
-}
+spot g c =
+    spot-of _ (lawful-of g.S.BuildHasher g.S.Hasher.Hasher g.met.K.Eq.laws g.met.K.Hash.respects_eq) c.self.inside.hasher c.self.inside.row c.self.view_is c.self.invariant c.route_of-hash.ensures.idx c.route_of-hash.ensures.below c.index_mut.ensures.value
 
 pub remove_if_mut_hashed-requires-clause-hash : goal.remove_if_mut_hashed-requires-clause-hash
 remove_if_mut_hashed-requires-clause-hash g c = spot-hash (spot g c) c.route_of-hash.result.0 c.route_of-hash.ensures.hash

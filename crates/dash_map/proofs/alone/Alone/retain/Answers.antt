@@ -1,5 +1,4 @@
-use Rattle.std.proofs.Common.{◌≡◌, ◌<◌, ◌∙◌, Some, length, slice_get, sym, ap, subst, arith}
-use Rattle.std.proofs.lemmas.Option.{slice_get-get_or}
+use Rattle.std.proofs.Common.{◌∙◌, sym, subst, arith}
 use Rattle.std.proofs.Math.ListN.{length-set}
 use Rattle.std.specs.Map.Calls.{CalledAtPair, TakesPair}
 use Rattle.dash_shard.specs.inner.Walks.{if_kept}
@@ -15,26 +14,14 @@ loop-idx-init g c = record {
 }
 
 pub retain_by-requires : goal.retain_by-requires
-retain_by-requires g c =
-    let row = c.loop-idx.self-inside.row in
-    let i = c.loop-idx.idx in
-    let s = c.index_mut.result.now in
-    let within : i < length row = omega (arith, c.loop-idx.invariant.end) in
-    let here : slice_get row i ≡ Some s = slice_get-get_or row i s within ∙ ap Some (sym c.index_mut.ensures.value) in
-    sweeping-ready (key_hash g.K.PartialEq.eq g.K.Hash.hash_input g.S.BuildHasher g.S.Hasher.Hasher) (CalledAtPair g.F.FnMut) (TakesPair g.F.FnMut) if_kept c.args.f i c.args.self.now c.loop-idx.self-inside.hasher row c.loop-idx.f c.loop-idx.invariant.so_far s here
+retain_by-requires g c = sweeping-ready _ (CalledAtPair g.F.FnMut) (TakesPair g.F.FnMut) if_kept c.args.f c.loop-idx.idx c.args.self.now c.loop-idx.self-inside.hasher c.loop-idx.self-inside.row c.loop-idx.f c.loop-idx.invariant.so_far c.index_mut.result.now (omega (arith, c.loop-idx.invariant.end)) c.index_mut.ensures.value
 
 pub loop-idx-preserved : goal.loop-idx-preserved
-loop-idx-preserved g c =
-    let row = c.loop-idx.self-inside.row in
-    let i = c.loop-idx.idx in
-    let s = c.index_mut.result.now in
-    let within : i < length row = omega (arith, c.loop-idx.invariant.end) in
-    let here : slice_get row i ≡ Some s = slice_get-get_or row i s within ∙ ap Some (sym c.index_mut.ensures.value) in
-    let x = c.retain_by.ensures in
-    record {
-      so_far = sweeping-next (key_hash g.K.PartialEq.eq g.K.Hash.hash_input g.S.BuildHasher g.S.Hasher.Hasher) (CalledAtPair g.F.FnMut) (TakesPair g.F.FnMut) if_kept c.args.f i c.args.self.now c.loop-idx.self-inside.hasher row c.loop-idx.f c.loop-idx.invariant.so_far s here c.retain_by.new.self c.retain_by.new.f x.sweeps x.lawful;
-      end = c.loop-idx.invariant.end ∙ sym (length-set row i c.retain_by.new.self);
-    }
+loop-idx-preserved g c = record {
+  so_far = sweeping-next _ (CalledAtPair g.F.FnMut) (TakesPair g.F.FnMut) if_kept c.args.f c.loop-idx.idx c.args.self.now c.loop-idx.self-inside.hasher c.loop-idx.self-inside.row c.loop-idx.f c.loop-idx.invariant.so_far c.index_mut.result.now (omega (arith, c.loop-idx.invariant.end)) c.index_mut.ensures.value
+      c.retain_by.new.self c.retain_by.new.f c.retain_by.ensures.sweeps c.retain_by.ensures.lawful;
+  end = c.loop-idx.invariant.end ∙ sym (length-set c.loop-idx.self-inside.row c.loop-idx.idx c.retain_by.new.self);
+}
 
 pub returns-clause-retains : goal.returns-clause-retains
 returns-clause-retains g c =
