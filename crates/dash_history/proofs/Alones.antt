@@ -20,10 +20,10 @@ use Rattle.dash_steps.specs.inner.Hashed.{OfKey, IsHashBy, HasHash}
 use Rattle.dash_steps.specs.Takes.{Kinds, Known, kinds_at, rules}
 use Rattle.dash_steps.specs.inner.Kinds.{kinds, kinds_of}
 use Rattle.dash_history.specs.History.{RecState, LogState, IsRecorded, Recorded, last_or, shard_of}
-use Rattle.dash_history.specs.Alone.{AloneState, IsTagged, IsAlone, Applied, last_at, kinds_in}
+use Rattle.dash_history.specs.Alone.{RecAloneState, IsRecTagged, IsRecAlone, Applied, last_at, kinds_in}
 
 module _ {K V A S : Type 0} (h : KeyHash K S) where
-  pub tagged-moved : (base : S) (n c i : ℕ) (s t : RecState K V A S) → IsTagged h base n c i s → SameShard s.shard t.shard → t.callers ≡ s.callers → IsTagged h base n c i t
+  pub tagged-moved : (base : S) (n c i : ℕ) (s t : RecState K V A S) → IsRecTagged h base n c i s → SameShard s.shard t.shard → t.callers ≡ s.callers → IsRecTagged h base n c i t
   tagged-moved base n c i s t p stays callers = record {
     number = stays.number ∙ p.number;
     amount = stays.amount ∙ p.amount;
@@ -42,15 +42,15 @@ each-set P i row s t here each new j x e = elim (cases_eq j i) as (λ _. P j x) 
 ]
 
 -- one shard changed where it stood
-pub alone-set : {K V A S : Type 0} (w : Known K V A S) (base : S) (c i : ℕ) (row : List (RecState K V A S)) (s t : RecState K V A S) → IsAlone w (record { hasher = base; callers = c; row = row }) → slice_get row i ≡ Some s
-    → SameShard s.shard t.shard → t.callers ≡ s.callers → IsRecorded w t → IsAlone w (record { hasher = base; callers = c; row = slice_set row i t })
+pub alone-set : {K V A S : Type 0} (w : Known K V A S) (base : S) (c i : ℕ) (row : List (RecState K V A S)) (s t : RecState K V A S) → IsRecAlone w (record { hasher = base; callers = c; row = row }) → slice_get row i ≡ Some s
+    → SameShard s.shard t.shard → t.callers ≡ s.callers → IsRecorded w t → IsRecAlone w (record { hasher = base; callers = c; row = slice_set row i t })
 alone-set w base c i row s t a here stays callers legal =
     let long : length (slice_set row i t) ≡ length row = length-set row i t in
     record {
       amount = subst IsAmount (sym long) a.amount;
       callers = a.callers;
-      tagged = λ j x e. subst (λ n. IsTagged w.keys base n c j x) (sym long)
-          (each-set (λ k y. IsTagged w.keys base (length row) c k y) i row s t here a.tagged (tagged-moved w.keys base (length row) c i s t (a.tagged i s here) stays callers) j x e);
+      tagged = λ j x e. subst (λ n. IsRecTagged w.keys base n c j x) (sym long)
+          (each-set (λ k y. IsRecTagged w.keys base (length row) c k y) i row s t here a.tagged (tagged-moved w.keys base (length row) c i s t (a.tagged i s here) stays callers) j x e);
       recorded = each-set (λ _ y. IsRecorded w y) i row s t here a.recorded legal;
     }
 
@@ -60,35 +60,35 @@ hash-alike h x y same (at_key k b r) hash is = is ∙ sym (same k)
 hash-alike h x y same (on_shard i b r) hash is = tt
 
 -- a shard knows what the map knows
-pub kinds-same : {K V A S : Type 0} (w : Known K V A S) (base : S) (n c i : ℕ) (s : RecState K V A S) → IsTagged w.keys base n c i s → kinds_of w s.shard ≡ kinds_at w base n
+pub kinds-same : {K V A S : Type 0} (w : Known K V A S) (base : S) (n c i : ℕ) (s : RecState K V A S) → IsRecTagged w.keys base n c i s → kinds_of w s.shard ≡ kinds_at w base n
 kinds-same {K = K} {V = V} {A = A} w base n c i s p =
     let kinds_by : (K → ℕ) → ℕ → Kinds K V A = λ r a. kinds w.alike_action w.acts (rules w.alike_key w.alike_value (keys w.keys.eq r a)) in
     let route : (λ x. route_of_hash s.shard.amount (w.keys.hash s.shard.hasher x)) ≡ route_by w.keys base n = fun_ext (λ (x : K). ap (λ a. route_of_hash a (w.keys.hash s.shard.hasher x)) p.amount ∙ ap (route_of_hash n) (p.hashes x)) in
     ap (λ r. kinds_by r s.shard.amount) route ∙ ap (λ a. kinds_by (route_by w.keys base n) a) p.amount
 
 -- the index that was computed is past the row
-pub past_row : {K V A S : Type 0} (w : Known K V A S) (base : S) (c : ℕ) (row : List (RecState K V A S)) (z : AloneState K V A S) → record { hasher = base; callers = c; row = row } ≡ z → (step : ShardStep K V A) (p n : ℕ)
+pub past_row : {K V A S : Type 0} (w : Known K V A S) (base : S) (c : ℕ) (row : List (RecState K V A S)) (z : RecAloneState K V A S) → record { hasher = base; callers = c; row = row } ≡ z → (step : ShardStep K V A) (p n : ℕ)
     → n ≡ length row → p ≡ step_shard (keys w.keys.eq (route_by w.keys base n) n) (step_of w.acts step) → n ≤ p → length z.row ≤ shard_of (kinds_in w z) step
 past_row {K} {V} {A} {S} w base c row z view step p n long computed past =
-    let At : Type 0 = AloneState K V A S in
+    let At : Type 0 = RecAloneState K V A S in
     let there = subst (λ l. p ≡ step_shard (keys w.keys.eq (route_by w.keys base l) l) (step_of w.acts step)) long computed in
     subst (λ (x : At). length x.row ≤ shard_of (kinds_in w x) step) view (subst (λ q. length row ≤ q) there (omega arith))
 
 -- The map, the index that was computed, and the shard that an index lends there.
 module _ {K V A S : Type 0} (w : Known K V A S)
-    (base : S) (c : ℕ) (row : List (RecState K V A S)) (z : AloneState K V A S) (view : record { hasher = base; callers = c; row = row } ≡ z)
-    (a : IsAlone w (record { hasher = base; callers = c; row = row })) (step : ShardStep K V A) (p n : ℕ) (s : RecState K V A S)
+    (base : S) (c : ℕ) (row : List (RecState K V A S)) (z : RecAloneState K V A S) (view : record { hasher = base; callers = c; row = row } ≡ z)
+    (a : IsRecAlone w (record { hasher = base; callers = c; row = row })) (step : ShardStep K V A) (p n : ℕ) (s : RecState K V A S)
     (long : n ≡ length row) (computed : p ≡ step_shard (keys w.keys.eq (route_by w.keys base n) n) (step_of w.acts step)) (within : p < length row) (read : s ≡ get_or row p s) where
-  abbrev old : AloneState K V A S
+  abbrev old : RecAloneState K V A S
   old = record { hasher = base; callers = c; row = row }
 
-  abbrev set_row : AloneState K V A S → List (RecState K V A S) → AloneState K V A S
+  abbrev set_row : RecAloneState K V A S → List (RecState K V A S) → RecAloneState K V A S
   set_row x r = record x { row = r }
 
   pub here : slice_get row p ≡ Some s
   here = slice_get-get_or row p s within ∙ ap Some (sym read)
 
-  tagged : IsTagged w.keys base (length row) c p s
+  tagged : IsRecTagged w.keys base (length row) c p s
   tagged = a.tagged p s here
 
   same : kinds_of w s.shard ≡ kinds_in w z
@@ -116,7 +116,7 @@ module _ {K V A S : Type 0} (w : Known K V A S)
   last_is last = ap (λ o. option_map_or (λ x. last_or 0 x.history) o 0) there ∙ sym last
 
   pub applied : (t : RecState K V A S) (l l' : LogState K V A) (reply : program.Reply K V) → Recorded (kinds_of w s.shard) s t l l' step reply
-      → Applied (kinds_in w z) z (record { hasher = base; callers = c; row = slice_set row p t }) l l' step reply
+      → Applied w z (record { hasher = base; callers = c; row = slice_set row p t }) l l' step reply
   applied t l l' reply r = record {
     before = s;
     after = t;

@@ -7,7 +7,7 @@ use Rattle.std.proofs.lemmas.List.{length-map, length-replicate, get_or-replicat
 use Rattle.std.proofs.lemmas.Option.{slice_get-get_or, slice_get_within, slice_get-map, same_Some}
 use Rattle.std.specs.Cmp.Lexicographic.{pointwise}
 use Rattle.dash_history.specs.inner.Gathering.{agrees, Finds}
-use Rattle.dash_history.specs.Alone.{AloneState}
+use Rattle.dash_history.specs.Alone.{RecAloneState}
 use Rattle.dash_history.specs.History.{LogState, RecState}
 use Rattle.dash_history.specs.OneHistory.{AreCallers, IsMerge, Names, along, of_caller, histories, record_at}
 use Rattle.dash_steps.specs.declared.step.Record.{Record}
@@ -179,7 +179,7 @@ module _ {K V A : Type 0} {same : Record K V A → Record K V A → Bool} {hs : 
       (followed-more same hs ats logs i a r t.here stands next f (get_or index a.caller 0) l turn-log (t.own r l stands turn-log) (ap (agrees same r l.entries) (sym turn-next) ∙ says) c all)
 
 -- what stands at a place of the map, whose fields are seen
-pub stored-at : {K V A S : Type 0} (base : S) (c : ℕ) (row : List (RecState K V A S)) (z : AloneState K V A S) → record { hasher = base; callers = c; row = row } ≡ z → (i p : ℕ) (s : RecState K V A S) → i < length z.row → s ≡ get_or row i s
+pub stored-at : {K V A S : Type 0} (base : S) (c : ℕ) (row : List (RecState K V A S)) (z : RecAloneState K V A S) → record { hasher = base; callers = c; row = row } ≡ z → (i p : ℕ) (s : RecState K V A S) → i < length z.row → s ≡ get_or row i s
     → slice_get s.history p ≡ record_at (histories z) i p
 stored-at base c row z view i p s within is =
     let there : slice_get row i ≡ Some s = slice_get-get_or row i s (subst (λ a. i < length a.row) (sym view) within) ∙ ap Some (sym is) in

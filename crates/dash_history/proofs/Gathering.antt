@@ -4,10 +4,10 @@ use Rattle.std.specs.List.{Contains}
 use Rattle.dash_shard.specs.Contents.{keys}
 use Rattle.dash_shard.specs.Hashing.{route_by}
 use Rattle.std.proofs.lemmas.List.{length-map}
-use Rattle.dash_history.specs.Alone.{AloneState, IsAlone, kinds_in}
+use Rattle.dash_history.specs.Alone.{RecAloneState, IsRecAlone, kinds_in}
 use Rattle.dash_history.specs.inner.Gathering.{EachLog, KeepsCallers}
 use Rattle.dash_history.specs.History.{LogState, RecState}
-use Rattle.dash_history.specs.OneHistory.{AreCallers, IsMerge, Matches, IsOneHistory, IsGathered, histories}
+use Rattle.dash_history.specs.OneHistory.{AreCallers, IsMerge, Matches, IsGathered, histories}
 use Rattle.dash_steps.specs.Takes.{Known, rules}
 use Rattle.dash_history.specs.declared.gather.At.{At}
 use Rattle.dash_steps.proofs.Copies.{Lawful}
@@ -15,7 +15,7 @@ use Rattle.dash_history.proofs.Matching.{order-from-match, shards-from-order, ma
 use Rattle.dash_history.proofs.Members.{contains-has}
 use Rattle.dash_history.proofs.Whole.{tidy, one-history, caller-below, all-has, has-all}
 
-module _ {K V A S : Type 0} (w : Known K V A S) (a : AloneState K V A S) (alone : IsAlone w a) (laws : Lawful (kinds_in w a).rules)
+module _ {K V A S : Type 0} (w : Known K V A S) (a : RecAloneState K V A S) (alone : IsRecAlone w a) (laws : Lawful (kinds_in w a).rules)
     (ats : List At) (merge : IsMerge (histories a) ats) (logs : List (LogState K V A)) (lawful : EachLog logs) where
   long : length (histories a) ≡ length a.row
   long = length-map a.row (λ s. s.history)
@@ -24,7 +24,7 @@ module _ {K V A S : Type 0} (w : Known K V A S) (a : AloneState K V A S) (alone 
   keeps-from-matches m i l e =
       order-from-match w.alike_key w.alike_value w.alike_action (histories a) ats (tidy w a alone laws) merge l.caller l.entries (lawful i l e).rises
       (λ r h. subst (λ n. r.shard < n) (sym long) (all-has (λ r. r.shard < length a.row) l.entries r (m.shards i l e) h))
-      (λ s h f. m.same i l s h e f)
+      (m.same i l e)
 
   pub gathered : AreCallers a.callers logs → KeepsCallers w (histories a) logs ats → IsGathered w a logs ats
   gathered callers keeps = record {
@@ -32,7 +32,7 @@ module _ {K V A S : Type 0} (w : Known K V A S) (a : AloneState K V A S) (alone 
       callers = callers;
       shards = λ i l e. has-all (λ r. r.shard < length a.row) l.entries
           (λ r h. subst (λ n. r.shard < n) long (shards-from-order w.alike_key w.alike_value w.alike_action (histories a) ats (tidy w a alone laws) merge l.caller l.entries (keeps i l e) r h));
-      same = λ i l s h e f. match-from-order w.alike_key w.alike_value w.alike_action (histories a) ats (tidy w a alone laws) merge l.caller l.entries (keeps i l e) s h f;
+      same = λ i l e s h f. match-from-order w.alike_key w.alike_value w.alike_action (histories a) ats (tidy w a alone laws) merge l.caller l.entries (keeps i l e) s h f;
     };
     history = one-history w a alone laws ats merge;
     callers = keeps;
@@ -40,9 +40,9 @@ module _ {K V A S : Type 0} (w : Known K V A S) (a : AloneState K V A S) (alone 
 
 -- of the map, as its fields are seen
 module _ {K V A S : Type 0} (w : Known K V A S) (laws : (base : S) (n : ℕ) → Lawful (rules w.alike_key w.alike_value (keys w.keys.eq (route_by w.keys base n) n)))
-    (base : S) (c : ℕ) (row : List (RecState K V A S)) (z : AloneState K V A S) (view : record { hasher = base; callers = c; row = row } ≡ z) (alone : IsAlone w (record { hasher = base; callers = c; row = row }))
+    (base : S) (c : ℕ) (row : List (RecState K V A S)) (z : RecAloneState K V A S) (view : record { hasher = base; callers = c; row = row } ≡ z) (alone : IsRecAlone w (record { hasher = base; callers = c; row = row }))
     (read : List (RecState K V A S)) (is : read ≡ row) (ats : List At) (merge : IsMerge (map (λ s. s.history) read) ats) where
-  abbrev seen : AloneState K V A S
+  abbrev seen : RecAloneState K V A S
   seen = record { hasher = base; callers = c; row = row }
 
   there : IsMerge (map (λ s. s.history) row) ats

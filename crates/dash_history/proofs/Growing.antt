@@ -3,9 +3,8 @@ use Rattle.std.proofs.Common.{◌≡◌, ℕ, ◌<◌, List, [], ◌∷◌, ◌+
 use Rattle.std.proofs.lemmas.List.Elements.{All-append, All-cons, All-nil}
 use Rattle.std.proofs.lemmas.List.{map-append}
 use Rattle.dash_steps.specs.declared.step.Record.{Record}
-use Rattle.dash_history.specs.inner.Done.{done}
 use Rattle.dash_steps.specs.Takes.{Kinds, Takes, Runs}
-use Rattle.dash_history.specs.History.{last_or, Rises, shard_of, IsHistory, LogState, IsLog}
+use Rattle.dash_history.specs.History.{last_or, Rises, done, shard_of, IsHistory, LogState, IsLog}
 use Rattle.dash_steps.proofs.Copies.{runs-more}
 
 module _ {K V A : Type 0} where

@@ -68,10 +68,10 @@ module _ {K V A S : Type 0} (m : Kinds K V A) (lk : IsEquivalence m.rules.alike_
       record {
         entry = r.logged;
         tells = rw (here, last) (told (stamp_of s l) l.caller s.shard.number step reply r.logged
-            (tells-same lk lv lf (stamp_of s l) l.caller s.shard.number step reply r.grown.kept r.logged (tells-of _ _ _ _ _ _ r.grown.tells) r.grown.same));
+            (tells-same lk lv lf (stamp_of s l) l.caller s.shard.number step reply r.kept r.logged (tells-of _ _ _ _ _ _ r.tells) r.same));
         above = omega (arith, last);
         entries = ap (λ x. x.entries) r.log;
         caller = ap (λ x. x.caller) r.log;
         contents = _;
-        answers = r.grown.takes.answers;
+        answers = r.takes.answers;
       }

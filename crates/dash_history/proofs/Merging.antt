@@ -8,8 +8,7 @@ use Rattle.std.proofs.lemmas.Bool.{cases_eq, cases_lt, ltb-false, eqb-false}
 use Rattle.std.proofs.lemmas.List.Sorted.{Contains-permutation, IsPermutation-sym, sum_by-IsPermutation}
 use Rattle.std.proofs.lemmas.List.Sums.{sum_by-append}
 use Rattle.std.proofs.lemmas.Option.{same_Some}
-use Rattle.dash_history.specs.inner.Gathering.{places, places_from, place_of}
-use Rattle.dash_history.specs.Alone.{EachRecorded}
+use Rattle.dash_history.specs.inner.Gathering.{EachRecorded, places, places_from, place_of}
 use Rattle.dash_steps.specs.Takes.{Known}
 use Rattle.dash_history.specs.History.{RecState, Rises}
 use Rattle.dash_history.specs.OneHistory.{Earlier, Names, IsMerge, record_at}

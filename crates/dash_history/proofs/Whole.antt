@@ -7,10 +7,9 @@ use Rattle.dash_shard.proofs.Routing.{route_below}
 use Rattle.dash_shard.specs.Contents.{IsOnShard}
 use Rattle.dash_shard.specs.inner.Steps.{step_shard}
 use Rattle.dash_shard.specs.Shard.{pairs}
-use Rattle.dash_history.specs.Alone.{AloneState, IsAlone, kinds_in}
-use Rattle.dash_history.specs.History.{RecState, IsHistory, Rises, shard_of}
-use Rattle.dash_history.specs.OneHistory.{IsMerge, IsOneHistory, along, of_shard, histories, contents}
-use Rattle.dash_history.specs.inner.Done.{done}
+use Rattle.dash_history.specs.Alone.{RecAloneState, IsRecAlone, kinds_in}
+use Rattle.dash_history.specs.History.{RecState, IsHistory, Rises, done, shard_of}
+use Rattle.dash_history.specs.OneHistory.{IsMerge, IsOneHistory, along, of_shard, histories, rec_contents}
 use Rattle.dash_steps.specs.Takes.{Known, Kinds, Runs}
 use Rattle.dash_steps.specs.declared.step.Record.{Record}
 use Rattle.dash_history.specs.declared.gather.At.{At}
@@ -50,7 +49,7 @@ module _ {X Y : Type 0} where
   blank-at (x ∷ xs) zero = refl
   blank-at (x ∷ xs) (suc i) = blank-at xs i
 
-module _ {K V A S : Type 0} (w : Known K V A S) (a : AloneState K V A S) (alone : IsAlone w a) (laws : Lawful (kinds_in w a).rules) where
+module _ {K V A S : Type 0} (w : Known K V A S) (a : RecAloneState K V A S) (alone : IsRecAlone w a) (laws : Lawful (kinds_in w a).rules) where
   abbrev m : Kinds K V A
   m = kinds_in w a
 
@@ -108,11 +107,11 @@ module _ {K V A S : Type 0} (w : Known K V A S) (a : AloneState K V A S) (alone 
     unfolding blank
     blank-spread j P e = let f = mapped-get blank a.row j P e in subst (λ l. IsOnShard m.rules.keys (0 + j) l) f.2 (record { distinct = tt; routed = λ k away. refl })
 
-    runs-along : Runs m.rules [] (map (done w.acts) (along (histories a) ats)) (contents a)
+    runs-along : Runs m.rules [] (map (done w.acts) (along (histories a) ats)) (rec_contents a)
     runs-along =
         let size : length (map (blank {X = RecState K V A S} {Y = K × V}) a.row) ≡ length a.row = length-map a.row blank in
         let ds = map (done w.acts) (along (histories a) ats) in
-        subst (λ P. Runs m.rules P ds (contents a)) (blank-union a.row)
+        subst (λ P. Runs m.rules P ds (rec_contents a)) (blank-union a.row)
         (subst (λ Q. Runs m.rules (flat_map (λ P. P) (map blank a.row)) ds Q) (flat_map-map (λ s. pairs s.shard) a.row)
         (runs-union m.rules laws ds (map blank a.row) (map (λ s. pairs s.shard) a.row) (length-map a.row (λ s. pairs s.shard) ∙ sym size)
         (λ k. subst (λ n. m.rules.keys.route k < n) (sym size) (route_below (w.keys.hash a.hasher k) (length a.row) (omega (arith, alone.amount.several))))

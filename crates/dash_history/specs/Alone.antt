@@ -2,7 +2,7 @@
 use Rattle.std.specs.Prelude.{ℕ, zero, suc, ◌≡◌, ◌<◌, ◌≤◌, List, [], ◌∷◌, ◌++◌, length, Some, slice_get, slice_set}
 use Rattle.std.specs.Option.{option_map_or}
 use Rattle.dash_shard.specs.Hashing.{KeyHash, IsAmount, HashAlike}
-use Rattle.dash_shard.specs.Shard.{pairs}
+use Rattle.dash_shard.specs.Shard.{EachAt, pairs}
 use Rattle.dash_steps.specs.Takes.{Known, kinds_at, Kinds}
 use Rattle.dash_history.specs.History.{LogState, RecState, IsRecorded, Recorded, last_or, shard_of}
 use Rattle.dash_history.specs.Refused.{NoStamp}
@@ -20,7 +20,7 @@ fresh_logs zero = []
 fresh_logs (suc c) = fresh_logs c ++ record { caller = c; last = 0; entries = [] } ∷ []
 
 -- what contracts see of the map
-pub record AloneState (K V A S : Type 0) : Type 0 where
+pub record RecAloneState (K V A S : Type 0) : Type 0 where
   pub hasher : S
   pub callers : ℕ
   pub row : List (RecState K V A S)
@@ -33,39 +33,35 @@ module _ {K V A S : Type 0} where
     pub last : s.last ≡ 0
 
   -- the last stamp of the history of shard i, 0 where there is none
-  abbrev pub last_at : AloneState K V A S → ℕ → ℕ
+  abbrev pub last_at : RecAloneState K V A S → ℕ → ℕ
   last_at a i = option_map_or (λ s. last_or 0 s.history) (slice_get a.row i) 0
 
   -- the shard i of n, of a map with c callers and a hasher of this meaning
-  pub record IsTagged (h : KeyHash K S) (meaning : S) (n c i : ℕ) (s : RecState K V A S) : Type 0 where
+  pub record IsRecTagged (h : KeyHash K S) (meaning : S) (n c i : ℕ) (s : RecState K V A S) : Type 0 where
     pub number : s.shard.number ≡ i
     pub amount : s.shard.amount ≡ n
     pub callers : s.callers ≡ c
     pub hashes : HashAlike h meaning s.shard.hasher
 
-  -- each shard's history led to its pairs, and its last is the stamp of its last record
-  abbrev pub EachRecorded : Known K V A S → List (RecState K V A S) → Type 0
-  EachRecorded w row = (i : ℕ) (s : RecState K V A S) → slice_get row i ≡ Some s → IsRecorded w s
-
   -- each shard has the number of its index, and a legal history
-  pub record IsAlone (w : Known K V A S) (a : AloneState K V A S) : Type 0 where
+  pub record IsRecAlone (w : Known K V A S) (a : RecAloneState K V A S) : Type 0 where
     pub amount : IsAmount (length a.row)
     pub callers : IsCallers a.callers
-    pub tagged : (i : ℕ) (s : RecState K V A S) → slice_get a.row i ≡ Some s → IsTagged w.keys a.hasher (length a.row) a.callers i s
-    pub recorded : EachRecorded w a.row
+    pub tagged : EachAt a.row (IsRecTagged w.keys a.hasher (length a.row) a.callers)
+    pub recorded : EachAt a.row (λ _ s. IsRecorded w s)
 
   -- what the map knows of its keys, values and actions
-  abbrev pub kinds_in : Known K V A S → AloneState K V A S → Kinds K V A
+  abbrev pub kinds_in : Known K V A S → RecAloneState K V A S → Kinds K V A
   kinds_in w a = kinds_at w a.hasher (length a.row)
 
   -- The step was taken and recorded on the step's shard. The other shards are as they were.
-  pub record Applied (m : Kinds K V A) (a a' : AloneState K V A S) (l l' : LogState K V A) (step : ShardStep K V A) (reply : Reply K V) : Type 0 where
+  pub record Applied (w : Known K V A S) (a a' : RecAloneState K V A S) (l l' : LogState K V A) (step : ShardStep K V A) (reply : Reply K V) : Type 0 where
     pub before : RecState K V A S
     pub after : RecState K V A S
-    pub here : slice_get a.row (shard_of m step) ≡ Some before
-    pub recorded : Recorded m before after l l' step reply
-    pub others : a' ≡ record a { row = slice_set a.row (shard_of m step) after }
+    pub here : slice_get a.row (shard_of (kinds_in w a) step) ≡ Some before
+    pub recorded : Recorded (kinds_in w a) before after l l' step reply
+    pub others : a' ≡ record a { row = slice_set a.row (shard_of (kinds_in w a) step) after }
 
   -- the map has a shard of the step's number, and no stamp is above the shard's last and the log's
-  abbrev pub NoStampIn : Known K V A S → AloneState K V A S → LogState K V A → ShardStep K V A → Type 0
+  abbrev pub NoStampIn : Known K V A S → RecAloneState K V A S → LogState K V A → ShardStep K V A → Type 0
   NoStampIn w a l step = (shard_of (kinds_in w a) step < length a.row) × NoStamp (last_at a (shard_of (kinds_in w a) step)) l.last

@@ -1,5 +1,6 @@
 -- The history of a shard and the log of a caller, and how both grow.
 use Rattle.std.specs.Prelude.{ℕ, ◌≡◌, ◌+◌, ◌<◌, ◌≤◌, max, List, [], ◌∷◌, ◌++◌, map, All, ⊤, IsTrue}
+use Rattle.dash_shard.specs.Steps as table
 use Rattle.dash_shard.specs.Steps.{line, line_shard}
 use Rattle.dash_shard.specs.Shard.{ShardState, IsShard, SameShard, pairs}
 use Rattle.dash_steps.specs.Steps.{step_of, reply_of, alike_record}
@@ -18,6 +19,10 @@ abbrev pub Rises : {K V A : Type 0} → ℕ → List (Record K V A) → Type 0
 Rises low [] = ⊤
 Rises low (r ∷ rs) = (low < r.stamp) × Rises r.stamp rs
 
+-- what a record says was done: its step with its reply, in the words of the table
+abbrev pub done : {K V A : Type 0} → (A → table.Act K V) → Record K V A → table.Step K V × table.Reply K V
+done acts r = (step_of acts r.step, reply_of r.reply)
+
 module _ {K V A : Type 0} (m : Kinds K V A) where
   -- the one record is a copy of the other: they are alike in stamp, caller, shard, step and reply
   abbrev pub IsCopy : Record K V A → Record K V A → Type 0
@@ -35,7 +40,7 @@ module _ {K V A : Type 0} (m : Kinds K V A) where
   pub record IsHistory (callers s : ℕ) (h : List (Record K V A)) (P : List (K × V)) : Type 0 where
     pub of : All (λ r. (r.shard ≡ s) × (shard_of r.step ≡ s) × (r.caller < callers)) h
     pub rises : Rises 0 h
-    pub runs : Runs m.rules [] (map (λ r. (step_of m.acts r.step, reply_of r.reply)) h) P
+    pub runs : Runs m.rules [] (map (done m.acts) h) P
 
 -- what contracts see of a caller's log
 pub record LogState (K V A : Type 0) : Type 0 where
@@ -60,19 +65,15 @@ pub record RecState (K V A S : Type 0) : Type 0 where
 abbrev pub stamp_of : {K V A S : Type 0} → RecState K V A S → LogState K V A → ℕ
 stamp_of s l = max s.last l.last + 1
 
--- The step was taken on the shard, and a record of it was added at the end of the history. The other record is the same.
-pub record Grown {K V A S : Type 0} (m : Kinds K V A) (s s' : RecState K V A S) (stamp caller : ℕ) (step : ShardStep K V A) (reply : Reply K V) (logged : Record K V A) : Type 0 where
-  pub takes : Takes m.rules (pairs s.shard) (step_of m.acts step) (reply_of reply) (pairs s'.shard)
-  pub kept : Record K V A
-  pub tells : IsCopy m (record { stamp = stamp; caller = caller; shard = s.shard.number; step = step; reply = reply }) kept
-  pub same : IsCopy m kept logged
-  pub grown : s' ≡ record s { shard = s'.shard; last = stamp; history = s.history ++ kept ∷ [] }
-  pub stays : SameShard s.shard s'.shard
-
 -- The step was taken on the shard, and one same record of it was added at the end of the history and of the log.
 pub record Recorded {K V A S : Type 0} (m : Kinds K V A) (s s' : RecState K V A S) (l l' : LogState K V A) (step : ShardStep K V A) (reply : Reply K V) : Type 0 where
+  pub takes : Takes m.rules (pairs s.shard) (step_of m.acts step) (reply_of reply) (pairs s'.shard)
+  pub kept : Record K V A
+  pub tells : IsCopy m (record { stamp = stamp_of s l; caller = l.caller; shard = s.shard.number; step = step; reply = reply }) kept
+  pub grown : s' ≡ record s { shard = s'.shard; last = stamp_of s l; history = s.history ++ kept ∷ [] }
+  pub stays : SameShard s.shard s'.shard
   pub logged : Record K V A
-  pub grown : Grown m s s' (stamp_of s l) l.caller step reply logged
+  pub same : IsCopy m kept logged
   pub log : l' ≡ record l { last = stamp_of s l; entries = l.entries ++ logged ∷ [] }
 
 -- the step goes to the shard

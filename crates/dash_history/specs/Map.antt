@@ -1,11 +1,12 @@
 -- A recorded map behind its locks, and what a step through them leaves in the caller's log.
-use Rattle.std.specs.Prelude.{ℕ, ◌≡◌, ◌<◌, ◌↔◌, List, [], ◌∷◌, ◌++◌, length, Some, slice_get, Result, Err, IfOk, IfErr}
+use Rattle.std.specs.Prelude.{ℕ, ◌≡◌, ◌<◌, ◌↔◌, List, [], ◌∷◌, ◌++◌, length, Result, Err, IfOk, IfErr}
 use Rattle.dash_shard.specs.Hashing.{KeyHash}
 use Rattle.dash_shard.specs.Lock.{FoundBehind, LeftBehind}
+use Rattle.dash_shard.specs.Shard.{EachAt}
 use Rattle.dash_steps.specs.Steps.{step_of, reply_of}
 use Rattle.dash_steps.specs.Takes.{Known, kinds_at, Kinds, Answers}
 use Rattle.dash_history.specs.History.{RecState, LogState, IsCopy, IsRecorded, NoShard, Recorded, shard_of}
-use Rattle.dash_history.specs.Alone.{AloneState, IsTagged, IsAlone}
+use Rattle.dash_history.specs.Alone.{RecAloneState, IsRecTagged, IsRecAlone}
 use Rattle.dash_history.specs.Refused.{NoStamp}
 use Rattle.dash_steps.specs.declared.step.ShardStep.{ShardStep}
 use Rattle.dash_steps.specs.declared.step.Reply.{Reply}
@@ -14,46 +15,46 @@ use Rattle.dash_history.specs.declared.record.RecordFault.{RecordFault}
 use Rattle.dash_history.specs.declared.record.RecordFault.TheVariants.{LastStamp, NoSuchShard}
 
 -- what contracts see of the map: nothing of its pairs and histories
-pub record MapState (S : Type 0) : Type 0 where
+pub record RecMapState (S : Type 0) : Type 0 where
   pub hasher : S
   pub callers : ℕ
   pub amount : ℕ
 
 -- what the map knows of its keys, values and actions
-abbrev pub kinds_on : {K V A S : Type 0} → Known K V A S → MapState S → Kinds K V A
+abbrev pub kinds_on : {K V A S : Type 0} → Known K V A S → RecMapState S → Kinds K V A
 kinds_on w m = kinds_at w m.hasher m.amount
 
 -- it is shard i of the map
-abbrev pub IsShardOf : {K V A S : Type 0} → KeyHash K S → MapState S → ℕ → RecState K V A S → Type 0
-IsShardOf h m i s = IsTagged h m.hasher m.amount m.callers i s
+abbrev pub IsShardOf : {K V A S : Type 0} → KeyHash K S → RecMapState S → ℕ → RecState K V A S → Type 0
+IsShardOf h m i s = IsRecTagged h m.hasher m.amount m.callers i s
 
 module _ {K V A S : Type 0} (w : Known K V A S) where
   -- shards that were found behind the locks of this map
-  pub record IsBehind (m : MapState S) (a : AloneState K V A S) : Type 0 where
+  pub record IsRecFound (m : RecMapState S) (a : RecAloneState K V A S) : Type 0 where
     pub hasher : a.hasher ≡ m.hasher
     pub callers : a.callers ≡ m.callers
     pub amount : length a.row ≡ m.amount
-    pub lawful : IsAlone w a
-    pub found : (i : ℕ) (s : RecState K V A S) → slice_get a.row i ≡ Some s → FoundBehind s
+    pub lawful : IsRecAlone w a
+    pub found : EachAt a.row (λ _ s. FoundBehind s)
 
-  -- P is so of shards that stood behind the locks
-  abbrev pub SawShards : MapState S → (AloneState K V A S → Type 0) → Type 0
-  SawShards m P = (a : AloneState K V A S) × IsBehind m a × P a
+  -- P is so of shards that were found behind the locks
+  abbrev pub SawRecShards : RecMapState S → (RecAloneState K V A S → Type 0) → Type 0
+  SawRecShards m P = (a : RecAloneState K V A S) × IsRecFound m a × P a
 
   -- P is so of the shard i, as it was found behind its lock
-  abbrev pub SawShard : MapState S → ℕ → (RecState K V A S → Type 0) → Type 0
-  SawShard m i P = (s : RecState K V A S) × IsShardOf w.keys m i s × IsRecorded w s × FoundBehind s × P s
+  abbrev pub SawRecShard : RecMapState S → ℕ → (RecState K V A S → Type 0) → Type 0
+  SawRecShard m i P = (s : RecState K V A S) × IsShardOf w.keys m i s × IsRecorded w s × FoundBehind s × P s
 
   -- R of the shard i as it was found, and of the one that was left there
-  abbrev pub LeavesShard : MapState S → ℕ → (RecState K V A S → RecState K V A S → Type 0) → Type 0
-  LeavesShard m i R = SawShard m i (λ s. (t : RecState K V A S) × LeftBehind t × R s t)
+  abbrev pub LeavesRecShard : RecMapState S → ℕ → (RecState K V A S → RecState K V A S → Type 0) → Type 0
+  LeavesRecShard m i R = SawRecShard m i (λ s. (t : RecState K V A S) × LeftBehind t × R s t)
 
   -- no stamp was above the log's last and that of the step's shard
-  abbrev pub SawNoStamp : MapState S → LogState K V A → ShardStep K V A → Type 0
-  SawNoStamp m l step = SawShard m (shard_of (kinds_on w m) step) (λ s. NoStamp s.last l.last)
+  abbrev pub SawNoStamp : RecMapState S → LogState K V A → ShardStep K V A → Type 0
+  SawNoStamp m l step = SawRecShard m (shard_of (kinds_on w m) step) (λ s. NoStamp s.last l.last)
 
--- The log is longer by one record of the step, with the reply, the step's shard and a stamp above the log's last. The reply is one
--- that the step gets from some contents of its shard.
+-- The log is longer by one record of the step, with the reply, the step's shard and a stamp above the log's last. The reply is
+-- one that the step gets from some contents of its shard.
 pub record Logged {K V A : Type 0} (m : Kinds K V A) (l l' : LogState K V A) (step : ShardStep K V A) (reply : Reply K V) : Type 0 where
   pub entry : Record K V A
   pub tells : IsCopy m (record { stamp = l'.last; caller = l.caller; shard = shard_of m step; step = step; reply = reply }) entry
@@ -63,11 +64,11 @@ pub record Logged {K V A : Type 0} (m : Kinds K V A) (l l' : LogState K V A) (st
   pub contents : List (K × V)
   pub answers : Answers m.rules contents (step_of m.acts step) (reply_of reply)
 
--- A step through the locks is taken and recorded on its shard, and logged with its reply. Or it is handed back, and the log is as it was: for want of its shard
--- exactly where the map has none, for want of a stamp only where none was left.
-pub record Logs {K V A S : Type 0} (w : Known K V A S) (m : MapState S) (l l' : LogState K V A) (step : ShardStep K V A) (result : Result (Reply K V) (ShardStep K V A × RecordFault)) : Type 0 where
+-- A step through the locks is taken and recorded on its shard, and logged with its reply. Or it is handed back, and the log is as
+-- it was: for want of its shard exactly where the map has none, for want of a stamp only where none was left.
+pub record Logs {K V A S : Type 0} (w : Known K V A S) (m : RecMapState S) (l l' : LogState K V A) (step : ShardStep K V A) (result : Result (Reply K V) (ShardStep K V A × RecordFault)) : Type 0 where
   pub ok : IfOk result (λ reply. Logged (kinds_on w m) l l' step reply)
-  pub left : IfOk result (λ reply. LeavesShard w m (shard_of (kinds_on w m) step) (λ s t. Recorded (kinds_on w m) s t l l' step reply))
+  pub left : IfOk result (λ reply. LeavesRecShard w m (shard_of (kinds_on w m) step) (λ s t. Recorded (kinds_on w m) s t l l' step reply))
   pub refused : IfErr result (λ e. (e.0 ≡ step) × (l' ≡ l))
   pub no_such_shard : (result ≡ Err (step, NoSuchShard)) ↔ NoShard (kinds_on w m) step
   pub last_stamp : result ≡ Err (step, LastStamp) → SawNoStamp w m l step

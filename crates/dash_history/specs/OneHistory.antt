@@ -1,14 +1,14 @@
 -- One history of a recorded map: the merge of the histories of its shards, and when the logs of its callers match them.
 use Rattle.std.specs.Prelude.{ℕ, ◌≡◌, ◌<◌, ◌≤◌, ◌==◌, ◌⊎◌, ◌↔◌, List, [], map, filter, flat_map, length, Option, Some, option_and_then, slice_get, All, IsTrue, Result, IfOk, Err, Vec}
 use Rattle.std.specs.List.{Contains, filter_map}
-use Rattle.dash_shard.specs.Shard.{pairs}
+use Rattle.dash_shard.specs.Shard.{EachAt, pairs}
 use Rattle.std.specs.Option.{option_eq}
 use Rattle.std.specs.Cmp.Lexicographic.{pointwise}
 use Rattle.dash_steps.specs.Alike.{alike_pair}
-use Rattle.dash_steps.specs.Steps.{step_of, reply_of, alike_record}
+use Rattle.dash_steps.specs.Steps.{alike_record}
 use Rattle.dash_steps.specs.Takes.{Known, Runs}
-use Rattle.dash_history.specs.History.{LogState}
-use Rattle.dash_history.specs.Alone.{AloneState, kinds_in}
+use Rattle.dash_history.specs.History.{LogState, done}
+use Rattle.dash_history.specs.Alone.{RecAloneState, kinds_in}
 use Rattle.dash_steps.specs.declared.step.Record.{Record}
 use Rattle.dash_history.specs.declared.gather.At.{At}
 use Rattle.dash_history.specs.declared.gather.GatherError.{GatherError}
@@ -44,17 +44,17 @@ module _ {K V A : Type 0} where
 
   -- the logs are those of the callers 0 to c - 1, each once
   pub record AreCallers (c : ℕ) (logs : List (LogState K V A)) : Type 0 where
-    pub few : (i : ℕ) (l : LogState K V A) → slice_get logs i ≡ Some l → l.caller < c
+    pub few : EachAt logs (λ _ l. l.caller < c)
     pub all : (j : ℕ) → j < c → (i : ℕ) × (l : LogState K V A) × (slice_get logs i ≡ Some l) × (l.caller ≡ j)
     pub once : (i k : ℕ) (l m : LogState K V A) → slice_get logs i ≡ Some l → slice_get logs k ≡ Some m → l.caller ≡ m.caller → i ≡ k
 
 -- the histories of the shards, and the pairs of all shards
 module _ {K V A S : Type 0} where
-  abbrev pub histories : AloneState K V A S → List (List (Record K V A))
+  abbrev pub histories : RecAloneState K V A S → List (List (Record K V A))
   histories a = map (λ s. s.history) a.row
 
-  abbrev pub contents : AloneState K V A S → List (K × V)
-  contents a = flat_map (λ s. pairs s.shard) a.row
+  abbrev pub rec_contents : RecAloneState K V A S → List (K × V)
+  rec_contents a = flat_map (λ s. pairs s.shard) a.row
 
 module _ {K V A S : Type 0} (w : Known K V A S) where
   -- the same records in the same order, up to alike
@@ -62,34 +62,34 @@ module _ {K V A S : Type 0} (w : Known K V A S) where
   Same rs qs = IsTrue (pointwise (alike_record w.alike_key w.alike_value w.alike_action) rs qs)
 
   -- a copy of the record at a place, or none where there is none
-  abbrev pub CopiesEntry : AloneState K V A S → ℕ → ℕ → Option (Record K V A) → Type 0
+  abbrev pub CopiesEntry : RecAloneState K V A S → ℕ → ℕ → Option (Record K V A) → Type 0
   CopiesEntry a s p found = IsTrue (option_eq (alike_record w.alike_key w.alike_value w.alike_action) (record_at (histories a) s p) found)
 
   -- copies of the pairs of all shards, each once
-  abbrev pub CopiesPairs : AloneState K V A S → List (K × V) → Type 0
-  CopiesPairs a copies = IsTrue (pointwise (alike_pair w.alike_key w.alike_value) (contents a) copies)
+  abbrev pub CopiesRecPairs : RecAloneState K V A S → List (K × V) → Type 0
+  CopiesRecPairs a copies = IsTrue (pointwise (alike_pair w.alike_key w.alike_value) (rec_contents a) copies)
 
   -- MATCH: of each shard and each caller, the shard's history and the caller's log have the same records
-  pub record Matches (a : AloneState K V A S) (logs : List (LogState K V A)) : Type 0 where
+  pub record Matches (a : RecAloneState K V A S) (logs : List (LogState K V A)) : Type 0 where
     pub callers : AreCallers a.callers logs
-    pub shards : (i : ℕ) (l : LogState K V A) → slice_get logs i ≡ Some l → All (λ r. r.shard < length a.row) l.entries
-    pub same : (i : ℕ) (l : LogState K V A) (s : ℕ) (h : List (Record K V A)) → slice_get logs i ≡ Some l → slice_get (histories a) s ≡ Some h → Same (of_caller l.caller h) (of_shard s l.entries)
+    pub shards : EachAt logs (λ _ l. All (λ r. r.shard < length a.row) l.entries)
+    pub same : EachAt logs (λ _ l. EachAt (histories a) (λ s h. Same (of_caller l.caller h) (of_shard s l.entries)))
 
-  -- ONE HISTORY: the places are the merge, each shard's records stand in its order, and along them all steps run on one map, from no
-  -- pairs to the pairs of all shards
-  pub record IsOneHistory (a : AloneState K V A S) (ats : List At) : Type 0 where
+  -- ONE HISTORY: the places are the merge, each shard's records stand in its order, and along them all steps run on one map, from
+  -- no pairs to the pairs of all shards
+  pub record IsOneHistory (a : RecAloneState K V A S) (ats : List At) : Type 0 where
     pub merge : IsMerge (histories a) ats
-    pub shards : (s : ℕ) (h : List (Record K V A)) → slice_get (histories a) s ≡ Some h → of_shard s (along (histories a) ats) ≡ h
-    pub runs : Runs (kinds_in w a).rules [] (map (λ r. (step_of w.acts r.step, reply_of r.reply)) (along (histories a) ats)) (contents a)
+    pub shards : EachAt (histories a) (λ s h. of_shard s (along (histories a) ats) ≡ h)
+    pub runs : Runs (kinds_in w a).rules [] (map (done w.acts) (along (histories a) ats)) (rec_contents a)
 
   -- THE HEADLINE: the logs match, the places are one history, and along it each caller's records stand in its log's order
-  pub record IsGathered (a : AloneState K V A S) (logs : List (LogState K V A)) (ats : List At) : Type 0 where
+  pub record IsGathered (a : RecAloneState K V A S) (logs : List (LogState K V A)) (ats : List At) : Type 0 where
     pub matches : Matches a logs
     pub history : IsOneHistory a ats
-    pub callers : (i : ℕ) (l : LogState K V A) → slice_get logs i ≡ Some l → Same (of_caller l.caller (along (histories a) ats)) l.entries
+    pub callers : EachAt logs (λ _ l. Same (of_caller l.caller (along (histories a) ats)) l.entries)
 
   -- what an answer of gather says: the headline, or that the logs don't match; want of memory says nothing of them
-  pub record Gathers {G : Type 0} (a : AloneState K V A S) (logs : List (LogState K V A)) (answer : Result (Vec At G) GatherError) : Type 0 where
+  pub record Gathers {G : Type 0} (a : RecAloneState K V A S) (logs : List (LogState K V A)) (answer : Result (Vec At G) GatherError) : Type 0 where
     pub gathered : IfOk answer (λ ats. IsGathered a logs ats.items)
     pub mismatch : answer ≡ Err Mismatch → Matches a logs → ⊥
 

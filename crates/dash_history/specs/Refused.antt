@@ -16,8 +16,8 @@ NoStamp last other = max last other ≡ 2 ^ 64 - 1
 abbrev pub HandsBack : {K V A X : Type 0} → ShardStep K V A → X → X → LogState K V A → LogState K V A → Result (Reply K V) (ShardStep K V A × RecordFault) → Type 0
 HandsBack step old new l l' result = IfErr result (λ e. (e.0 ≡ step) × (new ≡ old) × (l' ≡ l))
 
--- A step of a recorded shard is taken, and one same record of it stands at the end of the history and of the caller's log. Or it is
--- refused: where no stamp is above both lasts, and else for want of memory.
+-- A step of a recorded shard is taken, and one same record of it stands at the end of the history and of the caller's log. Or it
+-- is refused: where no stamp is above both lasts, and else for want of memory.
 pub record Records {K V A S : Type 0} (w : Known K V A S) (s s' : RecState K V A S) (l l' : LogState K V A) (step : ShardStep K V A) (result : Result (Reply K V) (ShardStep K V A × RecordFault)) : Type 0 where
   pub ok : IfOk result (λ reply. Recorded (kinds_at w s.shard.hasher s.shard.amount) s s' l l' step reply)
   pub refused : HandsBack step s s' l l' result

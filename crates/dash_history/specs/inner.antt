@@ -1,5 +1,4 @@
 -- What only proofs, invariants and the contracts of private functions use.
-pub mod Done
 pub mod Fresh
 pub mod Gathering
 pub mod Grows

@@ -1,13 +1,14 @@
 //! A recorded map of one owner, without locks.
 ghost use Rattle.std.specs.Prelude.{◌∷◌, [], ◌≡◌, ℕ, ◌+◌, ◌<◌, max, ◌↔◌, Some, IsErrOf, IsSomeAnd, IfOk, IfErr, length, slice_get, Err, IsTrue, flat_map, option_map};
 ghost use Rattle.dash_shard.specs.Errors.{IsOneOf};
+ghost use Rattle.dash_shard.specs.declared.error.ConstructError.TheVariants.{Callers, Memory, ShardAmount};
 ghost use Rattle.dash_shard.specs.Hashing.{IsAmount, HashAlike};
 ghost use Rattle.dash_history.specs.History.{LogState, NoShard, shard_of};
-ghost use Rattle.dash_history.specs.Alone.{AloneState, IsCallers, IsFresh, IsAlone, Applied, NoStampIn, fresh_logs, kinds_in, last_at};
+ghost use Rattle.dash_history.specs.Alone.{RecAloneState, IsCallers, IsFresh, IsRecAlone, Applied, NoStampIn, fresh_logs, kinds_in, last_at};
 ghost use Rattle.dash_history.specs.inner.Fresh.{FreshRow};
-ghost use Rattle.dash_shard.specs.Shard.{pairs};
+ghost use Rattle.dash_shard.specs.Shard.{EachAt, pairs};
 ghost use Rattle.dash_steps.specs.inner.Copied.{alike_pairs};
-ghost use Rattle.dash_history.specs.OneHistory.{IsOneHistory, Gathers, CopiesEntry, CopiesPairs, histories, record_at};
+ghost use Rattle.dash_history.specs.OneHistory.{IsOneHistory, Gathers, CopiesEntry, CopiesRecPairs, histories, record_at};
 ghost use Rattle.dash_history.specs.Refused.{HandsBack};
 ghost use Rattle.dash_history.specs.declared.record.RecordFault.TheVariants.{LastStamp, NoSuchShard, Locked};
 ghost use Rattle.dash_steps.specs.Takes.{Known, known};
@@ -42,14 +43,14 @@ pub struct RecAlone<K: KeptKey, V: Kept, S: BuildHasher, A: KeptAction<K, V> = (
 }
 
 impl<K: KeptKey, V: Kept, S: BuildHasher, A: KeptAction<K, V>> Model for RecAlone<K, V, S, A> {
-    ghost use Rattle.dash_history.specs.Alone.{AloneState, IsAlone};
+    ghost use Rattle.dash_history.specs.Alone.{RecAloneState, IsRecAlone};
     ghost use Rattle.dash_steps.specs.Takes.{known_by};
 
-    ghost Value = { AloneState K V A S };
+    ghost Value = { RecAloneState K V A S };
 
     ghost view = { λ a. record { hasher = a.hasher; callers = a.callers; row = a.row } };
 
-    ghost invariant = { λ a. IsAlone (known_by K.eq K.hash_input K.alike V.alike A.alike A.acts S.BuildHasher S.Hasher.Hasher) (record { hasher = a.hasher; callers = a.callers; row = a.row }) };
+    ghost invariant = { λ a. IsRecAlone (known_by K.eq K.hash_input K.alike V.alike A.alike A.acts S.BuildHasher S.Hasher.Hasher) (record { hasher = a.hasher; callers = a.callers; row = a.row }) };
 }
 
 impl<K: KeptKey, V: Kept, S: BuildHasher, A: KeptAction<K, V>> Recorded for RecAlone<K, V, S, A> {
@@ -74,7 +75,8 @@ fn fresh_row<K: KeptKey + Drop, V: Kept + Drop, S: BuildHasher + Clone, A: KeptA
     requires amount { IsAmount amount }
     requires alike { (s t : S) → S.is_clone s t → HashAlike ⟦<Shard<K, V, S> as Keyed>⟧.by s t }
     ensures len { IfOk result (λ row. length row.items ≡ amount) }
-    ensures made { IfOk result (λ row. FreshRow ⟦<RecShard<K, V, S, A> as Recorded>⟧.known hasher.now amount callers row.items) }
+    ensures made { IfOk result (λ row.
+        FreshRow ⟦<RecShard<K, V, S, A> as Recorded>⟧.known hasher.now amount callers row.items) }
 {
     let mut row = Vec::with_capacity(alloc, amount)?;
     for number in 0..amount {
@@ -102,7 +104,8 @@ fn copy_contents<K: KeptKey + Drop, V: Kept + Drop, S: BuildHasher, A: KeptActio
     alloc: Global,
     row: &[RecShard<K, V, S, A>],
 ) -> Result<Vec<(K, V)>, AllocError>
-    ensures { IfOk result (λ copies. IsTrue (alike_pairs K.alike V.alike (flat_map (λ s. pairs s.shard) row.now) copies.items)) }
+    ensures { IfOk result (λ copies.
+        IsTrue (alike_pairs K.alike V.alike (flat_map (λ s. pairs s.shard) row.now) copies.items)) }
 {
     let mut count: usize = 0;
     for shard in row {
@@ -123,8 +126,8 @@ impl<K: KeptKey + Drop, V: Kept + Drop, S: BuildHasher, A: KeptAction<K, V> + Dr
 > {
     /// A map of `amount` shards with no pairs, beside the logs of its callers, which are numbered from 0.
     ///
-    /// It is refused where the amount is no power of two above 1 (5), then where there are not 1 to 65,536 callers (17), then where
-    /// there is no memory (8). It clones the hasher for each shard.
+    /// It is refused where the amount is no power of two above 1 (5), then where there are not 1 to 65,536 callers (17), then
+    /// where there is no memory (8). It clones the hasher for each shard.
     pub fn new(
         alloc: Global,
         hasher: S,
@@ -137,14 +140,14 @@ impl<K: KeptKey + Drop, V: Kept + Drop, S: BuildHasher, A: KeptAction<K, V> + Dr
         ensures hasher { IfOk result (λ m. m.0.hasher ≡ hasher) }
         ensures callers { IfOk result (λ m. m.0.callers ≡ callers) }
         ensures amount { IfOk result (λ m. length m.0.row ≡ amount) }
-        ensures fresh { IfOk result (λ m. (i : ℕ) (s : _) → slice_get m.0.row i ≡ Some s → IsFresh s) }
+        ensures fresh { IfOk result (λ m. EachAt m.0.row (λ _ s. IsFresh s)) }
         ensures logs { IfOk result (λ m. m.1.items ≡ fresh_logs callers) }
-        ensures lawful { IfOk result (λ m. IsAlone ⟦<Self as Recorded>⟧.known m.0) }
+        ensures lawful { IfOk result (λ m. IsRecAlone ⟦<Self as Recorded>⟧.known m.0) }
 
         // In the order of the refusals' numbers.
-        ensures bad_amount { IsErrOf result ConstructError.ShardAmount ↔ (IsAmount amount → ⊥) }
-        ensures bad_callers { IsErrOf result ConstructError.Callers ↔ IsAmount amount × (IsCallers callers → ⊥) }
-        ensures kinds { IfErr result (IsOneOf (ConstructError.ShardAmount ∷ ConstructError.Callers ∷ ConstructError.Memory ∷ [])) }
+        ensures bad_amount { IsErrOf result ShardAmount ↔ (IsAmount amount → ⊥) }
+        ensures bad_callers { IsErrOf result Callers ↔ IsAmount amount × (IsCallers callers → ⊥) }
+        ensures kinds { IfErr result (IsOneOf (ShardAmount ∷ Callers ∷ Memory ∷ [])) }
     {
         if !is_shard_amount(amount) {
             return Err(ConstructError::ShardAmount);
@@ -173,7 +176,7 @@ impl<K: KeptKey + Drop, V: Kept + Drop, S: BuildHasher, A: KeptAction<K, V> + Dr
     #[inline]
     pub fn callers(&self) -> u32
         ensures callers { result ≡ self.now.callers }
-        ensures lawful { IsAlone ⟦<Self as Recorded>⟧.known self.now }
+        ensures lawful { IsRecAlone ⟦<Self as Recorded>⟧.known self.now }
     {
         self.callers
     }
@@ -182,12 +185,13 @@ impl<K: KeptKey + Drop, V: Kept + Drop, S: BuildHasher, A: KeptAction<K, V> + Dr
     #[inline]
     pub fn shard_count(&self) -> usize
         ensures count { result ≡ length self.now.row }
-        ensures lawful { IsAlone ⟦<Self as Recorded>⟧.known self.now }
+        ensures lawful { IsRecAlone ⟦<Self as Recorded>⟧.known self.now }
     {
         self.row.len()
     }
 
-    /// Takes a step on the step's shard, and adds one same record of it at the end of the shard's history and of the caller's log.
+    /// Takes a step on the step's shard, and adds one same record of it at the end of the shard's history and of the caller's
+    /// log.
     ///
     /// It waits for nobody. Where it is refused, the step is handed back, and nothing changes.
     pub fn apply(
@@ -197,13 +201,15 @@ impl<K: KeptKey + Drop, V: Kept + Drop, S: BuildHasher, A: KeptAction<K, V> + Dr
     ) -> Result<Reply<K, V>, (ShardStep<K, V, A>, RecordFault)>
         requires { log.old.caller < self.old.callers }
         ensures ok { IfOk result (λ reply.
-            Applied (kinds_in ⟦<Self as Recorded>⟧.known self.old) self.old self.new log.old log.new step reply) }
-        ensures lawful { IsAlone ⟦<Self as Recorded>⟧.known self.new }
+            Applied ⟦<Self as Recorded>⟧.known self.old self.new log.old log.new step reply) }
+        ensures lawful { IsRecAlone ⟦<Self as Recorded>⟧.known self.new }
         ensures refused { HandsBack step self.old self.new log.old log.new result }
 
         // In this order; else there was no memory.
-        ensures no_such_shard { (result ≡ Err (step, NoSuchShard)) ↔ NoShard (kinds_in ⟦<Self as Recorded>⟧.known self.old) step }
-        ensures last_stamp { (result ≡ Err (step, LastStamp)) ↔ NoStampIn ⟦<Self as Recorded>⟧.known self.old log.old step }
+        ensures no_such_shard { (result ≡ Err (step, NoSuchShard))
+            ↔ NoShard (kinds_in ⟦<Self as Recorded>⟧.known self.old) step }
+        ensures last_stamp { (result ≡ Err (step, LastStamp))
+            ↔ NoStampIn ⟦<Self as Recorded>⟧.known self.old log.old step }
         ensures locked { result ≡ Err (step, Locked) → ⊥ }
     {
         let (hash, idx) = step.route(&self.hasher, self.row.len());
@@ -224,8 +230,8 @@ impl<K: KeptKey + Drop, V: Kept + Drop, S: BuildHasher, A: KeptAction<K, V> + Dr
 
     /// The one history of the map, where the logs match the histories of its shards.
     ///
-    /// The logs may stand in any order. It compares each record of each history with its caller's log, by `Kept::same`. It is refused where
-    /// the logs don't match (22), or where there is no memory (23), which says nothing of the logs.
+    /// The logs may stand in any order. It compares each record of each history with its caller's log, by `Kept::same`. It is
+    /// refused where the logs don't match (22), or where there is no memory (23), which says nothing of the logs.
     pub fn gather(&self, logs: &[CallerLog<K, V, A>]) -> Result<Vec<At>, GatherError>
         ensures { Gathers ⟦<Self as Recorded>⟧.known self.now logs.now result }
     {
@@ -270,7 +276,8 @@ impl<K: KeptKey + Drop, V: Kept + Drop, S: BuildHasher, A: KeptAction<K, V> + Dr
 
     /// Copies of the pairs of all shards, each once (4).
     pub fn pairs(&self) -> Result<Vec<(K, V)>, AllocError>
-        ensures { IfOk result (λ pairs. CopiesPairs ⟦<Self as Recorded>⟧.known self.now pairs.items) }
+        ensures { IfOk result (λ pairs.
+            CopiesRecPairs ⟦<Self as Recorded>⟧.known self.now pairs.items) }
     {
         copy_contents(self.row.allocator(), self.row.items())
     }
@@ -280,15 +287,16 @@ impl<K: KeptKey + Drop, V: Kept + Drop, S: BuildHasher, A: KeptAction<K, V> + Dr
         requires { shard < length self.now.row }
         ensures last { result ≡ last_at self.now shard }
         ensures own { IsSomeAnd (slice_get self.now.row shard) (λ s. s.last ≡ result) }
-        ensures lawful { IsAlone ⟦<Self as Recorded>⟧.known self.now }
+        ensures lawful { IsRecAlone ⟦<Self as Recorded>⟧.known self.now }
     {
         self.row[shard].last_stamp()
     }
 }
 
-/// A law, with no code: a step on a lawful map is stamped by the histories, one above the greater of the stamp of its shard's last record
-/// and the log's last.
+/// A law, with no code: a step on a lawful map is stamped by the histories, one above the greater of the stamp of its shard's
+/// last record and the log's last.
 pub fn stamps_by_the_history<K, V, S, A>()
-    ensures { (w : Known K V A S) (a a' : AloneState K V A S) (l l' : LogState K V A) (step : ShardStep K V A) (reply : Reply K V) → IsAlone w a
-        → Applied (kinds_in w a) a a' l l' step reply → l'.last ≡ max (last_at a (shard_of (kinds_in w a) step)) l.last + 1 }
+    ensures { (w : Known K V A S) (a a' : RecAloneState K V A S) (l l' : LogState K V A)
+        (step : ShardStep K V A) (reply : Reply K V) → IsRecAlone w a
+        → Applied w a a' l l' step reply → l'.last ≡ max (last_at a (shard_of (kinds_in w a) step)) l.last + 1 }
 {}

@@ -20,8 +20,8 @@ impl<K: KeptKey + Drop, V: Kept + Drop, S: BuildHasher, A: KeptAction<K, V> + Dr
     S,
     A,
 > {
-    /// Waits for the shard of the step's number, takes the step there, and adds one same record of it at the end of the shard's history
-    /// and of the caller's log.
+    /// Waits for the shard of the step's number, takes the step there, and adds one same record of it at the end of the shard's
+    /// history and of the caller's log.
     ///
     /// Where it is refused (20, then 18, then 19), the step is handed back, and pairs, history and log stay as they were.
     pub fn apply<R: Wait + Clock>(
@@ -47,7 +47,8 @@ impl<K: KeptKey + Drop, V: Kept + Drop, S: BuildHasher, A: KeptAction<K, V> + Dr
 
     /// As `apply`, but it waits for nobody: where somebody holds the shard, the step is refused.
     ///
-    /// Where it is refused (20, then 21, then 18, then 19), the step is handed back, and pairs, history and log stay as they were.
+    /// Where it is refused (20, then 21, then 18, then 19), the step is handed back, and pairs, history and log stay as they
+    /// were.
     pub fn try_apply(
         &self,
         log: &mut CallerLog<K, V, A>,

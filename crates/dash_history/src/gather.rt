@@ -1,8 +1,8 @@
 //! One history of a recorded map: the histories of its shards merged, where the logs of its callers match them.
 ghost use Rattle.std.specs.Prelude.{◌≡◌, List};
-ghost use Rattle.dash_history.specs.Alone.{AloneState};
+ghost use Rattle.dash_history.specs.Alone.{RecAloneState};
 ghost use Rattle.dash_history.specs.History.{LogState};
-ghost use Rattle.dash_history.specs.Map.{SawShards};
+ghost use Rattle.dash_history.specs.Map.{SawRecShards};
 ghost use Rattle.dash_history.specs.OneHistory.{IsGathered, Gathers, StampsStandInOrder};
 ghost use Rattle.dash_steps.specs.Takes.{Known};
 ghost use Rattle.dash_history.specs.declared.gather.At.{At};
@@ -19,7 +19,8 @@ use thiserror::Error;
 pub(crate) mod matching;
 pub(crate) mod merge;
 
-/// One record of a recorded map, by its place: the index `place` in the history of the shard `shard`. It orders by stamp, then by shard.
+/// One record of a recorded map, by its place: the index `place` in the history of the shard `shard`. It orders by stamp, then by
+/// shard.
 #[derive(Clone, Copy, Debug, PartialEq, Eq, PartialOrd, Ord, Drop)]
 pub struct At {
     pub stamp: u64,
@@ -51,7 +52,7 @@ where
     V: Kept + Drop,
     S: BuildHasher,
     A: KeptAction<K, V> + Drop,
-    ensures gathers { SawShards ⟦<RecordedMap<K, V, S, A> as Recorded>⟧.known map.old
+    ensures gathers { SawRecShards ⟦<RecordedMap<K, V, S, A> as Recorded>⟧.known map.old
         (λ a. Gathers ⟦<RecordedMap<K, V, S, A> as Recorded>⟧.known a logs.now result) }
     ensures same { map.new ≡ map.old }
 {
@@ -68,7 +69,7 @@ where
     V: Kept + Drop,
     S: BuildHasher,
     A: KeptAction<K, V> + Drop,
-    ensures gathers { SawShards ⟦<RecordedMap<K, V, S, A> as Recorded>⟧.known map
+    ensures gathers { SawRecShards ⟦<RecordedMap<K, V, S, A> as Recorded>⟧.known map
         (λ a. Gathers ⟦<RecordedMap<K, V, S, A> as Recorded>⟧.known a logs.now result.1) }
     ensures same { result.0 ≡ map }
 {
@@ -79,10 +80,13 @@ where
 
 /// A law, with no code: there is one history. Two that `gather` gave of one map with the same logs are the same list.
 pub fn one_history<K, V, S, A>()
-    ensures { (w : Known K V A S) (a : AloneState K V A S) (logs : List (LogState K V A)) (xs ys : List At) → IsGathered w a logs xs → IsGathered w a logs ys → xs ≡ ys }
+    ensures { (w : Known K V A S) (a : RecAloneState K V A S) (logs : List (LogState K V A))
+        (xs ys : List At) → IsGathered w a logs xs → IsGathered w a logs ys → xs ≡ ys }
 {}
 
-/// A law, with no code: a record with a stamp above t, as each that is made after `learn(t)`, stands after every record of stamp at most t.
+/// A law, with no code: a record with a stamp above t, as each that is made after `learn(t)`, stands after every record of stamp
+/// at most t.
 pub fn stands_after<K, V, S, A>()
-    ensures { (w : Known K V A S) (a : AloneState K V A S) (logs : List (LogState K V A)) (ats : List At) → IsGathered w a logs ats → StampsStandInOrder ats }
+    ensures { (w : Known K V A S) (a : RecAloneState K V A S) (logs : List (LogState K V A))
+        (ats : List At) → IsGathered w a logs ats → StampsStandInOrder ats }
 {}

@@ -91,8 +91,8 @@ impl<K, V, A> CallerLog<K, V, A> {
         self.last
     }
 
-    /// Makes the last stamp the greater of itself and `stamp`: what the caller records from now on stands after every record of a stamp
-    /// that it has learned of.
+    /// Makes the last stamp the greater of itself and `stamp`: what the caller records from now on stands after every record of a
+    /// stamp that it has learned of.
     #[inline]
     pub fn learn(&mut self, stamp: u64)
         ensures { self.new ≡ record self.old { last = max self.old.last stamp } }
@@ -261,7 +261,8 @@ impl<K: KeptKey + Drop, V: Kept + Drop, S: BuildHasher, A: KeptAction<K, V> + Dr
         self.history.as_slice()
     }
 
-    // Takes a step at a stamp, and adds a record of it at the end of the history. It returns the reply, and the same record for the log.
+    // Takes a step at a stamp, and adds a record of it at the end of the history. It returns the reply, and the same record for
+    // the log.
     fn grow(
         &mut self,
         stamp: u64,
@@ -305,8 +306,8 @@ impl<K: KeptKey + Drop, V: Kept + Drop, S: BuildHasher, A: KeptAction<K, V> + Dr
         }
     }
 
-    /// Takes a step of this shard, and adds one same record of it at the end of its history and of the caller's log. The hash is that of the
-    /// step's key.
+    /// Takes a step of this shard, and adds one same record of it at the end of its history and of the caller's log. The hash is
+    /// that of the step's key.
     ///
     /// Takes memory for the copies and the records, before anything changes.
     pub(crate) fn record_hashed(

@@ -22,8 +22,8 @@ use Rattle.dash_steps.specs.declared.step.Reply.TheVariants.{Pair, Old}
 use Rattle.dash_steps.specs.declared.step.Record.{Record}
 use Rattle.dash_history.specs.declared.gather.At.{At}
 use Rattle.dash_history.specs.OneHistory.{along, record_at}
-use Rattle.dashcheck.specs.Replay.{IsThreadStep, IsReplay, plain, bare}
-use Rattle.dashcheck.specs.inner.Replay.{Fits, Makes}
+use Rattle.dashcheck.specs.Replay.{IsThreadStep, IsReplay, plain}
+use Rattle.dashcheck.specs.inner.Replay.{Fits, Makes, bare}
 use Rattle.dashcheck.proofs.PlainMaps.{paired, at-lookup, at-put, distinct}
 
 -- pairs that are alike are the same

@@ -49,8 +49,8 @@ written (Count i) = record { text = codes "count" ++ 32 ∷ decimal i; fits = i 
 written (AlterAll i f) = record { text = codes "alterall" ++ 32 ∷ decimal i ++ 32 ∷ (written_change f).text; fits = (i < 2 ^ 64) × (written_change f).fits }
 written (Retain i f) = record { text = codes "retain" ++ 32 ∷ decimal i ++ 32 ∷ (written_change f).text; fits = (i < 2 ^ 64) × (written_change f).fits }
 
--- a reply as it is printed: `pair none` or `pair K V`, `found yes` or `found no`, `old none` or `old V`, `pairs` with ` K:V` for each pair,
--- `number N`, `done`
+-- a reply as it is printed: `pair none` or `pair K V`, `found yes` or `found no`, `old none` or `old V`, `pairs` with ` K:V` for
+-- each pair, `number N`, `done`
 abbrev pub text_of : Reply ℕ ℕ → List ℕ
 text_of (Pair o) = codes "pair " ++ option_map_or (λ p. decimal p.0 ++ 32 ∷ decimal p.1) o (codes "none")
 text_of (Found b) = codes "found " ++ (if b then codes "yes" else codes "no")
@@ -72,8 +72,8 @@ abbrev pub IsInOrder : Reply ℕ ℕ → Reply ℕ ℕ → Type 0
 IsInOrder (Pairs l) (Pairs m) = IsPermutation l.items m.items × IsNonDecreasingBy (λ p. p.0) m.items
 IsInOrder reply told = told ≡ reply
 
--- The steps were taken, each with what is told for a reply to it, its pairs in order: their lines come first in the input, which has this left, and the output
--- grew by the lines of what is told.
+-- The steps were taken, each with what is told for a reply to it, its pairs in order: their lines come first in the input, which
+-- has this left, and the output grew by the lines of what is told.
 pub record Took (input left old new : Option (List ℕ)) (done : List (ScriptStep × Reply ℕ ℕ)) : Type 0 where
   pub read : IfSome input (λ bytes. IsSomeAnd left (StartsWithLines bytes (flat_map (λ d. (written d.0).text ++ 10 ∷ []) done)))
   pub printed : Appends old new (flat_map (λ d. text_of d.1 ++ 10 ∷ []) done)
@@ -87,8 +87,8 @@ TakesAll input old new = (done : List (ScriptStep × Reply ℕ ℕ)) × Took inp
 abbrev pub IsNext : List ℕ → ScriptStep → Type 0
 IsNext input step = (written step).fits × (rest : List ℕ) × StartsWithLines input ((written step).text ++ 10 ∷ []) rest
 
--- A fault of the step on a map of four shards: that its shard is missing, exactly where it names one that isn't there. A step on a key names
--- none.
+-- A fault of the step on a map of four shards: that its shard is missing, exactly where it names one that isn't there. A step on
+-- a key names none.
 abbrev pub IsFaultOf : ScriptStep → RecordFault → Type 0
 IsFaultOf step why = (why ≡ fault.NoSuchShard) ↔ (4 ≤ line_shard (keys nat_eq (λ _. 0) 4) (line (step_of acts step)))
 

@@ -1,16 +1,16 @@
 -- `dashcheck threads`: its words, the steps of its threads, and what it prints.
-use Rattle.std.specs.Prelude.{◌≡◌, ◌↔◌, ℕ, Bool, IsTrue, ⊤, ◌+◌, ◌*◌, ◌%◌, ◌<◌, ◌≤◌, ◌==◌, ◌++◌, List, [], ◌∷◌, Option, Some, codes, length, slice_get, if◌then◌else◌}
+use Rattle.std.specs.Prelude.{◌≡◌, ◌↔◌, ℕ, Bool, IsTrue, ⊤, ◌+◌, ◌*◌, ◌%◌, ◌<◌, ◌≤◌, ◌==◌, ◌++◌, List, [], ◌∷◌, Option, codes, length, if◌then◌else◌}
 use Rattle.std.specs.Fmt.{decimal}
 use Rattle.std.specs.Io.KnownBytes.{Appends}
+use Rattle.dash_shard.specs.Shard.{EachAt}
 use Rattle.dash_shard.specs.declared.hash.PlaceState.{PlaceState}
-use Rattle.dash_history.specs.Alone.{AloneState, IsAlone}
+use Rattle.dash_history.specs.Alone.{RecAloneState, IsRecAlone}
 use Rattle.dash_history.specs.History.{LogState}
-use Rattle.dash_history.specs.Map.{MapState, SawShard}
-use Rattle.dash_history.specs.OneHistory.{IsGathered, Matches, along, histories, contents}
+use Rattle.dash_history.specs.Map.{RecMapState, SawRecShard}
+use Rattle.dash_history.specs.OneHistory.{IsGathered, Matches, along, histories, rec_contents}
 use Rattle.dash_history.specs.Refused.{NoStamp}
 use Rattle.dash_steps.specs.Takes.{Known}
 use Rattle.dash_history.specs.declared.gather.At.{At}
-use Rattle.dash_steps.specs.declared.step.Record.{Record}
 use Rattle.dash_steps.specs.declared.step.ShardStep.{ShardStep}
 use Rattle.dash_steps.specs.declared.step.ShardStep.TheVariants.{Get, Insert, Remove}
 use Rattle.dashcheck.specs.Replay.{IsReplay}
@@ -33,40 +33,40 @@ thread_step j m = if m % 3 == 0 then Insert ((j + m) % 16) (j * 1000000 + m) els
 
 -- the thread that the log is of has done its first n steps, and nothing else
 abbrev pub HasDone : ℕ → LogState ℕ ℕ (Unit {0}) → Type 0
-HasDone n log = (length log.entries ≡ n) × ((m : ℕ) (r : Record ℕ ℕ (Unit {0})) → slice_get log.entries m ≡ Some r → r.step ≡ thread_step log.caller m)
+HasDone n log = (length log.entries ≡ n) × EachAt log.entries (λ m r. r.step ≡ thread_step log.caller m)
 
 -- the logs of c threads in their order, each of which has done its first n steps, and nothing else
 pub record AreDone (c n : ℕ) (logs : List (LogState ℕ ℕ (Unit {0}))) : Type 0 where
   pub many : length logs ≡ c
-  pub each : (i : ℕ) (l : LogState ℕ ℕ (Unit {0})) → slice_get logs i ≡ Some l → (l.caller ≡ i) × HasDone n l
+  pub each : EachAt logs (λ i l. (l.caller ≡ i) × HasDone n l)
 
--- LEGAL OR NOT: a history was gathered of a map of four shards, on which c threads took n steps each; and it is said to be legal exactly
--- where along it each reply is that of a plain map, which then has just the pairs of the map
+-- LEGAL OR NOT: a history was gathered of a map of four shards, on which c threads took n steps each; and it is said to be legal
+-- exactly where along it each reply is that of a plain map, which then has just the pairs of the map
 pub record IsJudged (w : Known ℕ ℕ (Unit {0}) PlaceState) (c n : ℕ) (legal : Bool) : Type 0 where
   pub logs : List (LogState ℕ ℕ (Unit {0}))
-  pub state : AloneState ℕ ℕ (Unit {0}) PlaceState
+  pub state : RecAloneState ℕ ℕ (Unit {0}) PlaceState
   pub ats : List At
   pub done : AreDone c n logs
   pub amount : length state.row ≡ 4
   pub gathered : IsGathered w state logs ats
-  pub exact : IsTrue legal ↔ IsReplay [] (along (histories state) ats) (contents state)
+  pub exact : IsTrue legal ↔ IsReplay [] (along (histories state) ats) (rec_contents state)
 
 -- NO MATCH: the logs of c threads, which took n steps each, don't match the histories of a lawful map of four shards
 pub record AreMismatched (w : Known ℕ ℕ (Unit {0}) PlaceState) (c n : ℕ) : Type 0 where
   pub logs : List (LogState ℕ ℕ (Unit {0}))
-  pub state : AloneState ℕ ℕ (Unit {0}) PlaceState
+  pub state : RecAloneState ℕ ℕ (Unit {0}) PlaceState
   pub done : AreDone c n logs
   pub amount : length state.row ≡ 4
-  pub lawful : IsAlone w state
+  pub lawful : IsRecAlone w state
   pub differ : Matches w state logs → ⊥
 
 -- no stamp is above the log's last and that of a shard of the map, as it stood behind its lock
-abbrev pub HasNoStamp : Known ℕ ℕ (Unit {0}) PlaceState → MapState PlaceState → LogState ℕ ℕ (Unit {0}) → Type 0
-HasNoStamp w m log = (i : ℕ) × SawShard w m i (λ s. NoStamp s.last log.last)
+abbrev pub HasNoStamp : Known ℕ ℕ (Unit {0}) PlaceState → RecMapState PlaceState → LogState ℕ ℕ (Unit {0}) → Type 0
+HasNoStamp w m log = (i : ℕ) × SawRecShard w m i (λ s. NoStamp s.last log.last)
 
 -- LAST STAMP: one of c threads had no stamp for a step, on a map of four shards
 pub record IsOutOfStamps (w : Known ℕ ℕ (Unit {0}) PlaceState) (c : ℕ) : Type 0 where
-  pub state : MapState PlaceState
+  pub state : RecMapState PlaceState
   pub log : LogState ℕ ℕ (Unit {0})
   pub amount : state.amount ≡ 4
   pub caller : log.caller < c

@@ -117,6 +117,11 @@ mod tests {
         }
     }
 
+    // Whether the change answers yes, on a copy of the value.
+    fn says_yes(key: u64, mut value: u64, change: &Change) -> bool {
+        change.act(&key, &mut value)
+    }
+
     // Lets the change act on the value at a key, if there is one.
     fn change_at(plain: &mut HashMap<u64, u64>, key: u64, change: &Change) -> bool {
         match plain.get_mut(&key) {
@@ -174,8 +179,8 @@ mod tests {
             ShardStep::Contains(key) => Ok(Reply::Found(plain.contains_key(key))),
             ShardStep::Insert(key, value) => Ok(Reply::Old(plain.insert(*key, *value)?)),
             ShardStep::Remove(key) => Ok(pair(*key, plain.remove(key))),
-            ShardStep::RemoveIf(key, change) => match plain.get(key).copied() {
-                Some(mut value) if change.act(key, &mut value) => Ok(pair(*key, plain.remove(key))),
+            ShardStep::RemoveIf(key, change) => match plain.get(key) {
+                Some(value) if says_yes(*key, *value, change) => Ok(pair(*key, plain.remove(key))),
                 _ => Ok(Reply::Pair(None)),
             },
             ShardStep::RemoveIfMut(key, change) => {

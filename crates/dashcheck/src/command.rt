@@ -38,8 +38,8 @@ enum Command {
 /// Runs the words after the program's name.
 ///
 /// The words are checked before anything is read or made. A bad command line prints the usage on `errors`, and leaves the rest.
-/// `script` takes memory for a map, for its steps, and for a buffer on either side; `threads` for a map, its workers and their steps.
-/// It fails where a write does.
+/// `script` takes memory for a map, for its steps, and for a buffer on either side; `threads` for a map, its workers and their
+/// steps. It fails where a write does.
 pub fn run_words<T: Threads + Wait + Clock + Sync, R: Read, O: Write, E: Write>(
     rt: &T,
     alloc: Global,
@@ -49,9 +49,12 @@ pub fn run_words<T: Threads + Wait + Clock + Sync, R: Read, O: Write, E: Write>(
     errors: &mut E,
 ) -> io::Result<Status>
     // Whether the words are a command.
-    ensures bad { IfOk result (λ status. (status ≡ Status.BadCommandLine) ↔ (IsCommand (map string_bytes words.now) → ⊥)) }
-    ensures usage { result ≡ Ok Status.BadCommandLine → Appends (E.contents errors.old) (E.contents errors.new) (usage ++ 10 ∷ []) }
-    ensures untouched { (IsCommand (map string_bytes words.now) → ⊥) → (input.new ≡ input.old) × (output.new ≡ output.old) }
+    ensures bad { IfOk result (λ status. (status ≡ Status.BadCommandLine)
+        ↔ (IsCommand (map string_bytes words.now) → ⊥)) }
+    ensures usage { result ≡ Ok Status.BadCommandLine
+        → Appends (E.contents errors.old) (E.contents errors.new) (usage ++ 10 ∷ []) }
+    ensures untouched { (IsCommand (map string_bytes words.now) → ⊥)
+        → (input.new ≡ input.old) × (output.new ≡ output.old) }
 
     // How a script ends.
     ensures script_good { IsScript (map string_bytes words.now) → result ≡ Ok Status.Good
@@ -83,8 +86,8 @@ pub fn run_words<T: Threads + Wait + Clock + Sync, R: Read, O: Write, E: Write>(
     }
 }
 
-/// The exit status, from what `run_words` answered on the words: 0, 1 or 2. Where a write failed it is 1, but 2 of a bad command line,
-/// whose usage couldn't be printed.
+/// The exit status, from what `run_words` answered on the words: 0, 1 or 2. Where a write failed it is 1, but 2 of a bad command
+/// line, whose usage couldn't be printed.
 pub fn exit_code(words: &[String], ran: io::Result<Status>) -> u8
     ensures ran { IfOk ran (λ status. result ≡ code_of status) }
     ensures failed { OnErr ran (IsCommand (map string_bytes words.now) → result ≡ 1) }
@@ -157,7 +160,8 @@ pub fn refuse_memory<E: Write>(errors: &mut E) -> u8
 }
 
 fn print_memory<E: Write>(errors: &mut E) -> io::Result<()>
-    ensures { OnOk result (Appends (E.contents errors.old) (E.contents errors.new) (stop_text Stop.Memory ++ 10 ∷ [])) }
+    ensures { OnOk result
+        (Appends (E.contents errors.old) (E.contents errors.new) (stop_text Stop.Memory ++ 10 ∷ [])) }
 {
     writeln!(errors, "{}", Stop::Memory)
 }

@@ -31,7 +31,8 @@ impl<R: Read + Drop> Lines<R> {
 
     /// Reads the next line, and says whether there is one. Of a line that is too long for a step it reads the first part.
     pub fn read(&mut self) -> io::Result<bool>
-        ensures { IfOk result (λ more. ReadsLine (left_of R.remaining self.old) (left_of R.remaining self.new) more (line_in self.new)) }
+        ensures { IfOk result (λ more.
+            ReadsLine (left_of R.remaining self.old) (left_of R.remaining self.new) more (line_in self.new)) }
     {
         self.line.clear();
         if self.is_over {

@@ -71,8 +71,8 @@ struct Session {
     ghost shards: { map.amount ≡ 4 },
 }
 
-/// Takes each step of the input and prints its reply, up to the first refusal, which it prints on `errors`. Where the output fails
-/// it prints nothing more. It fails where a write does, or where there is no memory for the line of a shard's pairs.
+/// Takes each step of the input and prints its reply, up to the first refusal, which it prints on `errors`. Where the output
+/// fails it prints nothing more. It fails where a write does, or where there is no memory for the line of a shard's pairs.
 pub fn run<T: Wait + Clock, R: Read, O: Write, E: Write>(
     rt: &T,
     alloc: Global,
@@ -100,8 +100,10 @@ fn take_steps<T: Wait + Clock, R: Read, O: Write>(
     input: &mut R,
     output: &mut O,
 ) -> io::Result<Option<Stop>>
-    ensures all { IfOk result (λ stop. IfNone stop (TakesAll (R.remaining input.old) (O.contents output.old) (O.contents output.new))) }
-    ensures part { IfOk result (λ stop. IfSome stop (λ stop. StopsAt stop (R.remaining input.old) (O.contents output.old) (O.contents output.new))) }
+    ensures all { IfOk result (λ stop. IfNone stop
+        (TakesAll (R.remaining input.old) (O.contents output.old) (O.contents output.new))) }
+    ensures part { IfOk result (λ stop. IfSome stop (λ stop.
+        StopsAt stop (R.remaining input.old) (O.contents output.old) (O.contents output.new))) }
 {
     let Ok(mut text) = Vec::with_capacity(alloc, LIMIT) else {
         return Ok(Some(Stop::Memory));
@@ -133,7 +135,8 @@ fn take_steps<T: Wait + Clock, R: Read, O: Write>(
 
 // Prints the reply as a line, in one write. `line` is room for it.
 fn print<O: Write>(reply: &Reply<u64, u64>, line: &mut Vec<u8>, output: &mut O) -> io::Result<()>
-    ensures { OnOk result (Appends (O.contents output.old) (O.contents output.new) (text_of reply.now ++ 10 ∷ [])) }
+    ensures { OnOk result
+        (Appends (O.contents output.old) (O.contents output.new) (text_of reply.now ++ 10 ∷ [])) }
 {
     line.clear();
     writeln!(line, "{}", Printed(reply))?;

@@ -17,7 +17,8 @@ pub type Step = ShardStep<u64, u64, Change>;
 pub fn parse(line: &[u8]) -> Option<Step>
     ensures some { IfSome result (λ step. line.now ≡ (written step).text) }
     ensures words { IfSome result (λ step. (written step).fits) }
-    ensures none { IfNone result ((step : ScriptStep) → (written step).fits → line.now ≡ (written step).text → ⊥) }
+    ensures none { IfNone result ((step : ScriptStep) → (written step).fits
+        → line.now ≡ (written step).text → ⊥) }
 {
     let (kind, rest) = first_word(text(line)?)?;
     match kind {
@@ -73,7 +74,8 @@ fn first_word(text: &str) -> Option<(&str, &str)>
 // Two numbers.
 fn numbers(text: &str) -> Option<(u64, u64)>
     ensures some { IfSome result (λ p. text.now ≡ decimal p.0 ++ 32 ∷ decimal p.1) }
-    ensures none { IfNone result ((k v : ℕ) → k < 2 ^ 64 → v < 2 ^ 64 → text.now ≡ decimal k ++ 32 ∷ decimal v → ⊥) }
+    ensures none { IfNone result ((k v : ℕ) → k < 2 ^ 64 → v < 2 ^ 64
+        → text.now ≡ decimal k ++ 32 ∷ decimal v → ⊥) }
 {
     let (key, value) = first_word(text)?;
     Some((number(key)?, number(value)?))
@@ -83,7 +85,8 @@ fn numbers(text: &str) -> Option<(u64, u64)>
 fn changed(text: &str) -> Option<(u64, Change)>
     ensures some { IfSome result (λ p. text.now ≡ decimal p.0 ++ 32 ∷ change_text p.1) }
     ensures words { IfSome result (λ p. HasChange p.1) }
-    ensures none { IfNone result ((k : ℕ) (f : Change) → k < 2 ^ 64 → HasChange f → text.now ≡ decimal k ++ 32 ∷ change_text f → ⊥) }
+    ensures none { IfNone result ((k : ℕ) (f : Change) → k < 2 ^ 64 → HasChange f
+        → text.now ≡ decimal k ++ 32 ∷ change_text f → ⊥) }
 {
     let (key, text) = first_word(text)?;
     Some((number(key)?, change(text)?))

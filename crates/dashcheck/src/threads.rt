@@ -1,9 +1,9 @@
-//! `dashcheck threads`: threads that take steps on one recorded map, the count of what they logged, and whether the history that is
-//! gathered of it is legal.
+//! `dashcheck threads`: threads that take steps on one recorded map, the count of what they logged, and whether the history that
+//! is gathered of it is legal.
 ghost use Rattle.std.specs.Prelude.{◌≡◌, ◌≢◌, ℕ, ◌+◌, ◌*◌, ◌%◌, ◌^◌, ◌<◌, ◌≤◌, ◌⊎◌, ◌↔◌, ◌∷◌, ◌++◌, [], All, Err, IfOk, IfErr, IfSome, IfNone, OnOk, OnErr, IsTrue, length, map, sum_by, slice_index_or, vec_len, if◌then◌else◌, true, false};
 ghost use Rattle.std.specs.Io.KnownBytes.{Appends};
 ghost use Rattle.dash_history.specs.Alone.{fresh_logs};
-ghost use Rattle.dash_history.specs.Map.{SawShards};
+ghost use Rattle.dash_history.specs.Map.{SawRecShards};
 ghost use Rattle.dash_history.specs.OneHistory.{Matches};
 ghost use Rattle.dashcheck.specs.Replay.{IsThreadStep};
 ghost use Rattle.dashcheck.specs.Threads.{IsSize, IsJudged, IsSo, thread_step, refusal_text, SaysRefusal, verdict_lines};
@@ -80,9 +80,9 @@ struct Outcome {
     legal: bool,
 }
 
-/// Takes the steps of `callers` threads, `steps` of each, on one map. Then it gathers the history of the map with their logs, and replays
-/// it on a plain map. It prints how many entries the logs have, and whether each reply and the pairs at the end are those of the replay:
-/// where they aren't, it ends as refused.
+/// Takes the steps of `callers` threads, `steps` of each, on one map. Then it gathers the history of the map with their logs, and
+/// replays it on a plain map. It prints how many entries the logs have, and whether each reply and the pairs at the end are those
+/// of the replay: where they aren't, it ends as refused.
 ///
 /// The first refusal, in the order of the threads, is printed on `errors` instead: a mismatch only where the logs don't match the
 /// histories, and a last stamp only where a thread had none left. It fails where a write does.
@@ -149,7 +149,8 @@ fn tell<O: Write>(outcome: Outcome, output: &mut O) -> io::Result<Status>
 // Says why the threads were refused.
 fn refuse<E: Write>(refusal: Refusal, errors: &mut E) -> io::Result<Status>
     ensures status { IfOk result (λ status. status ≡ Status.Refused) }
-    ensures said { OnOk result (Appends (E.contents errors.old) (E.contents errors.new) (refusal_text refusal ++ 10 ∷ [])) }
+    ensures said { OnOk result
+        (Appends (E.contents errors.old) (E.contents errors.new) (refusal_text refusal ++ 10 ∷ [])) }
 {
     writeln!(errors, "{refusal}")?;
     Ok(Status::Refused)
@@ -181,12 +182,13 @@ fn work<T: Threads + Wait + Clock + Sync>(
     }
 }
 
-// Whether the history that is gathered of the map with the workers' logs is legal: a replay of its steps on a plain map gets their
-// replies, and leaves the map's pairs.
+// Whether the history that is gathered of the map with the workers' logs is legal: a replay of its steps on a plain map gets
+// their replies, and leaves the map's pairs.
 fn judge(alloc: Global, shared: Map, workers: Vec<Worker>) -> Result<bool, Refusal>
-    ensures judged { IfOk result (IsJudgedBy ⟦<Alone as Recorded>⟧.known shared.amount (map (λ w. w.log) workers.items)) }
+    ensures judged { IfOk result
+        (IsJudgedBy ⟦<Alone as Recorded>⟧.known shared.amount (map (λ w. w.log) workers.items)) }
     ensures mismatch { result ≡ Err Refusal.Mismatch
-        → SawShards ⟦<Alone as Recorded>⟧.known shared (λ a. Matches ⟦<Alone as Recorded>⟧.known a (map (λ w. w.log) workers.items) → ⊥) }
+        → SawRecShards ⟦<Alone as Recorded>⟧.known shared (λ a. Matches ⟦<Alone as Recorded>⟧.known a (map (λ w. w.log) workers.items) → ⊥) }
     ensures kinds { IfErr result (λ refusal. refusal ≢ Refusal.LastStamp) }
 {
     let Ok(logs) = logs_of(alloc, workers) else {
@@ -199,7 +201,8 @@ fn judge(alloc: Global, shared: Map, workers: Vec<Worker>) -> Result<bool, Refus
 // The same, of a map of one owner: these very shards.
 fn judge_alone(alloc: Global, alone: &Alone, logs: &[Log]) -> Result<bool, Refusal>
     ensures judged { IfOk result (IsJudgedOf ⟦<Alone as Recorded>⟧.known alone.now logs.now) }
-    ensures mismatch { result ≡ Err Refusal.Mismatch → Matches ⟦<Alone as Recorded>⟧.known alone.now logs.now → ⊥ }
+    ensures mismatch { result ≡ Err Refusal.Mismatch
+        → Matches ⟦<Alone as Recorded>⟧.known alone.now logs.now → ⊥ }
     ensures kinds { IfErr result (λ refusal. refusal ≢ Refusal.LastStamp) }
 {
     let ats = match alone.gather(logs) {
@@ -386,8 +389,8 @@ mod tests {
         }
     }
 
-    // Shard 1 is held, and each of four workers comes to it in its four steps. So none ends before the first steps of all are seen, and
-    // they are seen only where each worker has a thread of its own.
+    // Shard 1 is held, and each of four workers comes to it in its four steps. So none ends before the first steps of all are
+    // seen, and they are seen only where each worker has a thread of its own.
     #[test]
     fn each_worker_has_a_thread_of_its_own(rt: HostRuntime) {
         let (map, mut workers, mut log) = four_idle(&rt, rt.alloc());

@@ -1,22 +1,30 @@
 -- The locks of a recorded map.
-use Rattle.std.specs.Prelude.{ℕ, ◌≡◌, List, Some, slice_get}
+use Rattle.std.specs.Prelude.{ℕ, ◌≡◌, List}
 use Rattle.crossbeam_utils.specs.declared.cache_padded.CachePadded.{CachePadded}
 use Rattle.crossbeam_utils.specs.Padded.{padded_value}
 use Rattle.dash_shard.specs.Hashing.{IsAmount}
+use Rattle.dash_shard.specs.Shard.{EachAt}
+use Rattle.dash_steps.specs.Takes.{Known}
 use Rattle.dash_history.specs.Alone.{IsCallers}
+use Rattle.dash_history.specs.Held.{FitsRecTag}
+use Rattle.dash_history.specs.History.{RecState, IsRecorded}
 use Rattle.dash_history.specs.declared.record.held.RecTag.{RecTag}
-use Rattle.dash_history.specs.Map.{MapState}
+use Rattle.dash_history.specs.Map.{RecMapState}
 
 module _ {S : Type 0} where
   -- the lock was made for shard i of the map
-  pub record IsAt (m : MapState S) (i : ℕ) (lock : CachePadded (RecTag S)) : Type 0 where
+  pub record IsRecAt (m : RecMapState S) (i : ℕ) (lock : CachePadded (RecTag S)) : Type 0 where
     pub number : (padded_value lock).number ≡ i
     pub amount : (padded_value lock).amount ≡ m.amount
     pub callers : (padded_value lock).callers ≡ m.callers
     pub hasher : (padded_value lock).hasher.value ≡ m.hasher
 
   -- a lawful map, whose locks stand in rising order of their shards
-  pub record IsMap (m : MapState S) (locks : List (CachePadded (RecTag S))) : Type 0 where
+  pub record IsRecMap (m : RecMapState S) (locks : List (CachePadded (RecTag S))) : Type 0 where
     pub amount : IsAmount m.amount
     pub callers : IsCallers m.callers
-    pub tagged : (i : ℕ) (lock : CachePadded (RecTag S)) → slice_get locks i ≡ Some lock → IsAt m i lock
+    pub tagged : EachAt locks (IsRecAt m)
+
+-- a shard that leaves the lock: it fits what the lock was made for, and its history is legal
+abbrev pub LeavesLock : {K V A S : Type 0} → Known K V A S → RecTag S → RecState K V A S → Type 0
+LeavesLock w tag s = FitsRecTag w.keys tag s × IsRecorded w s

@@ -98,7 +98,8 @@ pub(crate) fn follows<
     requires callers { (a : At) → Contains ats.now a → a.caller < length index.now }
     requires owners { AreCallers (length index.now) logs.now }
     requires finds { Finds (length index.now) logs.now index.now }
-    ensures { IfOk result (λ yes. IsTrue yes ↔ KeepsCallers ⟦<RecShard<K, V, S, A> as Recorded>⟧.known (map (λ s. s.history) row.now) logs.now ats.now) }
+    ensures { IfOk result (λ yes. IsTrue yes
+        ↔ KeepsCallers ⟦<RecShard<K, V, S, A> as Recorded>⟧.known (map (λ s. s.history) row.now) logs.now ats.now) }
 {
     let mut next = vec![in alloc; 0usize; logs.len()]?;
     for at in ats {

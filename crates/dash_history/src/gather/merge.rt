@@ -1,7 +1,6 @@
 //! The merge of the histories of a row of shards.
 ghost use Rattle.std.specs.Prelude.{◌≡◌, ◌++◌, map, IfOk, OnOk};
-ghost use Rattle.dash_history.specs.inner.Gathering.{places, places_from};
-ghost use Rattle.dash_history.specs.Alone.{EachRecorded};
+ghost use Rattle.dash_history.specs.inner.Gathering.{EachRecorded, places, places_from};
 ghost use Rattle.dash_history.specs.OneHistory.{IsMerge};
 
 use crate::gather::At;

@@ -5,7 +5,7 @@ ghost use Rattle.dash_shard.specs.Shard.{Routes};
 ghost use Rattle.dash_shard.specs.Lock.{LeftBehind};
 ghost use Rattle.dash_history.specs.History.{IsRecorded, GoesTo};
 ghost use Rattle.dash_steps.specs.inner.Hashed.{HasHash};
-ghost use Rattle.dash_history.specs.Held.{FitsTag};
+ghost use Rattle.dash_history.specs.Held.{FitsRecTag};
 ghost use Rattle.dash_history.specs.Refused.{Records};
 ghost use Rattle.dash_steps.specs.Takes.{known};
 
@@ -20,8 +20,8 @@ use std::marker::Model;
 use std::mem;
 use std::snapshot::Snapshot;
 
-/// What a recorded shard's lock is made for: the shard's number, how many there are, the number of callers, and what its hasher means.
-/// The snapshot has no bytes.
+/// What a recorded shard's lock is made for: the shard's number, how many there are, the number of callers, and what its hasher
+/// means. The snapshot has no bytes.
 #[derive(Drop)]
 pub struct RecTag<S> {
     pub number: usize,
@@ -33,7 +33,7 @@ pub struct RecTag<S> {
 impl<K: KeptKey, V: Kept, S: BuildHasher, A: KeptAction<K, V>> Tagged for RecShard<K, V, S, A> {
     type Tag = RecTag<S>;
 
-    ghost fits = { λ tag shard. FitsTag (by K.Hash S.BuildHasher S.Hasher.Hasher) tag shard };
+    ghost fits = { λ tag shard. FitsRecTag (by K.Hash S.BuildHasher S.Hasher.Hasher) tag shard };
 }
 
 /// A recorded shard that is held for writing: the hold ends when it is dropped. A contract sees it as the shard with its history.
@@ -80,7 +80,7 @@ impl<'a, K: KeptKey, V: Kept, S: BuildHasher, A: KeptAction<K, V>> RecShardMut<'
     #[inline]
     pub fn of(guard: RwLockWriteGuard<'a, RecShard<K, V, S, A>>) -> RecShardMut<'a, K, V, S, A>
         ensures value { result ≡ guard.entry.value }
-        ensures fits { FitsTag ⟦<Self as Recorded>⟧.known.keys guard.entry.tag result }
+        ensures fits { FitsRecTag ⟦<Self as Recorded>⟧.known.keys guard.entry.tag result }
     {
         RecShardMut { guard }
     }
@@ -136,8 +136,8 @@ impl<K: KeptKey + Drop, V: Kept + Drop, S: BuildHasher, A: KeptAction<K, V> + Dr
 
     /// Takes a step of this shard, and adds one same record of it at the end of its history and of the caller's log.
     ///
-    /// Takes memory for the copies and the records, before anything changes. Where it is refused (18, 19), the step is handed back, and
-    /// nothing changes.
+    /// Takes memory for the copies and the records, before anything changes. Where it is refused (18, 19), the step is handed
+    /// back, and nothing changes.
     pub fn record(
         &mut self,
         log: &mut CallerLog<K, V, A>,

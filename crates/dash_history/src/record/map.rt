@@ -2,14 +2,15 @@
 ghost use Rattle.std.specs.Prelude.{◌∷◌, [], ◌≡◌, ℕ, ◌<◌, ◌↔◌, Some, IsErrOf, IfOk, IfErr, IfSome, IsSomeAnd, length, slice_get};
 ghost use Rattle.crossbeam_utils.specs.Padded.{padded_value};
 ghost use Rattle.dash_shard.specs.Lock.{FoundBehind, LeftBehind};
+ghost use Rattle.dash_shard.specs.Shard.{EachAt};
 ghost use Rattle.dash_shard.specs.Errors.{IsOneOf};
+ghost use Rattle.dash_shard.specs.declared.error.ConstructError.TheVariants.{Callers, Memory, ShardAmount};
 ghost use Rattle.dash_shard.specs.Hashing.{by, IsAmount, HashAlike};
-ghost use Rattle.dash_history.specs.Alone.{IsCallers, IsTagged, fresh_logs, last_at};
-ghost use Rattle.dash_history.specs.Held.{Leaves};
+ghost use Rattle.dash_history.specs.Alone.{IsCallers, IsRecTagged, fresh_logs, last_at};
 ghost use Rattle.dash_history.specs.History.{IsRecorded, last_or, shard_of};
-ghost use Rattle.dash_history.specs.Map.{IsBehind, IsShardOf, SawShards, kinds_on};
-ghost use Rattle.dash_history.specs.OneHistory.{CopiesEntry, CopiesPairs};
-ghost use Rattle.dash_history.specs.inner.Locks.{IsAt};
+ghost use Rattle.dash_history.specs.Map.{IsRecFound, IsShardOf, SawRecShards, kinds_on};
+ghost use Rattle.dash_history.specs.OneHistory.{CopiesEntry, CopiesRecPairs};
+ghost use Rattle.dash_history.specs.inner.Locks.{IsRecAt, LeavesLock};
 ghost use Rattle.dash_steps.specs.inner.Hashed.{IsHashBy};
 ghost use Rattle.dash_steps.specs.Takes.{known};
 
@@ -47,14 +48,14 @@ pub struct RecordedMap<K: KeptKey, V: Kept, S: BuildHasher, A: KeptAction<K, V> 
 
 impl<K: KeptKey, V: Kept, S: BuildHasher, A: KeptAction<K, V>> Model for RecordedMap<K, V, S, A> {
     ghost use Rattle.std.specs.Prelude.{◌≡◌, ◌≤◌, [], length, vec_len, vec_capacity};
-    ghost use Rattle.dash_history.specs.Map.{MapState};
-    ghost use Rattle.dash_history.specs.inner.Locks.{IsMap};
+    ghost use Rattle.dash_history.specs.Map.{RecMapState};
+    ghost use Rattle.dash_history.specs.inner.Locks.{IsRecMap};
 
-    ghost Value = { MapState S };
+    ghost Value = { RecMapState S };
 
     ghost view = { λ m. record { hasher = m.hasher; callers = m.callers; amount = length m.row } };
 
-    ghost invariant = { λ m. IsMap (record { hasher = m.hasher; callers = m.callers; amount = length m.row }) m.row };
+    ghost invariant = { λ m. IsRecMap (record { hasher = m.hasher; callers = m.callers; amount = length m.row }) m.row };
 }
 
 impl<K: KeptKey, V: Kept, S: BuildHasher, A: KeptAction<K, V>> Recorded
@@ -78,8 +79,8 @@ impl<K: KeptKey + Drop, V: Kept + Drop, S: BuildHasher, A: KeptAction<K, V> + Dr
 > {
     /// A map of `amount` shards with no pairs, beside the logs of its callers, which are numbered from 0.
     ///
-    /// It is refused where the amount is no power of two above 1 (5), then where there are not 1 to 65,536 callers (17), then where
-    /// there is no memory (8). It clones the hasher for each shard.
+    /// It is refused where the amount is no power of two above 1 (5), then where there are not 1 to 65,536 callers (17), then
+    /// where there is no memory (8). It clones the hasher for each shard.
     pub fn new(
         alloc: Global,
         hasher: S,
@@ -93,9 +94,9 @@ impl<K: KeptKey + Drop, V: Kept + Drop, S: BuildHasher, A: KeptAction<K, V> + Dr
         ensures logs { IfOk result (λ m. m.1.items ≡ fresh_logs callers) }
 
         // In the order of the refusals' numbers.
-        ensures bad_amount { IsErrOf result ConstructError.ShardAmount ↔ (IsAmount amount → ⊥) }
-        ensures bad_callers { IsErrOf result ConstructError.Callers ↔ IsAmount amount × (IsCallers callers → ⊥) }
-        ensures kinds { IfErr result (IsOneOf (ConstructError.ShardAmount ∷ ConstructError.Callers ∷ ConstructError.Memory ∷ [])) }
+        ensures bad_amount { IsErrOf result ShardAmount ↔ (IsAmount amount → ⊥) }
+        ensures bad_callers { IsErrOf result Callers ↔ IsAmount amount × (IsCallers callers → ⊥) }
+        ensures kinds { IfErr result (IsOneOf (ShardAmount ∷ Callers ∷ Memory ∷ [])) }
     {
         let (alone, logs) = RecAlone::new(alloc, hasher, amount, callers)?;
         Ok((alone.end(), logs))
@@ -154,7 +155,7 @@ impl<K: KeptKey + Drop, V: Kept + Drop, S: BuildHasher, A: KeptAction<K, V> + Dr
 
     /// The map without its locks. It takes no memory, and waits for nobody, even where a hold was leaked.
     pub fn alone(self) -> RecAlone<K, V, S, A>
-        ensures { IsBehind ⟦<Self as Recorded>⟧.known self result }
+        ensures { IsRecFound ⟦<Self as Recorded>⟧.known self result }
     {
         let RecordedMap {
             hasher,
@@ -163,7 +164,7 @@ impl<K: KeptKey + Drop, V: Kept + Drop, S: BuildHasher, A: KeptAction<K, V> + Dr
         } = self;
         let row = row.turn(
             |_: usize, lock: Locked<K, V, S, A>| -> RecShard<K, V, S, A>
-                ensures leaves { Leaves (known K.KeptKey V.alike A.KeptAction S.BuildHasher S.Hasher.Hasher) (padded_value lock) result }
+                ensures leaves { LeavesLock (known K.KeptKey V.alike A.KeptAction S.BuildHasher S.Hasher.Hasher) (padded_value lock) result }
                 ensures found { FoundBehind result }
             {
                 let shard = lock.into_inner().into_inner();
@@ -180,7 +181,8 @@ impl<K: KeptKey + Drop, V: Kept + Drop, S: BuildHasher, A: KeptAction<K, V> + Dr
 
     /// A copy of the record at a place: at the index `place` of the history of a shard, if it has so many (4).
     ///
-    /// As nobody else has the map, it waits for nobody, even where a hold was leaked. The shards leave their locks for it and go back.
+    /// As nobody else has the map, it waits for nobody, even where a hold was leaked. The shards leave their locks for it and go
+    /// back.
     pub fn entry_at(
         &mut self,
         shard: usize,
@@ -188,7 +190,7 @@ impl<K: KeptKey + Drop, V: Kept + Drop, S: BuildHasher, A: KeptAction<K, V> + Dr
     ) -> Result<Option<Record<K, V, A>>, AllocError>
         requires { shard < self.old.amount }
         ensures entry { IfOk result (λ found.
-            SawShards ⟦<Self as Recorded>⟧.known self.old (λ a. CopiesEntry ⟦<Self as Recorded>⟧.known a shard place found)) }
+            SawRecShards ⟦<Self as Recorded>⟧.known self.old (λ a. CopiesEntry ⟦<Self as Recorded>⟧.known a shard place found)) }
         ensures same { self.new ≡ self.old }
     {
         replace_with(self, (shard, place), Self::entry_alone)
@@ -197,7 +199,7 @@ impl<K: KeptKey + Drop, V: Kept + Drop, S: BuildHasher, A: KeptAction<K, V> + Dr
     /// The stamp of the last step of a shard, 0 for none. It waits as `entry_at` does.
     pub fn last_of(&mut self, shard: usize) -> u64
         requires { shard < self.old.amount }
-        ensures last { SawShards ⟦<Self as Recorded>⟧.known self.old (λ a. result ≡ last_at a shard) }
+        ensures last { SawRecShards ⟦<Self as Recorded>⟧.known self.old (λ a. result ≡ last_at a shard) }
         ensures same { self.new ≡ self.old }
     {
         replace_with(self, shard, Self::last_alone)
@@ -206,7 +208,7 @@ impl<K: KeptKey + Drop, V: Kept + Drop, S: BuildHasher, A: KeptAction<K, V> + Dr
     /// Copies of the pairs of all shards, each once (4). It waits as `entry_at` does.
     pub fn pairs(&mut self) -> Result<Vec<(K, V)>, AllocError>
         ensures pairs { IfOk result (λ pairs.
-            SawShards ⟦<Self as Recorded>⟧.known self.old (λ a. CopiesPairs ⟦<Self as Recorded>⟧.known a pairs.items)) }
+            SawRecShards ⟦<Self as Recorded>⟧.known self.old (λ a. CopiesRecPairs ⟦<Self as Recorded>⟧.known a pairs.items)) }
         ensures same { self.new ≡ self.old }
     {
         replace_with(self, (), Self::pairs_alone)
@@ -216,7 +218,7 @@ impl<K: KeptKey + Drop, V: Kept + Drop, S: BuildHasher, A: KeptAction<K, V> + Dr
     fn entry_alone(self, at: (usize, usize)) -> (Self, Result<Option<Record<K, V, A>>, AllocError>)
         requires { at.0 < self.amount }
         ensures entry { IfOk result.1 (λ found.
-            SawShards ⟦<Self as Recorded>⟧.known self (λ a. CopiesEntry ⟦<Self as Recorded>⟧.known a at.0 at.1 found)) }
+            SawRecShards ⟦<Self as Recorded>⟧.known self (λ a. CopiesEntry ⟦<Self as Recorded>⟧.known a at.0 at.1 found)) }
         ensures same { result.0 ≡ self }
     {
         let alone = self.alone();
@@ -227,7 +229,7 @@ impl<K: KeptKey + Drop, V: Kept + Drop, S: BuildHasher, A: KeptAction<K, V> + Dr
     // The stamp, and the map after it.
     fn last_alone(self, shard: usize) -> (Self, u64)
         requires { shard < self.amount }
-        ensures last { SawShards ⟦<Self as Recorded>⟧.known self (λ a. result.1 ≡ last_at a shard) }
+        ensures last { SawRecShards ⟦<Self as Recorded>⟧.known self (λ a. result.1 ≡ last_at a shard) }
         ensures same { result.0 ≡ self }
     {
         let alone = self.alone();
@@ -238,7 +240,7 @@ impl<K: KeptKey + Drop, V: Kept + Drop, S: BuildHasher, A: KeptAction<K, V> + Dr
     // The copies, and the map after them.
     fn pairs_alone(self, _nothing: ()) -> (Self, Result<Vec<(K, V)>, AllocError>)
         ensures pairs { IfOk result.1 (λ pairs.
-            SawShards ⟦<Self as Recorded>⟧.known self (λ a. CopiesPairs ⟦<Self as Recorded>⟧.known a pairs.items)) }
+            SawRecShards ⟦<Self as Recorded>⟧.known self (λ a. CopiesRecPairs ⟦<Self as Recorded>⟧.known a pairs.items)) }
         ensures same { result.0 ≡ self }
     {
         let alone = self.alone();
@@ -256,7 +258,7 @@ impl<K: KeptKey + Drop, V: Kept + Drop, S: BuildHasher, A: KeptAction<K, V> + Dr
     /// The map behind its locks again. It takes no memory.
     pub fn end(self) -> RecordedMap<K, V, S, A>
         ensures map { result ≡ record { hasher = self.hasher; callers = self.callers; amount = length self.row } }
-        ensures left { (i : ℕ) (s : _) → slice_get self.row i ≡ Some s → LeftBehind s }
+        ensures left { EachAt self.row (λ _ s. LeftBehind s) }
     {
         let RecAlone {
             hasher,
@@ -266,8 +268,8 @@ impl<K: KeptKey + Drop, V: Kept + Drop, S: BuildHasher, A: KeptAction<K, V> + Dr
         let amount = row.len();
         let row = row.turn(
             |number: usize, shard: RecShard<K, V, S, A>| -> Locked<K, V, S, A>
-                requires { IsTagged (by K.Hash S.BuildHasher S.Hasher.Hasher) hasher amount callers number shard }
-                ensures at { IsAt (record { hasher = hasher; callers = callers; amount = amount }) number result }
+                requires { IsRecTagged (by K.Hash S.BuildHasher S.Hasher.Hasher) hasher amount callers number shard }
+                ensures at { IsRecAt (record { hasher = hasher; callers = callers; amount = amount }) number result }
                 ensures left { LeftBehind shard }
             {
                 let tag = RecTag {

@@ -1,10 +1,10 @@
 -- The steps of a thread, and what it has done.
 use Rattle.std.specs.Prelude.{◌≡◌, ◌↔◌, IsTrue, Bool, ℕ, zero, suc, ◌<◌, ◌++◌, List, [], ◌∷◌, None, Some, IfNone, IfSome, IsSomeAnd, ⊤, length, map, slice_get, slice_index_or}
 use Rattle.dash_shard.specs.declared.hash.PlaceState.{PlaceState}
-use Rattle.dash_history.specs.Alone.{AloneState}
+use Rattle.dash_history.specs.Alone.{RecAloneState}
 use Rattle.dash_history.specs.History.{LogState}
-use Rattle.dash_history.specs.Map.{MapState}
-use Rattle.dash_history.specs.OneHistory.{IsGathered, along, histories, contents}
+use Rattle.dash_history.specs.Map.{RecMapState}
+use Rattle.dash_history.specs.OneHistory.{IsGathered, along, histories, rec_contents}
 use Rattle.dash_steps.specs.Takes.{Known}
 use Rattle.dash_history.specs.declared.gather.At.{At}
 use Rattle.dash_steps.specs.declared.step.ShardStep.{ShardStep}
@@ -42,13 +42,13 @@ pub record IsIdle (c : ℕ) (worker : Worker) : Type 0 where
   pub entries : worker.log.entries ≡ []
 
 -- why the thread of the log may be refused a step: for want of a stamp, or of memory
-abbrev pub MayRefuse : Known ℕ ℕ (Unit {0}) PlaceState → MapState PlaceState → LogState ℕ ℕ (Unit {0}) → Refusal → Type 0
+abbrev pub MayRefuse : Known ℕ ℕ (Unit {0}) PlaceState → RecMapState PlaceState → LogState ℕ ℕ (Unit {0}) → Refusal → Type 0
 MayRefuse w m log LastStamp = HasNoStamp w m log
 MayRefuse w m log Memory = ⊤
 MayRefuse w m log _ = ⊥
 
 -- the worker took the first n steps of its thread on the map, or was refused one
-pub record Works (w : Known ℕ ℕ (Unit {0}) PlaceState) (m : MapState PlaceState) (n : ℕ) (old new : Worker) : Type 0 where
+pub record Works (w : Known ℕ ℕ (Unit {0}) PlaceState) (m : RecMapState PlaceState) (n : ℕ) (old new : Worker) : Type 0 where
   pub caller : new.log.caller ≡ old.log.caller
   pub done : IfNone new.refused (HasTaken n new.log)
   pub refused : IfSome new.refused (MayRefuse w m new.log)
@@ -64,13 +64,13 @@ abbrev pub AllDone : ℕ → List Worker → Type 0
 AllDone n workers = (i : ℕ) (d : Worker) → i < length workers → ((slice_index_or workers i d).log.caller ≡ i) × HasTaken n (slice_index_or workers i d).log
 
 -- a history was gathered of the map with these logs, and it is said to be legal exactly where it is
-pub record IsJudgedOf (w : Known ℕ ℕ (Unit {0}) PlaceState) (state : AloneState ℕ ℕ (Unit {0}) PlaceState) (logs : List (LogState ℕ ℕ (Unit {0}))) (legal : Bool) : Type 0 where
+pub record IsJudgedOf (w : Known ℕ ℕ (Unit {0}) PlaceState) (state : RecAloneState ℕ ℕ (Unit {0}) PlaceState) (logs : List (LogState ℕ ℕ (Unit {0}))) (legal : Bool) : Type 0 where
   pub ats : List At
   pub gathered : IsGathered w state logs ats
-  pub exact : IsTrue legal ↔ IsReplay [] (along (histories state) ats) (contents state)
+  pub exact : IsTrue legal ↔ IsReplay [] (along (histories state) ats) (rec_contents state)
 
 -- the same, of a map of so many shards
 pub record IsJudgedBy (w : Known ℕ ℕ (Unit {0}) PlaceState) (shards : ℕ) (logs : List (LogState ℕ ℕ (Unit {0}))) (legal : Bool) : Type 0 where
-  pub state : AloneState ℕ ℕ (Unit {0}) PlaceState
+  pub state : RecAloneState ℕ ℕ (Unit {0}) PlaceState
   pub amount : length state.row ≡ shards
   pub judged : IsJudgedOf w state logs legal

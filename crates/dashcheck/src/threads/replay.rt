@@ -15,7 +15,8 @@ use dash_steps::step::{Record, Reply, ShardStep};
 use std::alloc::{AllocError, Global};
 use std::collections::HashMap;
 
-/// Whether the steps at these places, taken one after the other on a plain map, get the recorded replies, and leave just these pairs.
+/// Whether the steps at these places, taken one after the other on a plain map, get the recorded replies, and leave just these
+/// pairs.
 pub(super) fn agrees(
     alloc: Global,
     map: &RecAlone<u64, u64, PlaceState>,

@@ -3,17 +3,17 @@ use Rattle.dash_shard.specs.Hashing.{HashAlike}
 use Rattle.dash_shard.specs.Hashing.{key_hash}
 use Rattle.dash_history.specs.History.{RecState, IsRecorded}
 use Rattle.dash_steps.specs.Takes.{known_by}
-use Rattle.dash_history.specs.Alone.{IsTagged, IsFresh}
+use Rattle.dash_history.specs.Alone.{IsRecTagged, IsFresh}
 use Rattle.dash_shard.proofs.Rows.{each-more}
 use Rattle.dash_history.proofs.alone.fresh_row.Goals as goal
 
 pub loop-number-preserved : goal.loop-number-preserved
 loop-number-preserved g c =
     let At : Type 0 = RecState g.row.K.Denot g.row.V.Denot g.row.A.Denot g.row.S.Denot in
-    let Made = λ (i : ℕ) (s : At). IsTagged (key_hash g.K.PartialEq.eq g.K.Hash.hash_input g.S.BuildHasher g.S.Hasher.Hasher) c.args.hasher.now c.args.amount c.args.callers i s × IsFresh s × IsRecorded (known_by g.K.PartialEq.eq g.K.Hash.hash_input g.K.Kept.alike g.V.Kept.alike g.A.Kept.alike g.A.Action.acts g.S.BuildHasher g.S.Hasher.Hasher) s in
+    let Made = λ (i : ℕ) (s : At). IsRecTagged (key_hash g.K.PartialEq.eq g.K.Hash.hash_input g.S.BuildHasher g.S.Hasher.Hasher) c.args.hasher.now c.args.amount c.args.callers i s × IsFresh s × IsRecorded (known_by g.K.PartialEq.eq g.K.Hash.hash_input g.K.Kept.alike g.V.Kept.alike g.A.Kept.alike g.A.Action.acts g.S.BuildHasher g.S.Hasher.Hasher) s in
     let new = c.in_ok-new.ensures in
     let meaning = λ (s : g.row.S.Denot). HashAlike (key_hash g.K.PartialEq.eq g.K.Hash.hash_input g.S.BuildHasher g.S.Hasher.Hasher) c.args.hasher.now s in
-    let tagged : IsTagged (key_hash g.K.PartialEq.eq g.K.Hash.hash_input g.S.BuildHasher g.S.Hasher.Hasher) c.args.hasher.now c.args.amount c.args.callers (length c.loop-number.row.items) c.in_ok-new.field-0 = record {
+    let tagged : IsRecTagged (key_hash g.K.PartialEq.eq g.K.Hash.hash_input g.S.BuildHasher g.S.Hasher.Hasher) c.args.hasher.now c.args.amount c.args.callers (length c.loop-number.row.items) c.in_ok-new.field-0 = record {
       number = new.number ∙ sym c.loop-number.invariant.len;
       amount = new.amount;
       callers = new.callers;

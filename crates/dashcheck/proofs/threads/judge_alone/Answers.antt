@@ -1,7 +1,7 @@
 use Rattle.std.proofs.Common.{◌≡◌, ◌↔◌, [], subst, ◌∙◌}
 use Rattle.std.specs.List.{Contains}
 use Rattle.std.specs.Prelude.{IsTrue}
-use Rattle.dash_history.specs.OneHistory.{along, histories, contents}
+use Rattle.dash_history.specs.OneHistory.{along, histories, rec_contents}
 use Rattle.dashcheck.specs.Replay.{IsReplay}
 use Rattle.dashcheck.proofs.Replaying.{same-pairs}
 use Rattle.dashcheck.proofs.threads.judge_alone.Goals as goal
@@ -13,7 +13,7 @@ pub returns-clause-judged : goal.returns-clause-judged
 returns-clause-judged c =
     let map = c.args.alone.now in
     let ats = c.in-Ok.ats.items in
-    let pairs : c.as_slice-2.result.now ≡ contents map = c.as_slice-2.ensures.value ∙ same-pairs (contents map) c.in-Ok-pairs.pairs.items c.in-Ok-pairs.ensures in
+    let pairs : c.as_slice-2.result.now ≡ rec_contents map = c.as_slice-2.ensures.value ∙ same-pairs (rec_contents map) c.in-Ok-pairs.pairs.items c.in-Ok-pairs.ensures in
     record {
       ats = ats;
       gathered = c.in-Ok.ensures.gathered;

@@ -22,18 +22,15 @@ returns-then-idx-len-clause-last_stamp g c =
 
 pub record_hashed-requires-clause-goes : goal.record_hashed-requires-clause-goes
 record_hashed-requires-clause-goes g c =
-    let within : c.route-hash.result.1 < length c.self.inside.row = omega (arith, c.if-idx-len.false, c.len-2.ensures) in
-    goes_there (known_by g.K.PartialEq.eq g.K.Hash.hash_input g.K.Kept.alike g.V.Kept.alike g.A.Kept.alike g.A.Action.acts g.S.BuildHasher g.S.Hasher.Hasher) _ _ _ _ c.self.view_is c.self.invariant c.args.step c.route-hash.result.1 c.len.result c.index_mut.result.now c.len.ensures c.route-hash.ensures.shard within c.index_mut.ensures.value
+    goes_there (known_by g.K.PartialEq.eq g.K.Hash.hash_input g.K.Kept.alike g.V.Kept.alike g.A.Kept.alike g.A.Action.acts g.S.BuildHasher g.S.Hasher.Hasher) _ _ _ _ c.self.view_is c.self.invariant c.args.step c.route-hash.result.1 c.len.result c.index_mut.result.now c.len.ensures c.route-hash.ensures.shard (omega (arith, c.if-idx-len.false, c.len-2.ensures)) c.index_mut.ensures.value
 
 pub record_hashed-requires-clause-hash : goal.record_hashed-requires-clause-hash
 record_hashed-requires-clause-hash g c =
-    let within : c.route-hash.result.1 < length c.self.inside.row = omega (arith, c.if-idx-len.false, c.len-2.ensures) in
-    hash_there (known_by g.K.PartialEq.eq g.K.Hash.hash_input g.K.Kept.alike g.V.Kept.alike g.A.Kept.alike g.A.Action.acts g.S.BuildHasher g.S.Hasher.Hasher) _ _ _ _ c.self.view_is c.self.invariant c.args.step c.route-hash.result.1 c.len.result c.index_mut.result.now c.len.ensures c.route-hash.ensures.shard within c.index_mut.ensures.value c.route-hash.result.0 c.route-hash.ensures.hash
+    hash_there (known_by g.K.PartialEq.eq g.K.Hash.hash_input g.K.Kept.alike g.V.Kept.alike g.A.Kept.alike g.A.Action.acts g.S.BuildHasher g.S.Hasher.Hasher) _ _ _ _ c.self.view_is c.self.invariant c.args.step c.route-hash.result.1 c.len.result c.index_mut.result.now c.len.ensures c.route-hash.ensures.shard (omega (arith, c.if-idx-len.false, c.len-2.ensures)) c.index_mut.ensures.value c.route-hash.result.0 c.route-hash.ensures.hash
 
 pub record_hashed-requires-clause-caller : goal.record_hashed-requires-clause-caller
 record_hashed-requires-clause-caller g c =
-    let within : c.route-hash.result.1 < length c.self.inside.row = omega (arith, c.if-idx-len.false, c.len-2.ensures) in
-    let callers = callers_are (known_by g.K.PartialEq.eq g.K.Hash.hash_input g.K.Kept.alike g.V.Kept.alike g.A.Kept.alike g.A.Action.acts g.S.BuildHasher g.S.Hasher.Hasher) _ _ _ _ c.self.view_is c.self.invariant c.args.step c.route-hash.result.1 c.len.result c.index_mut.result.now c.len.ensures c.route-hash.ensures.shard within c.index_mut.ensures.value in
+    let callers = callers_are (known_by g.K.PartialEq.eq g.K.Hash.hash_input g.K.Kept.alike g.V.Kept.alike g.A.Kept.alike g.A.Action.acts g.S.BuildHasher g.S.Hasher.Hasher) _ _ _ _ c.self.view_is c.self.invariant c.args.step c.route-hash.result.1 c.len.result c.index_mut.result.now c.len.ensures c.route-hash.ensures.shard (omega (arith, c.if-idx-len.false, c.len-2.ensures)) c.index_mut.ensures.value in
     omega (arith, callers, c.requires)
 
 pub invariant_of-self : goal.invariant_of-self

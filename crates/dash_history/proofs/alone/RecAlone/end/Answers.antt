@@ -1,13 +1,13 @@
 use Rattle.std.proofs.Common.{◌≡◌, ◌∙◌, sym, subst, ap, length}
 use Rattle.dash_shard.proofs.Rows.{moved-length}
-use Rattle.dash_history.specs.Alone.{IsTagged}
+use Rattle.dash_history.specs.Alone.{IsRecTagged}
 use Rattle.dash_history.proofs.Maps.{map-of_alone, left-of_alone}
 use Rattle.dash_shard.specs.Hashing.{key_hash}
 use Rattle.dash_steps.specs.Takes.{known_by}
 use Rattle.dash_history.proofs.alone.RecAlone.end.Goals as goal
 
 pub turn-row-requires : goal.turn-row-requires
-turn-row-requires g c = λ i x e. subst (λ n. IsTagged (key_hash g.K.PartialEq.eq g.K.Hash.hash_input g.S.BuildHasher g.S.Hasher.Hasher) c.self.inside.hasher n c.self.inside.callers i x) (sym c.len-amount.ensures) (c.self.invariant.tagged i x e)
+turn-row-requires g c = λ i x e. subst (λ n. IsRecTagged (key_hash g.K.PartialEq.eq g.K.Hash.hash_input g.S.BuildHasher g.S.Hasher.Hasher) c.self.inside.hasher n c.self.inside.callers i x) (sym c.len-amount.ensures) (c.self.invariant.tagged i x e)
 
 pub invariant_of-result : goal.invariant_of-result
 invariant_of-result g c =

@@ -3,7 +3,7 @@ use Rattle.std.proofs.lemmas.Bool.{both_ways}
 use Rattle.std.specs.List.{Contains}
 use Rattle.dash_shard.proofs.Lawful.{lawful-of}
 use Rattle.dash_shard.specs.Hashing.{key_hash}
-use Rattle.dash_history.specs.Alone.{EachRecorded}
+use Rattle.dash_history.specs.inner.Gathering.{EachRecorded}
 use Rattle.dash_history.specs.inner.Gathering.{Finds}
 use Rattle.dash_steps.specs.Takes.{known_by}
 use Rattle.dash_history.proofs.Gathering.{below-seen, gathered-seen, mismatch-seen}

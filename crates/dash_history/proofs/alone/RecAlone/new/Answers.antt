@@ -2,7 +2,7 @@ use Rattle.std.proofs.Common.{ℕ, ◌≡◌, List, Some, slice_get, arith, subs
 use Rattle.dash_shard.specs.Hashing.{IsAmount}
 use Rattle.dash_shard.specs.Hashing.{key_hash}
 use Rattle.dash_steps.specs.Takes.{known_by}
-use Rattle.dash_history.specs.Alone.{IsFresh, IsCallers, IsTagged, IsAlone}
+use Rattle.dash_history.specs.Alone.{IsFresh, IsCallers, IsRecTagged, IsRecAlone}
 use Rattle.dash_history.specs.History.{RecState}
 use Rattle.dash_history.proofs.Refusals.{made-refused, callers-amount, memory-amount, memory-callers}
 use Rattle.dash_history.proofs.alone.RecAlone.new.Goals as goal
@@ -11,10 +11,10 @@ pub invariant_of-alone : goal.invariant_of-alone
 invariant_of-alone g c =
     let lawful : IsAmount c.args.amount = c.is_shard_amount.ensures.0 c.if-not-is_shard_amount.false in
     let made = c.in-Ok.ensures in
-    subst (λ (row : List (RecState g.row.K.Denot g.row.V.Denot g.row.A.Denot g.row.S.Denot)). IsAlone (known_by g.K.PartialEq.eq g.K.Hash.hash_input g.K.Kept.alike g.V.Kept.alike g.A.Kept.alike g.A.Action.acts g.S.BuildHasher g.S.Hasher.Hasher) (record { hasher = c.args.hasher; callers = c.args.callers; row = row })) (sym c.in-Ok-of.ensures) (record {
+    subst (λ (row : List (RecState g.row.K.Denot g.row.V.Denot g.row.A.Denot g.row.S.Denot)). IsRecAlone (known_by g.K.PartialEq.eq g.K.Hash.hash_input g.K.Kept.alike g.V.Kept.alike g.A.Kept.alike g.A.Action.acts g.S.BuildHasher g.S.Hasher.Hasher) (record { hasher = c.args.hasher; callers = c.args.callers; row = row })) (sym c.in-Ok-of.ensures) (record {
       amount = subst IsAmount (sym made.len) lawful;
       callers = record { some = omega arith; few = omega arith };
-      tagged = λ i s e. subst (λ n. IsTagged (key_hash g.K.PartialEq.eq g.K.Hash.hash_input g.S.BuildHasher g.S.Hasher.Hasher) c.args.hasher n c.args.callers i s) (sym made.len) (made.made i s e).0;
+      tagged = λ i s e. subst (λ n. IsRecTagged (key_hash g.K.PartialEq.eq g.K.Hash.hash_input g.S.BuildHasher g.S.Hasher.Hasher) c.args.hasher n c.args.callers i s) (sym made.len) (made.made i s e).0;
       recorded = λ i s e. (made.made i s e).2;
     })
 
@@ -25,10 +25,10 @@ pub returns-clause-lawful : goal.returns-clause-lawful
 returns-clause-lawful g c =
     let lawful : IsAmount c.args.amount = c.is_shard_amount.ensures.0 c.if-not-is_shard_amount.false in
     let made = c.in-Ok.ensures in
-    subst (λ (row : List (RecState g.row.K.Denot g.row.V.Denot g.row.A.Denot g.row.S.Denot)). IsAlone (known_by g.K.PartialEq.eq g.K.Hash.hash_input g.K.Kept.alike g.V.Kept.alike g.A.Kept.alike g.A.Action.acts g.S.BuildHasher g.S.Hasher.Hasher) (record { hasher = c.args.hasher; callers = c.args.callers; row = row })) (sym c.in-Ok-of.ensures) (record {
+    subst (λ (row : List (RecState g.row.K.Denot g.row.V.Denot g.row.A.Denot g.row.S.Denot)). IsRecAlone (known_by g.K.PartialEq.eq g.K.Hash.hash_input g.K.Kept.alike g.V.Kept.alike g.A.Kept.alike g.A.Action.acts g.S.BuildHasher g.S.Hasher.Hasher) (record { hasher = c.args.hasher; callers = c.args.callers; row = row })) (sym c.in-Ok-of.ensures) (record {
       amount = subst IsAmount (sym made.len) lawful;
       callers = record { some = omega arith; few = omega arith };
-      tagged = λ i s e. subst (λ n. IsTagged (key_hash g.K.PartialEq.eq g.K.Hash.hash_input g.S.BuildHasher g.S.Hasher.Hasher) c.args.hasher n c.args.callers i s) (sym made.len) (made.made i s e).0;
+      tagged = λ i s e. subst (λ n. IsRecTagged (key_hash g.K.PartialEq.eq g.K.Hash.hash_input g.S.BuildHasher g.S.Hasher.Hasher) c.args.hasher n c.args.callers i s) (sym made.len) (made.made i s e).0;
       recorded = λ i s e. (made.made i s e).2;
     })
 

@@ -1,5 +1,6 @@
 use Rattle.std.proofs.Common.{ℕ, List, ◌≡◌, ◌+◌, ◌++◌, ◌∷◌, [], ap, subst, sym, ◌∙◌, arith, max}
-use Rattle.dash_history.specs.History.{LogState, RecState, Grown, stamp_of}
+use Rattle.dash_history.specs.History.{LogState, RecState, stamp_of}
+use Rattle.dash_history.specs.inner.Grows.{Grown}
 use Rattle.dash_steps.specs.declared.step.Record.{Record}
 use Rattle.dash_steps.specs.inner.Kinds.{kinds_of}
 use Rattle.dash_history.proofs.Growing.{log-more}
@@ -30,10 +31,16 @@ returns-in-Ok-clause-records g c =
     let entries : c.push_reserved.new.self.items ≡ c.args.log.now.entries ++ c.in-Ok.record ∷ [] =
     c.push_reserved.ensures.items ∙ ap (λ h. h ++ c.in-Ok.record ∷ []) c.make_room.ensures.items ∙ ap (λ (l : Log). l.entries ++ c.in-Ok.record ∷ []) c.log.view_is in
     let of : ℕ → ℕ → List (Record g.row.K.Denot g.row.V.Denot g.row.A.Denot) → Log = λ k n es. record { caller = k; last = n; entries = es } in
+    let grown = subst (λ n. P n c.args.log.now.caller) stamp (subst (λ k. P (c.max-last.result + 1) k) caller c.in-Ok.ensures.ok) in
     record {
       ok = record {
+        takes = grown.takes;
+        kept = grown.kept;
+        tells = grown.tells;
+        grown = grown.grown;
+        stays = grown.stays;
         logged = c.in-Ok.record;
-        grown = subst (λ n. P n c.args.log.now.caller) stamp (subst (λ k. P (c.max-last.result + 1) k) caller c.in-Ok.ensures.ok);
+        same = grown.same;
         log = ap (λ k. of k (c.max-last.result + 1) c.push_reserved.new.self.items) caller ∙ ap (λ n. of c.args.log.now.caller n c.push_reserved.new.self.items) stamp
             ∙ ap (of c.args.log.now.caller (stamp_of c.args.self.now c.args.log.now)) entries;
       };
