@@ -32,7 +32,8 @@ best() {
                       print best["ours"] / ops["ours"], bytes["ours"] / ops["ours"], best["theirs"] / ops["theirs"], bytes["theirs"] / ops["theirs"] }'
 }
 
-echo '| work | threads | ours | Rust | ratio |'
+theirs_is=$(cd "$registry" && ls -d dashmap-* | head -1)
+echo "| work | threads | ours | $theirs_is | ratio |"
 echo '|---|---|---|---|---|'
 status=0
 for work in "${works[@]}"; do

@@ -1,0 +1,79 @@
+//! How often pages were seen, and who is logged in.
+#![tactic(auto)]
+
+ghost use Rattle.std.specs.Prelude.{◌≡◌, ◌<◌, IfOk, IfErr};
+
+use dash_steps::kept::Kept;
+use dashmap::DashMap;
+use dashmap::error::EntryRefused;
+use std::alloc::AllocError;
+use std::rt::Clock;
+use std::sync::Wait;
+use std::thread;
+
+type Seen = DashMap<u64, u64>;
+
+fn main(rt: HostRuntime) -> anyhow::Result<()> {
+    let processors = thread::available_parallelism(&rt)?.get();
+    let seen = Seen::new(rt.alloc(), processors)?;
+    for page in [7, 8, 7] {
+        let now = count(&rt, &seen, page).map_err(|_| AllocError)?;
+        println!(rt; "page {page}: {now}")?;
+    }
+    let sessions = DashMap::with_shard_amount(rt.alloc(), 4)?;
+    let old = sessions.insert(&rt, "ada", Session { minutes: 2 });
+    old.map_err(|_| AllocError)?;
+    pass_minute(&rt, &sessions);
+    if let Some(found) = sessions.get(&rt, &"ada") {
+        println!(rt; "ada: {}", found.minutes)?;
+    }
+    Ok(())
+}
+
+// Counts a page once more, and says how often it was seen. The entry holds its shard, so that no count is lost.
+fn count<R: Wait + Clock>(rt: &R, seen: &Seen, page: u64) -> Result<u64, EntryRefused<u64>>
+    ensures counted { IfOk result (λ n. 0 < n) }
+    ensures refused { IfErr result (λ e. e.key ≡ page) }
+{
+    let mut count = seen.entry(rt, page)?.or_insert(0);
+    let now = count.saturating_add(1);
+    *count = now;
+    Ok(now)
+}
+
+// How many minutes a user stays logged in.
+#[derive(Clone, Copy)]
+struct Session {
+    minutes: u64,
+}
+
+// `pairs`, `clone` and `insert_entry` copy by `Kept`. Two values are alike where their minutes are the same.
+impl Kept for Session {
+    ghost use Rattle.std.specs.Prelude.{nat_eq};
+    ghost use Rattle.std.specs.Cmp.{nat_eq_equiv, on_equiv};
+
+    ghost alike = { λ s t. nat_eq s.minutes t.minutes };
+
+    fn copy(&self) -> Result<Session, AllocError> {
+        Ok(*self)
+    }
+
+    fn same(&self, other: &Session) -> bool {
+        self.minutes == other.minutes
+    }
+
+    ghost alike_laws = { on_equiv (λ s. s.minutes) nat_eq_equiv };
+}
+
+// Lets a minute pass, and logs out who has none left.
+fn pass_minute<R: Wait + Clock>(rt: &R, sessions: &DashMap<&str, Session>) {
+    let mut walk = sessions.iter_mut(rt);
+    for _ in rt.forever() {
+        let Some(session) = walk.next_mut() else {
+            break;
+        };
+        session.minutes = session.minutes.saturating_sub(1);
+    }
+    drop(walk);
+    sessions.retain(rt, |_, session| session.minutes > 0);
+}
