@@ -22,6 +22,7 @@ use std::alloc::{AllocError, Global};
 use std::fmt;
 use std::hash::{BuildHasher, Hash};
 use std::marker::Model;
+use thiserror::Error;
 
 mod iter;
 
