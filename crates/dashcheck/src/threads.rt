@@ -188,7 +188,8 @@ fn judge(alloc: Global, shared: Map, workers: Vec<Worker>) -> Result<bool, Refus
     ensures judged { IfOk result
         (IsJudgedBy ⟦<Alone as Recorded>⟧.known shared.amount (map (λ w. w.log) workers.items)) }
     ensures mismatch { result ≡ Err Refusal.Mismatch
-        → SawRecShards ⟦<Alone as Recorded>⟧.known shared (λ a. Matches ⟦<Alone as Recorded>⟧.known a (map (λ w. w.log) workers.items) → ⊥) }
+        → SawRecShards ⟦<Alone as Recorded>⟧.known shared (λ a.
+        Matches ⟦<Alone as Recorded>⟧.known a (map (λ w. w.log) workers.items) → ⊥) }
     ensures kinds { IfErr result (λ refusal. refusal ≢ Refusal.LastStamp) }
 {
     let Ok(logs) = logs_of(alloc, workers) else {

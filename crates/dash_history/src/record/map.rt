@@ -38,7 +38,7 @@ pub(crate) type Locked<K, V, S, A> = CachePadded<RwLock<RecShard<K, V, S, A>>>;
 
 /// A recorded map that threads share: its shards behind locks, each with its history.
 ///
-/// A contract sees its hasher, the number of its callers and that of its shards. What is behind a lock is known to whom holds it.
+/// A contract sees its hasher, the number of its callers and that of its shards. Only who holds a lock knows what is behind it.
 #[derive(Drop)]
 pub struct RecordedMap<K: KeptKey, V: Kept, S: BuildHasher, A: KeptAction<K, V> = ()> {
     hasher: S,
