@@ -3,9 +3,8 @@
 
 ghost use Rattle.std.specs.Prelude.{◌≡◌, ◌<◌, IfOk, IfErr};
 
-use dash_steps::kept::Kept;
-use dashmap::DashMap;
 use dashmap::error::EntryRefused;
+use dashmap::{DashMap, Kept};
 use std::alloc::AllocError;
 use std::rt::Clock;
 use std::sync::Wait;
@@ -17,12 +16,11 @@ fn main(rt: HostRuntime) -> anyhow::Result<()> {
     let processors = thread::available_parallelism(&rt)?.get();
     let seen = Seen::new(rt.alloc(), processors)?;
     for page in [7, 8, 7] {
-        let now = count(&rt, &seen, page).map_err(|_| AllocError)?;
+        let now = count(&rt, &seen, page)?;
         println!(rt; "page {page}: {now}")?;
     }
     let sessions = DashMap::with_shard_amount(rt.alloc(), 4)?;
-    let old = sessions.insert(&rt, "ada", Session { minutes: 2 });
-    old.map_err(|_| AllocError)?;
+    sessions.insert(&rt, "ada", Session { minutes: 2 })?;
     pass_minute(&rt, &sessions);
     if let Some(found) = sessions.get(&rt, &"ada") {
         println!(rt; "ada: {}", found.minutes)?;
@@ -42,7 +40,7 @@ fn count<R: Wait + Clock>(rt: &R, seen: &Seen, page: u64) -> Result<u64, EntryRe
 }
 
 // How many minutes a user stays logged in.
-#[derive(Clone, Copy)]
+#[derive(Clone, Copy, Debug)]
 struct Session {
     minutes: u64,
 }
@@ -67,13 +65,8 @@ impl Kept for Session {
 
 // Lets a minute pass, and logs out who has none left.
 fn pass_minute<R: Wait + Clock>(rt: &R, sessions: &DashMap<&str, Session>) {
-    let mut walk = sessions.iter_mut(rt);
-    for _ in rt.forever() {
-        let Some(session) = walk.next_mut() else {
-            break;
-        };
+    sessions.retain(rt, |_, session| {
         session.minutes = session.minutes.saturating_sub(1);
-    }
-    drop(walk);
-    sessions.retain(rt, |_, session| session.minutes > 0);
+        session.minutes > 0
+    });
 }
