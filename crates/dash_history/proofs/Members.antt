@@ -88,10 +88,6 @@ module _ {X : Type 0} where
   in_order-kept R p (x ∷ xs) o = elim (p x) as (λ b. InOrder R (cond b (x ∷ filter p xs) (filter p xs)))
       [ true ↦ (λ y h. o.0 y (has-kept p xs y h).0, in_order-kept R p xs o.1) | false ↦ in_order-kept R p xs o.1 ]
 
-  pub in_order-weaker : (R S : X → X → Type 0) (xs : List X) → ((x y : X) → Has xs x → Has xs y → R x y → S x y) → InOrder R xs → InOrder S xs
-  in_order-weaker R S [] f o = o
-  in_order-weaker R S (x ∷ xs) f o = (λ y h. f x y (inl refl) (inr h) (o.0 y h), in_order-weaker R S xs (λ a b ha hb. f a b (inr ha) (inr hb)) o.1)
-
   -- Two lists in an order without circles agree item by item, where each element of one has a like one in the other.
   module _ (R : X → X → Type 0) (never : (x y : X) → R x y → R y x → ⊥) (L : X → X → Type 0) (back : (a b x y : X) → L a x → L b y → R a b → R x y) (forth : (a b x y : X) → L a x → L b y → R x y → R a b) where
     pub agree : (xs ys : List X) → InOrder R xs → InOrder R ys → ((x : X) → Has xs x → (y : X) × Has ys y × L x y) → ((y : X) → Has ys y → (x : X) × Has xs x × L x y) → AllZip L xs ys

@@ -1,5 +1,5 @@
 //! A recorded map of one owner, without locks.
-ghost use Rattle.std.specs.Prelude.{◌∷◌, [], ◌≡◌, ℕ, ◌+◌, ◌<◌, max, ◌↔◌, Some, IsErrOf, IsSomeAnd, IfOk, IfErr, length, slice_get, Err, IsTrue, flat_map, option_map};
+ghost use Rattle.std.specs.Prelude.{◌∷◌, [], ◌≡◌, ◌+◌, ◌<◌, max, ◌↔◌, Some, IsErrOf, IsSomeAnd, IfOk, IfErr, length, slice_get, Err, IsTrue, flat_map, option_map};
 ghost use Rattle.dash_shard.specs.Errors.{IsOneOf};
 ghost use Rattle.dash_shard.specs.declared.error.ConstructError.TheVariants.{Callers, Memory, ShardAmount};
 ghost use Rattle.dash_shard.specs.Hashing.{IsAmount, HashAlike};

@@ -1,5 +1,5 @@
 //! Whether the logs of callers match the histories.
-ghost use Rattle.std.specs.Prelude.{ℕ, ◌≡◌, ◌+◌, ◌^◌, ◌<◌, ◌↔◌, ◌⊎◌, IfOk, IsTrue, MatchOption, Some, length, map};
+ghost use Rattle.std.specs.Prelude.{◌≡◌, ◌+◌, ◌^◌, ◌<◌, ◌↔◌, ◌⊎◌, IfOk, IsTrue, MatchOption, Some, length, map};
 ghost use Rattle.std.specs.List.{Contains};
 ghost use Rattle.dash_steps.specs.Steps.{alike_record};
 ghost use Rattle.dash_history.specs.inner.Gathering.{agrees, AllEnded, EachLog, Finds, KeepsCallers, SomeGoesOn};

@@ -1,5 +1,5 @@
 //! A recorded map that threads share, and its two moves: shards out of their locks, and behind them again.
-ghost use Rattle.std.specs.Prelude.{◌∷◌, [], ◌≡◌, ℕ, ◌<◌, ◌↔◌, Some, IsErrOf, IfOk, IfErr, IfSome, IsSomeAnd, length, slice_get};
+ghost use Rattle.std.specs.Prelude.{◌∷◌, [], ◌≡◌, ◌<◌, ◌↔◌, Some, IsErrOf, IfOk, IfErr, IfSome, length};
 ghost use Rattle.crossbeam_utils.specs.Padded.{padded_value};
 ghost use Rattle.dash_shard.specs.Lock.{FoundBehind, LeftBehind};
 ghost use Rattle.dash_shard.specs.Shard.{EachAt};
@@ -7,7 +7,7 @@ ghost use Rattle.dash_shard.specs.Errors.{IsOneOf};
 ghost use Rattle.dash_shard.specs.declared.error.ConstructError.TheVariants.{Callers, Memory, ShardAmount};
 ghost use Rattle.dash_shard.specs.Hashing.{by, IsAmount, HashAlike};
 ghost use Rattle.dash_history.specs.Alone.{IsCallers, IsRecTagged, fresh_logs, last_at};
-ghost use Rattle.dash_history.specs.History.{IsRecorded, last_or, shard_of};
+ghost use Rattle.dash_history.specs.History.{IsRecorded, shard_of};
 ghost use Rattle.dash_history.specs.Map.{IsRecFound, IsShardOf, SawRecShards, kinds_on};
 ghost use Rattle.dash_history.specs.OneHistory.{CopiesEntry, CopiesRecPairs};
 ghost use Rattle.dash_history.specs.inner.Locks.{IsRecAt, LeavesLock};

@@ -2,10 +2,10 @@
 ghost use Rattle.std.specs.Prelude.{◌≡◌, IfOk, IfErr, OnOk};
 ghost use Rattle.std.specs.Option.{option_map};
 ghost use Rattle.std.specs.Map.Iter.{deref_pair};
-ghost use Rattle.dash_shard.specs.Shard.{pairs, Routes, SameShard};
+ghost use Rattle.dash_shard.specs.Shard.{Routes, SameShard};
 ghost use Rattle.dash_history.specs.History.{GoesTo};
 ghost use Rattle.dash_steps.specs.inner.Hashed.{HasHash};
-ghost use Rattle.dash_steps.specs.inner.Plan.{MayAnswer, Decides, HasPair, Makes, StaysLawful, Leaves, IsFound, IsTakenSlot, pair_in, MakesAt};
+ghost use Rattle.dash_steps.specs.inner.Plan.{MayAnswer, Decides, Makes, StaysLawful, Leaves, IsFound, IsTakenSlot, pair_in, MakesAt};
 ghost use Rattle.dash_shard.specs.Held.{Finds};
 
 use crate::known::Recorded;
