@@ -14,42 +14,79 @@ mod walks;
 
 use dashmap::hash::{FixedState, PlaceState, ZeroState};
 use dashmap::{DashMap, DashSet};
-use run::{Maps, SHARDS, run};
-use std::alloc::AllocError;
-use std::io::{BufWriter, Eprint};
+use run::{SHARDS, run};
+use std::alloc::Global;
+use std::io::{BufWriter, Eprint, Write};
 use std::process::ExitCode;
+use std::rt::Clock;
+use std::sync::Wait;
 use std::{env, io};
 
 const USAGE: &str = "usage: dash_diff fixed|place|zero CALLS";
 
 fn main(rt: HostRuntime) -> io::Result<ExitCode> {
-    let mut words = Vec::new(rt.alloc());
-    for word in env::args(&rt)?.skip(1) {
-        words.push(word)?;
-    }
+    let words = words(&rt)?;
     let Some((hasher, calls)) = asked(words.as_slice()) else {
         eprintln!(rt; "{USAGE}")?;
         return Ok(ExitCode::from(2));
     };
-    let (alloc, out) = (rt.alloc(), &mut BufWriter::new(rt.alloc(), rt.stdout())?);
+    let out = &mut BufWriter::new(rt.alloc(), rt.stdout())?;
+    take_by(&rt, rt.alloc(), out, hasher, calls)?;
+    Ok(ExitCode::from(0))
+}
+
+// Takes the calls by the hasher of this name.
+fn take_by<R: Wait + Clock, W: Write>(
+    rt: &R,
+    alloc: Global,
+    out: &mut W,
+    hasher: &str,
+    calls: u64,
+) -> io::Result<()> {
     match hasher {
         "place" => {
             let map = DashMap::with_hasher_and_shard_amount(alloc, PlaceState, SHARDS);
-            let set = DashSet::with_hasher(alloc, PlaceState, 1);
-            run(&rt, alloc, out, &mut Maps::of(map, set)?, calls)?;
+            run(
+                rt,
+                alloc,
+                out,
+                map,
+                DashSet::with_hasher(alloc, PlaceState, 1),
+                calls,
+            )
         }
         "zero" => {
             let map = DashMap::with_hasher_and_shard_amount(alloc, ZeroState, SHARDS);
-            let set = DashSet::with_hasher(alloc, ZeroState, 1);
-            run(&rt, alloc, out, &mut Maps::of(map, set)?, calls)?;
+            run(
+                rt,
+                alloc,
+                out,
+                map,
+                DashSet::with_hasher(alloc, ZeroState, 1),
+                calls,
+            )
         }
         _ => {
             let map = DashMap::with_hasher_and_shard_amount(alloc, FixedState, SHARDS);
-            let set = DashSet::with_hasher(alloc, FixedState, 1);
-            run(&rt, alloc, out, &mut Maps::of(map, set)?, calls)?;
+            run(
+                rt,
+                alloc,
+                out,
+                map,
+                DashSet::with_hasher(alloc, FixedState, 1),
+                calls,
+            )
         }
     }
-    Ok(ExitCode::from(0))
+}
+
+// The words after the program's name.
+fn words(rt: &HostRuntime) -> io::Result<Vec<String>> {
+    let mut words = Vec::new(rt.alloc());
+    for word in env::args(rt)?.skip(1) {
+        words.push(word)?;
+    }
+    Ok(words)
 }
 
 // The hasher and the number of calls that the words ask for.

@@ -24,26 +24,19 @@ pub struct Maps<S: BuildHasher> {
     pub set: Set<S>,
 }
 
-impl<S: BuildHasher + Drop> Maps<S> {
-    pub fn of(
-        map: Result<Map<S>, ConstructError>,
-        set: Result<Set<S>, ConstructError>,
-    ) -> Result<Maps<S>, AllocError> {
-        match (map, set) {
-            (Ok(map), Ok(set)) => Ok(Maps { map, set }),
-            _ => Err(AllocError),
-        }
-    }
-}
-
-/// Takes so many calls, and writes the line of each.
+/// Takes so many calls on the two, and writes the line of each.
 pub fn run<R: Wait + Clock, S: BuildHasher + Drop, W: Write>(
     rt: &R,
     alloc: Global,
     out: &mut W,
-    maps: &mut Maps<S>,
+    map: Result<Map<S>, ConstructError>,
+    set: Result<Set<S>, ConstructError>,
     calls: u64,
 ) -> io::Result<()> {
+    let (Ok(map), Ok(set)) = (map, set) else {
+        return Err(io::ErrorKind::OutOfMemory.into());
+    };
+    let maps = &mut Maps { map, set };
     for number in 0..calls {
         let draw = Draw::of(number);
         let (call, answer) = take(rt, alloc, maps, draw)?;
