@@ -21,8 +21,8 @@ use std::hash::{BuildHasher, Hash};
 use std::marker::Model;
 pub use table::Search;
 use table::Table;
-use thiserror::Error;
 pub use table::walk::{IntoIter, Iter};
+use thiserror::Error;
 
 mod all_pairs;
 mod group;

@@ -39,7 +39,9 @@ pub mod error {
 
 /// Hashers, and the shard that a hash goes to.
 pub mod hash {
-    pub use dash_shard::hash::{FixedState, PlaceState, ZeroState, determine_shard, is_shard_amount};
+    pub use dash_shard::hash::{
+        FixedState, PlaceState, ZeroState, determine_shard, is_shard_amount,
+    };
 }
 
 /// Walks over the pairs of a map.
@@ -71,7 +73,9 @@ pub mod mapref {
 
     /// References to one pair, or to a part of its value.
     pub mod one {
-        pub use dash_ref::mapref::one::{Compose, MappedRef, MappedRefMut, Projection, Ref, RefMut};
+        pub use dash_ref::mapref::one::{
+            Compose, MappedRef, MappedRefMut, Projection, Ref, RefMut,
+        };
     }
 }
 

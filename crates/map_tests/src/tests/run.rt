@@ -135,7 +135,7 @@ fn counts_may_see_pairs_that_never_met(rt: HostRuntime) {
 fn a_shard_that_is_not_there(rt: HostRuntime) {
     let mut map = map_of_four(&rt, rt.alloc());
     let outcome = map.run(vec![in rt.alloc();
-        ShardStep::Insert(1, 10),
+        ShardStep::Insert(1, 10u64),
         ShardStep::Count(4),
         ShardStep::Insert(2, 20),
     ]
@@ -152,7 +152,7 @@ fn a_shard_that_is_not_there(rt: HostRuntime) {
 #[test]
 fn each_shard_is_read(rt: HostRuntime) {
     let mut map = map_of_four(&rt, rt.alloc());
-    for (key, value) in [(0, 5), (1, 10), (2, 20), (3, 30)] {
+    for (key, value) in [(0, 5u64), (1, 10), (2, 20), (3, 30)] {
         put(&rt, &map, key, value);
     }
     let outcome = map.run(vec![in rt.alloc();

@@ -3,9 +3,11 @@
 //! One thread has the next shard, and another one walks. They wait for one another by what is held, and no longer than they have turns.
 use crate::tests::checks::is;
 use crate::tests::maps::{Places, is_held, three_pairs};
+use std::alloc::Global;
+use std::process::Abort;
 use std::rt::Clock;
 use std::sync::Wait;
-use std::thread;
+use std::thread::{self, Threads};
 
 // Waits until somebody holds the shard of a key, and says whether that came.
 fn is_held_soon(map: &Places, key: u64) -> bool {
@@ -71,8 +73,8 @@ fn write_to_the_end<R: Wait + Clock>(rt: &R, map: &Places) -> bool {
 }
 
 // Both threads, where the walk writes or reads. Ends the test where a hold was given up too early or a pair didn't come.
-fn meet(rt: &HostRuntime, writes: bool) {
-    let map = three_pairs(rt, rt.alloc());
+fn meet<R: Threads + Wait + Clock + Abort + Sync>(rt: &R, alloc: Global, writes: bool) {
+    let map = three_pairs(rt, alloc);
     let mut answers = [false, false];
     thread::for_each_mut(
         rt,
@@ -91,10 +93,10 @@ fn meet(rt: &HostRuntime, writes: bool) {
 
 #[test]
 fn a_walk_that_reads(rt: HostRuntime) {
-    meet(&rt, false);
+    meet(&rt, rt.alloc(), false);
 }
 
 #[test]
 fn a_walk_that_writes(rt: HostRuntime) {
-    meet(&rt, true);
+    meet(&rt, rt.alloc(), true);
 }
