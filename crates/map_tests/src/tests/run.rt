@@ -93,7 +93,7 @@ fn a_refused_step_comes_back(rt: HostRuntime) {
 fn counts_may_miss_every_pair(rt: HostRuntime) {
     let mut map = map_of_four(&rt, rt.alloc());
     put(&rt, &map, 3, 30);
-    let outcome = map.run(vec![in rt.alloc();
+    let outcome: RunOutcome<u64, u64> = map.run(vec![in rt.alloc();
         ShardStep::Count(0),
         ShardStep::Count(1),
         ShardStep::Count(2),
@@ -114,7 +114,7 @@ fn counts_may_miss_every_pair(rt: HostRuntime) {
 fn counts_may_see_pairs_that_never_met(rt: HostRuntime) {
     let mut map = map_of_four(&rt, rt.alloc());
     put(&rt, &map, 0, 5);
-    let outcome = map.run(vec![in rt.alloc();
+    let outcome: RunOutcome<u64, u64> = map.run(vec![in rt.alloc();
         ShardStep::Count(0),
         ShardStep::Count(1),
         ShardStep::Count(2),
@@ -134,8 +134,8 @@ fn counts_may_see_pairs_that_never_met(rt: HostRuntime) {
 #[test]
 fn a_shard_that_is_not_there(rt: HostRuntime) {
     let mut map = map_of_four(&rt, rt.alloc());
-    let outcome = map.run(vec![in rt.alloc();
-        ShardStep::Insert(1, 10u64),
+    let outcome: RunOutcome<u64, u64> = map.run(vec![in rt.alloc();
+        ShardStep::Insert(1, 10),
         ShardStep::Count(4),
         ShardStep::Insert(2, 20),
     ]
@@ -152,10 +152,10 @@ fn a_shard_that_is_not_there(rt: HostRuntime) {
 #[test]
 fn each_shard_is_read(rt: HostRuntime) {
     let mut map = map_of_four(&rt, rt.alloc());
-    for (key, value) in [(0, 5u64), (1, 10), (2, 20), (3, 30)] {
+    for (key, value) in [(0, 5), (1, 10), (2, 20), (3, 30)] {
         put(&rt, &map, key, value);
     }
-    let outcome = map.run(vec![in rt.alloc();
+    let outcome: RunOutcome<u64, u64> = map.run(vec![in rt.alloc();
         ShardStep::Read(0),
         ShardStep::Read(1),
         ShardStep::Read(2),
@@ -193,7 +193,7 @@ impl Action<u64, u64> for Adds {
 #[test]
 fn steps_on_each_pair_of_a_shard(rt: HostRuntime) {
     let mut map = map_of_four(&rt, rt.alloc());
-    let outcome = map.run(vec![in rt.alloc();
+    let outcome: RunOutcome<u64, u64> = map.run(vec![in rt.alloc();
         ShardStep::Insert(1, 10),
         ShardStep::Insert(5, 51),
         ShardStep::Insert(2, 20),
