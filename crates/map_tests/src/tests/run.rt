@@ -193,7 +193,7 @@ impl Action<u64, u64> for Adds {
 #[test]
 fn steps_on_each_pair_of_a_shard(rt: HostRuntime) {
     let mut map = map_of_four(&rt, rt.alloc());
-    let outcome: RunOutcome<u64, u64> = map.run(vec![in rt.alloc();
+    let outcome = map.run(vec![in rt.alloc();
         ShardStep::Insert(1, 10),
         ShardStep::Insert(5, 51),
         ShardStep::Insert(2, 20),
