@@ -240,7 +240,7 @@ impl<K: Eq + Hash + Drop, V: Drop, S: BuildHasher> Alone<K, V, S> {
         Some(f(key, value))
     }
 
-    /// How many pairs there are, held at 2^64 - 1. It asks each shard once. The original's `len` locks shard after shard for this.
+    /// How many pairs there are, saturating at 2^64 - 1. It asks each shard once. The original's `len` locks shard after shard for this.
     pub fn len(&self) -> usize
         ensures len { result ≡ len_in self.now }
         ensures lawful { IsAlone ⟦<Self as Keyed>⟧.by self.now }
@@ -256,8 +256,8 @@ impl<K: Eq + Hash + Drop, V: Drop, S: BuildHasher> Alone<K, V, S> {
         self.len() == 0
     }
 
-    /// How many pairs there may be before some shard takes memory, if they spread as the shards' room does, held at 2^64 - 1. It asks each
-    /// shard once.
+    /// How many pairs there may be before some shard takes memory, if they spread as the shards' room does, saturating at 2^64 - 1. It
+    /// asks each shard once.
     pub fn capacity(&self) -> usize
         ensures capacity { result ≡ room_in self.now }
         ensures holds { len_in self.now ≤ result }

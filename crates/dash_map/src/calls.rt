@@ -1,4 +1,5 @@
-//! Calls of threads on a map that they share. Each takes one lock.
+//! Calls of threads on a map that they share. A keyed call takes its shard's lock, `len` and its kin take all, one after the other, and
+//! `iter`, `iter_mut` and `try_reserve` take none.
 ghost use Rattle.std.specs.Prelude.{◌≡◌, ◌<◌, ◌==◌, length, Option, IsTrue, IfSome, is_some};
 ghost use Rattle.std.specs.Option.{option_map};
 ghost use Rattle.std.specs.Map.Iter.{deref_pair};
@@ -68,7 +69,8 @@ impl<K: Eq + Hash, V, S: BuildHasher> DashMap<K, V, S> {
         self.row[shard].write(rt).shard()
     }
 
-    /// Puts the pair, or where an equal key is there the value under the stored key, and answers the old value. Waits for the key's shard.
+    /// Puts the pair, or where an equal key is there the value under the stored key, and answers the old value. Waits for the key's
+    /// shard.
     ///
     /// Takes memory for a new key where its shard is full, and is refused (1) only then.
     #[inline]
@@ -105,7 +107,8 @@ impl<K: Eq + Hash, V, S: BuildHasher> DashMap<K, V, S> {
         Iter::new(self, rt)
     }
 
-    /// A walk over the pairs, by rising shard, their values to be written. This call waits for nobody; the walk's steps do. None takes memory.
+    /// A walk over the pairs, by rising shard, their values to be written. This call waits for nobody; the walk's steps do. None takes
+    /// memory.
     #[inline]
     pub fn iter_mut<'a, R>(&'a self, rt: &'a R) -> IterMut<'a, K, V, S, R>
         ensures { result ≡ at_start self.now }
@@ -115,7 +118,7 @@ impl<K: Eq + Hash, V, S: BuildHasher> DashMap<K, V, S> {
 
     /// The pair whose key equals `key`, with a hold of its shard for reading. Waits until no writer has the shard.
     ///
-    /// Till the reference is dropped, whoever wants to write the shard waits, this thread too. It takes no memory.
+    /// Till the reference is dropped, whoever wants to write the shard waits; in the same thread that is a deadlock. It takes no memory.
     #[inline(always)]
     pub fn get<R: Wait + Clock>(&self, rt: &R, key: &K) -> Option<Ref<'_, K, V, S>>
         ensures { IsGot ⟦<Self as Keyed>⟧.by self.now key.now result }
@@ -126,7 +129,7 @@ impl<K: Eq + Hash, V, S: BuildHasher> DashMap<K, V, S> {
 
     /// The pair whose key equals `key`, with a hold of its shard for writing. Waits until nobody has the shard.
     ///
-    /// Till the reference is dropped, whoever wants the shard waits, this thread too. It takes no memory.
+    /// Till the reference is dropped, whoever wants the shard waits; in the same thread that is a deadlock. It takes no memory.
     #[inline]
     pub fn get_mut<R: Wait + Clock>(&self, rt: &R, key: &K) -> Option<RefMut<'_, K, V, S>>
         ensures { IsGotMut ⟦<Self as Keyed>⟧.by self.now key.now result }
@@ -152,10 +155,10 @@ impl<K: Eq + Hash, V, S: BuildHasher> DashMap<K, V, S> {
         self.shards_mut(rt, idx).remove_if_hashed(hash, key, f)
     }
 
-    /// As `remove_if`, where `f` may write the value. On yes the pair is answered as `f` left it, and on no it stays so. Waits for the key's
-    /// shard. It takes no memory.
+    /// As `remove_if`, where `f` may write the value. On yes the pair is answered as `f` left it, and on no it stays so. Waits for the
+    /// key's shard. It takes no memory.
     ///
-    /// The shard is held while `f` runs: a call of this map from `f` on a key of that shard waits for ever.
+    /// The shard is held while `f` runs: a call of this map from `f` on a key of that shard deadlocks.
     #[inline]
     pub fn remove_if_mut<R: Wait + Clock, F: FnOnce(&K, &mut V) -> bool>(
         &self,
@@ -189,10 +192,10 @@ impl<K: Eq + Hash, V, S: BuildHasher> DashMap<K, V, S> {
         Some(f(key, value))
     }
 
-    /// Gives the pair whose key equals `key` the value that `f` makes of its own; without such a pair it does nothing. Waits for the key's
-    /// shard. It takes no memory.
+    /// Gives the pair whose key equals `key` the value that `f` makes of its own; without such a pair it does nothing. Waits for the
+    /// key's shard. It takes no memory.
     ///
-    /// The shard is held while `f` runs: a call of this map from `f` on a key of that shard waits for ever.
+    /// The shard is held while `f` runs: a call of this map from `f` on a key of that shard deadlocks.
     #[inline]
     pub fn alter<R: Wait + Clock, F: FnOnce(&K, V) -> V>(&self, rt: &R, key: &K, f: F)
         requires { (p : K × V) → IsTrue (K.eq p.0 key.now) → MayGive F.FnOnce f p }
@@ -212,8 +215,8 @@ impl<K: Eq + Hash, V, S: BuildHasher> DashMap<K, V, S> {
         find(&guard, hash, key).is_some()
     }
 
-    /// How many pairs there are, held at 2^64 - 1. Waits until no writer has a shard, for one shard after the other: others may change
-    /// those that it asked before. It takes no memory.
+    /// How many pairs there are, saturating at 2^64 - 1. Waits until no writer has a shard, for one shard after the other: others may
+    /// change those that it asked before. It takes no memory.
     pub fn len<R: Wait + Clock>(&self, rt: &R) -> usize
         ensures { SawShards {V = V} ⟦<Self as Keyed>⟧.by self.now (λ a. result ≡ len_in a) }
     {
@@ -232,8 +235,8 @@ impl<K: Eq + Hash, V, S: BuildHasher> DashMap<K, V, S> {
         self.len(rt) == 0
     }
 
-    /// How many pairs there may be before some shard takes memory, if they spread as the shards' room does, held at 2^64 - 1. It waits as
-    /// `len` does.
+    /// How many pairs there may be before some shard takes memory, if they spread as the shards' room does, saturating at 2^64 - 1. It
+    /// waits as `len` does.
     pub fn capacity<R: Wait + Clock>(&self, rt: &R) -> usize
         ensures { SawShards {V = V} ⟦<Self as Keyed>⟧.by self.now (λ a. result ≡ room_in a) }
     {

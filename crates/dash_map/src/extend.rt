@@ -70,8 +70,8 @@ impl<K, V> From<ExtendRefused<K, V>> for FromRefused<K, V> {
 impl<K: Eq + Hash + Drop, V: Drop, S: BuildHasher> Alone<K, V, S> {
     /// Inserts the pairs in the order in which they come: of equal keys the first stays, and the last value.
     ///
-    /// Each takes memory as `insert` does. Where there is none for a new key, that pair is refused (12): the pairs before it stay, and the
-    /// rest of the iterator is dropped. It waits for nobody.
+    /// Each takes memory as `insert` does. Where there is none for a new key, that pair is refused (12): the pairs before it stay, and
+    /// the rest of the iterator is dropped. It waits for nobody.
     pub fn extend<U: IntoIterator<Item = (K, V)>>(
         &mut self,
         iter: U,

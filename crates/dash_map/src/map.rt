@@ -130,8 +130,8 @@ impl<K: Eq + Hash + Drop, V: Drop> DashMap<K, V, FixedState> {
 impl<K: Eq + Hash + Drop, V: Drop, S: BuildHasher + Clone + Drop> DashMap<K, V, S> {
     /// A map with no pairs, of the default number of shards for so many processors.
     ///
-    /// It is refused where the parallelism is 0 or above 2^61 (6), then where the capacity can't be rounded up (7), then where there is no
-    /// memory (8). The original reads the parallelism from the system.
+    /// It is refused where the parallelism is 0 or above 2^61 (6), then where the capacity can't be rounded up (7), then where there is
+    /// no memory (8). The original reads the parallelism from the system.
     pub fn with_hasher(alloc: Global, hasher: S, parallelism: usize) -> Result<Self, ConstructError>
         requires { (s t : S) → S.is_clone s t → HashAlike ⟦<Self as Keyed>⟧.by s t }
         ensures hasher { IfOk result (λ m. m.hasher ≡ hasher) }
@@ -178,8 +178,8 @@ impl<K: Eq + Hash + Drop, V: Drop, S: BuildHasher + Clone + Drop> DashMap<K, V, 
 
     /// As `with_hasher_and_shard_amount`, with room for so many pairs if they spread evenly.
     ///
-    /// It is refused where the amount is no power of two above 1 (5), then where the capacity, rounded up to a multiple of the amount, has
-    /// more than 64 bits (7), then where there is no memory (8).
+    /// It is refused where the amount is no power of two above 1 (5), then where the capacity, rounded up to a multiple of the amount,
+    /// has more than 64 bits (7), then where there is no memory (8).
     pub fn with_capacity_and_hasher_and_shard_amount(
         alloc: Global,
         capacity: usize,

@@ -77,7 +77,7 @@ impl<K: Eq + Hash, V, S: BuildHasher> ReadOnlyView<K, V, S> {
         Shards::new(&self.hasher, &self.shards)
     }
 
-    /// How many pairs there are, held at 2^64 - 1. It asks each shard once.
+    /// How many pairs there are, saturating at 2^64 - 1. It asks each shard once.
     pub fn len(&self) -> usize
         ensures len { result ≡ len_in self.now }
         ensures lawful { IsAlone ⟦<Self as Keyed>⟧.by self.now }
@@ -93,7 +93,7 @@ impl<K: Eq + Hash, V, S: BuildHasher> ReadOnlyView<K, V, S> {
         self.len() == 0
     }
 
-    /// How many pairs the shards have room for, held at 2^64 - 1. It asks each shard once.
+    /// How many pairs the shards have room for, saturating at 2^64 - 1. It asks each shard once.
     pub fn capacity(&self) -> usize
         ensures capacity { result ≡ room_in self.now }
         ensures holds { len_in self.now ≤ result }
@@ -184,8 +184,8 @@ impl<K: Eq + Hash, V, S: BuildHasher> ReadOnlyView<K, V, S> {
 impl<K: KeptKey + Drop, V: Kept + Drop, S: BuildHasher + Clone + Drop> ReadOnlyView<K, V, S> {
     /// A view of copies of the pairs, each alike its source, with a clone of the hasher.
     ///
-    /// It takes memory once a shard and once for the row, and what the copies of keys and values take, and hashes each key once. Where there
-    /// is none it is refused (4), and keeps nothing. Which slots the pairs have is left open.
+    /// It takes memory once a shard and once for the row, and what the copies of keys and values take, and hashes each key once. Where
+    /// there is none it is refused (4), and keeps nothing. Which slots the pairs have is left open.
     pub fn clone(&self) -> Result<Self, AllocError>
         requires { (s t : S) → S.is_clone s t → HashAlike ⟦<Self as Keyed>⟧.by s t }
         ensures copies { IfOk result (CopiesAlone K.eq K.alike V.alike S.is_clone self.now) }

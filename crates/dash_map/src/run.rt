@@ -208,9 +208,9 @@ impl<K: KeptKey + Drop, V: Kept + Drop, S: BuildHasher> Alone<K, V, S> {
     /// Takes the steps in their order, each on the step's shard, up to the first that is refused (13, 14), and answers what they
     /// reply. It waits for nobody.
     ///
-    /// It takes memory for the replies, before the first step, for an `Insert` as `insert` does, and for copies of pairs: those that a `Get`
-    /// or a `Read` answers, and the one that an action is asked of. `AlterAll` and `Retain` change the shard in place, and take none, nor do
-    /// the steps that it leaves. The original has no such call.
+    /// It takes memory for the replies, before the first step, for an `Insert` as `insert` does, and for copies of pairs: those that a
+    /// `Get` or a `Read` answers, and the one that an action is asked of. `AlterAll` and `Retain` change the shard in place, and take
+    /// none, nor do the steps that it leaves. The original has no such call.
     pub fn run<A: Action<K, V> + Drop>(
         &mut self,
         mut steps: Vec<ShardStep<K, V, A>>,

@@ -82,7 +82,7 @@ impl<'a, K: Eq + Hash, V, S: BuildHasher> Shards<'a, K, V, S> {
         Some(shard.at(position))
     }
 
-    // How many pairs there are, held at 2^64 - 1.
+    // How many pairs there are, saturating at 2^64 - 1.
     pub(crate) fn len(&self) -> usize
         ensures len { result ≡ len_in self.now }
     {
@@ -93,7 +93,7 @@ impl<'a, K: Eq + Hash, V, S: BuildHasher> Shards<'a, K, V, S> {
         len
     }
 
-    // How many pairs there may be before some shard takes memory, held at 2^64 - 1.
+    // How many pairs there may be before some shard takes memory, saturating at 2^64 - 1.
     pub(crate) fn capacity(&self) -> usize
         ensures capacity { result ≡ room_in self.now }
         ensures holds { len_in self.now ≤ result }

@@ -127,7 +127,8 @@ impl<'a, K: Eq + Hash, V, S: BuildHasher, R: Wait + Clock> IntoIterator
     }
 }
 
-/// The pairs in the order of a walk, as `{0: 5, 1: 6}`. It holds one shard after the other, and is an error where the walk finds no memory.
+/// The pairs in the order of a walk, as `{0: 5, 1: 6}`. It holds one shard after the other, and is an error where the walk finds no
+/// memory.
 impl<K: Eq + Hash + fmt::Debug, V: fmt::Debug, S: BuildHasher, R: Wait + Clock> fmt::Debug
     for Waiting<'_, K, V, S, R> {
     fn fmt<W: fmt::Write>(&self, f: &mut fmt::Formatter<W>) -> fmt::Result {

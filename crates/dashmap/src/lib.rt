@@ -8,7 +8,8 @@
 //!   `Result`, and what is refused comes back. Look-ups take no memory.
 //! - *How many shards.* `new` takes four for each processor, rounded up to a power of two. More shards means less waiting, and some
 //!   cache lines each; a map of few keys does with two.
-//! - *Which hasher.* `FixedState` is fast and always the same. Where keys come from strangers hand std's `RandomState` to `with_hasher`, or
+//! - *Which hasher.* `FixedState` is fast and always the same. Where keys come from strangers hand std's `RandomState` to
+//! `with_hasher`, or
 //!   somebody may choose keys that all go to one shard and one group of slots.
 #![tactic(auto)]
 

@@ -225,7 +225,7 @@ impl<K: Eq + Hash, S: BuildHasher> DashSet<K, S> {
 
     /// The key that equals `key`, with a hold of its shard for reading. Waits until no writer has the shard.
     ///
-    /// Till the reference is dropped, whoever wants to write the shard waits, this thread too. It takes no memory.
+    /// Till the reference is dropped, whoever wants to write the shard waits; in the same thread that is a deadlock. It takes no memory.
     #[inline]
     pub fn get<R: Wait + Clock>(&self, rt: &R, key: &K) -> Option<Ref<'_, K, S>>
         ensures { IsGot ⟦<Self as Keyed>⟧.by self.now key.now result }
@@ -234,8 +234,8 @@ impl<K: Eq + Hash, S: BuildHasher> DashSet<K, S> {
         Some(Ref::new(found))
     }
 
-    /// Moves each shard's keys to as few slots as hold them, which gives the rest of the memory back. It waits until nobody has a shard, for
-    /// one shard after the other. A shard takes memory for its new slots, and keeps the old ones where there is none.
+    /// Moves each shard's keys to as few slots as hold them, which gives the rest of the memory back. It waits until nobody has a
+    /// shard, for one shard after the other. A shard takes memory for its new slots, and keeps the old ones where there is none.
     pub fn shrink_to_fit<R: Wait + Clock>(&self, rt: &R)
     where
         K: Drop,
@@ -244,10 +244,10 @@ impl<K: Eq + Hash, S: BuildHasher> DashSet<K, S> {
         self.inner.shrink_to_fit(rt);
     }
 
-    /// Keeps the keys on which `f` answers yes, and lets the others go. It waits until nobody has a shard, for one shard after the other, in
-    /// rising order. It takes no memory, and can't be refused.
+    /// Keeps the keys on which `f` answers yes, and lets the others go. It waits until nobody has a shard, for one shard after the
+    /// other, in rising order. It takes no memory, and can't be refused.
     ///
-    /// `f` is called once at each key, while the key's shard is held: a call of this set from `f` waits for ever where it wants that shard.
+    /// `f` is called once at each key, while the key's shard is held: a call of this set from `f` deadlocks where it wants that shard.
     pub fn retain<R: Wait + Clock, F: FnMut(&K) -> bool>(&self, rt: &R, mut f: F)
     where
         K: Drop,
@@ -263,8 +263,8 @@ impl<K: Eq + Hash, S: BuildHasher> DashSet<K, S> {
         );
     }
 
-    /// How many keys there are, held at 2^64 - 1. Waits until no writer has a shard, for one shard after the other: others may change
-    /// those that it asked before. It takes no memory.
+    /// How many keys there are, saturating at 2^64 - 1. Waits until no writer has a shard, for one shard after the other: others may
+    /// change those that it asked before. It takes no memory.
     pub fn len<R: Wait + Clock>(&self, rt: &R) -> usize
         ensures { SawShards {V = Unit {0}} ⟦<Self as Keyed>⟧.by self.now (λ a. result ≡ len_in a) }
     {
@@ -288,8 +288,8 @@ impl<K: Eq + Hash, S: BuildHasher> DashSet<K, S> {
         self.inner.clear(rt);
     }
 
-    /// How many keys there may be before some shard takes memory, if they spread as the shards' room does, held at 2^64 - 1. It waits as
-    /// `len` does.
+    /// How many keys there may be before some shard takes memory, if they spread as the shards' room does, saturating at 2^64 - 1. It
+    /// waits as `len` does.
     pub fn capacity<R: Wait + Clock>(&self, rt: &R) -> usize
         ensures { SawShards {V = Unit {0}} ⟦<Self as Keyed>⟧.by self.now (λ a. result ≡ room_in a) }
     {

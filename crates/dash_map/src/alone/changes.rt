@@ -19,8 +19,8 @@ impl<K: Eq + Hash, V, S: BuildHasher> Lender for Alone<K, V, S> {
 }
 
 impl<K: Eq + Hash + Drop, V: Drop, S: BuildHasher> Alone<K, V, S> {
-    /// As `remove_if`, where `f` may write the value. On yes the pair is answered as `f` left it, and on no it stays so. It takes no memory,
-    /// can't be refused, and waits for nobody.
+    /// As `remove_if`, where `f` may write the value. On yes the pair is answered as `f` left it, and on no it stays so. It takes no
+    /// memory, can't be refused, and waits for nobody.
     #[inline]
     pub fn remove_if_mut<F: FnOnce(&K, &mut V) -> bool>(&mut self, key: &K, f: F) -> Option<(K, V)>
         requires { IfSome (at K.eq (contents self.old) key.now) (MayChange F.FnOnce f) }
@@ -30,8 +30,8 @@ impl<K: Eq + Hash + Drop, V: Drop, S: BuildHasher> Alone<K, V, S> {
         self.row[idx].remove_if_mut_hashed(hash, key, f)
     }
 
-    /// Gives the pair whose key equals `key` the value that `f` makes of its own; without such a pair it does nothing. It takes no memory,
-    /// can't be refused, and waits for nobody.
+    /// Gives the pair whose key equals `key` the value that `f` makes of its own; without such a pair it does nothing. It takes no
+    /// memory, can't be refused, and waits for nobody.
     #[inline]
     pub fn alter<F: FnOnce(&K, V) -> V>(&mut self, key: &K, f: F)
         requires { IfSome (at K.eq (contents self.old) key.now) (MayGive F.FnOnce f) }

@@ -14,7 +14,7 @@ impl<K: Eq + Hash, V, S: BuildHasher> DashMap<K, V, S> {
     /// Keeps the pairs on which `f` answers yes, each with the value that `f` leaves, and lets the others go. It waits until nobody has a
     /// shard, for one shard after the other, in rising order. It takes no memory, and can't be refused.
     ///
-    /// `f` is called once at each pair, while the pair's shard is held: a call of this map from `f` waits for ever where it wants that shard.
+    /// `f` is called once at each pair, while the pair's shard is held: a call of this map from `f` deadlocks where it wants that shard.
     /// Others may change the shards that it left, and those that it comes to.
     pub fn retain<R: Wait + Clock, F: FnMut(&K, &mut V) -> bool>(&self, rt: &R, mut f: F)
     where
@@ -28,8 +28,8 @@ impl<K: Eq + Hash, V, S: BuildHasher> DashMap<K, V, S> {
         }
     }
 
-    /// Lets all pairs go; the room stays. It waits until nobody has a shard, for one shard after the other, in rising order: others may put
-    /// pairs in those that it left. It takes no memory, and can't be refused.
+    /// Lets all pairs go; the room stays. It waits until nobody has a shard, for one shard after the other, in rising order: others may
+    /// put pairs in those that it left. It takes no memory, and can't be refused.
     pub fn clear<R: Wait + Clock>(&self, rt: &R)
     where
         K: Drop,
@@ -41,8 +41,8 @@ impl<K: Eq + Hash, V, S: BuildHasher> DashMap<K, V, S> {
         }
     }
 
-    /// Puts what `f` makes of each value where it stood. It waits as `retain` does, and holds each shard while `f` runs over its pairs. It takes
-    /// no memory, and can't be refused.
+    /// Puts what `f` makes of each value where it stood. It waits as `retain` does, and holds each shard while `f` runs over its pairs.
+    /// It takes no memory, and can't be refused.
     pub fn alter_all<R: Wait + Clock, F: FnMut(&K, V) -> V>(&self, rt: &R, mut f: F)
         requires { CallableOnPairs (CalledOnPair F.FnMut) (TakesOnPair F.FnMut) f }
         ensures { LeavesShards ⟦<Self as Keyed>⟧.by self.now (AltersAllAlone K.eq (CalledOnPair F.FnMut) f) }

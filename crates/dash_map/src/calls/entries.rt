@@ -12,8 +12,8 @@ use std::sync::Wait;
 impl<K: Eq + Hash + Drop, V: Drop, S: BuildHasher> DashMap<K, V, S> {
     /// The pair whose key equals `key`, or room for one, with a hold of the key's shard for writing. Waits until nobody has the shard.
     ///
-    /// Till the entry is dropped, whoever wants the shard waits, this thread too. It takes memory for a vacant key where its shard is full,
-    /// and is refused (2) only for want of it.
+    /// Till the entry is dropped, whoever wants the shard waits, this thread too. It takes memory for a vacant key where its shard is
+    /// full, and is refused (2) only for want of it.
     #[inline]
     pub fn entry<R: Wait + Clock>(
         &self,
@@ -26,8 +26,8 @@ impl<K: Eq + Hash + Drop, V: Drop, S: BuildHasher> DashMap<K, V, S> {
         Entry::find(self.shards_mut(rt, idx), hash, key)
     }
 
-    /// As `entry`, for a caller who waits for nobody: it is refused too where `RwLock::try_write` doesn't get the key's shard (9), which says
-    /// nothing of who has it.
+    /// As `entry`, for a caller who waits for nobody: it is refused too where `RwLock::try_write` doesn't get the key's shard (9),
+    /// which says nothing of who has it.
     #[inline]
     pub fn try_entry(&self, key: K) -> Result<Entry<'_, K, V, S>, TryEntryRefused<K>>
         ensures { UnlessLockedOut key result (IsGotEntry ⟦<Self as Keyed>⟧.by self.now key) }

@@ -25,8 +25,8 @@ impl<K: Eq + Hash, V, S: BuildHasher> DashMap<K, V, S> {
         self.row[shard].try_read()
     }
 
-    /// As `get`, for a caller who waits for nobody: the answer is `Locked` where `RwLock::try_read` doesn't get the key's shard, which says
-    /// nothing of who has it. It takes no memory.
+    /// As `get`, for a caller who waits for nobody: the answer is `Locked` where `RwLock::try_read` doesn't get the key's shard, which
+    /// says nothing of who has it. It takes no memory.
     #[inline]
     pub fn try_get(&self, key: &K) -> TryResult<Ref<'_, K, V, S>>
         ensures { UnlessLocked result (IsGot ⟦<Self as Keyed>⟧.by self.now key.now) }
@@ -54,8 +54,8 @@ impl<K: Eq + Hash, V, S: BuildHasher> DashMap<K, V, S> {
         }
     }
 
-    /// As `get_mut`, for a caller who waits for nobody: the answer is `Locked` where `RwLock::try_write` doesn't get the key's shard, which
-    /// says nothing of who has it. It takes no memory.
+    /// As `get_mut`, for a caller who waits for nobody: the answer is `Locked` where `RwLock::try_write` doesn't get the key's shard,
+    /// which says nothing of who has it. It takes no memory.
     #[inline]
     pub fn try_get_mut(&self, key: &K) -> TryResult<RefMut<'_, K, V, S>>
         ensures { UnlessLocked result (IsGotMut ⟦<Self as Keyed>⟧.by self.now key.now) }

@@ -13,8 +13,8 @@ use dash_ref::mapref::multiple::RefMutMulti;
 use dash_shard::keyed::{Keyed, Lender};
 use std::hash::{BuildHasher, Hash};
 
-/// The pairs of a map of one owner, by rising shard and in each by rising slot, their values to be written. The original's `iter_mut` takes a
-/// hold of shard after shard for this.
+/// The pairs of a map of one owner, by rising shard and in each by rising slot, their values to be written. The original's `iter_mut`
+/// takes a hold of shard after shard for this.
 ///
 /// A step looks at the next slots. It hashes and searches nothing, takes no memory, and waits for nobody. A contract sees the map, the
 /// pairs that were passed, as they were left, and those to come.

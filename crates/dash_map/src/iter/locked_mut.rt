@@ -28,13 +28,13 @@ use std::mem;
 use std::rt::Clock;
 use std::sync::Wait;
 
-/// A walk over the pairs of a map, by rising shard and in each by rising slot, their values to be written: the original's `IterMut`. It holds
-/// one shard for writing.
+/// A walk over the pairs of a map, by rising shard and in each by rising slot, their values to be written: the original's `IterMut`. It
+/// holds one shard for writing.
 ///
-/// A step that comes to the end of its shard waits until nobody has the next one, holds that, and gives up the old one. So between two steps
-/// others may change every shard but the one that is held. A walk at its end holds the last shard until it is dropped. No step takes
-/// memory, and none can be refused. The first loan of a value moves the shard's table to the walk, and the walk moves it back when it goes
-/// on to another shard or is dropped: some words each.
+/// A step that comes to the end of its shard waits until nobody has the next one, holds that, and gives up the old one. So between two
+/// steps others may change every shard but the one that is held. A walk at its end holds the last shard until it is dropped. No step
+/// takes memory, and none can be refused. The first loan of a value moves the shard's table to the walk, and the walk moves it back
+/// when it goes on to another shard or is dropped: some words each.
 ///
 /// A contract sees the map, how many shards were entered, the one that is held, and the position in it where the walk goes on.
 pub struct IterMut<'a, K: Eq + Hash, V, S: BuildHasher, R> {

@@ -127,7 +127,7 @@ impl<K: Eq + Hash + Drop, S: BuildHasher> AloneSet<K, S> {
         self.inner.clear();
     }
 
-    /// How many keys there are, held at 2^64 - 1. It asks each shard once.
+    /// How many keys there are, saturating at 2^64 - 1. It asks each shard once.
     pub fn len(&self) -> usize
         ensures len { result ≡ len_in self.now }
         ensures lawful { IsAlone ⟦<Self as Keyed>⟧.by self.now }

@@ -48,8 +48,8 @@ impl<I: Iterator + Drop> Iterator for Members<I> {
 impl<K: Eq + Hash + Drop, S: BuildHasher> AloneSet<K, S> {
     /// Puts the keys in the order in which they come: of equal keys the first stays.
     ///
-    /// Each takes memory as `insert` does. Where there is none for a new key, that key is refused (12): those before it stay, and the rest
-    /// of the iterator is dropped. It waits for nobody.
+    /// Each takes memory as `insert` does. Where there is none for a new key, that key is refused (12): those before it stay, and the
+    /// rest of the iterator is dropped. It waits for nobody.
     pub fn extend<U: IntoIterator<Item = K>>(&mut self, iter: U) -> Result<(), ExtendRefused<K, ()>>
         requires { IsFiniteIterable U.into_iter_gives U.IntoIter.can_next U.IntoIter.remaining iter }
         ensures extends { Extends ⟦<Self as Keyed>⟧.by U.into_iter_gives (of_members U.IntoIter.next_gives) iter self.old self.new result }
