@@ -20,13 +20,21 @@ pub record RecMapState (S : Type 0) : Type 0 where
   pub callers : ℕ
   pub amount : ℕ
 
+-- the same, in one row
+abbrev pub rec_map : {S : Type 0} → S → ℕ → ℕ → RecMapState S
+rec_map hasher callers amount = record { hasher = hasher; callers = callers; amount = amount }
+
 -- what the map knows of its keys, values and actions
 abbrev pub kinds_on : {K V A S : Type 0} → Known K V A S → RecMapState S → Kinds K V A
 kinds_on w m = kinds_at w m.hasher m.amount
 
+-- the number of the step's shard
+abbrev pub shard_on : {K V A S : Type 0} → Known K V A S → RecMapState S → ShardStep K V A → ℕ
+shard_on w m step = shard_of (kinds_on w m) step
+
 -- it is shard i of the map
-abbrev pub IsShardOf : {K V A S : Type 0} → KeyHash K S → RecMapState S → ℕ → RecState K V A S → Type 0
-IsShardOf h m i s = IsRecTagged h m.hasher m.amount m.callers i s
+abbrev pub IsRecShardOf : {K V A S : Type 0} → KeyHash K S → RecMapState S → ℕ → RecState K V A S → Type 0
+IsRecShardOf h m i s = IsRecTagged h m.hasher m.amount m.callers i s
 
 module _ {K V A S : Type 0} (w : Known K V A S) where
   -- shards that were found behind the locks of this map
@@ -43,7 +51,7 @@ module _ {K V A S : Type 0} (w : Known K V A S) where
 
   -- P is so of the shard i, as it was found behind its lock
   abbrev pub SawRecShard : RecMapState S → ℕ → (RecState K V A S → Type 0) → Type 0
-  SawRecShard m i P = (s : RecState K V A S) × IsShardOf w.keys m i s × IsRecorded w s × FoundBehind s × P s
+  SawRecShard m i P = (s : RecState K V A S) × IsRecShardOf w.keys m i s × IsRecorded w s × FoundBehind s × P s
 
   -- R of the shard i as it was found, and of the one that was left there
   abbrev pub LeavesRecShard : RecMapState S → ℕ → (RecState K V A S → RecState K V A S → Type 0) → Type 0
@@ -51,7 +59,7 @@ module _ {K V A S : Type 0} (w : Known K V A S) where
 
   -- no stamp was above the log's last and that of the step's shard
   abbrev pub SawNoStamp : RecMapState S → LogState K V A → ShardStep K V A → Type 0
-  SawNoStamp m l step = SawRecShard m (shard_of (kinds_on w m) step) (λ s. NoStamp s.last l.last)
+  SawNoStamp m l step = SawRecShard m (shard_on w m step) (λ s. NoStamp s.last l.last)
 
 -- The log is longer by one record of the step, with the reply, the step's shard and a stamp above the log's last. The reply is
 -- one that the step gets from some contents of its shard.
@@ -68,7 +76,7 @@ pub record Logged {K V A : Type 0} (m : Kinds K V A) (l l' : LogState K V A) (st
 -- it was: for want of its shard exactly where the map has none, for want of a stamp only where none was left.
 pub record Logs {K V A S : Type 0} (w : Known K V A S) (m : RecMapState S) (l l' : LogState K V A) (step : ShardStep K V A) (result : Result (Reply K V) (ShardStep K V A × RecordFault)) : Type 0 where
   pub ok : IfOk result (λ reply. Logged (kinds_on w m) l l' step reply)
-  pub left : IfOk result (λ reply. LeavesRecShard w m (shard_of (kinds_on w m) step) (λ s t. Recorded (kinds_on w m) s t l l' step reply))
+  pub left : IfOk result (λ reply. LeavesRecShard w m (shard_on w m step) (λ s t. Recorded (kinds_on w m) s t l l' step reply))
   pub refused : IfErr result (λ e. (e.0 ≡ step) × (l' ≡ l))
   pub no_such_shard : (result ≡ Err (step, NoSuchShard)) ↔ NoShard (kinds_on w m) step
   pub last_stamp : result ≡ Err (step, LastStamp) → SawNoStamp w m l step

@@ -1,7 +1,6 @@
 //! Steps of callers on a map that threads share.
 ghost use Rattle.std.specs.Prelude.{◌≡◌, ◌-◌, ◌^◌, ◌<◌, ◌⊎◌};
-ghost use Rattle.dash_history.specs.History.{shard_of};
-ghost use Rattle.dash_history.specs.Map.{Logs, kinds_on};
+ghost use Rattle.dash_history.specs.Map.{Logs, shard_on};
 ghost use Rattle.dash_history.specs.declared.record.RecordFault.TheVariants.{LastStamp, Locked};
 
 use crate::known::Recorded;
@@ -34,7 +33,7 @@ impl<K: KeptKey + Drop, V: Kept + Drop, S: BuildHasher, A: KeptAction<K, V> + Dr
         ensures logs { Logs ⟦<Self as Recorded>⟧.known self.now log.old log.new step result }
 
         // The shard's last stamp is not known here, the log's is.
-        ensures last_stamp { shard_of (kinds_on ⟦<Self as Recorded>⟧.known self.now) step < self.now.amount
+        ensures last_stamp { shard_on ⟦<Self as Recorded>⟧.known self.now step < self.now.amount
             → log.old.last ≡ 2 ^ 64 - 1 → result ≡ Err (step, LastStamp) }
         ensures locked { result ≡ Err (step, Locked) → ⊥ }
     {
@@ -58,7 +57,7 @@ impl<K: KeptKey + Drop, V: Kept + Drop, S: BuildHasher, A: KeptAction<K, V> + Dr
         ensures logs { Logs ⟦<Self as Recorded>⟧.known self.now log.old log.new step result }
 
         // Whether the shard is free is not known here; where it is, the log's last stamp is looked at.
-        ensures last_stamp { shard_of (kinds_on ⟦<Self as Recorded>⟧.known self.now) step < self.now.amount
+        ensures last_stamp { shard_on ⟦<Self as Recorded>⟧.known self.now step < self.now.amount
             → log.old.last ≡ 2 ^ 64 - 1 → (result ≡ Err (step, Locked)) ⊎ (result ≡ Err (step, LastStamp)) }
     {
         let (hash, idx) = self.route(&step);

@@ -1,5 +1,5 @@
 -- The command line.
-use Rattle.std.specs.Prelude.{◌≡◌, ◌⊎◌, ℕ, List, [], ◌∷◌, codes}
+use Rattle.std.specs.Prelude.{◌≡◌, ◌⊎◌, ℕ, List, [], ◌∷◌, codes, map, String, string_bytes}
 use Rattle.dashcheck.specs.Threads.{IsThreads}
 use Rattle.dashcheck.specs.declared.command.Status.{Status}
 use Rattle.dashcheck.specs.declared.command.Status.TheVariants.{Good, Refused, BadCommandLine}
@@ -11,6 +11,14 @@ IsScript words = words ≡ codes "script" ∷ []
 -- the words are one of the two commands
 abbrev pub IsCommand : List (List ℕ) → Type 0
 IsCommand words = IsScript words ⊎ (c : ℕ) × (n : ℕ) × IsThreads words c n
+
+-- the words as bytes
+abbrev pub in_bytes : {Z : Type 0} → List (String Z) → List (List ℕ)
+in_bytes words = map string_bytes words
+
+-- P is so of c and n where the words are `threads C N`
+abbrev pub ForThreads : List (List ℕ) → (ℕ → ℕ → Type 0) → Type 0
+ForThreads words P = (c n : ℕ) → IsThreads words c n → P c n
 
 -- what a bad command line is told
 abbrev pub usage : List ℕ

@@ -1,7 +1,7 @@
 //! The command line.
-ghost use Rattle.std.specs.Prelude.{◌≡◌, ◌↔◌, ℕ, ◌*◌, ◌++◌, ◌∷◌, [], ◌⊎◌, IsTrue, IfSome, IfNone, IfOk, OnOk, OnErr, map, string_bytes, true, false};
+ghost use Rattle.std.specs.Prelude.{◌≡◌, ◌↔◌, ℕ, ◌*◌, ◌++◌, ◌∷◌, [], ◌⊎◌, IsTrue, IfSome, IfNone, IfOk, OnOk, OnErr, true, false};
 ghost use Rattle.std.specs.Io.KnownBytes.{Appends};
-ghost use Rattle.dashcheck.specs.Command.{IsScript, IsCommand, code_of, usage};
+ghost use Rattle.dashcheck.specs.Command.{ForThreads, IsScript, IsCommand, code_of, in_bytes, usage};
 ghost use Rattle.dashcheck.specs.inner.Command.{Asks};
 ghost use Rattle.dashcheck.specs.Script.{TakesAll, Refuses, stop_text};
 ghost use Rattle.dashcheck.specs.Threads.{IsThreads, IsJudged, SaysRefusal, verdict_lines};
@@ -50,29 +50,29 @@ pub fn run_words<T: Threads + Wait + Clock + Sync, R: Read, O: Write, E: Write>(
 ) -> io::Result<Status>
     // Whether the words are a command.
     ensures bad { IfOk result (λ status. (status ≡ Status.BadCommandLine)
-        ↔ (IsCommand (map string_bytes words.now) → ⊥)) }
+        ↔ (IsCommand (in_bytes words.now) → ⊥)) }
     ensures usage { result ≡ Ok Status.BadCommandLine
         → Appends (E.contents errors.old) (E.contents errors.new) (usage ++ 10 ∷ []) }
-    ensures untouched { (IsCommand (map string_bytes words.now) → ⊥)
+    ensures untouched { (IsCommand (in_bytes words.now) → ⊥)
         → (input.new ≡ input.old) × (output.new ≡ output.old) }
 
     // How a script ends.
-    ensures script_good { IsScript (map string_bytes words.now) → result ≡ Ok Status.Good
+    ensures script_good { IsScript (in_bytes words.now) → result ≡ Ok Status.Good
         → TakesAll (R.remaining input.old) (O.contents output.old) (O.contents output.new) × (errors.new ≡ errors.old) }
-    ensures script_refused { IsScript (map string_bytes words.now) → result ≡ Ok Status.Refused
+    ensures script_refused { IsScript (in_bytes words.now) → result ≡ Ok Status.Refused
         → Refuses (R.remaining input.old) (O.contents output.old) (O.contents output.new) (E.contents errors.old) (E.contents errors.new) }
 
     // How threads end.
-    ensures threads_good { (c n : ℕ) → IsThreads (map string_bytes words.now) c n → result ≡ Ok Status.Good
-        → Appends (O.contents output.old) (O.contents output.new) (verdict_lines (c * n) true) × (errors.new ≡ errors.old) }
-    ensures threads_legal { (c n : ℕ) → IsThreads (map string_bytes words.now) c n → result ≡ Ok Status.Good
-        → IsJudged ⟦<RecAlone<u64, u64, PlaceState> as Recorded>⟧.known c n true }
-    ensures threads_refused { (c n : ℕ) → IsThreads (map string_bytes words.now) c n → result ≡ Ok Status.Refused
+    ensures threads_good { ForThreads (in_bytes words.now) (λ c n. result ≡ Ok Status.Good
+        → Appends (O.contents output.old) (O.contents output.new) (verdict_lines (c * n) true) × (errors.new ≡ errors.old)) }
+    ensures threads_legal { ForThreads (in_bytes words.now) (λ c n. result ≡ Ok Status.Good
+        → IsJudged ⟦<RecAlone<u64, u64, PlaceState> as Recorded>⟧.known c n true) }
+    ensures threads_refused { ForThreads (in_bytes words.now) (λ c n. result ≡ Ok Status.Refused
         → (SaysRefusal ⟦<RecAlone<u64, u64, PlaceState> as Recorded>⟧.known c n (E.contents errors.old) (E.contents errors.new)
         × (output.new ≡ output.old))
         ⊎ (Appends (O.contents output.old) (O.contents output.new) (verdict_lines (c * n) false) × (errors.new ≡ errors.old)
-        × IsJudged ⟦<RecAlone<u64, u64, PlaceState> as Recorded>⟧.known c n false) }
-    ensures threads_input { (c n : ℕ) → IsThreads (map string_bytes words.now) c n → input.new ≡ input.old }
+        × IsJudged ⟦<RecAlone<u64, u64, PlaceState> as Recorded>⟧.known c n false)) }
+    ensures threads_input { ForThreads (in_bytes words.now) (λ c n. input.new ≡ input.old) }
 {
     match asked(words) {
         Some(Command::Script) => script::run(rt, alloc, input, output, errors),
@@ -90,8 +90,8 @@ pub fn run_words<T: Threads + Wait + Clock + Sync, R: Read, O: Write, E: Write>(
 /// line, whose usage couldn't be printed.
 pub fn exit_code(words: &[String], ran: io::Result<Status>) -> u8
     ensures ran { IfOk ran (λ status. result ≡ code_of status) }
-    ensures failed { OnErr ran (IsCommand (map string_bytes words.now) → result ≡ 1) }
-    ensures bad { OnErr ran ((IsCommand (map string_bytes words.now) → ⊥) → result ≡ 2) }
+    ensures failed { OnErr ran (IsCommand (in_bytes words.now) → result ≡ 1) }
+    ensures bad { OnErr ran ((IsCommand (in_bytes words.now) → ⊥) → result ≡ 2) }
 {
     match (ran, asked(words)) {
         (Ok(status), _) => status.code(),
@@ -113,8 +113,8 @@ impl Status {
 }
 
 fn asked(words: &[String]) -> Option<Command>
-    ensures some { IfSome result (Asks (map string_bytes words.now)) }
-    ensures none { IfNone result (IsCommand (map string_bytes words.now) → ⊥) }
+    ensures some { IfSome result (Asks (in_bytes words.now)) }
+    ensures none { IfNone result (IsCommand (in_bytes words.now) → ⊥) }
 {
     if is_script(words) {
         return Some(Command::Script);
@@ -124,15 +124,15 @@ fn asked(words: &[String]) -> Option<Command>
 }
 
 fn is_script(words: &[String]) -> bool
-    ensures { IsTrue result ↔ IsScript (map string_bytes words.now) }
+    ensures { IsTrue result ↔ IsScript (in_bytes words.now) }
 {
     words.len() == 1 && words[0].as_str() == "script"
 }
 
 // The numbers of `threads C N`.
 fn size(words: &[String]) -> Option<(u32, u64)>
-    ensures some { IfSome result (λ p. IsThreads (map string_bytes words.now) p.0 p.1) }
-    ensures none { IfNone result ((c n : ℕ) → IsThreads (map string_bytes words.now) c n → ⊥) }
+    ensures some { IfSome result (λ p. IsThreads (in_bytes words.now) p.0 p.1) }
+    ensures none { IfNone result ((c n : ℕ) → IsThreads (in_bytes words.now) c n → ⊥) }
 {
     if words.len() != 3 || words[0].as_str() != "threads" {
         return None;

@@ -7,8 +7,8 @@ ghost use Rattle.dash_shard.specs.Errors.{IsOneOf};
 ghost use Rattle.dash_shard.specs.declared.error.ConstructError.TheVariants.{Callers, Memory, ShardAmount};
 ghost use Rattle.dash_shard.specs.Hashing.{by, IsAmount, HashAlike};
 ghost use Rattle.dash_history.specs.Alone.{IsCallers, IsRecTagged, fresh_logs, last_at};
-ghost use Rattle.dash_history.specs.History.{IsRecorded, shard_of};
-ghost use Rattle.dash_history.specs.Map.{IsRecFound, IsShardOf, SawRecShards, kinds_on};
+ghost use Rattle.dash_history.specs.History.{IsRecorded};
+ghost use Rattle.dash_history.specs.Map.{IsRecFound, IsRecShardOf, SawRecShards, rec_map, shard_on};
 ghost use Rattle.dash_history.specs.OneHistory.{CopiesEntry, CopiesRecPairs};
 ghost use Rattle.dash_history.specs.inner.Locks.{IsRecAt, LeavesLock};
 ghost use Rattle.dash_steps.specs.inner.Hashed.{IsHashBy};
@@ -90,7 +90,7 @@ impl<K: KeptKey + Drop, V: Kept + Drop, S: BuildHasher, A: KeptAction<K, V> + Dr
     where
         S: Clone,
         requires { (s t : S) → S.is_clone s t → HashAlike ⟦<Self as Recorded>⟧.known.keys s t }
-        ensures made { IfOk result (λ m. m.0 ≡ record { hasher = hasher; callers = callers; amount = amount }) }
+        ensures made { IfOk result (λ m. m.0 ≡ rec_map hasher callers amount) }
         ensures logs { IfOk result (λ m. m.1.items ≡ fresh_logs callers) }
 
         // In the order of the refusals' numbers.
@@ -124,7 +124,7 @@ impl<K: KeptKey + Drop, V: Kept + Drop, S: BuildHasher, A: KeptAction<K, V> + Dr
     #[inline]
     pub(crate) fn route(&self, step: &ShardStep<K, V, A>) -> (u64, usize)
         ensures hash { IsHashBy A.acts ⟦<Self as Recorded>⟧.known.keys self.now.hasher step.now result.0 }
-        ensures shard { result.1 ≡ shard_of (kinds_on ⟦<Self as Recorded>⟧.known self.now) step.now }
+        ensures shard { result.1 ≡ shard_on ⟦<Self as Recorded>⟧.known self.now step.now }
     {
         step.route(&self.hasher, self.row.len())
     }
@@ -133,7 +133,7 @@ impl<K: KeptKey + Drop, V: Kept + Drop, S: BuildHasher, A: KeptAction<K, V> + Dr
     #[inline]
     pub fn held<R: Wait + Clock>(&self, rt: &R, shard: usize) -> RecShardMut<'_, K, V, S, A>
         requires { shard < self.now.amount }
-        ensures tagged { IsShardOf ⟦<Self as Recorded>⟧.known.keys self.now shard result }
+        ensures tagged { IsRecShardOf ⟦<Self as Recorded>⟧.known.keys self.now shard result }
         ensures legal { IsRecorded ⟦<Self as Recorded>⟧.known result }
         ensures found { FoundBehind result }
     {
@@ -143,7 +143,7 @@ impl<K: KeptKey + Drop, V: Kept + Drop, S: BuildHasher, A: KeptAction<K, V> + Dr
     // As `held`, where nobody has the shard.
     pub(crate) fn try_held(&self, shard: usize) -> Option<RecShardMut<'_, K, V, S, A>>
         requires { shard < self.now.amount }
-        ensures tagged { IfSome result (IsShardOf ⟦<Self as Recorded>⟧.known.keys self.now shard) }
+        ensures tagged { IfSome result (IsRecShardOf ⟦<Self as Recorded>⟧.known.keys self.now shard) }
         ensures legal { IfSome result (IsRecorded ⟦<Self as Recorded>⟧.known) }
         ensures found { IfSome result FoundBehind }
     {
@@ -257,7 +257,7 @@ impl<K: KeptKey + Drop, V: Kept + Drop, S: BuildHasher, A: KeptAction<K, V> + Dr
 > {
     /// The map behind its locks again. It takes no memory.
     pub fn end(self) -> RecordedMap<K, V, S, A>
-        ensures map { result ≡ record { hasher = self.hasher; callers = self.callers; amount = length self.row } }
+        ensures map { result ≡ rec_map self.hasher self.callers (length self.row) }
         ensures left { EachAt self.row (λ _ s. LeftBehind s) }
     {
         let RecAlone {
@@ -269,7 +269,7 @@ impl<K: KeptKey + Drop, V: Kept + Drop, S: BuildHasher, A: KeptAction<K, V> + Dr
         let row = row.turn(
             |number: usize, shard: RecShard<K, V, S, A>| -> Locked<K, V, S, A>
                 requires { IsRecTagged (by K.Hash S.BuildHasher S.Hasher.Hasher) hasher amount callers number shard }
-                ensures at { IsRecAt (record { hasher = hasher; callers = callers; amount = amount }) number result }
+                ensures at { IsRecAt (rec_map hasher callers amount) number result }
                 ensures left { LeftBehind shard }
             {
                 let tag = RecTag {

@@ -62,8 +62,10 @@ pub(super) fn prepare<
 ) -> Result<(Reply<K, V>, Change<V>), AllocError>
     requires goes { GoesTo ⟦<RecShard<K, V, S, A> as Recorded>⟧.known shard.now step.now }
     requires found { IsFound ⟦<RecShard<K, V, S, A> as Recorded>⟧.known shard.now step.now found }
-    ensures answers { IfOk result (λ plan. MayAnswer ⟦<RecShard<K, V, S, A> as Recorded>⟧.known shard.now step.now plan.0) }
-    ensures decides { IfOk result (λ plan. Decides ⟦<RecShard<K, V, S, A> as Recorded>⟧.known shard.now step.now plan.1) }
+    ensures answers { IfOk result (λ plan.
+        MayAnswer ⟦<RecShard<K, V, S, A> as Recorded>⟧.known shard.now step.now plan.0) }
+    ensures decides { IfOk result (λ plan.
+        Decides ⟦<RecShard<K, V, S, A> as Recorded>⟧.known shard.now step.now plan.1) }
 {
     let pair = look(shard, found);
     match step {

@@ -24,7 +24,8 @@ pub(super) fn agrees(
     pairs: &[(u64, u64)],
 ) -> Result<bool, AllocError>
     requires { (a : At) → Contains ats.now a → Names (histories map.now) a }
-    ensures { IfOk result (λ agrees. IsTrue agrees ↔ IsReplay [] (along (histories map.now) ats.now) pairs.now) }
+    ensures { IfOk result (λ agrees. IsTrue agrees
+        ↔ IsReplay [] (along (histories map.now) ats.now) pairs.now) }
 {
     let mut plain = HashMap::new(alloc);
     for at in ats {
