@@ -81,49 +81,34 @@ module _ (word : List ℕ) (tested : list_all (λ b. nat_lt 96 b && nat_lt b 123
   clean-letters : All (λ b. b ≢ 10) rest → All (λ b. b ≢ 10) (word ++ 32 ∷ rest)
   clean-letters clean = All-append (λ b. b ≢ 10) word (32 ∷ rest) (All-from_get_or (λ b. b ≢ 10) word 0 (λ i inside e. omega (arith, letter i inside, e))) (clean-spaced rest clean)
 
-letters-change : (f : Change) → list_all (λ b. nat_lt 96 b && nat_lt b 123) (change_word f) ≡ true
-letters-change (Add n) = refl
-letters-change (Below n) = refl
-letters-change (AddBelow n m) = refl
+-- A change and a line are their first word, a space and the rest, and the word is of small letters.
+abbrev IsLetters : List ℕ → Type 0
+IsLetters word = list_all (λ b. nat_lt 96 b && nat_lt b 123) word ≡ true
 
-letters-step : (step : ScriptStep) → list_all (λ b. nat_lt 96 b && nat_lt b 123) (step_word step) ≡ true
-letters-step (Get k) = refl
-letters-step (Contains k) = refl
-letters-step (Insert k v) = refl
-letters-step (Remove k) = refl
-letters-step (RemoveIf k f) = refl
-letters-step (RemoveIfMut k f) = refl
-letters-step (Alter k f) = refl
-letters-step (Read i) = refl
-letters-step (Count i) = refl
-letters-step (AlterAll i f) = refl
-letters-step (Retain i f) = refl
+change-parts : (f : Change) → IsLetters (change_word f) × (change_word f ++ 32 ∷ change_rest f ≡ change_text f)
+change-parts (Add n) = (refl, refl)
+change-parts (Below n) = (refl, refl)
+change-parts (AddBelow n m) = (refl, refl)
 
--- a change and a line are their first word, a space and the rest
-change-parts : (f : Change) → change_word f ++ 32 ∷ change_rest f ≡ change_text f
-change-parts (Add n) = refl
-change-parts (Below n) = refl
-change-parts (AddBelow n m) = refl
-
-line-parts : (step : ScriptStep) → step_word step ++ 32 ∷ step_rest step ≡ line_of step
-line-parts (Get k) = refl
-line-parts (Contains k) = refl
-line-parts (Insert k v) = refl
-line-parts (Remove k) = refl
-line-parts (RemoveIf k f) = refl
-line-parts (RemoveIfMut k f) = refl
-line-parts (Alter k f) = refl
-line-parts (Read i) = refl
-line-parts (Count i) = refl
-line-parts (AlterAll i f) = refl
-line-parts (Retain i f) = refl
+line-parts : (step : ScriptStep) → IsLetters (step_word step) × (step_word step ++ 32 ∷ step_rest step ≡ line_of step)
+line-parts (Get k) = (refl, refl)
+line-parts (Contains k) = (refl, refl)
+line-parts (Insert k v) = (refl, refl)
+line-parts (Remove k) = (refl, refl)
+line-parts (RemoveIf k f) = (refl, refl)
+line-parts (RemoveIfMut k f) = (refl, refl)
+line-parts (Alter k f) = (refl, refl)
+line-parts (Read i) = (refl, refl)
+line-parts (Count i) = (refl, refl)
+line-parts (AlterAll i f) = (refl, refl)
+line-parts (Retain i f) = (refl, refl)
 
 -- the first word of a step's line, of a change, and of a key with a change
 pub first-kind : (step : ScriptStep) → IsFirst (line_of step) (step_word step) (step_rest step)
-first-kind step = subst (λ t. IsFirst t (step_word step) (step_rest step)) (line-parts step) (first-letters (step_word step) (letters-step step) (step_rest step))
+first-kind step = subst (λ t. IsFirst t (step_word step) (step_rest step)) (line-parts step).1 (first-letters (step_word step) (line-parts step).0 (step_rest step))
 
 pub first-change : (f : Change) → IsFirst (change_text f) (change_word f) (change_rest f)
-first-change f = subst (λ t. IsFirst t (change_word f) (change_rest f)) (change-parts f) (first-letters (change_word f) (letters-change f) (change_rest f))
+first-change f = subst (λ t. IsFirst t (change_word f) (change_rest f)) (change-parts f).1 (first-letters (change_word f) (change-parts f).0 (change_rest f))
 
 pub first-changed : (k : ℕ) (f : Change) → k < 2 ^ 64 → IsFirst (decimal k ++ 32 ∷ change_text f) (decimal k) (change_text f)
 first-changed k f small = record { parts = refl; free = free-decimal k small }
@@ -158,7 +143,7 @@ IsAscii-rest_of (Below n) small = IsAscii-decimal n small
 IsAscii-rest_of (AddBelow n m) small = IsAscii-two n (decimal m) small.0 (IsAscii-decimal m small.1)
 
 IsAscii-change : (f : Change) → HasChange f → IsAscii (change_text f)
-IsAscii-change f small = subst IsAscii (change-parts f) (IsAscii-letters (change_word f) (letters-change f) (change_rest f) (IsAscii-rest_of f small))
+IsAscii-change f small = subst IsAscii (change-parts f).1 (IsAscii-letters (change_word f) (change-parts f).0 (change_rest f) (IsAscii-rest_of f small))
 
 IsAscii-rest : (step : ScriptStep) → HasWords step → IsAscii (step_rest step)
 IsAscii-rest (Get k) small = IsAscii-decimal k small
@@ -174,7 +159,7 @@ IsAscii-rest (AlterAll i f) small = IsAscii-two i (change_text f) small.0 (IsAsc
 IsAscii-rest (Retain i f) small = IsAscii-two i (change_text f) small.0 (IsAscii-change f small.1)
 
 pub IsAscii-line : (step : ScriptStep) → HasWords step → IsAscii (line_of step)
-IsAscii-line step small = subst IsAscii (line-parts step) (IsAscii-letters (step_word step) (letters-step step) (step_rest step) (IsAscii-rest step small))
+IsAscii-line step small = subst IsAscii (line-parts step).1 (IsAscii-letters (step_word step) (line-parts step).0 (step_rest step) (IsAscii-rest step small))
 
 -- what `from_utf8` refuses isn't ASCII
 pub no-text : (E : Type 0) (P : E → Type 0) (line : List ℕ) (r : Result (Bor (List ℕ)) E) → MatchResult r (λ s. (s.now ≡ line) × IsUtf8 line) (λ e. ¬ (IsUtf8 line) × P e) → IfNone (result_ok r) (IsAscii line → ⊥)
@@ -220,7 +205,7 @@ short-word (Retain i f) = omega arith
 
 -- a line of a step is short, and no line end is in it
 pub short-line : (step : ScriptStep) → HasWords step → length (line_of step) < 128
-short-line step small = subst (λ t. length t < 128) (line-parts step) (omega (arith, length-append (step_word step) (32 ∷ step_rest step), short-word step, short-rest step small))
+short-line step small = subst (λ t. length t < 128) (line-parts step).1 (omega (arith, length-append (step_word step) (32 ∷ step_rest step), short-word step, short-rest step small))
 
 clean-decimal : (n : ℕ) → n < 2 ^ 64 → All (λ b. b ≢ 10) (decimal n)
 clean-decimal n small = All-from_get_or (λ b. b ≢ 10) (decimal n) 0 (λ i inside e. let digit = digits_decimal (numerals_by_value _ tells_by_index) n small i inside in omega (arith, digit, e))
@@ -247,4 +232,4 @@ clean-rest (AlterAll i f) small = clean-two i (change_text f) small.0 (clean-cha
 clean-rest (Retain i f) small = clean-two i (change_text f) small.0 (clean-change f small.1)
 
 pub clean-line : (step : ScriptStep) → HasWords step → All (λ b. b ≢ 10) (line_of step)
-clean-line step small = subst (All (λ b. b ≢ 10)) (line-parts step) (clean-letters (step_word step) (letters-step step) (step_rest step) (clean-rest step small))
+clean-line step small = subst (All (λ b. b ≢ 10)) (line-parts step).1 (clean-letters (step_word step) (line-parts step).0 (step_rest step) (clean-rest step small))
