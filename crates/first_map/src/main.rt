@@ -45,7 +45,7 @@ struct Session {
     minutes: u64,
 }
 
-// `pairs`, `clone` and `insert_entry` copy by `Kept`. Two values are alike where their minutes are the same.
+// Only `pairs`, `clone` and `insert_entry` want this: they copy. Two values are alike where their minutes are the same.
 impl Kept for Session {
     ghost use Rattle.std.specs.Prelude.{nat_eq};
     ghost use Rattle.std.specs.Cmp.{nat_eq_equiv, on_equiv};
