@@ -3,21 +3,17 @@
 
 ghost use Rattle.std.specs.Prelude.{◌≡◌, ◌<◌, IfOk, IfErr};
 
+use dashmap::DashMap;
 use dashmap::error::EntryRefused;
-use dashmap::{DashMap, Kept};
-use std::alloc::AllocError;
 use std::rt::Clock;
 use std::sync::Wait;
 use std::thread;
 
-type Seen = DashMap<u64, u64>;
-
 fn main(rt: HostRuntime) -> anyhow::Result<()> {
     let processors = thread::available_parallelism(&rt)?.get();
-    let seen = Seen::new(rt.alloc(), processors)?;
+    let seen = DashMap::new(rt.alloc(), processors)?;
     for page in [7, 8, 7] {
-        let now = count(&rt, &seen, page)?;
-        println!(rt; "page {page}: {now}")?;
+        println!(rt; "page {page}: {}", count(&rt, &seen, page)?)?;
     }
     let sessions = DashMap::with_shard_amount(rt.alloc(), 4)?;
     sessions.insert(&rt, "ada", Session { minutes: 2 })?;
@@ -29,7 +25,11 @@ fn main(rt: HostRuntime) -> anyhow::Result<()> {
 }
 
 // Counts a page once more, and says how often it was seen. The entry holds its shard, so that no count is lost.
-fn count<R: Wait + Clock>(rt: &R, seen: &Seen, page: u64) -> Result<u64, EntryRefused<u64>>
+fn count<R: Wait + Clock>(
+    rt: &R,
+    seen: &DashMap<u64, u64>,
+    page: u64,
+) -> Result<u64, EntryRefused<u64>>
     ensures counted { IfOk result (λ n. 0 < n) }
     ensures refused { IfErr result (λ e. e.key ≡ page) }
 {
@@ -40,27 +40,9 @@ fn count<R: Wait + Clock>(rt: &R, seen: &Seen, page: u64) -> Result<u64, EntryRe
 }
 
 // How many minutes a user stays logged in.
-#[derive(Clone, Copy, Debug)]
+#[derive(Debug, Drop)]
 struct Session {
     minutes: u64,
-}
-
-// Only `pairs`, `clone` and `insert_entry` want this: they copy. Two values are alike where their minutes are the same.
-impl Kept for Session {
-    ghost use Rattle.std.specs.Prelude.{nat_eq};
-    ghost use Rattle.std.specs.Cmp.{nat_eq_equiv, on_equiv};
-
-    ghost alike = { λ s t. nat_eq s.minutes t.minutes };
-
-    fn copy(&self) -> Result<Session, AllocError> {
-        Ok(*self)
-    }
-
-    fn same(&self, other: &Session) -> bool {
-        self.minutes == other.minutes
-    }
-
-    ghost alike_laws = { on_equiv (λ s. s.minutes) nat_eq_equiv };
 }
 
 // Lets a minute pass, and logs out who has none left.
