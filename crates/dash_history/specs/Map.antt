@@ -57,10 +57,6 @@ module _ {K V A S : Type 0} (w : Known K V A S) where
   abbrev pub LeavesRecShard : RecMapState S → ℕ → (RecState K V A S → RecState K V A S → Type 0) → Type 0
   LeavesRecShard m i R = SawRecShard m i (λ s. (t : RecState K V A S) × LeftBehind t × R s t)
 
-  -- no stamp was above the log's last and that of the step's shard
-  abbrev pub SawNoStamp : RecMapState S → LogState K V A → ShardStep K V A → Type 0
-  SawNoStamp m l step = SawRecShard m (shard_on w m step) (λ s. NoStamp s.last l.last)
-
 -- The log is longer by one record of the step, with the reply, the step's shard and a stamp above the log's last. The reply is
 -- one that the step gets from some contents of its shard.
 pub record Logged {K V A : Type 0} (m : Kinds K V A) (l l' : LogState K V A) (step : ShardStep K V A) (reply : Reply K V) : Type 0 where
@@ -79,4 +75,4 @@ pub record Logs {K V A S : Type 0} (w : Known K V A S) (m : RecMapState S) (l l'
   pub left : IfOk result (λ reply. LeavesRecShard w m (shard_on w m step) (λ s t. Recorded (kinds_on w m) s t l l' step reply))
   pub refused : IfErr result (λ e. (e.0 ≡ step) × (l' ≡ l))
   pub no_such_shard : (result ≡ Err (step, NoSuchShard)) ↔ NoShard (kinds_on w m) step
-  pub last_stamp : result ≡ Err (step, LastStamp) → SawNoStamp w m l step
+  pub last_stamp : result ≡ Err (step, LastStamp) → SawRecShard w m (shard_on w m step) (λ s. NoStamp s.last l.last)

@@ -1,16 +1,21 @@
 -- A walk over a map of one owner: what it passed, and what is to come.
-use Rattle.std.proofs.Common.{◌≡◌, ℕ, MutBor, zero, suc, ◌+◌, ◌<◌, ◌≤◌, Bool, List, [], ◌∷◌, ◌++◌, take, drop, length, Option, Some, None, IsSome, slice_get, slice_set, flat_map, refl, sym, ap, subst, ◌∙◌, inl, inr, arith, add-one}
-use Rattle.std.specs.Option.{option_map}
+use Rattle.std.proofs.Common.{◌≡◌, ℕ, MutBor, zero, suc, ◌+◌, ◌<◌, ◌≤◌, Bool, List, [], ◌∷◌, ◌++◌, map, zip, take, drop, length, Option, Some, None, IsSome, slice_get, slice_set, flat_map, refl, sym, ap, ap₂, subst, ◌∙◌, inl, inr, arith, add-one, append_assoc, append-nil}
+use Rattle.std.specs.Option.{option_map, option_map_or}
+use Rattle.std.proofs.Math.ListN.{length-set}
 use Rattle.std.proofs.lemmas.Bool.{cases_Bool}
-use Rattle.std.proofs.lemmas.Option.{none-some, same_Some}
+use Rattle.std.proofs.lemmas.List.{take-set, drop-set-lt}
+use Rattle.std.proofs.lemmas.Option.{none-some, same_Some, slice_get_within}
 use Rattle.dash_shard.specs.Hashing.{KeyHash}
 use Rattle.dash_shard.specs.Contents.{at, Distinct}
 use Rattle.dash_shard.specs.Shard.{ShardState, IsShard, IsNextTaken, slot, taken, pairs, with_value_in}
-use Rattle.dash_map.specs.Alone.{AloneState, IsAlone}
-use Rattle.dash_map.specs.AloneWalk.{pairs_before, pairs_from, pair_in, pair_at_end, row_with, rewritten, passed, to_come, valued, Passes, Passed, LeavesEach, Rewrites}
+use Rattle.dash_shard.proofs.Rows.{slice_get-set_same}
+use Rattle.dash_map.specs.Alone.{AloneState, EachShard, IsAlone}
+use Rattle.dash_map.specs.AloneWalk.{slots_of, pairs_before, pairs_from, row_with, rewritten, passed, to_come, Passes, Passed, LeavesEach, Rewrites}
+use Rattle.dash_map.specs.WalkingMut.{pair_before, valued_before}
 use Rattle.dash_map.specs.declared.iter.alone_mut.AloneIterMut.{AloneIterMut}
-use Rattle.dash_map.specs.inner.AloneWalk.{IsNextSlot, map_with}
+use Rattle.dash_map.specs.inner.AloneWalk.{IsNextSlot, map_with, pair_in}
 use Rattle.dash_map.proofs.Lifting.{alone-set}
+use Rattle.dash_map.proofs.Rooms.{each-set}
 
 module _ {A : Type 0} where
   -- the next taken slot
@@ -68,83 +73,85 @@ module _ {A : Type 0} where
   split (None ∷ xs) (suc n) = split xs n
   split (Some q ∷ xs) (suc n) = ap (λ l. q ∷ l) (split xs n)
 
-  append-assoc : (xs ys zs : List A) → (xs ++ ys) ++ zs ≡ xs ++ (ys ++ zs)
-  append-assoc [] ys zs = refl
-  append-assoc (x ∷ xs) ys zs = ap (λ l. x ∷ l) (append-assoc xs ys zs)
-
-  append-nil : (xs : List A) → xs ++ [] ≡ xs
-  append-nil [] = refl
-  append-nil (x ∷ xs) = ap (λ l. x ∷ l) (append-nil xs)
-
 module _ {K V S : Type 0} where
+  -- the pairs of a row, cut at a shard
+  cut : (row : List (ShardState K V S)) (i : ℕ) → flat_map pairs row ≡ flat_map pairs (take i row) ++ flat_map pairs (drop i row)
+  cut row zero = refl
+  cut [] (suc i) = refl
+  cut (s ∷ row) (suc i) = ap (λ l. pairs s ++ l) (cut row i) ∙ sym (append_assoc (pairs s) (flat_map pairs (take i row)) (flat_map pairs (drop i row)))
+
+  -- a shard more in front, and one less behind
+  taken-more : (row : List (ShardState K V S)) (i : ℕ) → flat_map pairs (take (suc i) row) ≡ flat_map pairs (take i row) ++ taken (slots_of row i)
+  taken-more [] zero = refl
+  taken-more [] (suc i) = refl
+  taken-more (s ∷ row) zero = append-nil (pairs s)
+  taken-more (s ∷ row) (suc i) = ap (λ l. pairs s ++ l) (taken-more row i) ∙ sym (append_assoc (pairs s) (flat_map pairs (take i row)) (taken (slots_of row i)))
+
+  dropped-less : (row : List (ShardState K V S)) (i : ℕ) → flat_map pairs (drop i row) ≡ taken (slots_of row i) ++ flat_map pairs (drop (suc i) row)
+  dropped-less [] zero = refl
+  dropped-less [] (suc i) = refl
+  dropped-less (s ∷ row) zero = refl
+  dropped-less (s ∷ row) (suc i) = dropped-less row i
+
   -- what the walk passed and what is to come are the contents
   pub whole : (row : List (ShardState K V S)) (i n : ℕ) → flat_map pairs row ≡ pairs_before row i n ++ pairs_from row i n
-  whole [] i n = refl
-  whole (s ∷ row) zero n = ap (λ l. l ++ flat_map pairs row) (split s.slots n) ∙ append-assoc (taken (take n s.slots)) (taken (drop n s.slots)) (flat_map pairs row)
-  whole (s ∷ row) (suc i) n = ap (λ l. pairs s ++ l) (whole row i n) ∙ sym (append-assoc (pairs s) (pairs_before row i n) (pairs_from row i n))
-
-  pub starts-before : (row : List (ShardState K V S)) → pairs_before row 0 0 ≡ []
-  starts-before [] = refl
-  starts-before (s ∷ row) = refl
+  whole row i n =
+      let front = flat_map pairs (take i row) in
+      let behind = flat_map pairs (drop (suc i) row) in
+      let low = taken (take n (slots_of row i)) in
+      let high = taken (drop n (slots_of row i)) in
+      cut row i ∙ ap (λ l. front ++ l) (dropped-less row i ∙ ap (λ l. l ++ behind) (split (slots_of row i) n) ∙ append_assoc low high behind) ∙ sym (append_assoc front low (high ++ behind))
 
   pub starts-from : (row : List (ShardState K V S)) → pairs_from row 0 0 ≡ flat_map pairs row
-  starts-from [] = refl
-  starts-from (s ∷ row) = refl
+  starts-from row = sym (dropped-less row 0)
 
-  -- the next pair of the shard at i
-  pub next-here : (row : List (ShardState K V S)) (i n m : ℕ) (s : ShardState K V S) → slice_get row i ≡ Some s → n ≤ m → (p : K × V) → slot s.slots m ≡ Some p → ((j : ℕ) → n ≤ j → j < m → slot s.slots j ≡ None) → IsNextSlot row i n i m
-  next-here [] i n m s here le p there none = absurd (none-some s here)
-  next-here (x ∷ row) zero n m s here le p there none =
-      let same = same_Some x s here in
-      subst (λ y. IsNextSlot (y ∷ row) zero n zero m) (sym same) (record {
-        item = p;
-        there = there;
-        first = ap (λ l. l ++ flat_map pairs row) (from-next s.slots n m p le there none);
-        before = before-slot s.slots n m le none;
-        left = before-next s.slots n m p le there none;
-      })
-  next-here (x ∷ row) (suc i) n m s here le p there none =
-      let rest = next-here row i n m s here le p there none in
-      record {
-        item = rest.item;
-        there = rest.there;
-        first = rest.first;
-        before = ap (λ l. pairs x ++ l) rest.before;
-        left = ap (λ l. pairs x ++ l) rest.left ∙ sym (append-assoc (pairs x) (pairs_before row i n) (rest.item ∷ []));
-      }
+  -- a slot of a shard
+  there-slot : (o : Option (ShardState K V S)) (m : ℕ) → pair_before o (suc m) ≡ slot (option_map_or (λ s. s.slots) o []) m
+  there-slot None m = refl
+  there-slot (Some s) m = refl
 
-  -- the same of a taken slot, from where the walk began
-  pub next-passed : (row : List (ShardState K V S)) (i n m : ℕ) (s : ShardState K V S) → slice_get row i ≡ Some s → IsNextTaken s.slots n (Some m) → (i' n' : ℕ) → (pairs_from row i n ≡ pairs_from row i' n') × (pairs_before row i n ≡ pairs_before row i' n')
+  pub slots-are : (row : List (ShardState K V S)) (i : ℕ) (s : ShardState K V S) → slice_get row i ≡ Some s → slots_of row i ≡ s.slots
+  slots-are row i s here = ap (λ o. option_map_or (λ s. s.slots) o []) here
+
+  -- the next pair of the shard i
+  pub next-passed : (row : List (ShardState K V S)) (i n m : ℕ) → IsNextTaken (slots_of row i) n (Some m) → (i' n' : ℕ) → (pairs_from row i n ≡ pairs_from row i' n') × (pairs_before row i n ≡ pairs_before row i' n')
       → IsNextSlot row i' n' i m
-  next-passed row i n m s here next i' n' same = from (slot s.slots m) refl next.1
+  next-passed row i n m next i' n' same = from (slot (slots_of row i) m) refl next.1
     where
-      from : (o : Option (K × V)) → slot s.slots m ≡ o → IsSome o → IsNextSlot row i' n' i m
+      from : (o : Option (K × V)) → slot (slots_of row i) m ≡ o → IsSome o → IsNextSlot row i' n' i m
       from None e some = cc
       from (Some p) e some =
-          let x = next-here row i n m s here next.0 p e next.2 in
-          record { item = x.item; there = x.there; first = sym same.0 ∙ x.first; before = x.before ∙ same.1; left = x.left ∙ ap (λ l. l ++ x.item ∷ []) same.1 }
+          let xs = slots_of row i in
+          let front = flat_map pairs (take i row) in
+          record {
+            item = p;
+            there = there-slot (slice_get row i) m ∙ e;
+            first = sym same.0 ∙ ap (λ l. l ++ flat_map pairs (drop (suc i) row)) (from-next xs n m p next.0 e next.2);
+            before = ap (λ l. front ++ l) (before-slot xs n m next.0 next.2) ∙ same.1;
+            left = ap (λ l. front ++ l) (before-next xs n m p next.0 e next.2) ∙ sym (append_assoc front (taken (take n xs)) (p ∷ [])) ∙ ap (λ l. l ++ p ∷ []) same.1;
+          }
 
-  -- the shard at i has no more
-  pub from-rest : (row : List (ShardState K V S)) (i n : ℕ) (s : ShardState K V S) → slice_get row i ≡ Some s → ((j : ℕ) → n ≤ j → slot s.slots j ≡ None) → pairs_from row i n ≡ pairs_from row (suc i) 0
-  from-rest [] i n s here none = refl
-  from-rest (x ∷ row) zero n s here none =
-      ap (λ l. l ++ flat_map pairs row) (from-none x.slots n (λ j a. ap (λ y. slot y.slots j) (same_Some x s here) ∙ none j a)) ∙ sym (starts-from row)
-  from-rest (x ∷ row) (suc i) n s here none = from-rest row i n s here none
+  -- the shard i has no more
+  pub from-rest : (row : List (ShardState K V S)) (i n : ℕ) → IsNextTaken (slots_of row i) n None → pairs_from row i n ≡ pairs_from row (suc i) 0
+  from-rest row i n none = ap (λ l. l ++ flat_map pairs (drop (suc i) row)) (from-none (slots_of row i) n none) ∙ dropped-less row (suc i)
 
-  pub before-rest : (row : List (ShardState K V S)) (i n : ℕ) (s : ShardState K V S) → slice_get row i ≡ Some s → ((j : ℕ) → n ≤ j → slot s.slots j ≡ None) → pairs_before row (suc i) 0 ≡ pairs_before row i n
-  before-rest [] i n s here none = refl
-  before-rest (x ∷ row) zero n s here none =
-      ap (λ l. pairs x ++ l) (starts-before row) ∙ (append-nil (pairs x) ∙ before-none x.slots n (λ j a. ap (λ y. slot y.slots j) (same_Some x s here) ∙ none j a))
-  before-rest (x ∷ row) (suc i) n s here none = ap (λ l. pairs x ++ l) (before-rest row i n s here none)
+  pub before-rest : (row : List (ShardState K V S)) (i n : ℕ) → IsNextTaken (slots_of row i) n None → pairs_before row (suc i) 0 ≡ pairs_before row i n
+  before-rest row i n none =
+      append-nil (flat_map pairs (take (suc i) row)) ∙ taken-more row i ∙ ap (λ l. flat_map pairs (take i row) ++ l) (before-none (slots_of row i) n none)
 
   -- past the last shard
   pub from-end : (row : List (ShardState K V S)) (i n : ℕ) → length row ≤ i → pairs_from row i n ≡ []
-  from-end [] i n le = refl
+  from-end [] i zero le = refl
+  from-end [] i (suc n) le = refl
   from-end (x ∷ row) zero n le = absurd (omega (arith, le))
   from-end (x ∷ row) (suc i) n le = from-end row i n (omega (arith, le))
 
   -- the shard of a pair
-  pub pair-within : (row : List (ShardState K V S)) (i n : ℕ) → IsSome (pair_in row i n) → i < length row
+  shard-at : (o : Option (ShardState K V S)) (m : ℕ) (p : K × V) → pair_before o (suc m) ≡ Some p → (s : ShardState K V S) × (o ≡ Some s) × (slot s.slots m ≡ Some p)
+  shard-at None m p e = absurd (none-some p e)
+  shard-at (Some s) m p e = (s, refl, e)
+
+  pair-within : (row : List (ShardState K V S)) (i n : ℕ) → IsSome (pair_in row i n) → i < length row
   pair-within [] i n h = cc h
   pair-within (x ∷ row) zero n h = omega arith
   pair-within (x ∷ row) (suc i) n h = omega (arith, pair-within row i n h)
@@ -153,15 +160,11 @@ module _ {K V S : Type 0} where
   within-shown base row z view i n some = omega (arith, pair-within z.row i n some, ap (λ (a : AloneState K V S). length a.row) view)
 
   pub pair-there : (row : List (ShardState K V S)) (i n : ℕ) (s : ShardState K V S) → slice_get row i ≡ Some s → pair_in row i n ≡ slot s.slots n
-  pair-there [] i n s here = absurd (none-some s here)
-  pair-there (x ∷ row) zero n s here = ap (λ y. slot y.slots n) (same_Some x s here)
-  pair-there (x ∷ row) (suc i) n s here = pair-there row i n s here
+  pair-there row i n s here = ap (λ o. pair_before o (suc n)) here
 
   -- the row with a shard written
-  pub row-written : (row : List (ShardState K V S)) (i n : ℕ) (s : ShardState K V S) (v : V) → slice_get row i ≡ Some s → slice_set row i (with_value_in s n v) ≡ row_with row i n v
-  row-written [] i n s v here = absurd (none-some s here)
-  row-written (x ∷ row) zero n s v here = ap (λ y. with_value_in y n v ∷ row) (sym (same_Some x s here))
-  row-written (x ∷ row) (suc i) n s v here = ap (λ l. x ∷ l) (row-written row i n s v here)
+  pub row-written : (row : List (ShardState K V S)) (i n : ℕ) (s : ShardState K V S) (v : V) → slice_get row i ≡ Some s → slice_set row i (with_value_in s n v) ≡ row_with row i (suc n) v
+  row-written row i n s v here = sym (ap (λ o. option_map_or (slice_set row i) (valued_before o (suc n) v) row) here)
 
   pub map-written : (base : S) (row : List (ShardState K V S)) (i n : ℕ) (s : ShardState K V S) (v : V) → slice_get row i ≡ Some s → (z : AloneState K V S) → record { hasher = base; row = row } ≡ z
       → record { hasher = base; row = slice_set row i (with_value_in s n v) } ≡ map_with z i n v
@@ -233,42 +236,52 @@ module _ {K V S : Type 0} (h : KeyHash K S) where
   alone-valued base row a i s here n v =
       alone-set h base i row s (with_value_in s n v) a here (record { number = refl; amount = refl; hasher = refl }) (valued-shard s n v (a.tagged i s here).shard)
 
-module _ {K V S : Type 0} where
-  pub from-written : (row : List (ShardState K V S)) (i m : ℕ) (v : V) → pairs_from (row_with row i m v) i (suc m) ≡ pairs_from row i (suc m)
-  from-written [] i m v = refl
-  from-written (x ∷ row) zero m v = ap (λ l. l ++ flat_map pairs row) (from-valued x.slots m v)
-  from-written (x ∷ row) (suc i) m v = from-written row i m v
+-- a row with another value in the slot m of the shard i
+module _ {K V S : Type 0} (row : List (ShardState K V S)) (i m : ℕ) (v : V) (s : ShardState K V S) (here : slice_get row i ≡ Some s) where
+  abbrev s' : ShardState K V S
+  s' = with_value_in s m v
 
-  pub before-written : (row : List (ShardState K V S)) (i m : ℕ) (v : V) (p : K × V) → pair_in row i m ≡ Some p → pairs_before (row_with row i m v) i (suc m) ≡ pairs_before row i m ++ (p.0, v) ∷ []
-  before-written [] i m v p e = absurd (none-some p e)
-  before-written (x ∷ row) zero m v p e = before-valued x.slots m v p e
-  before-written (x ∷ row) (suc i) m v p e = ap (λ l. pairs x ++ l) (before-written row i m v p e) ∙ sym (append-assoc (pairs x) (pairs_before row i m) ((p.0, v) ∷ []))
+  slots-written : slots_of (slice_set row i s') i ≡ slot-with (slots_of row i) m v
+  slots-written = slots-are (slice_set row i s') i s' (slice_get-set_same row i s' (slice_get_within row i s here)) ∙ ap (λ xs. slot-with xs m v) (sym (slots-are row i s here))
 
-  pub before-passed : (row : List (ShardState K V S)) (i m : ℕ) (p : K × V) → pair_in row i m ≡ Some p → pairs_before row i (suc m) ≡ pairs_before row i m ++ p ∷ []
-  before-passed [] i m p e = absurd (none-some p e)
-  before-passed (x ∷ row) zero m p e = before-here x.slots m p e
-  before-passed (x ∷ row) (suc i) m p e = ap (λ l. pairs x ++ l) (before-passed row i m p e) ∙ sym (append-assoc (pairs x) (pairs_before row i m) (p ∷ []))
+  length-written : length (row_with row i (suc m) v) ≡ length row
+  length-written = ap length (sym (row-written row i m s v here)) ∙ length-set row i s'
 
-  pub pair-written : (row : List (ShardState K V S)) (i m : ℕ) (v : V) (p : K × V) → pair_in row i m ≡ Some p → pair_in (row_with row i m v) i m ≡ Some (p.0, v)
-  pair-written [] i m v p e = absurd (none-some p e)
-  pair-written (x ∷ row) zero m v p e = slot-valued x.slots m v p e
-  pair-written (x ∷ row) (suc i) m v p e = pair-written row i m v p e
+  room-written : (base : S) → EachShard (λ s t. t.capacity ≡ s.capacity) (record { hasher = base; row = row }) (record { hasher = base; row = row_with row i (suc m) v })
+  room-written base =
+      let R = λ (s t : ShardState K V S). t.capacity ≡ s.capacity in
+      subst (λ r. EachShard R (record { hasher = base; row = row }) (record { hasher = base; row = r })) (row-written row i m s v here) (each-set R (λ x. refl) base row i s s' here refl)
 
-  pub length-written : (row : List (ShardState K V S)) (i m : ℕ) (v : V) → length (row_with row i m v) ≡ length row
-  length-written [] i m v = refl
-  length-written (x ∷ row) zero m v = refl
-  length-written (x ∷ row) (suc i) m v = ap suc (length-written row i m v)
+  from-written : pairs_from (row_with row i (suc m) v) i (suc m) ≡ pairs_from row i (suc m)
+  from-written =
+      ap (λ r. pairs_from r i (suc m)) (sym (row-written row i m s v here))
+      ∙ ap₂ (λ xs r. taken (drop (suc m) xs) ++ flat_map pairs r) slots-written (drop-set-lt (suc i) row i s' (omega arith))
+      ∙ ap (λ l. l ++ flat_map pairs (drop (suc i) row)) (from-valued (slots_of row i) m v)
 
-  pub room-written : (row : List (ShardState K V S)) (i m : ℕ) (v : V) (j : ℕ) (s t : ShardState K V S) → slice_get row j ≡ Some s → slice_get (row_with row i m v) j ≡ Some t → t.capacity ≡ s.capacity
-  room-written [] i m v j s t old new = absurd (none-some s old)
-  room-written (x ∷ row) zero m v zero s t old new = ap (λ y. y.capacity) (sym (same_Some (with_value_in x m v) t new)) ∙ ap (λ y. y.capacity) (same_Some x s old)
-  room-written (x ∷ row) zero m v (suc j) s t old new = ap (λ y. y.capacity) (same_Some t s (sym new ∙ old))
-  room-written (x ∷ row) (suc i) m v zero s t old new = ap (λ y. y.capacity) (same_Some t s (sym new ∙ old))
-  room-written (x ∷ row) (suc i) m v (suc j) s t old new = room-written row i m v j s t old new
+  module _ (p : K × V) (there : slot s.slots m ≡ Some p) where
+    at-slot : slot (slots_of row i) m ≡ Some p
+    at-slot = ap (λ xs. slot xs m) (slots-are row i s here) ∙ there
 
-valued-none : {K V : Type 0} (ps : List (K × V)) → valued ps [] ≡ []
-valued-none [] = refl
-valued-none (p ∷ ps) = refl
+    before-written : pairs_before (row_with row i (suc m) v) i (suc m) ≡ pairs_before row i m ++ (p.0, v) ∷ []
+    before-written =
+        let front = flat_map pairs (take i row) in
+        ap (λ r. pairs_before r i (suc m)) (sym (row-written row i m s v here))
+        ∙ ap₂ (λ r xs. flat_map pairs r ++ taken (take (suc m) xs)) (take-set row i s') slots-written
+        ∙ ap (λ l. front ++ l) (before-valued (slots_of row i) m v p at-slot) ∙ sym (append_assoc front (taken (take m (slots_of row i))) ((p.0, v) ∷ []))
+
+    before-passed : pairs_before row i (suc m) ≡ pairs_before row i m ++ p ∷ []
+    before-passed =
+        let front = flat_map pairs (take i row) in
+        ap (λ l. front ++ l) (before-here (slots_of row i) m p at-slot) ∙ sym (append_assoc front (taken (take m (slots_of row i))) (p ∷ []))
+
+    pair-written : pair_in (row_with row i (suc m) v) i m ≡ Some (p.0, v)
+    pair-written =
+        ap (λ r. pair_in r i m) (sym (row-written row i m s v here))
+        ∙ pair-there (slice_set row i s') i m s' (slice_get-set_same row i s' (slice_get_within row i s here)) ∙ slot-valued s.slots m v p there
+
+zip-none : {K V : Type 0} (ks : List K) → zip {X = V} ks [] ≡ []
+zip-none [] = refl
+zip-none (k ∷ ks) = refl
 
 module _ {K V S H : Type 0} where
   -- a step that goes to the next slot
@@ -281,7 +294,7 @@ module _ {K V S H : Type 0} where
           goes = record { loan = refl; stays = record { hasher = refl; amount = refl }; room = λ j s t old new. ap (λ y. y.capacity) (same_Some t s (sym new ∙ old)) };
           first = next.first ∙ ap (λ (n : ℕ). next.item ∷ pairs_from row i n) (sym (add-one m));
           left = ap (λ (n : ℕ). pairs_before row i n) (add-one m) ∙ next.left;
-          stands = ap (λ (n : ℕ). pair_at_end row i n) (add-one m) ∙ next.there;
+          stands = ap (λ (n : ℕ). pair_before (slice_get row i) n) (add-one m) ∙ next.there;
         },
       )
 
@@ -290,35 +303,37 @@ module _ {K V S H : Type 0} where
       → Passed w (record w { map = record w.map { now = map_with w.map.now i m v }; shard_i = i; position = m + 1 }) v
   passed-by w i m next v =
       let row = w.map.now.row in
-      let new = row_with row i m v in (
+      let new = row_with row i (suc m) v in
+      let (s, here, there) = shard-at (slice_get row i) m next.item next.there in (
         next.item,
         record {
-          goes = record { loan = refl; stays = record { hasher = refl; amount = length-written row i m v }; room = room-written row i m v };
-          first = next.first ∙ ap (λ (l : List (K × V)). next.item ∷ l) (sym (ap (λ (n : ℕ). pairs_from new i n) (add-one m) ∙ from-written row i m v));
-          left = ap (λ (n : ℕ). pairs_before new i n) (add-one m) ∙ before-written row i m v next.item next.there ∙ ap (λ (l : List (K × V)). l ++ (next.item.0, v) ∷ []) next.before;
-          stands = ap (λ (n : ℕ). pair_at_end new i n) (add-one m) ∙ pair-written row i m v next.item next.there;
+          goes = record { loan = refl; stays = record { hasher = refl; amount = length-written row i m v s here }; room = room-written row i m v s here w.map.now.hasher };
+          first = next.first ∙ ap (λ (l : List (K × V)). next.item ∷ l) (sym (ap (λ (n : ℕ). pairs_from new i n) (add-one m) ∙ from-written row i m v s here));
+          left = ap (λ (n : ℕ). pairs_before new i n) (add-one m) ∙ before-written row i m v s here next.item there ∙ ap (λ (l : List (K × V)). l ++ (next.item.0, v) ∷ []) next.before;
+          stands = ap (λ (n : ℕ). pair_before (slice_get new i) n) (add-one m) ∙ pair-written row i m v s here next.item there;
         },
       )
 
   -- a write to the pair on which the walk stands
-  pub rewrites-of : (m : MutBor (AloneState K V S)) (i n : ℕ) (p : K × V) → pair_at_end m.now.row i n ≡ Some p → (v : V)
+  pub rewrites-of : (m : MutBor (AloneState K V S)) (i n : ℕ) (p : K × V) → pair_before (slice_get m.now.row i) n ≡ Some p → (v : V)
       → Rewrites {H = H} (record { map = m; shard_i = i; position = n }) (rewritten {H = H} (record { map = m; shard_i = i; position = n }) v) p v
   rewrites-of m i zero p e v = absurd (none-some p e)
   rewrites-of m i (suc n) p e v =
       let row = m.now.row in
+      let (s, here, there) = shard-at (slice_get row i) n p e in
       record {
-        goes = record { loan = refl; stays = record { hasher = refl; amount = length-written row i n v }; room = room-written row i n v };
+        goes = record { loan = refl; stays = record { hasher = refl; amount = length-written row i n v s here }; room = room-written row i n v s here m.now.hasher };
         before = pairs_before row i n;
-        was = before-passed row i n p e;
-        left = before-written row i n v p e;
-        to_come = from-written row i n v;
-        stands = pair-written row i n v p e;
+        was = before-passed row i n v s here p there;
+        left = before-written row i n v s here p there;
+        to_come = from-written row i n v s here;
+        stands = pair-written row i n v s here p there;
       }
 
   -- the law of a whole run
   pub leaves-each : (w : AloneIterMut K V S H) → LeavesEach w
-  leaves-each w [] z rests end =
-      whole z.map.now.row z.shard_i z.position ∙ ap (λ l. passed z ++ l) end ∙ ap (λ l. l ++ []) rests.passed ∙ ap (λ l. passed w ++ l) (sym (valued-none (to_come w)))
+  leaves-each w [] z same end =
+      whole z.map.now.row z.shard_i z.position ∙ ap (λ l. passed z ++ l) end ∙ ap (λ l. passed l ++ []) same ∙ ap (λ l. passed w ++ l) (sym (zip-none (map (λ p. p.0) (to_come w))))
   leaves-each w (v ∷ vs) z (u, (item, p), rest) end =
-      leaves-each u vs z rest end ∙ ap (λ l. l ++ valued (to_come u) vs) p.left ∙ append-assoc (passed w) ((item.0, v) ∷ []) (valued (to_come u) vs)
-      ∙ ap (λ l. passed w ++ valued l (v ∷ vs)) (sym p.first)
+      leaves-each u vs z rest end ∙ ap (λ l. l ++ zip (map (λ p. p.0) (to_come u)) vs) p.left ∙ append_assoc (passed w) ((item.0, v) ∷ []) (zip (map (λ p. p.0) (to_come u)) vs)
+      ∙ ap (λ l. passed w ++ zip (map (λ p. p.0) l) (v ∷ vs)) (sym p.first)

@@ -10,7 +10,7 @@ use Rattle.dash_map.specs.Copies.{CopiesAlone}
 use Rattle.dash_map.specs.inner.Copies.{IsCopied, AreCopied}
 use Rattle.dash_map.specs.Behind.{SawShards}
 use Rattle.dash_map.specs.Map.{MapState}
-use Rattle.dash_map.proofs.Seeing.{append-cases, SoFar, all-found}
+use Rattle.dash_map.proofs.Seeing.{append-cases, SoFar, all-seen}
 
 module _ {K V S : Type 0} (eq k : K → K → Bool) (v : V → V → Bool) (C : S → S → Type 0) (h : KeyHash K S) where
   pub none-copied : AreCopied eq k v C h [] []
@@ -61,9 +61,9 @@ module _ {K V S : Type 0} (eq k : K → K → Bool) (v : V → V → Bool) (C : 
       → SawShards h m (λ a. CopiesAlone eq k v C a (record { hasher = hasher; row = made })) × IsAlone h (record { hasher = hasher; row = made })
   copied-map m n row copies so all amount are base is hasher clone alike made same =
       let a : AloneState K V S = record { hasher = m.hasher; row = row } in
-      let found = all-found h m n row so all amount in
+      let found = all-seen h m FoundBehind n row so all amount in
       let cloned : C m.hasher hasher = subst (λ z. C z hasher) is clone in
       let made-of = subst (λ l. AreCopied eq k v C h row l) (sym same) are in (
         (a, found, all-copied a made made-of hasher cloned),
-        copied-lawful a made made-of hasher cloned found.behind.lawful (alike _ _ cloned),
+        copied-lawful a made made-of hasher cloned found.lawful (alike _ _ cloned),
       )

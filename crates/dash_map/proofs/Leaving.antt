@@ -11,12 +11,12 @@ use Rattle.dash_shard.specs.Shard.{ShardState, SameShard, IsShard, taken, IsTagg
 use Rattle.dash_shard.specs.Each.{Clears, Shrinks}
 use Rattle.dash_shard.specs.inner.Walks.{Sweeps, SweepsShard, if_kept, altered}
 use Rattle.dash_map.specs.Alone.{AloneState}
-use Rattle.dash_map.specs.Behind.{LeavesShards, IsBehind, IsFound}
+use Rattle.dash_map.specs.Behind.{LeavesShards, AreBehind}
 use Rattle.dash_map.specs.Map.{MapState}
 use Rattle.dash_map.specs.AllPairs.{ClearsAlone, ShrinksAlone, RetainsAlone, AltersAllAlone}
 use Rattle.dash_map.specs.inner.Rooms.{SameRoom}
 use Rattle.dash_map.proofs.Lifting.{tagged-moved}
-use Rattle.dash_map.proofs.Seeing.{SoFar, append-cases, none-yet, one-more, all-seen, all-found}
+use Rattle.dash_map.proofs.Seeing.{SoFar, append-cases, none-yet, one-more, all-seen}
 use Rattle.dash_map.proofs.Sweeping.{Sweeping, slots_of, slots-more, sweeps-append, callable-behind, retains-alone, alters-all-alone}
 use Rattle.dash_map.proofs.Turning.{Turning, clears-alone, shrinks-alone}
 
@@ -62,10 +62,10 @@ module _ {K V S : Type 0} (h : KeyHash K S) (m : MapState S) where
       }
 
       module _ (all : n ≡ m.amount) (amount : IsAmount m.amount) where
-        all-stood : IsFound h m (row-of so.olds)
-        all-stood = all-found h m n so.olds so.stood all amount
+        all-stood : AreBehind h FoundBehind m (row-of so.olds)
+        all-stood = all-seen h m FoundBehind n so.olds so.stood all amount
 
-        all-stand : IsBehind h m (row-of so.news)
+        all-stand : AreBehind h LeftBehind m (row-of so.news)
         all-stand = all-seen h m LeftBehind n so.news so.stands all amount
 
         all-turned : Turning h R n (row-of so.olds) (row-of so.news)
@@ -78,7 +78,7 @@ module _ {K V S : Type 0} (h : KeyHash K S) (m : MapState S) where
         }
 
         all-left : (Q : AloneState K V S → AloneState K V S → Type 0) → Q (row-of so.olds) (row-of so.news) → LeavesShards h m Q
-        all-left Q did = (row-of so.olds, all-stood, (row-of so.news, record { behind = all-stand; left = so.stands.each }, did))
+        all-left Q did = (row-of so.olds, all-stood, (row-of so.news, all-stand, did))
 
   pub all-cleared : (n : ℕ) → Leaving Clears n → n ≡ m.amount → IsAmount m.amount → LeavesShards {V = V} h m (ClearsAlone)
   all-cleared n so all amount =
@@ -88,7 +88,7 @@ module _ {K V S : Type 0} (h : KeyHash K S) (m : MapState S) where
   pub all-shrunk : IsEquivalence h.eq → (n : ℕ) → Leaving (Shrinks h.eq) n → n ≡ m.amount → IsAmount m.amount → LeavesShards {V = V} h m (ShrinksAlone h.eq)
   all-shrunk laws n so all amount =
       all-left (Shrinks h.eq) n so all amount (ShrinksAlone h.eq)
-      (shrinks-alone h laws n (row-of so.olds) (row-of so.news) (all-stood (Shrinks h.eq) n so all amount).behind.lawful (all-turned (Shrinks h.eq) n so all amount) (sym so.stands.count))
+      (shrinks-alone h laws n (row-of so.olds) (row-of so.news) (all-stood (Shrinks h.eq) n so all amount).lawful (all-turned (Shrinks h.eq) n so all amount) (sym so.stands.count))
 
   module _ {F : Type 0} (T : F → K → V → Bool → V → F → Type 0) (Q : F → K → V → Type 0) (leaves : K → V × Bool → Option (K × V)) (first : F) where
     -- the closure went over the shards in front of n, and may go on
@@ -126,9 +126,9 @@ module _ {K V S : Type 0} (h : KeyHash K S) (m : MapState S) where
     pub all-retained : Going T Q if_kept first n f → LeavesShards h m (RetainsAlone h.eq T first)
     all-retained so =
         all-left SameRoom n so.left all amount (RetainsAlone h.eq T first)
-        (retains-alone h T Q first laws n (row-of so.left.olds) (row-of so.left.news) f (all-stood SameRoom n so.left all amount).behind.lawful (sym so.left.stands.count) (gone T Q if_kept first n f so all amount))
+        (retains-alone h T Q first laws n (row-of so.left.olds) (row-of so.left.news) f (all-stood SameRoom n so.left all amount).lawful (sym so.left.stands.count) (gone T Q if_kept first n f so all amount))
 
     pub all-altered : Going T Q altered first n f → LeavesShards h m (AltersAllAlone h.eq T first)
     all-altered so =
         all-left SameRoom n so.left all amount (AltersAllAlone h.eq T first)
-        (alters-all-alone h T Q first laws n (row-of so.left.olds) (row-of so.left.news) f (all-stood SameRoom n so.left all amount).behind.lawful (sym so.left.stands.count) (gone T Q altered first n f so all amount))
+        (alters-all-alone h T Q first laws n (row-of so.left.olds) (row-of so.left.news) f (all-stood SameRoom n so.left all amount).lawful (sym so.left.stands.count) (gone T Q altered first n f so all amount))

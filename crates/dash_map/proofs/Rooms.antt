@@ -1,11 +1,11 @@
 -- Maps whose shards lose no room.
-use Rattle.std.proofs.Common.{◌≡◌, ℕ, ◌≤◌, List, length, Some, slice_get, slice_set, get_or, refl, sym, ap, ◌∙◌, inl, inr, arith}
+use Rattle.std.proofs.Common.{◌≡◌, ℕ, ◌≤◌, List, length, Some, slice_get, slice_set, get_or, refl, sym, ap, subst, ◌∙◌, inl, inr, arith}
 use Rattle.std.proofs.lemmas.Bool.{cases_eq}
 use Rattle.std.proofs.lemmas.Option.{slice_get_within, slice_get-get_or, same_Some}
 use Rattle.std.proofs.Math.ListN.{length-set}
 use Rattle.dash_shard.proofs.Rows.{slice_get-set_same, slice_get-set_other}
 use Rattle.dash_shard.specs.Shard.{ShardState}
-use Rattle.dash_map.specs.Alone.{AloneState, KeepsRoom}
+use Rattle.dash_map.specs.Alone.{AloneState, EachShard, KeepsRoom}
 
 module _ {K V S : Type 0} where
   -- a map keeps its own room
@@ -29,19 +29,18 @@ module _ {K V S : Type 0} where
         omega (arith, first.room i s t here mid, next.room i t u mid there);
   }
 
-  -- one shard changed where it stood, and lost no room
+  -- one shard changed where it stood: what is so of it, and of a shard that stayed, is so of each
+  pub each-set : (R : ShardState K V S → ShardState K V S → Type 0) → ((x : ShardState K V S) → R x x) → (base : S) (row : List (ShardState K V S)) (i : ℕ) (s t : ShardState K V S) → slice_get row i ≡ Some s → R s t
+      → EachShard R (record { hasher = base; row = row }) (record { hasher = base; row = slice_set row i t })
+  each-set R own base row i s t here so j x y e f = elim (cases_eq j i) as (λ _. R x y) [
+    | inl this ↦
+        let was : s ≡ x = same_Some s x (sym here ∙ ap (slice_get row) (sym this) ∙ e) in
+        let put : t ≡ y = same_Some t y (sym (slice_get-set_same row i t (slice_get_within row i s here)) ∙ ap (slice_get (slice_set row i t)) (sym this) ∙ f) in
+        subst (λ a. R a y) was (subst (R s) put so)
+    | inr other ↦ subst (R x) (same_Some x y (sym e ∙ slice_get-set_other row i j t y other f)) (own x)
+  ]
+
+  -- it lost no room
   pub keeps-set : (base : S) (row : List (ShardState K V S)) (i : ℕ) (s t : ShardState K V S) → slice_get row i ≡ Some s → s.capacity ≤ t.capacity
       → KeepsRoom (record { hasher = base; row = row }) (record { hasher = base; row = slice_set row i t })
-  keeps-set base row i s t here room = record {
-    hasher = refl;
-    amount = length-set row i t;
-    room = λ j x y e f. elim (cases_eq j i) as (λ _. x.capacity ≤ y.capacity) [
-      | inl this ↦
-          let was : s ≡ x = same_Some s x (sym here ∙ ap (slice_get row) (sym this) ∙ e) in
-          let put : t ≡ y = same_Some t y (sym (slice_get-set_same row i t (slice_get_within row i s here)) ∙ ap (slice_get (slice_set row i t)) (sym this) ∙ f) in
-          omega (arith, room, ap (λ (z : ShardState K V S). z.capacity) was, ap (λ (z : ShardState K V S). z.capacity) put)
-      | inr other ↦
-          let same : x ≡ y = same_Some x y (sym e ∙ slice_get-set_other row i j t y other f) in
-          omega (arith, ap (λ (z : ShardState K V S). z.capacity) same)
-    ];
-  }
+  keeps-set base row i s t here room = record { hasher = refl; amount = length-set row i t; room = each-set (λ x y. x.capacity ≤ y.capacity) (λ x. omega arith) base row i s t here room }

@@ -16,7 +16,7 @@ use Rattle.dash_shard.specs.Held.{FitsTag}
 use Rattle.dash_shard.specs.Lock.{FoundBehind, LeftBehind}
 use Rattle.dash_shard.specs.Shard.{ShardState, SameShard, Routes, IsShard, IsTagged, pairs, shard_len}
 use Rattle.dash_shard.specs.declared.shard.held.ShardTag.{ShardTag}
-use Rattle.dash_map.specs.Behind.{IsBehind, IsFound, StandsAt, LeavesShard}
+use Rattle.dash_map.specs.Behind.{AreBehind, StandsAt, LeavesShard}
 use Rattle.dash_map.specs.Map.{MapState}
 use Rattle.dash_map.specs.Locks.{IsMap}
 use Rattle.dash_map.proofs.Lifting.{keys-same, tagged-moved}
@@ -77,7 +77,7 @@ module _ {K V S : Type 0} (h : KeyHash K S) where
         each = put-more (λ _ x. P x) row s so.each is;
       }
 
-      pub all-seen : n ≡ m.amount → IsAmount m.amount → IsBehind h m (record { hasher = m.hasher; row = row })
+      pub all-seen : n ≡ m.amount → IsAmount m.amount → AreBehind h P m (record { hasher = m.hasher; row = row })
       all-seen all amount =
           let long : length row ≡ m.amount = so.count ∙ all in
           record {
@@ -87,10 +87,8 @@ module _ {K V S : Type 0} (h : KeyHash K S) where
               amount = subst IsAmount (sym long) amount;
               tagged = λ i s e. subst (λ k. IsTagged h m.hasher k i s) (sym long) (so.tagged i s e);
             };
+            each = so.each;
           }
-
-  pub all-found : (m : MapState S) (n : ℕ) (row : List (ShardState K V S)) → SoFar m FoundBehind n row → n ≡ m.amount → IsAmount m.amount → IsFound h m (record { hasher = m.hasher; row = row })
-  all-found m n row so all amount = record { behind = all-seen m FoundBehind n row so all amount; found = so.each }
 
 -- what holds of each pair with an equal key holds of the one that stands at it
 pub at-each : {K V : Type 0} (eq : K → K → Bool) (ps : List (K × V)) (k : K) (P : K × V → Type 0) → ((p : K × V) → IsTrue (eq p.0 k) → P p) → IfSome (at eq ps k) P

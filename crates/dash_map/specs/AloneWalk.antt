@@ -1,49 +1,28 @@
 -- A walk over a map of one owner, for writing: the map, the pairs that it passed, as they were left, and those to come.
-use Rattle.std.specs.Prelude.{ℕ, zero, suc, ◌≡◌, List, [], ◌∷◌, ◌++◌, take, drop, flat_map, Option, Some, None}
+use Rattle.std.specs.Prelude.{ℕ, suc, ◌≡◌, List, [], ◌∷◌, ◌++◌, map, take, drop, zip, flat_map, slice_get, slice_set, Option, Some, None}
+use Rattle.std.specs.Option.{option_map_or}
 use Rattle.std.specs.Borrow.{GName}
-use Rattle.dash_shard.specs.Shard.{ShardState, slot, taken, pairs, with_value_in}
+use Rattle.dash_shard.specs.Shard.{ShardState, taken, pairs}
 use Rattle.dash_map.specs.Alone.{AloneState, SameMap, EachShard, contents}
+use Rattle.dash_map.specs.WalkingMut.{pair_before, valued_before}
 use Rattle.dash_map.specs.declared.iter.alone_mut.AloneIterMut.{AloneIterMut}
 
--- the pairs with these values, in their order
-abbrev pub valued : {K V : Type 0} → List (K × V) → List V → List (K × V)
-valued [] vs = []
-valued (p ∷ ps) [] = []
-valued (p ∷ ps) (v ∷ vs) = (p.0, v) ∷ valued ps vs
-
 module _ {K V S : Type 0} where
+  -- the slots of the shard i
+  abbrev pub slots_of : List (ShardState K V S) → ℕ → List (Option (K × V))
+  slots_of row i = option_map_or (λ s. s.slots) (slice_get row i) []
+
   -- the pairs of a row of shards in front of the slot n of the shard i
   abbrev pub pairs_before : List (ShardState K V S) → ℕ → ℕ → List (K × V)
-  pairs_before [] i n = []
-  pairs_before (s ∷ row) zero n = taken (take n s.slots)
-  pairs_before (s ∷ row) (suc i) n = pairs s ++ pairs_before row i n
+  pairs_before row i n = flat_map pairs (take i row) ++ taken (take n (slots_of row i))
 
   -- and those from there on
   abbrev pub pairs_from : List (ShardState K V S) → ℕ → ℕ → List (K × V)
-  pairs_from [] i n = []
-  pairs_from (s ∷ row) zero n = taken (drop n s.slots) ++ flat_map pairs row
-  pairs_from (s ∷ row) (suc i) n = pairs_from row i n
+  pairs_from row i n = taken (drop n (slots_of row i)) ++ flat_map pairs (drop (suc i) row)
 
-  -- the pair in the slot n of the shard i, or none
-  abbrev pub pair_in : List (ShardState K V S) → ℕ → ℕ → Option (K × V)
-  pair_in [] i n = None
-  pair_in (s ∷ row) zero n = slot s.slots n
-  pair_in (s ∷ row) (suc i) n = pair_in row i n
-
-  -- the row with another value in that pair
+  -- the row with another value in the pair of the slot in front of that one
   abbrev pub row_with : List (ShardState K V S) → ℕ → ℕ → V → List (ShardState K V S)
-  row_with [] i n v = []
-  row_with (s ∷ row) zero n v = with_value_in s n v ∷ row
-  row_with (s ∷ row) (suc i) n v = s ∷ row_with row i n v
-
-  -- the pair in the slot in front of the slot n
-  abbrev pub pair_at_end : List (ShardState K V S) → ℕ → ℕ → Option (K × V)
-  pair_at_end row i zero = None
-  pair_at_end row i (suc n) = pair_in row i n
-
-  abbrev pub row_with_end : List (ShardState K V S) → ℕ → ℕ → V → List (ShardState K V S)
-  row_with_end row i zero v = row
-  row_with_end row i (suc n) v = row_with row i n v
+  row_with row i n v = option_map_or (slice_set row i) (valued_before (slice_get row i) n v) row
 
   module _ {H : Type 0} where
     -- the map, as the walk left it so far
@@ -56,26 +35,19 @@ module _ {K V S : Type 0} where
 
     -- the pairs that the walk passed, as they were left
     abbrev pub passed : AloneIterMut K V S H → List (K × V)
-    passed w = pairs_before w.map.now.row w.shard_i w.position
+    passed w = pairs_before (walked w).row w.shard_i w.position
 
     -- the pairs to come
     abbrev pub to_come : AloneIterMut K V S H → List (K × V)
-    to_come w = pairs_from w.map.now.row w.shard_i w.position
+    to_come w = pairs_from (walked w).row w.shard_i w.position
 
     -- the pair on which the walk stands, which it passed last
     abbrev pub here : AloneIterMut K V S H → Option (K × V)
-    here w = pair_at_end w.map.now.row w.shard_i w.position
+    here w = pair_before (slice_get (walked w).row w.shard_i) w.position
 
     -- with another value in that pair
     abbrev pub rewritten : AloneIterMut K V S H → V → AloneIterMut K V S H
-    rewritten w v = record w { map = record w.map { now = record w.map.now { row = row_with_end w.map.now.row w.shard_i w.position v } } }
-
-    -- the walk stays where it is, and changed nothing
-    pub record Rests (old new : AloneIterMut K V S H) : Type 0 where
-      pub loan : loan_of new ≡ loan_of old
-      pub map : walked new ≡ walked old
-      pub passed : passed new ≡ passed old
-      pub to_come : to_come new ≡ to_come old
+    rewritten w v = record w { map = record w.map { now = record (walked w) { row = row_with (walked w).row w.shard_i w.position v } } }
 
     -- the walk changed values alone: hasher, amount and the room of each shard stay, and the loan
     pub record Goes (old new : AloneIterMut K V S H) : Type 0 where
@@ -97,21 +69,17 @@ module _ {K V S : Type 0} where
     -- a step that lent the value of a pair, where w was left, passed it; one that lent none stays
     abbrev pub PassesLending : AloneIterMut K V S H → Option (V × V) → AloneIterMut K V S H → Type 0
     PassesLending old (Some (_, w)) new = Passed old new w
-    PassesLending old None new = Rests old new
+    PassesLending old None new = new ≡ old
 
     -- steps from w to z passed a pair each, and left these values, one after the other
     abbrev pub PassesAlong : AloneIterMut K V S H → List V → AloneIterMut K V S H → Type 0
-    PassesAlong w [] z = Rests w z
+    PassesAlong w [] z = z ≡ w
     PassesAlong w (v ∷ vs) z = (u : AloneIterMut K V S H) × Passed w u v × PassesAlong u vs z
 
     -- A WHOLE RUN of steps from w to the end leaves in the map, behind the pairs that w had passed, each pair that was to come with the value
     -- that was left at it
     abbrev pub LeavesEach : AloneIterMut K V S H → Type 0
-    LeavesEach w = (vs : List V) (z : AloneIterMut K V S H) → PassesAlong w vs z → to_come z ≡ [] → contents (walked z) ≡ passed w ++ valued (to_come w) vs
-
-    -- the same without a write
-    abbrev pub Advances : AloneIterMut K V S H → AloneIterMut K V S H → Type 0
-    Advances old new = (walked new ≡ walked old) × (item : K × V) × Passes old new item item.1
+    LeavesEach w = (vs : List V) (z : AloneIterMut K V S H) → PassesAlong w vs z → to_come z ≡ [] → contents (walked z) ≡ passed w ++ zip (map (λ p. p.0) (to_come w)) vs
 
     -- v is now the value of the pair that was passed last
     pub record Rewrites (old new : AloneIterMut K V S H) (item : K × V) (v : V) : Type 0 where

@@ -51,29 +51,20 @@ module _ {K V S : Type 0} (h : KeyHash K S) where
   abbrev pub AltersBy : MapState S → K → (K × V → V × Bool → Type 0) → Type 0
   AltersBy m key may = LeavesShard m key (λ s t. TakesBy h.eq s t Alter key Done may × (shard_len t ≡ shard_len s))
 
-  -- shards that may stand behind the locks of this map
-  pub record IsBehind (m : MapState S) (a : AloneState K V S) : Type 0 where
+  -- shards that may stand behind the locks of this map, of each of which P is so: that it was found there, or left
+  pub record AreBehind (P : ShardState K V S → Type 0) (m : MapState S) (a : AloneState K V S) : Type 0 where
     pub hasher : a.hasher ≡ m.hasher
     pub amount : length a.row ≡ m.amount
     pub lawful : IsAlone h a
+    pub each : EachAt a.row (λ _. P)
 
-  -- that were found there
-  pub record IsFound (m : MapState S) (a : AloneState K V S) : Type 0 where
-    pub behind : IsBehind m a
-    pub found : EachAt a.row (λ _. FoundBehind)
-
-  -- and that were put there
-  pub record IsLeft (m : MapState S) (a : AloneState K V S) : Type 0 where
-    pub behind : IsBehind m a
-    pub left : EachAt a.row (λ _. LeftBehind)
-
-  -- P is so of the shards, each as it stood at a moment of its own
+  -- P is so of shards that were found there, each at a moment of its own
   abbrev pub SawShards : MapState S → (AloneState K V S → Type 0) → Type 0
-  SawShards m P = (a : AloneState K V S) × IsFound m a × P a
+  SawShards m P = (a : AloneState K V S) × AreBehind FoundBehind m a × P a
 
-  -- P is so of the shards that were put there
+  -- P is so of shards that were left there
   abbrev pub LeftShards : MapState S → (AloneState K V S → Type 0) → Type 0
-  LeftShards m P = (b : AloneState K V S) × IsLeft m b × P b
+  LeftShards m P = (b : AloneState K V S) × AreBehind LeftBehind m b × P b
 
   -- R of shards that stood behind the locks of this map, each when its turn came, and of those that were left there
   abbrev pub LeavesShards : MapState S → (AloneState K V S → AloneState K V S → Type 0) → Type 0

@@ -1,5 +1,5 @@
 -- A walk over a map's locks, for writing: it goes as one for reading does, and may rewrite the pair on which it stands.
-use Rattle.std.specs.Prelude.{ℕ, zero, suc, ◌≡◌, ◌<◌, Bool, true, false, Option, Some, None, IfSome, IfNone, Ok, option_and_then}
+use Rattle.std.specs.Prelude.{ℕ, zero, suc, ◌≡◌, ◌<◌, Option, Some, None, IfSome, IfNone, Ok, option_and_then}
 use Rattle.std.specs.Borrow.{Fml, RattleType, MutBor, LendsSo}
 use Rattle.std.specs.Option.{option_map}
 use Rattle.std.specs.Iterator.{size}
@@ -47,11 +47,6 @@ module _ {K V S : Type 0} where
     pub record StepsToEnd (old new : IterState K V S) : Type 0 where
       pub steps : StepsOn h {E = Unit {0}} old None new
       pub left : LeavesHeld old new
-
-    -- what a step says that answers whether there was a pair
-    abbrev pub Advances : IterState K V S → Bool → IterState K V S → Type 0
-    Advances old true new = (item : RefState K V S) × StepsTo old item new
-    Advances old false new = StepsToEnd old new
 
     -- a step that lent the value v of its pair, where w was left
     pub record Rewrites (old : IterState K V S) (v : V) (new : IterState K V S) (w : V) : Type 0 where

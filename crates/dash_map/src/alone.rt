@@ -18,7 +18,7 @@ ghost use Rattle.dash_shard.specs.Steps.{Insert, Remove, Pair, Old, RemoveIf};
 ghost use Rattle.dash_shard.specs.Closures.{MayAsk, Viewed, Answered};
 ghost use Rattle.dash_map.specs.Alone.{IsAlone, ReservesAlone, TakesAlone, contents, keys_in, len_in, room_in, TakesAloneBy};
 ghost use Rattle.dash_map.specs.Locks.{IsAt};
-ghost use Rattle.dash_map.specs.Behind.{IsFound, IsLeft};
+ghost use Rattle.dash_map.specs.Behind.{AreBehind};
 
 use crate::map::{DashMap, Locked};
 use crate::read_only::{Keys, ViewIter};
@@ -282,7 +282,7 @@ impl<K: Eq + Hash + Drop, V: Drop, S: BuildHasher> Alone<K, V, S> {
     /// The map behind its locks again. It takes no memory.
     pub fn end(self) -> DashMap<K, V, S>
         ensures map { result ≡ record { hasher = self.hasher; amount = length self.row } }
-        ensures left { IsLeft ⟦<Self as Keyed>⟧.by result self }
+        ensures left { AreBehind ⟦<Self as Keyed>⟧.by LeftBehind result self }
     {
         let Alone { hasher, row } = self;
         let amount = row.len();
@@ -307,7 +307,7 @@ impl<K: Eq + Hash + Drop, V: Drop, S: BuildHasher> Alone<K, V, S> {
 impl<K: Eq + Hash, V, S: BuildHasher> DashMap<K, V, S> {
     /// The map without its locks. It takes no memory, and waits for nobody, even where a hold was leaked.
     pub fn alone(self) -> Alone<K, V, S>
-        ensures { IsFound ⟦<Self as Keyed>⟧.by self result }
+        ensures { AreBehind ⟦<Self as Keyed>⟧.by FoundBehind self result }
     {
         let DashMap { hasher, row } = self;
         let row = row.turn(

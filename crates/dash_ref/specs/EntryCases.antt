@@ -14,11 +14,6 @@ module _ {K V S H : Type 0} where
   MatchEntry (Occupied o) P Q = P o
   MatchEntry (Vacant v) P Q = Q v
 
-  -- the key that was handed in
-  abbrev pub entry_key : Entry K V S H → K
-  entry_key (Occupied o) = o.key
-  entry_key (Vacant v) = v.key
-
   -- the shard that it holds
   abbrev pub entry_shard : Entry K V S H → ShardState K V S
   entry_shard (Occupied o) = o.pair.shard

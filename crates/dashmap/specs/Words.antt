@@ -14,12 +14,12 @@ pub use Rattle.dash_ref.specs.EntryCases.{MatchEntry, IsEntryOf}
 pub use Rattle.dash_ref.specs.declared.mapref.entry.Entry.{Entry}
 pub use Rattle.dash_ref.specs.declared.mapref.entry.Entry.TheVariants.{Occupied, Vacant}
 pub use Rattle.dash_map.specs.Alone.{AloneState, contents, IsAlone, KeepsRoom, ReservesAlone, TakesAlone, TakesAloneBy, keys_in, len_in, room_in}
-pub use Rattle.dash_map.specs.Behind.{IsBehind, IsFound, IsLeft, LeavesShard, LeavesShards, LeftShard, LeftShards, SawAt, SawShard, SawShards, IsShardOf, StandsAt, Removes, RemovesBy, AltersBy}
+pub use Rattle.dash_map.specs.Behind.{IsBehind, LeavesShard, LeavesShards, LeftShard, LeftShards, SawAt, SawShard, SawShards, IsShardOf, StandsAt, Removes, RemovesBy, AltersBy}
 pub use Rattle.dash_map.specs.Gets.{IsGot, IsGotMut, IsGotEntry}
 pub use Rattle.dash_map.specs.Lends.{with_value_at}
 pub use Rattle.dash_map.specs.Walking.{IterState, StepsOn, GivesPair, FindsEnd, at_start}
 pub use Rattle.dash_ref.specs.Multi.{lent_pair, lent_value, with_lent_value}
-pub use Rattle.dash_map.specs.AloneWalk.{walked, loan_of, passed, to_come, valued, Passes, Passed, PassesAlong, LeavesEach, Rests}
+pub use Rattle.dash_map.specs.AloneWalk.{walked, loan_of, passed, to_come, Passes, Passed, PassesAlong, LeavesEach}
 pub use Rattle.dash_map.specs.WalkingMut.{StepsTo, StepsToEnd}
 pub use Rattle.dash_map.specs.Copies.{CopiesShard, CopiesAlone}
 pub use Rattle.dash_map.specs.Extend.{Extends, ExtendsBehind, Gains, Gave, HasNoRoom, IsRefusedAmong, IsRefusedOf, InsertsEach, MadeOf, NotMade, Overfills, first_with_last}

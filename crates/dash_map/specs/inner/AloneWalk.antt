@@ -1,8 +1,13 @@
 -- Where a walk over a map of one owner goes next.
-use Rattle.std.specs.Prelude.{ℕ, suc, ◌≡◌, List, [], ◌∷◌, ◌++◌, Some}
+use Rattle.std.specs.Prelude.{ℕ, suc, ◌≡◌, List, [], ◌∷◌, ◌++◌, slice_get, Option, Some}
 use Rattle.dash_shard.specs.Shard.{ShardState}
-use Rattle.dash_map.specs.AloneWalk.{pairs_before, pairs_from, pair_in, row_with}
+use Rattle.dash_map.specs.AloneWalk.{pairs_before, pairs_from, row_with}
+use Rattle.dash_map.specs.WalkingMut.{pair_before}
 use Rattle.dash_map.specs.Alone.{AloneState}
+
+-- the pair in the slot n of the shard i, or none
+abbrev pub pair_in : {K V S : Type 0} → List (ShardState K V S) → ℕ → ℕ → Option (K × V)
+pair_in row i n = pair_before (slice_get row i) (suc n)
 
 -- the first pair from the slot n of the shard i on stands in the slot m of the shard j
 pub record IsNextSlot {K V S : Type 0} (row : List (ShardState K V S)) (i n j m : ℕ) : Type 0 where
@@ -14,4 +19,4 @@ pub record IsNextSlot {K V S : Type 0} (row : List (ShardState K V S)) (i n j m 
 
 -- the map with another value in the pair of the slot n of the shard i
 abbrev pub map_with : {K V S : Type 0} → AloneState K V S → ℕ → ℕ → V → AloneState K V S
-map_with a i n v = record a { row = row_with a.row i n v }
+map_with a i n v = record a { row = row_with a.row i (suc n) v }

@@ -42,8 +42,8 @@ impl<K: Eq + Hash, V, S: BuildHasher> Lender for AloneIterMut<'_, K, V, S> {
 }
 
 impl<K: Eq + Hash, V, S: BuildHasher> Alone<K, V, S> {
-    ghost use Rattle.dash_map.specs.AloneWalk.{passed, to_come, walked, loan_of, pairs_from, pair_in, LeavesEach};
-    ghost use Rattle.dash_map.specs.inner.AloneWalk.{IsNextSlot, map_with};
+    ghost use Rattle.dash_map.specs.AloneWalk.{passed, to_come, walked, loan_of, pairs_from, LeavesEach};
+    ghost use Rattle.dash_map.specs.inner.AloneWalk.{IsNextSlot, map_with, pair_in};
 
     /// The pairs, by rising shard and in each by rising slot, their values to be written. It takes no memory, and waits for nobody.
     #[inline]
@@ -91,15 +91,16 @@ impl<K: Eq + Hash, V, S: BuildHasher> Alone<K, V, S> {
 }
 
 impl<K: Eq + Hash, V, S: BuildHasher> AloneIterMut<'_, K, V, S> {
-    ghost use Rattle.dash_map.specs.AloneWalk.{passed, to_come, walked, here, rewritten, PassesLending, Advances, Rests, Rewrites};
+    ghost use Rattle.dash_map.specs.AloneWalk.{passed, to_come, walked, here, rewritten, Passes, PassesLending, Rewrites};
     ghost use Rattle.dash_map.specs.WalkingMut.{LendsItem};
 
     /// Goes to the next pair, and says whether there is one. At the end it stays where it is.
     #[inline]
     pub fn advance(&mut self) -> bool
-        ensures passes { OnTrue result (Advances self.old self.new) }
+        ensures same { walked self.new ≡ walked self.old }
+        ensures passes { OnTrue result ((item : _) × Passes self.old self.new item item.1) }
         ensures end { OnFalse result (to_come self.old ≡ []) }
-        ensures rests { OnFalse result (Rests self.old self.new) }
+        ensures rests { OnFalse result (self.new ≡ self.old) }
         ensures whole { contents (walked self.old) ≡ passed self.old ++ to_come self.old }
     {
         match self.map.next_slot(self.shard_i, self.position) {

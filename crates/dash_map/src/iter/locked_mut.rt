@@ -1,6 +1,6 @@
 //! The walk over a map that threads share, which holds one shard after the other and writes.
 ghost use Rattle.std.specs.Prelude.{◌≡◌, ◌+◌, ◌<◌, ◌↔◌, [], false, IsTrue, IsSome, Some, IfSome};
-ghost use Rattle.std.specs.Bool.{OnTrue};
+ghost use Rattle.std.specs.Bool.{OnTrue, OnFalse};
 ghost use Rattle.std.specs.Option.{option_map};
 ghost use Rattle.std.specs.Iterator.{size};
 ghost use Rattle.std.specs.Borrow.{Lends, sem};
@@ -10,7 +10,7 @@ ghost use Rattle.dash_shard.specs.Lock.{FoundBehind, LeftBehind};
 ghost use Rattle.dash_shard.specs.inner.Loans.{MayLend};
 ghost use Rattle.dash_ref.specs.Multi.{lent_pair, lent_value};
 ghost use Rattle.dash_map.specs.Walking.{IterState, IsDone, at_start, steps_left};
-ghost use Rattle.dash_map.specs.WalkingMut.{here, rewritten, Advances, LendsItem, StepsLending};
+ghost use Rattle.dash_map.specs.WalkingMut.{here, rewritten, LendsItem, StepsLending, StepsTo, StepsToEnd};
 ghost use Rattle.dash_map.specs.inner.Walking.{IsWalk};
 ghost use Rattle.dash_map.specs.inner.WalkingMut.{MayHold, GoesHere, joined_if};
 
@@ -222,7 +222,8 @@ impl<'a, K: Eq + Hash, V, S: BuildHasher, R: Wait + Clock> IterMut<'a, K, V, S, 
     /// It waits until nobody has the next shard, where no pair is left in the one that is held.
     #[inline]
     pub fn advance(&mut self) -> bool
-        ensures { Advances ⟦<Self as Keyed>⟧.by self.old result self.new }
+        ensures steps { OnTrue result ((item : _) × StepsTo ⟦<Self as Keyed>⟧.by self.old item self.new) }
+        ensures end { OnFalse result (StepsToEnd ⟦<Self as Keyed>⟧.by self.old self.new) }
     {
         while !self.goes_here() {
             if self.is_last() {

@@ -4,7 +4,7 @@ ghost use Rattle.std.specs.Option.{option_map};
 ghost use Rattle.std.specs.Fn.{FnOnceReturnsAtMut};
 ghost use Rattle.dash_ref.specs.RefMut.{rewritten, stored};
 ghost use Rattle.dash_ref.specs.Entry.{MayModify, Modified, Puts, PutsCopy, revalued};
-ghost use Rattle.dash_ref.specs.EntryCases.{MatchEntry, entry_key, entry_shard, IsEntryOf};
+ghost use Rattle.dash_ref.specs.EntryCases.{MatchEntry, entry_shard, IsEntryOf};
 ghost use Rattle.dash_shard.specs.Hashing.{by};
 ghost use Rattle.dash_shard.specs.Lock.{LeftBehind};
 ghost use Rattle.dash_shard.specs.Shard.{Routes, IsShard};
@@ -140,7 +140,7 @@ impl<'a, K: Eq + Hash + Drop, V: Drop, S: BuildHasher> Entry<'a, K, V, S> {
     /// The key that was handed in.
     #[inline]
     pub fn into_key(self) -> K
-        ensures key { result ≡ entry_key self.entry }
+        ensures key { MatchEntry self.entry (λ o. result ≡ o.key) (λ v. result ≡ v.key) }
         ensures left { LeftBehind (entry_shard self.entry) }
     {
         match self {

@@ -21,7 +21,9 @@ returns g c =
     record {
       map = map;
       left = record {
-        behind = record { hasher = sym (ap (λ m. m.hasher) map); amount = sym (ap (λ m. m.amount) map); lawful = subst (λ (a : AloneState g.row.K.Denot g.row.V.Denot g.row.S.Denot). IsAlone h a) c.self.view_is c.self.invariant };
-        left = left-of_alone h (record { hasher = c.self.inside.hasher; amount = c.len-amount.result }) _ _ c.self.view_is c.turn-row.result c.turn-row.ensures;
+        hasher = sym (ap (λ m. m.hasher) map);
+        amount = sym (ap (λ m. m.amount) map);
+        lawful = subst (λ (a : AloneState g.row.K.Denot g.row.V.Denot g.row.S.Denot). IsAlone h a) c.self.view_is c.self.invariant;
+        each = left-of_alone h (record { hasher = c.self.inside.hasher; amount = c.len-amount.result }) _ _ c.self.view_is c.turn-row.result c.turn-row.ensures;
       };
     }

@@ -1,8 +1,5 @@
-use Rattle.dash_map.proofs.AloneWalks.{starts-before, starts-from, leaves-each}
+use Rattle.dash_map.proofs.AloneWalks.{starts-from, leaves-each}
 use Rattle.dash_map.proofs.alone.Alone.iter_mut.Goals as goal
-
-pub returns-clause-passed : goal.returns-clause-passed
-returns-clause-passed g c = starts-before c.args.self.now.row
 
 pub returns-clause-to_come : goal.returns-clause-to_come
 returns-clause-to_come g c = starts-from c.args.self.now.row

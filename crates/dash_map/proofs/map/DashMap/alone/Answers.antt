@@ -14,10 +14,8 @@ returns g c =
     let row = c.self.inside.row in
     let made = c.turn-row.result in
     record {
-      behind = record {
-        hasher = ap (λ m. m.hasher) c.self.view_is;
-        amount = moved-length (Unlocks h) 0 row made c.turn-row.ensures ∙ ap (λ m. m.amount) c.self.view_is;
-        lawful = alone-of_map h c.self.inside.hasher row made c.self.invariant c.turn-row.ensures;
-      };
-      found = found-of_map h row made c.turn-row.ensures;
+      hasher = ap (λ m. m.hasher) c.self.view_is;
+      amount = moved-length (Unlocks h) 0 row made c.turn-row.ensures ∙ ap (λ m. m.amount) c.self.view_is;
+      lawful = alone-of_map h c.self.inside.hasher row made c.self.invariant c.turn-row.ensures;
+      each = found-of_map h row made c.turn-row.ensures;
     }

@@ -9,12 +9,10 @@ returns-clause-extends g c =
       (
         c.extend-extended.new.self,
         record {
-          behind = record {
-            hasher = stays.hasher ∙ c.alone-alone.ensures.behind.hasher;
-            amount = stays.amount ∙ c.alone-alone.ensures.behind.amount;
-            lawful = c.extend-extended.ensures.lawful;
-          };
-          left = c.end.ensures.left.left;
+          hasher = stays.hasher ∙ c.alone-alone.ensures.hasher;
+          amount = stays.amount ∙ c.alone-alone.ensures.amount;
+          lawful = c.extend-extended.ensures.lawful;
+          each = c.end.ensures.left.each;
         },
         c.extend-extended.ensures.extends,
       ),

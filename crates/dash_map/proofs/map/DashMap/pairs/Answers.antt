@@ -3,7 +3,7 @@ use Rattle.dash_shard.specs.Hashing.{IsAmount, key_hash}
 use Rattle.dash_steps.specs.inner.Sweep.{AddsAlike}
 use Rattle.dash_shard.specs.Lock.{FoundBehind}
 use Rattle.dash_map.proofs.Listing.{none-copied, more-copied}
-use Rattle.dash_map.proofs.Seeing.{read-at, one-more, all-found, none-yet}
+use Rattle.dash_map.proofs.Seeing.{read-at, one-more, all-seen, none-yet}
 use Rattle.dash_map.proofs.map.DashMap.pairs.Goals as goal
 
 pub loop-lock-init : goal.loop-lock-init
@@ -25,6 +25,6 @@ returns g c =
     let count : length c.items-lock-items.result.now ≡ c.args.self.now.amount = ap length c.items-lock-items.ensures ∙ ap (λ m. m.amount) c.self.view_is in
     let all : c.loop-lock.lock-index ≡ c.args.self.now.amount = omega (arith, count, c.loop-lock-test.false, c.loop-lock.auto.lock-index-end) in (
       record { hasher = c.args.self.now.hasher; row = so.0 },
-      all-found (key_hash g.K.PartialEq.eq g.K.Hash.hash_input g.S.BuildHasher g.S.Hasher.Hasher) c.args.self.now c.loop-lock.lock-index so.0 so.1 all (subst IsAmount (ap (λ m. m.amount) c.self.view_is) c.self.invariant.amount),
+      all-seen (key_hash g.K.PartialEq.eq g.K.Hash.hash_input g.S.BuildHasher g.S.Hasher.Hasher) c.args.self.now FoundBehind c.loop-lock.lock-index so.0 so.1 all (subst IsAmount (ap (λ m. m.amount) c.self.view_is) c.self.invariant.amount),
       so.2,
     )

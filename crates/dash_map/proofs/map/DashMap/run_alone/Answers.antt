@@ -8,12 +8,10 @@ returns-clause-ran g c = (
   (
     c.run-outcome.new.self,
     record {
-      behind = record {
-        hasher = c.run-outcome.ensures.stays.hasher ∙ c.alone-alone.ensures.behind.hasher;
-        amount = c.run-outcome.ensures.stays.amount ∙ c.alone-alone.ensures.behind.amount;
-        lawful = c.run-outcome.ensures.lawful;
-      };
-      left = c.end.ensures.left.left;
+      hasher = c.run-outcome.ensures.stays.hasher ∙ c.alone-alone.ensures.hasher;
+      amount = c.run-outcome.ensures.stays.amount ∙ c.alone-alone.ensures.amount;
+      lawful = c.run-outcome.ensures.lawful;
+      each = c.end.ensures.left.each;
     },
     c.run-outcome.ensures.ran,
   ),

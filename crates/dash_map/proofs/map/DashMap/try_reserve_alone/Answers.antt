@@ -8,12 +8,10 @@ returns-clause-reserves g c = (
   (
     c.try_reserve-made.new.self,
     record {
-      behind = record {
-        hasher = c.try_reserve-made.ensures.reserves.stays.hasher ∙ c.alone-alone.ensures.behind.hasher;
-        amount = c.try_reserve-made.ensures.reserves.stays.amount ∙ c.alone-alone.ensures.behind.amount;
-        lawful = c.try_reserve-made.ensures.lawful;
-      };
-      left = c.end.ensures.left.left;
+      hasher = c.try_reserve-made.ensures.reserves.stays.hasher ∙ c.alone-alone.ensures.hasher;
+      amount = c.try_reserve-made.ensures.reserves.stays.amount ∙ c.alone-alone.ensures.amount;
+      lawful = c.try_reserve-made.ensures.lawful;
+      each = c.end.ensures.left.each;
     },
     c.try_reserve-made.ensures.reserves,
   ),

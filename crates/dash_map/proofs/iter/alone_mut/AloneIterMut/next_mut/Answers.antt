@@ -20,7 +20,7 @@ pub returns-in_err-shard_i : goal.returns-in_err-shard_i
 returns-in_err-shard_i g c =
     let w = c.args.self.now in
     rw c.from_residual.ensures (
-      (refl, λ v. tt, record { loan = refl; map = refl; passed = refl; to_come = refl }),
+      (refl, λ v. tt, refl),
       record {
         writes_back = tt;
         value = ap (λ l. option_map (λ p. p.1) (slice_get l 0)) (sym c.in_err-shard_i.ensures.end);

@@ -8,8 +8,8 @@ use Rattle.dash_map.proofs.Stepping.{goes-on, stepped, ends, nearer, more, not-s
 use Rattle.dash_map.proofs.SteppingMut.{leaves-on}
 use Rattle.dash_map.proofs.iter.locked_mut.IterMut.advance.Goals as goal
 
-pub returns-then-is_last : goal.returns-then-is_last
-returns-then-is_last g c =
+pub returns-then-is_last-clause-end : goal.returns-then-is_last-clause-end
+returns-then-is_last-clause-end g c =
     let h = key_hash g.K.PartialEq.eq g.K.Hash.hash_input g.S.BuildHasher g.S.Hasher.Hasher in
     let done = c.loop-self-test.ensures.goes in
     let passed = subst (HasPassed h c.args.self.now) (sym done.0) c.loop-self.invariant.passed in
@@ -30,8 +30,8 @@ loop-self-preserved g c =
       left = leaves-on h c.args.self.now w c.enter.new.self passed (subst (LeavesHeld c.args.self.now) (sym done.0) c.loop-self.invariant.left) c.enter.ensures.left;
     }
 
-pub returns : goal.returns
-returns g c =
+pub returns-clause-steps : goal.returns-clause-steps
+returns-clause-steps g c =
     let h = key_hash g.K.PartialEq.eq g.K.Hash.hash_input g.S.BuildHasher g.S.Hasher.Hasher in
     let here = c.loop-self-test.ensures in
     let old = c.args.self.now in
