@@ -1,21 +1,6 @@
-use Rattle.std.proofs.Common.{◌∙◌}
+use Rattle.dash_shard.specs.Hashing.{key_hash}
+use Rattle.dash_map.proofs.Seeing.{behind-again}
 use Rattle.dash_map.proofs.map.DashMap.extend_alone.Goals as goal
 
 pub returns-clause-extends : goal.returns-clause-extends
-returns-clause-extends g c =
-    let stays = c.extend-extended.ensures.extends.gains.5.stays in (
-      c.alone-alone.result,
-      c.alone-alone.ensures,
-      (
-        c.extend-extended.new.self,
-        record {
-          behind = record {
-            hasher = stays.hasher ∙ c.alone-alone.ensures.behind.hasher;
-            amount = stays.amount ∙ c.alone-alone.ensures.behind.amount;
-            lawful = c.extend-extended.ensures.lawful;
-          };
-          left = c.end.ensures.left.left;
-        },
-        c.extend-extended.ensures.extends,
-      ),
-    )
+returns-clause-extends g c = behind-again (key_hash g.K.PartialEq.eq g.K.Hash.hash_input g.S.BuildHasher g.S.Hasher.Hasher) _ _ c.extend-extended.new.self c.alone-alone.ensures c.extend-extended.ensures.extends.gains.5.stays c.extend-extended.ensures.lawful c.end.ensures.left.left _ c.extend-extended.ensures.extends
