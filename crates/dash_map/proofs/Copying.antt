@@ -9,6 +9,7 @@ use Rattle.dash_shard.specs.Contents.{at}
 use Rattle.dash_shard.specs.Shard.{ShardState, pairs, shard_len, Routes, IsShard}
 use Rattle.dash_shard.specs.inner.Keys.{IsLawful, keys_of}
 use Rattle.dash_shard.proofs.Equals.{along, apart, at-equal}
+use Rattle.dash_shard.proofs.Unions.{tail-none}
 use Rattle.dash_steps.specs.Alike.{alike_pair}
 use Rattle.dash_map.specs.inner.Copies.{or_else, PutsCopy, IsCopying, IsCopied}
 
@@ -36,13 +37,6 @@ module _ {K V : Type 0} (k : K → K → Bool) (v : V → V → Bool) (laws-k : 
       and_from (k r.0 q.0) (v r.1 q.1) (laws-k.congr r.0 p.0 q.0 parts.0 ∙ a) (laws-v.congr r.1 p.1 q.1 parts.1 ∙ b)
 
   module _ {S : Type 0} (h : KeyHash K S) (law : IsLawful h) (equal : (i j : K) → k i j ≡ true → h.eq i j ≡ true) (C : S → S → Type 0) where
-    -- what stands behind the first pair
-    tail-none : (p : K × V) (ps : List (K × V)) (j : K) → at h.eq (p ∷ ps) j ≡ None → at h.eq ps j ≡ None
-    tail-none p ps j none = elim (cases_Bool (h.eq p.0 j)) as (λ _. at h.eq ps j ≡ None) [
-      | inl holds ↦ absurd (none-some p (sym none ∙ ap (λ b. cond b (Some p) (at h.eq ps j)) holds))
-      | inr fails ↦ sym (ap (λ b. cond b (Some p) (at h.eq ps j)) fails) ∙ none
-    ]
-
     own : (p : K × V) (ps : List (K × V)) → at h.eq (p ∷ ps) p.0 ≡ Some p
     own p ps = ap (λ b. cond b (Some p) (at h.eq ps p.0)) (law.laws.refl p.0)
 
@@ -128,7 +122,7 @@ module _ {K V : Type 0} (k : K → K → Bool) (v : V → V → Bool) (laws-k : 
                   absurd (none-some q (sym x.on.distinct.0 ∙ at-equal (keys_of h s) law.laws ps p.0 j put.2 ∙ there))
               | inr fails ↦ let put = put-there j fails in put.0 ∙ x.apart j q (put.1 ∙ there)
             ];
-            on = record { distinct = x.on.distinct.1; routed = λ j away. tail-none p ps j (x.on.routed j away) };
+            on = record { distinct = x.on.distinct.1; routed = λ j away. tail-none (keys_of h s) p ps j (x.on.routed j away) };
             len = omega (arith, x.len, y.len);
             room = subst (λ n. shard_len s ≤ n) (sym y.puts.room) x.room;
             number = y.puts.taken.stays.number ∙ x.number;

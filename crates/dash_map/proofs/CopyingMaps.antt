@@ -10,7 +10,7 @@ use Rattle.dash_map.specs.Copies.{CopiesAlone}
 use Rattle.dash_map.specs.inner.Copies.{IsCopied, AreCopied}
 use Rattle.dash_map.specs.Behind.{SawShards}
 use Rattle.dash_map.specs.Map.{MapState}
-use Rattle.dash_map.proofs.Seeing.{append-cases, SoFar, all-seen}
+use Rattle.dash_map.proofs.Seeing.{IsWhole, SeenSo, append-cases, all-seen}
 
 module _ {K V S : Type 0} (eq k : K → K → Bool) (v : V → V → Bool) (C : S → S → Type 0) (h : KeyHash K S) where
   pub none-copied : AreCopied eq k v C h [] []
@@ -56,14 +56,14 @@ module _ {K V S : Type 0} (eq k : K → K → Bool) (v : V → V → Bool) (C : 
     }
 
   -- a map behind its locks that was copied, each shard when it was held
-  pub copied-map : (m : MapState S) (n : ℕ) (row copies : List (ShardState K V S)) → SoFar h m FoundBehind n row → n ≡ m.amount → IsAmount m.amount → AreCopied eq k v C h row copies
+  pub copied-map : (m : MapState S) (n : ℕ) (copies : List (ShardState K V S)) → SeenSo h m n (λ row. AreCopied eq k v C h row copies) → IsWhole m n
       → (base : S) → base ≡ m.hasher → (hasher : S) → C base hasher → ((s t : S) → C s t → HashAlike h s t) → (made : List (ShardState K V S)) → made ≡ copies
       → SawShards h m (λ a. CopiesAlone eq k v C a (record { hasher = hasher; row = made })) × IsAlone h (record { hasher = hasher; row = made })
-  copied-map m n row copies so all amount are base is hasher clone alike made same =
-      let a : AloneState K V S = record { hasher = m.hasher; row = row } in
-      let found = all-seen h m FoundBehind n row so all amount in
+  copied-map m n copies so all base is hasher clone alike made same =
+      let a : AloneState K V S = record { hasher = m.hasher; row = so.0 } in
+      let found = all-seen h m FoundBehind n so.0 so.1 all in
       let cloned : C m.hasher hasher = subst (λ z. C z hasher) is clone in
-      let made-of = subst (λ l. AreCopied eq k v C h row l) (sym same) are in (
+      let made-of = subst (λ l. AreCopied eq k v C h so.0 l) (sym same) so.2 in (
         (a, found, all-copied a made made-of hasher cloned),
         copied-lawful a made made-of hasher cloned found.lawful (alike _ _ cloned),
       )

@@ -5,7 +5,7 @@ use Rattle.std.proofs.Math.ListN.{take}
 use Rattle.std.proofs.Math.Seq.{take-length}
 use Rattle.std.specs.Cmp.{IsEquivalence}
 use Rattle.std.specs.Map.Calls.{CallableOnEachPair}
-use Rattle.dash_shard.specs.Hashing.{KeyHash, IsAmount}
+use Rattle.dash_shard.specs.Hashing.{KeyHash}
 use Rattle.dash_shard.specs.Lock.{FoundBehind, LeftBehind}
 use Rattle.dash_shard.specs.Shard.{ShardState, SameShard, IsShard, taken, IsTagged}
 use Rattle.dash_shard.specs.Each.{Clears, Shrinks}
@@ -16,7 +16,7 @@ use Rattle.dash_map.specs.Map.{MapState}
 use Rattle.dash_map.specs.AllPairs.{ClearsAlone, ShrinksAlone, RetainsAlone, AltersAllAlone}
 use Rattle.dash_map.specs.inner.Rooms.{SameRoom}
 use Rattle.dash_map.proofs.Lifting.{tagged-moved}
-use Rattle.dash_map.proofs.Seeing.{SoFar, append-cases, none-yet, one-more, all-seen}
+use Rattle.dash_map.proofs.Seeing.{IsWhole, SoFar, append-cases, none-yet, one-more, all-seen}
 use Rattle.dash_map.proofs.Sweeping.{Sweeping, slots_of, slots-more, sweeps-append, callable-behind, retains-alone, alters-all-alone}
 use Rattle.dash_map.proofs.Turning.{Turning, clears-alone, shrinks-alone}
 
@@ -61,12 +61,12 @@ module _ {K V S : Type 0} (h : KeyHash K S) (m : MapState S) where
         each = each-more R so.olds so.news s t (so.stood.count ∙ sym so.stands.count) so.each is;
       }
 
-      module _ (all : n ≡ m.amount) (amount : IsAmount m.amount) where
+      module _ (all : IsWhole m n) where
         all-stood : AreBehind h FoundBehind m (row-of so.olds)
-        all-stood = all-seen h m FoundBehind n so.olds so.stood all amount
+        all-stood = all-seen h m FoundBehind n so.olds so.stood all
 
         all-stand : AreBehind h LeftBehind m (row-of so.news)
-        all-stand = all-seen h m LeftBehind n so.news so.stands all amount
+        all-stand = all-seen h m LeftBehind n so.news so.stands all
 
         all-turned : Turning h R n (row-of so.olds) (row-of so.news)
         all-turned = record {
@@ -80,15 +80,15 @@ module _ {K V S : Type 0} (h : KeyHash K S) (m : MapState S) where
         all-left : (Q : AloneState K V S → AloneState K V S → Type 0) → Q (row-of so.olds) (row-of so.news) → LeavesShards h m Q
         all-left Q did = (row-of so.olds, all-stood, (row-of so.news, all-stand, did))
 
-  pub all-cleared : (n : ℕ) → Leaving Clears n → n ≡ m.amount → IsAmount m.amount → LeavesShards {V = V} h m (ClearsAlone)
-  all-cleared n so all amount =
-      all-left Clears n so all amount (ClearsAlone)
-      (clears-alone h n (row-of so.olds) (row-of so.news) (all-turned Clears n so all amount) (sym so.stands.count))
+  pub all-cleared : (n : ℕ) → Leaving Clears n → IsWhole m n → LeavesShards {V = V} h m (ClearsAlone)
+  all-cleared n so all =
+      all-left Clears n so all (ClearsAlone)
+      (clears-alone h n (row-of so.olds) (row-of so.news) (all-turned Clears n so all) (sym so.stands.count))
 
-  pub all-shrunk : IsEquivalence h.eq → (n : ℕ) → Leaving (Shrinks h.eq) n → n ≡ m.amount → IsAmount m.amount → LeavesShards {V = V} h m (ShrinksAlone h.eq)
-  all-shrunk laws n so all amount =
-      all-left (Shrinks h.eq) n so all amount (ShrinksAlone h.eq)
-      (shrinks-alone h laws n (row-of so.olds) (row-of so.news) (all-stood (Shrinks h.eq) n so all amount).lawful (all-turned (Shrinks h.eq) n so all amount) (sym so.stands.count))
+  pub all-shrunk : IsEquivalence h.eq → (n : ℕ) → Leaving (Shrinks h.eq) n → IsWhole m n → LeavesShards {V = V} h m (ShrinksAlone h.eq)
+  all-shrunk laws n so all =
+      all-left (Shrinks h.eq) n so all (ShrinksAlone h.eq)
+      (shrinks-alone h laws n (row-of so.olds) (row-of so.news) (all-stood (Shrinks h.eq) n so all).lawful (all-turned (Shrinks h.eq) n so all) (sym so.stands.count))
 
   module _ {F : Type 0} (T : F → K → V → Bool → V → F → Type 0) (Q : F → K → V → Type 0) (leaves : K → V × Bool → Option (K × V)) (first : F) where
     -- the closure went over the shards in front of n, and may go on
@@ -110,25 +110,25 @@ module _ {K V S : Type 0} (h : KeyHash K S) (m : MapState S) where
         ready = λ ps. callable-behind T leaves Q f f' s.slots t.slots ps x.swept (so.ready (taken s.slots ++ ps));
       }
 
-      module _ (all : n ≡ m.amount) (amount : IsAmount m.amount) where
+      module _ (all : IsWhole m n) where
         whole : (row : List (ShardState K V S)) → length row ≡ n → take n row ≡ row
         whole row count = ap (λ k. take k row) (sym count) ∙ take-length row
 
         gone : Sweeping h T Q leaves first n (row-of so.left.olds) (row-of so.left.news) f
         gone = record {
-          turning = all-turned SameRoom n so.left all amount;
+          turning = all-turned SameRoom n so.left all;
           swept = subst (λ l. Sweeps T leaves first (slots_of l) (slots_of (take n so.left.news)) f) (sym (whole so.left.olds so.left.stood.count))
               (subst (λ l. Sweeps T leaves first (slots_of so.left.olds) (slots_of l) f) (sym (whole so.left.news so.left.stands.count)) so.swept);
           ready = so.ready _;
         }
 
-  module _ {F : Type 0} (T : F → K → V → Bool → V → F → Type 0) (Q : F → K → V → Type 0) (first : F) (laws : IsEquivalence h.eq) (n : ℕ) (f : F) (all : n ≡ m.amount) (amount : IsAmount m.amount) where
+  module _ {F : Type 0} (T : F → K → V → Bool → V → F → Type 0) (Q : F → K → V → Type 0) (first : F) (laws : IsEquivalence h.eq) (n : ℕ) (f : F) (all : IsWhole m n) where
     pub all-retained : Going T Q if_kept first n f → LeavesShards h m (RetainsAlone h.eq T first)
     all-retained so =
-        all-left SameRoom n so.left all amount (RetainsAlone h.eq T first)
-        (retains-alone h T Q first laws n (row-of so.left.olds) (row-of so.left.news) f (all-stood SameRoom n so.left all amount).lawful (sym so.left.stands.count) (gone T Q if_kept first n f so all amount))
+        all-left SameRoom n so.left all (RetainsAlone h.eq T first)
+        (retains-alone h T Q first laws n (row-of so.left.olds) (row-of so.left.news) f (all-stood SameRoom n so.left all).lawful (sym so.left.stands.count) (gone T Q if_kept first n f so all))
 
     pub all-altered : Going T Q altered first n f → LeavesShards h m (AltersAllAlone h.eq T first)
     all-altered so =
-        all-left SameRoom n so.left all amount (AltersAllAlone h.eq T first)
-        (alters-all-alone h T Q first laws n (row-of so.left.olds) (row-of so.left.news) f (all-stood SameRoom n so.left all amount).lawful (sym so.left.stands.count) (gone T Q altered first n f so all amount))
+        all-left SameRoom n so.left all (AltersAllAlone h.eq T first)
+        (alters-all-alone h T Q first laws n (row-of so.left.olds) (row-of so.left.news) f (all-stood SameRoom n so.left all).lawful (sym so.left.stands.count) (gone T Q altered first n f so all))

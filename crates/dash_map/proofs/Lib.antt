@@ -19,7 +19,6 @@ mod Spots
 mod Sweeping
 mod Taken
 mod Turning
-mod Union
 mod Trying
 mod Walks
 mod Stepping

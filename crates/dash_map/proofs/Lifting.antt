@@ -6,6 +6,7 @@ use Rattle.std.proofs.lemmas.Option.{slice_get-get_or, slice_get_within, same_So
 use Rattle.std.proofs.Math.ListN.{length-set}
 use Rattle.dash_shard.proofs.Rows.{slice_get-set_same, slice_get-set_other}
 use Rattle.dash_shard.proofs.Routing.{route_below}
+use Rattle.dash_shard.proofs.Unions.{OnShards, at-union}
 use Rattle.dash_shard.specs.Hashing.{KeyHash, IsAmount, HashAlike, route_by, route_of_hash}
 use Rattle.dash_shard.specs.inner.Keys.{IsLawful, keys_of}
 use Rattle.dash_shard.specs.Contents.{Keys, keys, at, IsOnShard}
@@ -14,7 +15,6 @@ use Rattle.std.specs.Prelude.{IfOk, IfErr}
 use Rattle.dash_shard.specs.declared.shard.InsertRefused.{InsertRefused}
 use Rattle.dash_shard.specs.Shard.{ShardState, SameShard, IsShard, TakesStep, pairs, IsTagged}
 use Rattle.dash_map.specs.Alone.{IsAlone}
-use Rattle.dash_map.proofs.Union.{OnShards, at-union}
 
 module _ {K V S : Type 0} (h : KeyHash K S) where
   -- a shard knows of its keys what the map knows
@@ -26,7 +26,7 @@ module _ {K V S : Type 0} (h : KeyHash K S) where
   on-shard : (base : S) (n i : ℕ) (s : ShardState K V S) → IsTagged h base n i s → IsOnShard (keys h.eq (route_by h base n) n) i (pairs s)
   on-shard base n i s p = subst (λ w. IsOnShard w i (pairs s)) (keys-same base n i s p) (subst (λ j. IsOnShard (keys_of h s) j (pairs s)) p.number p.shard.contents)
 
-  pub on-shards : (base : S) (row : List (ShardState K V S)) → IsAlone h (record { hasher = base; row = row }) → OnShards (keys h.eq (route_by h base (length row)) (length row)) 0 row
+  pub on-shards : (base : S) (row : List (ShardState K V S)) → IsAlone h (record { hasher = base; row = row }) → OnShards (keys h.eq (route_by h base (length row)) (length row)) pairs 0 row
   on-shards base row a = λ j s e. subst (λ i. IsOnShard (keys h.eq (route_by h base (length row)) (length row)) i (pairs s)) (omega arith) (on-shard base (length row) j s (a.tagged j s e))
 
   pub tagged-moved : (base : S) (n i : ℕ) (s t : ShardState K V S) → IsTagged h base n i s → SameShard s t → IsShard h t → IsTagged h base n i t
@@ -60,24 +60,24 @@ module _ {K V S : Type 0} (h : KeyHash K S) where
     abbrev row' : List (ShardState K V S)
     row' = slice_set row (w.route k) t
 
-    on : OnShards w 0 row
+    on : OnShards w pairs 0 row
     on = on-shards base row a
 
-    on' : OnShards w 0 row'
-    on' = subst (λ n. OnShards (keys h.eq (route_by h base n) n) 0 row') (length-set row (w.route k) t) (on-shards base row' (alone-set base (w.route k) row s t a here stays new))
+    on' : OnShards w pairs 0 row'
+    on' = subst (λ n. OnShards (keys h.eq (route_by h base n) n) pairs 0 row') (length-set row (w.route k) t) (on-shards base row' (alone-set base (w.route k) row s t a here stays new))
 
     -- what stands at a key of the step's shard
     pub at-here : (j : K) → w.route j ≡ w.route k → at w.eq (flat_map pairs row) j ≡ at w.eq (pairs s) j
-    at-here j same = at-union w row j s on (ap (slice_get row) same ∙ here)
+    at-here j same = at-union w pairs row j s on (ap (slice_get row) same ∙ here)
 
     at-after : (j : K) → w.route j ≡ w.route k → at w.eq (flat_map pairs row') j ≡ at w.eq (pairs t) j
-    at-after j same = at-union w row' j t on' (ap (slice_get row') same ∙ slice_get-set_same row (w.route k) t (slice_get_within row (w.route k) s here))
+    at-after j same = at-union w pairs row' j t on' (ap (slice_get row') same ∙ slice_get-set_same row (w.route k) t (slice_get_within row (w.route k) s here))
 
     at-other : (j : K) → w.route j ≢ w.route k → at w.eq (flat_map pairs row') j ≡ at w.eq (flat_map pairs row) j
     at-other j other =
         let u = get_or row' (w.route j) t in
         let there : slice_get row' (w.route j) ≡ Some u = slice_get-get_or row' (w.route j) t (omega (arith, length-set row (w.route k) t, route_below (h.hash base j) (length row) (omega (arith, a.amount.several)))) in
-        at-union w row' j u on' there ∙ sym (at-union w row j u on (slice_get-set_other row (w.route k) (w.route j) t u other there))
+        at-union w pairs row' j u on' there ∙ sym (at-union w pairs row j u on (slice_get-set_other row (w.route k) (w.route j) t u other there))
 
     -- a step at the key k that became so on its shard became so on the map
     pub lifted : (f : Option (K × V) → Option (K × V)) (g : Option (K × V) → Reply K V) → ((j : K) → at w.eq (pairs t) j ≡ line_after w (at_key k f g) j (at w.eq (pairs s) j))

@@ -9,6 +9,7 @@ use Rattle.std.proofs.lemmas.Option.{slice_get-get_or, slice_get_within}
 use Rattle.std.proofs.Math.ListN.{length-set}
 use Rattle.dash_shard.proofs.Rows.{slice_get-set_same, slice_get-set_other}
 use Rattle.dash_shard.proofs.Routing.{route_below}
+use Rattle.dash_shard.proofs.Unions.{OnShards, at-on, at-union}
 use Rattle.dash_shard.specs.Each.{CalledAlong, SweepsBy}
 use Rattle.dash_shard.specs.Hashing.{KeyHash, route_by, route_of_hash}
 use Rattle.dash_shard.specs.inner.Keys.{IsLawful}
@@ -17,6 +18,7 @@ use Rattle.dash_shard.specs.Steps as table
 use Rattle.dash_shard.specs.inner.Steps as parts
 use Rattle.dash_shard.specs.Shard.{ShardState, IsShard, pairs}
 use Rattle.dash_shard.specs.inner.Steps.{after, step_shard}
+use Rattle.dash_steps.specs.Alike.{alike_reply}
 use Rattle.dash_steps.specs.Steps.{step_of, reply_of}
 use Rattle.dash_steps.specs.Takes.{Rules, Answers, Takes, Runs}
 use Rattle.dash_steps.specs.inner.Copied.{AlikeAt}
@@ -31,7 +33,6 @@ use Rattle.dash_map.specs.inner.Run.{rules_in}
 use Rattle.dash_map.specs.inner.Run.{answered}
 use Rattle.dash_map.proofs.Distincts.{distinct-contents}
 use Rattle.dash_map.proofs.Lifting.{on-shards, alone-set}
-use Rattle.dash_map.proofs.Union.{OnShards, at-union}
 
 module _ {K V A : Type 0} (m : Rules K V) (acts : A → table.Act K V) where
   -- The run so far: a front of the steps was taken, and the others are left, the next of them last.
@@ -66,10 +67,6 @@ module _ {K V A : Type 0} (m : Rules K V) (acts : A → table.Act K V) where
       → IsRefused m acts rest fault
   refused-first left rest step fault e why = subst (λ l. IsRefused m acts l fault) (sym (e ∙ turned left step)) why
 
-same-both : {X : Type 0} (t : Bool) (x : X) → cond t x x ≡ x
-same-both true x = refl
-same-both false x = refl
-
 -- a step whose shard is there is refused for want of memory
 pub not-missing : (n p : ℕ) → p < n → (Memory ≡ NoSuchShard) ↔ (n ≤ p)
 not-missing n p below = (λ e. absurd (other e), λ le. absurd (omega (arith, le, below)))
@@ -102,27 +99,14 @@ module _ {F K V : Type 0} (m : Rules K V) (laws : Lawful m) (T : F → K → V �
       ]
 
 -- the pairs on a shard, where equal keys have one route
-module _ {K V : Type 0} (w : Keys K) (laws : IsEquivalence w.eq) (route_same : (j k : K) → w.eq j k ≡ true → w.route j ≡ w.route k) (i : ℕ) where
-  pub at-on : (ps : List (K × V)) (k : K) → at w.eq (on w i ps) k ≡ cond (w.route k == i) (at w.eq ps k) None
-  at-on [] k = sym (same-both (w.route k == i) None)
-  at-on (p ∷ ps) k = elim (cases_Bool (w.eq p.0 k)) as (λ _. at w.eq (on w i (p ∷ ps)) k ≡ cond (w.route k == i) (at w.eq (p ∷ ps) k) None) [
-    | inl same ↦ elim (cases_Bool (w.route k == i)) as (λ _. at w.eq (on w i (p ∷ ps)) k ≡ cond (w.route k == i) (at w.eq (p ∷ ps) k) None) [
-      | inl here ↦ rw (here, same, ap (λ r. r == i) (route_same p.0 k same) ∙ here, same) refl
-      | inr other ↦ rw (other, ap (λ r. r == i) (route_same p.0 k same) ∙ other) (at-on ps k ∙ rw other refl)
-    ]
-    | inr fails ↦ elim (cases_Bool (w.route p.0 == i)) as (λ _. at w.eq (on w i (p ∷ ps)) k ≡ cond (w.route k == i) (at w.eq (p ∷ ps) k) None) [
-      | inl here ↦ rw (fails, here, fails) (at-on ps k)
-      | inr other ↦ rw (fails, other) (at-on ps k)
-    ]
-  ]
-
+module _ {K V : Type 0} (w : Keys K) (route_same : (j k : K) → w.eq j k ≡ true → w.route j ≡ w.route k) (i : ℕ) where
   -- the pairs of shard i are those of the map on it
   pub each-on : (ps qs : List (K × V)) → IsOnShard w i qs → ((k : K) → w.route k ≡ i → at w.eq ps k ≡ at w.eq qs k) → EachOnce w.eq (on w i ps) qs
   each-on ps qs h same = record {
     distinct = h.distinct;
     same = λ k. elim (cases_eq (w.route k) i) as (λ _. at w.eq qs k ≡ at w.eq (on w i ps) k) [
-      | inl here ↦ sym (at-on ps k ∙ rw (eq-eqb (w.route k) i here) (same k here))
-      | inr other ↦ h.routed k other ∙ sym (at-on ps k ∙ rw (ne_eqb (w.route k) i other) refl)
+      | inl here ↦ sym (at-on w route_same i ps k ∙ rw (eq-eqb (w.route k) i here) (same k here))
+      | inr other ↦ h.routed k other ∙ sym (at-on w route_same i ps k ∙ rw (ne_eqb (w.route k) i other) refl)
     ];
   }
 
@@ -158,8 +142,21 @@ module _ {K V S : Type 0} (h : KeyHash K S) (k : K → K → Bool) (v : V → V 
     each-there a i s lawful here =
         let w = keys_in h a in
         let shard : IsOnShard w i (pairs s) = subst (λ n. IsOnShard w n (pairs s)) (omega arith) (on-shards h a.hasher a.row lawful i s here) in
-        each-on w law.laws (λ x y e. ap (route_of_hash (length a.row)) (law.respects a.hasher x y e)) i (contents a) (pairs s) shard
-        (λ j at_i. at-union w a.row j s (on-shards h a.hasher a.row lawful) (ap (slice_get a.row) at_i ∙ here))
+        each-on w (λ x y e. ap (route_of_hash (length a.row)) (law.respects a.hasher x y e)) i (contents a) (pairs s) shard
+        (λ j at_i. at-union w pairs a.row j s (on-shards h a.hasher a.row lawful) (ap (slice_get a.row) at_i ∙ here))
+
+    -- A look at shard i, which an index lends of the row of the map a, and whose reply is of its pairs.
+    pub looked-at : (base : S) (row : List (ShardState K V S)) (a : AloneState K V S) → record { hasher = base; row = row } ≡ a → IsAlone h (record { hasher = base; row = row })
+        → (i : ℕ) (s : ShardState K V S) → i < length row → s ≡ get_or row i s → (step : table.Step K V) (f : List (K × V) → table.Reply K V) → table.line step ≡ table.on_shard i Some f
+        → (reply : table.Reply K V) → IsTrue (alike_reply k v (f (pairs s)) reply) → Takes (rules_in h k v a) (contents a) step reply (contents a)
+    looked-at base row a view lawful i s within read step f is reply alike =
+        let z : AloneState K V S = record { hasher = base; row = row } in
+        let here = slice_get-get_or row i s within ∙ ap Some (sym read) in
+        let w = keys_in h z in
+        subst (λ x. Takes (rules_in h k v x) (contents x) step reply (contents x)) view
+        (takes-look z step reply (subst (λ l. table.line_shard w l < length row) (sym is) within) lawful
+        (record { told = f (pairs s); replies = subst (λ l. table.LineReplies w l (contents z) (f (pairs s))) (sym is) (pairs s, each-there z i s lawful here, refl); alike = alike })
+        (λ j. subst (λ l. at w.eq (contents z) j ≡ table.line_after w l j (at w.eq (contents z) j)) (sym is) (shown (w.route j == i) (at w.eq (contents z) j))))
 
     -- Shard i was swept by calls that did alike what the action f makes.
     module _ (a : AloneState K V S) (i : ℕ) (s t : ShardState K V S) (lawful : IsAlone h a) (here : slice_get a.row i ≡ Some s) {F : Type 0} {T : F → K → V → Bool → V → F → Type 0} {x : F} (r : SweepsBy T h.eq x s t (table.Retain s.number)) (new : IsShard h t) where
@@ -172,20 +169,20 @@ module _ {K V S : Type 0} (h : KeyHash K S) (k : K → K → Bool) (v : V → V 
       pub alone-after : IsAlone h (record { hasher = a.hasher; row = row' })
       alone-after = alone-set h a.hasher i a.row s t lawful here r.does.taken.stays new
 
-      on' : OnShards w 0 row'
-      on' = subst (λ n. OnShards (keys h.eq (route_by h a.hasher n) n) 0 row') (length-set a.row i t) (on-shards h a.hasher row' alone-after)
+      on' : OnShards w pairs 0 row'
+      on' = subst (λ n. OnShards (keys h.eq (route_by h a.hasher n) n) pairs 0 row') (length-set a.row i t) (on-shards h a.hasher row' alone-after)
 
       stood : (j : K) → w.route j ≡ i → at w.eq (contents a) j ≡ at w.eq (pairs s) j
-      stood j same = at-union w a.row j s (on-shards h a.hasher a.row lawful) (ap (slice_get a.row) same ∙ here)
+      stood j same = at-union w pairs a.row j s (on-shards h a.hasher a.row lawful) (ap (slice_get a.row) same ∙ here)
 
       stands : (j : K) → w.route j ≡ i → at w.eq (flat_map pairs row') j ≡ at w.eq (pairs t) j
-      stands j same = at-union w row' j t on' (ap (slice_get row') same ∙ slice_get-set_same a.row i t (slice_get_within a.row i s here))
+      stands j same = at-union w pairs row' j t on' (ap (slice_get row') same ∙ slice_get-set_same a.row i t (slice_get_within a.row i s here))
 
       stays : (j : K) → w.route j ≢ i → at w.eq (flat_map pairs row') j ≡ at w.eq (contents a) j
       stays j other =
           let u = get_or row' (w.route j) t in
           let there : slice_get row' (w.route j) ≡ Some u = slice_get-get_or row' (w.route j) t (omega (arith, length-set a.row i t, route_below (h.hash a.hasher j) (length a.row) (omega (arith, lawful.amount.several)))) in
-          at-union w row' j u on' there ∙ sym (at-union w a.row j u (on-shards h a.hasher a.row lawful) (slice_get-set_other a.row i (w.route j) t u other there))
+          at-union w pairs row' j u on' there ∙ sym (at-union w pairs a.row j u (on-shards h a.hasher a.row lawful) (slice_get-set_other a.row i (w.route j) t u other there))
 
       -- what the calls made of the shard
       became : (j : K) → at h.eq (pairs t) j ≡ option_and_then (λ p. table.if_yes r.act p (table.changed r.act p)) (at h.eq (pairs s) j)

@@ -1,5 +1,5 @@
 -- What is seen of a shard that is held.
-use Rattle.std.proofs.Common.{Bor, ◌≡◌, ◌⊎◌, ℕ, zero, suc, ◌+◌, ◌<◌, Bool, [], ◌∷◌, ◌++◌, slice_get, inl, inr, List, Option, None, Some, length, get_or, ◌-◌, ◌^◌, flat_map, min, sum_by, length-append, arith, refl, sym, ap, subst, ◌∙◌}
+use Rattle.std.proofs.Common.{Bor, ◌≡◌, ◌⊎◌, ℕ, zero, suc, ◌+◌, ◌≤◌, Bool, [], ◌∷◌, ◌++◌, slice_get, inl, inr, List, Option, None, Some, length, ◌-◌, ◌^◌, flat_map, min, sum_by, length-append, arith, refl, sym, ap, subst, ◌∙◌}
 use Rattle.std.proofs.lemmas.Grind.{flat_map-append}
 use Rattle.std.proofs.lemmas.List.{length_push}
 use Rattle.std.proofs.lemmas.List.Sums.{sum_by-append}
@@ -7,21 +7,16 @@ use Rattle.std.proofs.lemmas.Option.{same_Some, none-some}
 use Rattle.std.specs.Prelude.{is_some, IfSome, IsTrue}
 use Rattle.std.specs.Option.{option_map}
 use Rattle.std.specs.Map.Iter.{deref_pair}
-use Rattle.crossbeam_utils.specs.declared.cache_padded.CachePadded.{CachePadded}
-use Rattle.crossbeam_utils.specs.Padded.{padded_value}
 use Rattle.dash_shard.proofs.Rows.{each-more as put-more}
 use Rattle.dash_shard.specs.Hashing.{KeyHash, IsAmount, route_by}
 use Rattle.dash_shard.specs.Contents.{at}
-use Rattle.dash_shard.specs.Held.{FitsTag}
 use Rattle.dash_shard.specs.Lock.{FoundBehind, LeftBehind}
-use Rattle.dash_shard.specs.Shard.{ShardState, SameShard, Routes, IsShard, IsTagged, pairs, shard_len}
-use Rattle.dash_shard.specs.declared.shard.held.ShardTag.{ShardTag}
-use Rattle.dash_map.specs.Behind.{AreBehind, StandsAt, LeavesShard}
+use Rattle.dash_shard.specs.Shard.{ShardState, SameShard, EachAt, Routes, IsShard, IsTagged, pairs, shard_len}
+use Rattle.dash_map.specs.Alone.{AloneState, IsAlone, KeepsRoom}
+use Rattle.dash_map.specs.Behind.{AreBehind, SawShard, SawShards, StandsAt, LeavesShard, LeavesShards}
 use Rattle.dash_map.specs.Map.{MapState}
-use Rattle.dash_map.specs.Locks.{IsMap}
 use Rattle.dash_map.proofs.Lifting.{keys-same, tagged-moved}
 use Rattle.dash_map.proofs.Found.{at-key}
-use Rattle.dash_map.proofs.Moves.{tagged-held}
 
 -- what stands in a list with one item more: what stood there, or the item, at its end
 pub append-cases : {A : Type 0} (xs : List A) (y : A) (i : ℕ) (x : A) → slice_get (xs ++ y ∷ []) i ≡ Some x → (slice_get xs i ≡ Some x) ⊎ ((i ≡ length xs) × (y ≡ x))
@@ -33,20 +28,23 @@ append-cases (z ∷ xs) y (suc i) x e = elim (append-cases xs y i x e) as (λ _.
   | inr new ↦ inr (ap (λ n. suc n) new.0, new.1)
 ]
 
-module _ {K V S : Type 0} (h : KeyHash K S) where
-  -- what is read through a hold of the lock at i, where the key goes, is the key's shard
-  pub seen : (m z : MapState S) → m ≡ z → (locks : List (CachePadded (ShardTag S))) → IsMap m locks → (i : ℕ) → i < length locks → (lock : CachePadded (ShardTag S)) → lock ≡ get_or locks i lock
-      → (tag : ShardTag S) → tag ≡ padded_value lock → (s : ShardState K V S) → FitsTag h tag s → (k : K) → i ≡ route_by h z.hasher z.amount k → (d : ShardState K V S) → d ≡ s
-      → IsTagged h z.hasher z.amount (route_by h z.hasher z.amount k) d
-  seen m z view locks is i within lock read tag same s fits k route d there =
-      subst (λ x. IsTagged h z.hasher z.amount (route_by h z.hasher z.amount k) x) (sym there)
-      (subst (λ n. IsTagged h z.hasher z.amount n s) route (tagged-held h m z view locks is i within lock read tag same s fits))
+-- the map has so many shards, as a map may have
+pub record IsWhole {S : Type 0} (m : MapState S) (n : ℕ) : Type 0 where
+  pub count : n ≡ m.amount
+  pub amount : IsAmount m.amount
 
-  -- the same of any lock
-  pub read-at : (m z : MapState S) → m ≡ z → (row locks : List (CachePadded (ShardTag S))) → locks ≡ row → IsMap m row → (i : ℕ) → i < length locks → (lock : CachePadded (ShardTag S)) → lock ≡ get_or locks i lock
-      → (tag : ShardTag S) → tag ≡ padded_value lock → (s : ShardState K V S) → FitsTag h tag s → (d : ShardState K V S) → d ≡ s → IsTagged h z.hasher z.amount i d
-  read-at m z view row locks all is i within lock read tag same s fits d there =
-      subst (λ x. IsTagged h z.hasher z.amount i x) (sym there) (tagged-held h m z view locks (subst (IsMap m) (sym all) is) i within lock read tag same s fits)
+-- so it is of a count that came to the end of the map's row
+pub at-end : {S : Type 0} (z m : MapState S) → z ≡ m → IsAmount z.amount → (n end : ℕ) → end ≡ z.amount → end ≤ n → n ≤ end → IsWhole m n
+at-end z m view amount n end is past within = subst (λ x. IsWhole x n) view (record { count = omega arith; amount = amount })
+
+module _ {K V S : Type 0} (h : KeyHash K S) where
+  -- the shard of the number that a key goes to
+  pub stands-at : (m : MapState S) (k : K) (i : ℕ) → i ≡ route_by h m.hasher m.amount k → (s : ShardState K V S) → IsTagged h m.hasher m.amount i s → StandsAt h m k s
+  stands-at m k i route s tagged = subst (λ n. IsTagged h m.hasher m.amount n s) route tagged
+
+  -- what is so of it was seen
+  pub saw-shard : (m : MapState S) (k : K) (i : ℕ) → i ≡ route_by h m.hasher m.amount k → (s : ShardState K V S) → IsTagged h m.hasher m.amount i s → FoundBehind s → (P : ShardState K V S → Type 0) → P s → SawShard h m k P
+  saw-shard m k i route s tagged found P is = (s, stands-at m k i route s tagged, found, is)
 
   -- the key goes to the shard of that number
   pub routes : (base : S) (n : ℕ) (k : K) (s : ShardState K V S) → IsTagged h base n (route_by h base n k) s → Routes h s k
@@ -56,7 +54,7 @@ module _ {K V S : Type 0} (h : KeyHash K S) where
   pub left-behind : (m : MapState S) (k : K) (i : ℕ) → i ≡ route_by h m.hasher m.amount k → (s t : ShardState K V S) → IsTagged h m.hasher m.amount i s → FoundBehind s → SameShard s t → IsShard h t
       → LeftBehind t → (R : ShardState K V S → ShardState K V S → Type 0) → R s t → LeavesShard h m k R
   left-behind m k i route s t tagged found stays new left R did =
-      let here : StandsAt h m k s = subst (λ n. IsTagged h m.hasher m.amount n s) route tagged in
+      let here = stands-at m k i route s tagged in
       (s, here, found, (t, tagged-moved h m.hasher m.amount _ s t here stays new, left, did))
 
   -- the shards in front of n, each as it stood when it was held, or as it was left, which P says
@@ -77,18 +75,43 @@ module _ {K V S : Type 0} (h : KeyHash K S) where
         each = put-more (λ _ x. P x) row s so.each is;
       }
 
-      pub all-seen : n ≡ m.amount → IsAmount m.amount → AreBehind h P m (record { hasher = m.hasher; row = row })
-      all-seen all amount =
-          let long : length row ≡ m.amount = so.count ∙ all in
+      pub all-seen : IsWhole m n → AreBehind h P m (record { hasher = m.hasher; row = row })
+      all-seen all =
+          let long : length row ≡ m.amount = so.count ∙ all.count in
           record {
             hasher = refl;
             amount = long;
             lawful = record {
-              amount = subst IsAmount (sym long) amount;
+              amount = subst IsAmount (sym long) all.amount;
               tagged = λ i s e. subst (λ k. IsTagged h m.hasher k i s) (sym long) (so.tagged i s e);
             };
             each = so.each;
           }
+
+  -- Q of the shards in front of n, each as it stood when it was held
+  abbrev pub SeenSo : MapState S → ℕ → (List (ShardState K V S) → Type 0) → Type 0
+  SeenSo m n Q = (row : List (ShardState K V S)) × SoFar m FoundBehind n row × Q row
+
+  module _ (m : MapState S) (Q : List (ShardState K V S) → Type 0) where
+    pub seen-none : Q [] → SeenSo m 0 Q
+    seen-none is = ([], none-yet m FoundBehind, is)
+
+    -- and of one shard more
+    pub seen-more : {P : List (ShardState K V S) → Type 0} (n : ℕ) (so : SeenSo m n P) (s : ShardState K V S) → IsTagged h m.hasher m.amount n s → FoundBehind s → Q (so.0 ++ s ∷ []) → SeenSo m (n + 1) Q
+    seen-more n so s tagged found is = (so.0 ++ s ∷ [], one-more m FoundBehind n so.0 so.1 s tagged found, is)
+
+    -- and of all
+    pub seen-all : (n : ℕ) → SeenSo m n Q → IsWhole m n → SawShards h m (λ a. Q a.row)
+    seen-all n so all = (record { hasher = m.hasher; row = so.0 }, all-seen m FoundBehind n so.0 so.1 all, so.2)
+
+-- what stood behind the locks and stands there again, changed by one owner
+pub behind-again : {K V S : Type 0} (h : KeyHash K S) (m : MapState S) (a b : AloneState K V S) → AreBehind h FoundBehind m a → KeepsRoom a b → IsAlone h b → EachAt b.row (λ _. LeftBehind)
+    → (R : AloneState K V S → AloneState K V S → Type 0) → R a b → LeavesShards h m R
+behind-again h m a b found stays lawful left R did = (
+  a,
+  found,
+  (b, record { hasher = stays.hasher ∙ found.hasher; amount = stays.amount ∙ found.amount; lawful = lawful; each = left }, did),
+)
 
 -- what holds of each pair with an equal key holds of the one that stands at it
 pub at-each : {K V : Type 0} (eq : K → K → Bool) (ps : List (K × V)) (k : K) (P : K × V → Type 0) → ((p : K × V) → IsTrue (eq p.0 k) → P p) → IfSome (at eq ps k) P

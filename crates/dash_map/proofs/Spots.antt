@@ -3,6 +3,7 @@ use Rattle.std.proofs.Common.{◌≡◌, ℕ, ◌<◌, ◌≤◌, Bool, List, le
 use Rattle.std.specs.Prelude.{IfSome, IsSomeAnd}
 use Rattle.std.proofs.lemmas.List.{set-get_or}
 use Rattle.std.proofs.lemmas.Option.{slice_get-get_or}
+use Rattle.dash_shard.proofs.Unions.{at-union}
 use Rattle.dash_shard.specs.Hashing.{KeyHash, route_by}
 use Rattle.dash_shard.specs.inner.Keys.{IsLawful}
 use Rattle.dash_shard.specs.Contents.{Keys, keys, at}
@@ -12,7 +13,6 @@ use Rattle.dash_shard.specs.Shard.{ShardState, SameShard, Routes, IsShard, Takes
 use Rattle.dash_map.specs.Alone.{AloneState, IsAlone, KeepsRoom, TakesAlone, TakesAloneBy, contents, keys_in}
 use Rattle.dash_map.proofs.Lifting.{keys-same, on-shards, alone-set, lifted}
 use Rattle.dash_map.proofs.Rooms.{keeps-set}
-use Rattle.dash_map.proofs.Union.{at-union}
 
 -- the step is on the pair at the key k
 abbrev pub IsKeyed : {K V : Type 0} → Step K V → K → Type 0
@@ -33,16 +33,8 @@ module _ {K V S : Type 0} (h : KeyHash K S) where
   -- the same from what a call knows: of the map's fields, of the key's route, and of what an index lends
   abbrev pub spot-of : {z : AloneState K V S} {k : K} {p : ℕ} {s : ShardState K V S} → IsLawful h → (base : S) (row : List (ShardState K V S)) → record { hasher = base; row = row } ≡ z
       → IsAlone h (record { hasher = base; row = row }) → p ≡ (keys_in h z).route k → p < length z.row → s ≡ get_or row p s → Spot z k p s
-  spot-of law base row view lawful computed below read = record {
-    law = law;
-    base = base;
-    row = row;
-    view = view;
-    lawful = lawful;
-    computed = computed;
-    within = omega (arith, below, ap (λ a. length a.row) view);
-    read = read;
-  }
+  spot-of law base row view lawful computed below read =
+      record { law = law; base = base; row = row; view = view; lawful = lawful; computed = computed; within = omega (arith, below, ap (λ a. length a.row) view); read = read }
 
 module _ {K V S : Type 0} {h : KeyHash K S} {z : AloneState K V S} {k : K} {p : ℕ} {s : ShardState K V S} (x : Spot h z k p s) where
   abbrev w : Keys K
@@ -73,7 +65,7 @@ module _ {K V S : Type 0} {h : KeyHash K S} {z : AloneState K V S} {k : K} {p : 
 
   -- what stands at the key stands on that shard
   pub spot-stands : at h.eq (contents z) k ≡ at h.eq (pairs s) k
-  spot-stands = subst (λ y. at h.eq (contents y) k ≡ at h.eq (pairs s) k) x.view (at-union w x.row k s (on-shards h x.base x.row x.lawful) there)
+  spot-stands = subst (λ y. at h.eq (contents y) k ≡ at h.eq (pairs s) k) x.view (at-union w pairs x.row k s (on-shards h x.base x.row x.lawful) there)
 
   -- so what is known of the one is known of the other
   pub spot-known : (P : K × V → Type 0) → IfSome (at h.eq (contents z) k) P → IfSome (at h.eq (pairs s) k) P

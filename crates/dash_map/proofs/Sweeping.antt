@@ -7,18 +7,19 @@ use Rattle.std.proofs.Math.ListN.{take, drop}
 use Rattle.std.proofs.Math.Seq.{drop-cons, take-length}
 use Rattle.std.proofs.lemmas.Grind.{flat_map-append}
 use Rattle.std.proofs.lemmas.List.{take_more, take_more_set, drop-set-lt}
-use Rattle.std.proofs.lemmas.Option.{slice_get_within, slice_get-get_or, get_or_from_slice_get}
+use Rattle.std.proofs.lemmas.Option.{slice_get_within, get_or_from_slice_get}
 use Rattle.dash_shard.specs.Contents.{Keys, at, Distinct}
 use Rattle.dash_shard.specs.Shard.{ShardState, IsShard, taken, pairs}
-use Rattle.dash_shard.specs.Each.{CalledAlong}
+use Rattle.dash_shard.specs.Steps.{Act}
+use Rattle.dash_shard.specs.Each.{CalledAlong, ByCalls}
 use Rattle.dash_shard.specs.inner.Walks.{Sweeps, SweepsShard, if_kept, altered}
 use Rattle.dash_shard.proofs.Alls.{kept-key, altered-key, length-altered}
 use Rattle.dash_shard.proofs.Remade.{KeepsKey, remade, at-remade, fewer-remade, Acts, acts, makes}
 use Rattle.dash_map.specs.Alone.{AloneState, IsAlone, contents, keys_in}
-use Rattle.dash_map.specs.AllPairs.{RetainsAlone, AltersAllAlone}
+use Rattle.dash_map.specs.AllPairs.{Remakes, RetainsAlone, AltersAllAlone}
 use Rattle.dash_map.specs.inner.Rooms.{SameRoom}
 use Rattle.dash_map.proofs.Distincts.{distinct-contents}
-use Rattle.dash_map.proofs.Turning.{Turning, turning-first, turned, each-turned}
+use Rattle.dash_map.proofs.Turning.{Turning, turning-first, there, turned, each-turned}
 use Rattle.dash_shard.specs.Hashing.{KeyHash}
 
 taken-append : {A : Type 0} (xs ys : List (Option A)) → taken (xs ++ ys) ≡ taken xs ++ taken ys
@@ -71,9 +72,9 @@ module _ {K V S F : Type 0} (h : KeyHash K S)
     ready = subst (λ x. CallableOnEachPair T Q first (contents x)) (sym same) callable;
   }
 
-  module _ (i : ℕ) (old : AloneState K V S) (base : S) (row : List (ShardState K V S)) (f : F) (r : Sweeping i old (record { hasher = base; row = row }) f) (s : ShardState K V S) (within : i < length row) (read : s ≡ get_or row i s) where
+  module _ (i : ℕ) (old : AloneState K V S) (base : S) (row : List (ShardState K V S)) (f : F) (r : Sweeping i old (record { hasher = base; row = row }) f) (s : ShardState K V S) (within : i < length old.row) (read : s ≡ get_or row i s) where
     here : slice_get row i ≡ Some s
-    here = slice_get-get_or row i s within ∙ ap Some (sym read)
+    here = there h SameRoom i old base row r.turning within s read
 
     splits : drop i row ≡ s ∷ drop (i + 1) row
     splits =
@@ -95,7 +96,7 @@ module _ {K V S F : Type 0} (h : KeyHash K S)
         let before : take (i + 1) old.row ≡ take i old.row ++ s ∷ [] = take_more old.row i s (slice_get_within old.row i s was) ∙ ap (λ y. take i old.row ++ y ∷ []) (get_or_from_slice_get old.row i s s was) in
         let after : take (i + 1) (slice_set row i t) ≡ take i row ++ t ∷ [] = take_more_set row i t lt in
         record {
-          turning = turned h SameRoom i old base row r.turning s t here x.stays lawful x.room;
+          turning = turned h SameRoom i old base row r.turning within s t read x.stays lawful x.room;
           swept = subst (λ l. Sweeps T leaves first l (slots_of (take (i + 1) (slice_set row i t))) f') (sym (ap slots_of before ∙ slots-more (take i old.row) s))
               (subst (λ l. Sweeps T leaves first (slots_of (take i old.row) ++ s.slots) l f') (sym (ap slots_of after ∙ slots-more (take i row) t))
               (sweeps-append T leaves first f f' (slots_of (take i old.row)) (slots_of (take i row)) s.slots t.slots r.swept x.swept));
@@ -117,53 +118,45 @@ module _ {K V S F : Type 0} (h : KeyHash K S)
     distinct : Distinct w.eq (taken (slots_of old.row))
     distinct = subst (Distinct w.eq) (sym (taken-slots old.row)) (distinct-contents h laws old a)
 
-    pub did : Acts T leaves w laws first (slots_of old.row) (slots_of now.row) last
+    did : Acts T leaves w laws first (slots_of old.row) (slots_of now.row) last
     did = acts T leaves w laws first (slots_of old.row) (slots_of now.row) last distinct whole
 
-    pub called-all : CalledAlong T did.act first (contents old) last
+    called-all : CalledAlong T did.act first (contents old) last
     called-all = subst (λ ps. CalledAlong T did.act first ps last) (taken-slots old.row) did.called
 
     -- what the map has: what the slots have
-    pub made-all : contents now ≡ taken (remade (makes T leaves w laws did.act) (slots_of old.row))
+    made-all : contents now ≡ taken (remade (makes T leaves w laws did.act) (slots_of old.row))
     made-all = sym (taken-slots now.row) ∙ ap taken did.made
 
-    pub each-made : KeepsKey (makes T leaves w laws did.act) → (j : K) → at w.eq (contents now) j ≡ option_and_then (makes T leaves w laws did.act) (at w.eq (contents old) j)
+    each-made : KeepsKey (makes T leaves w laws did.act) → (j : K) → at w.eq (contents now) j ≡ option_and_then (makes T leaves w laws did.act) (at w.eq (contents old) j)
     each-made keeps j = ap (λ ps. at w.eq ps j) made-all ∙ at-remade (makes T leaves w laws did.act) keeps w laws (slots_of old.row) distinct j
         ∙ ap (λ ps. option_and_then (makes T leaves w laws did.act) (at w.eq ps j)) (taken-slots old.row)
+
+    pub by-calls : ((act : Act K V) → KeepsKey (makes T leaves w laws act)) → ByCalls T first (contents old) (λ act. Remakes h.eq (makes T leaves w laws act) old now)
+    by-calls keeps = record {
+      act = did.act;
+      last = last;
+      called = called-all;
+      does = record {
+        each = each-made (keeps did.act);
+        room = each-turned h SameRoom i old now r.turning all;
+        stays = record { hasher = r.turning.hasher; amount = r.turning.amount };
+      };
+    }
 
 module _ {K V S F : Type 0} (h : KeyHash K S)
     (T : F → K → V → Bool → V → F → Type 0) (Q : F → K → V → Type 0) (first : F) (laws : IsEquivalence h.eq) (i : ℕ) (old now : AloneState K V S) (last : F) (a : IsAlone h old) (all : i ≡ length now.row) where
   pub retains-alone : Sweeping h T Q if_kept first i old now last → RetainsAlone h.eq T first old now
-  retains-alone r =
-      let d = did h T Q if_kept first laws i old now last a r all in
-      record {
-        did = record {
-          act = d.act;
-          last = last;
-          called = called-all h T Q if_kept first laws i old now last a r all;
-          does = record {
-            each = each-made h T Q if_kept first laws i old now last a r all (kept-key d.act);
-            room = each-turned h SameRoom i old now r.turning all;
-            stays = record { hasher = r.turning.hasher; amount = r.turning.amount };
-          };
-        };
-        len = subst (λ n. length (contents now) ≤ n) (ap length (taken-slots old.row))
-            (subst (λ ps. length ps ≤ length (taken (slots_of old.row))) (sym (made-all h T Q if_kept first laws i old now last a r all)) (fewer-remade (makes T if_kept (keys_in h old) laws d.act) (slots_of old.row)));
-      }
+  retains-alone r = record {
+    did = by-calls h T Q if_kept first laws i old now last a r all kept-key;
+    len = subst (λ n. length (contents now) ≤ n) (ap length (taken-slots old.row))
+        (subst (λ ps. length ps ≤ length (taken (slots_of old.row))) (sym (made-all h T Q if_kept first laws i old now last a r all))
+        (fewer-remade (makes T if_kept (keys_in h old) laws (did h T Q if_kept first laws i old now last a r all).act) (slots_of old.row)));
+  }
 
   pub alters-all-alone : Sweeping h T Q altered first i old now last → AltersAllAlone h.eq T first old now
-  alters-all-alone r =
-      let d = did h T Q altered first laws i old now last a r all in
-      record {
-        did = record {
-          act = d.act;
-          last = last;
-          called = called-all h T Q altered first laws i old now last a r all;
-          does = record {
-            each = each-made h T Q altered first laws i old now last a r all (altered-key d.act);
-            room = each-turned h SameRoom i old now r.turning all;
-            stays = record { hasher = r.turning.hasher; amount = r.turning.amount };
-          };
-        };
-        len = ap length (made-all h T Q altered first laws i old now last a r all) ∙ length-altered d.act (slots_of old.row) ∙ ap length (taken-slots old.row);
-      }
+  alters-all-alone r = record {
+    did = by-calls h T Q altered first laws i old now last a r all altered-key;
+    len = ap length (made-all h T Q altered first laws i old now last a r all) ∙ length-altered (did h T Q altered first laws i old now last a r all).act (slots_of old.row)
+        ∙ ap length (taken-slots old.row);
+  }

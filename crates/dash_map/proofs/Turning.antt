@@ -7,6 +7,7 @@ use Rattle.std.specs.Cmp.{IsEquivalence}
 use Rattle.std.specs.Prelude.{IsSomeAnd, Result, OnOk, OnErr}
 use Rattle.dash_shard.proofs.Rows.{slice_get-set_same, slice_get-set_other}
 use Rattle.dash_shard.proofs.Routing.{route_below}
+use Rattle.dash_shard.proofs.Unions.{OnShards, at-union}
 use Rattle.dash_shard.specs.Hashing.{KeyHash, route_by}
 use Rattle.dash_shard.specs.Contents.{Keys, keys, at, EachOnce}
 use Rattle.dash_shard.specs.Shard.{ShardState, SameShard, IsShard, pairs, shard_len}
@@ -15,7 +16,6 @@ use Rattle.dash_map.specs.Alone.{AloneState, IsAlone, EachShard, ReservesAlone, 
 use Rattle.dash_map.specs.AllPairs.{ClearsAlone, ShrinksAlone}
 use Rattle.dash_map.proofs.Distincts.{distinct-contents}
 use Rattle.dash_map.proofs.Lifting.{alone-set, on-shards}
-use Rattle.dash_map.proofs.Union.{OnShards, at-union}
 
 module _ {K V S : Type 0} where
   -- no shard has a pair
@@ -60,22 +60,26 @@ module _ {K V S : Type 0} (h : KeyHash K S) where
       lawful = lawful;
     }
 
-    -- the shard i had its turn
-    pub turned : (i : ℕ) (old : AloneState K V S) (base : S) (row : List (ShardState K V S)) → Turning i old (record { hasher = base; row = row }) → (s t : ShardState K V S) → slice_get row i ≡ Some s
-        → SameShard s t → IsShard h t → R s t → Turning (i + 1) old (record { hasher = base; row = slice_set row i t })
-    turned i old base row r s t here stays new did = record {
-      done = λ j x y below e f. elim (cases_eq j i) as (λ _. R x y) [
-        | inl this ↦
-            let was : s ≡ x = same_Some s x (sym (r.rest i s (omega arith) here) ∙ ap (λ n. slice_get old.row n) (sym this) ∙ e) in
-            let put : t ≡ y = same_Some t y (sym (slice_get-set_same row i t (slice_get_within row i s here)) ∙ ap (λ n. slice_get (slice_set row i t) n) (sym this) ∙ f) in
-            subst (λ a. R a y) was (subst (λ c. R s c) put did)
-        | inr other ↦ r.done j x y (omega (arith, below, other)) e (slice_get-set_other row i j t y other f)
-      ];
-      rest = λ j y from f. r.rest j y (omega (arith, from)) (slice_get-set_other row i j t y (λ e. absurd (omega (arith, from, e))) f);
-      hasher = r.hasher;
-      amount = length-set row i t ∙ r.amount;
-      lawful = alone-set h base i row s t r.lawful here stays new;
-    }
+    module _ (i : ℕ) (old : AloneState K V S) (base : S) (row : List (ShardState K V S)) (r : Turning i old (record { hasher = base; row = row })) (within : i < length old.row) where
+      -- the shard that an index lends
+      pub there : (s : ShardState K V S) → s ≡ get_or row i s → slice_get row i ≡ Some s
+      there s read = slice_get-get_or row i s (omega (arith, within, r.amount)) ∙ ap Some (sym read)
+
+      -- it had its turn
+      pub turned : (s t : ShardState K V S) → s ≡ get_or row i s → SameShard s t → IsShard h t → R s t → Turning (i + 1) old (record { hasher = base; row = slice_set row i t })
+      turned s t read stays new did = record {
+        done = λ j x y below e f. elim (cases_eq j i) as (λ _. R x y) [
+          | inl this ↦
+              let was : s ≡ x = same_Some s x (sym (r.rest i s (omega arith) (there s read)) ∙ ap (λ n. slice_get old.row n) (sym this) ∙ e) in
+              let put : t ≡ y = same_Some t y (sym (slice_get-set_same row i t (slice_get_within row i s (there s read))) ∙ ap (λ n. slice_get (slice_set row i t) n) (sym this) ∙ f) in
+              subst (λ a. R a y) was (subst (λ c. R s c) put did)
+          | inr other ↦ r.done j x y (omega (arith, below, other)) e (slice_get-set_other row i j t y other f)
+        ];
+        rest = λ j y from f. r.rest j y (omega (arith, from)) (slice_get-set_other row i j t y (λ e. absurd (omega (arith, from, e))) f);
+        hasher = r.hasher;
+        amount = length-set row i t ∙ r.amount;
+        lawful = alone-set h base i row s t r.lawful (there s read) stays new;
+      }
 
     -- all had
     pub each-turned : (i : ℕ) (old now : AloneState K V S) → Turning i old now → i ≡ length now.row → EachShard R old now
@@ -95,16 +99,16 @@ module _ {K V S : Type 0} (h : KeyHash K S) where
       → EachOnce h.eq (contents old) (contents now)
   kept-pairs laws old now a b base amount each = record {
     distinct = distinct-contents h laws now b;
-    same = λ k. same-there k (on-shards h old.hasher old.row a) (subst (λ x. OnShards x 0 now.row) (known-same old now base amount) (on-shards h now.hasher now.row b));
+    same = λ k. same-there k (on-shards h old.hasher old.row a) (subst (λ x. OnShards x pairs 0 now.row) (known-same old now base amount) (on-shards h now.hasher now.row b));
   }
     where
-      same-there : (k : K) → OnShards (keys_in h old) 0 old.row → OnShards (keys_in h old) 0 now.row → at h.eq (contents now) k ≡ at h.eq (contents old) k
+      same-there : (k : K) → OnShards (keys_in h old) pairs 0 old.row → OnShards (keys_in h old) pairs 0 now.row → at h.eq (contents now) k ≡ at h.eq (contents old) k
       same-there k on on' =
           let w : Keys K = keys_in h old in
           let below : w.route k < length old.row = route_below (h.hash old.hasher k) (length old.row) (omega (arith, a.amount.several)) in
           let s = some-there old.row (w.route k) below in
           let t = some-there now.row (w.route k) (omega (arith, below, amount)) in
-          at-union w now.row k t.0 on' t.1 ∙ (each (w.route k) s.0 t.0 s.1 t.1).same k ∙ sym (at-union w old.row k s.0 on s.1)
+          at-union w pairs now.row k t.0 on' t.1 ∙ (each (w.route k) s.0 t.0 s.1 t.1).same k ∙ sym (at-union w pairs old.row k s.0 on s.1)
 
   pub shrinks-alone : IsEquivalence h.eq → (i : ℕ) (old now : AloneState K V S) → IsAlone h old → Turning (Shrinks h.eq) i old now → i ≡ length now.row → ShrinksAlone h.eq old now
   shrinks-alone laws i old now a r all =

@@ -13,12 +13,11 @@ use Rattle.dash_steps.proofs.Copies.{Lawful, at_laws}
 use Rattle.dash_shard.specs.Hashing.{KeyHash}
 use Rattle.dash_shard.specs.inner.Keys.{IsLawful}
 use Rattle.dash_shard.proofs.Routing.{route_below}
+use Rattle.dash_shard.proofs.Unions.{at-append, at-append-none, at-on, distinct-append}
 use Rattle.dash_map.specs.Alone.{AloneState, IsAlone}
 use Rattle.dash_map.specs.inner.Run.{rules_in}
 use Rattle.dash_map.specs.Walks.{IsWalk, Stands, StandsAlong, WalksGive}
-use Rattle.dash_map.proofs.Distincts.{distinct-append}
-use Rattle.dash_map.proofs.Running.{at-on, laws-in}
-use Rattle.dash_map.proofs.Union.{at-append, at-append-none}
+use Rattle.dash_map.proofs.Running.{laws-in}
 
 module _ {K V : Type 0} (m : Rules K V) (laws : Lawful m) where
   none-alike : (o : Option (K × V)) → AlikeAt m None o → o ≡ None
@@ -28,18 +27,23 @@ module _ {K V : Type 0} (m : Rules K V) (laws : Lawful m) where
   abbrev alike : List (K × V) → List (K × V) → Type 0
   alike xs ys = pointwise (alike_pair m.alike_key m.alike_value) xs ys ≡ true
 
+  -- of alike lists the first pairs are alike, and of equal keys, and so are the rests
+  heads : (x y : K × V) (xs ys : List (K × V)) → alike (x ∷ xs) (y ∷ ys) → AlikeAt m (Some x) (Some y) × (m.keys.eq x.0 y.0 ≡ true) × alike xs ys
+  heads x y xs ys a =
+      let both = and_parts (alike_pair m.alike_key m.alike_value x y) (pointwise (alike_pair m.alike_key m.alike_value) xs ys) a in
+      (both.0, laws.alike_equal x.0 y.0 (and_parts (m.alike_key x.0 y.0) (m.alike_value x.1 y.1) both.0).0, both.1)
+
   -- alike lists have alike pairs at each key
   alike-at : (xs ys : List (K × V)) (k : K) → alike xs ys → AlikeAt m (at m.keys.eq xs k) (at m.keys.eq ys k)
   alike-at [] [] k a = refl
   alike-at [] (y ∷ ys) k a = cc
   alike-at (x ∷ xs) [] k a = cc
   alike-at (x ∷ xs) (y ∷ ys) k a =
-      let both = and_parts (alike_pair m.alike_key m.alike_value x y) (pointwise (alike_pair m.alike_key m.alike_value) xs ys) a in
-      let key = and_parts (m.alike_key x.0 y.0) (m.alike_value x.1 y.1) both.0 in
-      let same : m.keys.eq x.0 k ≡ m.keys.eq y.0 k = laws.equal.congr x.0 y.0 k (laws.alike_equal x.0 y.0 key.0) in
+      let here = heads x y xs ys a in
+      let same : m.keys.eq x.0 k ≡ m.keys.eq y.0 k = laws.equal.congr x.0 y.0 k here.1 in
       elim (cases_Bool (m.keys.eq x.0 k)) as (λ _. AlikeAt m (at m.keys.eq (x ∷ xs) k) (at m.keys.eq (y ∷ ys) k)) [
-        | inl equal ↦ rw (equal, sym same ∙ equal) both.0
-        | inr other ↦ rw (other, sym same ∙ other) (alike-at xs ys k both.1)
+        | inl equal ↦ rw (equal, sym same ∙ equal) here.0
+        | inr other ↦ rw (other, sym same ∙ other) (alike-at xs ys k here.2)
       ]
 
   alike-distinct : (xs ys : List (K × V)) → alike xs ys → Distinct m.keys.eq xs → Distinct m.keys.eq ys
@@ -47,10 +51,9 @@ module _ {K V : Type 0} (m : Rules K V) (laws : Lawful m) where
   alike-distinct [] (y ∷ ys) a d = cc
   alike-distinct (x ∷ xs) [] a d = tt
   alike-distinct (x ∷ xs) (y ∷ ys) a d =
-      let both = and_parts (alike_pair m.alike_key m.alike_value x y) (pointwise (alike_pair m.alike_key m.alike_value) xs ys) a in
-      let key = and_parts (m.alike_key x.0 y.0) (m.alike_value x.1 y.1) both.0 in
-      let none : at m.keys.eq xs y.0 ≡ None = sym (at-equal m.keys laws.equal xs x.0 y.0 (laws.alike_equal x.0 y.0 key.0)) ∙ d.0 in
-      (none-alike (at m.keys.eq ys y.0) (subst (λ o. AlikeAt m o (at m.keys.eq ys y.0)) none (alike-at xs ys y.0 both.1)), alike-distinct xs ys both.1 d.1)
+      let here = heads x y xs ys a in
+      let none : at m.keys.eq xs y.0 ≡ None = sym (at-equal m.keys laws.equal xs x.0 y.0 here.1) ∙ d.0 in
+      (none-alike (at m.keys.eq ys y.0) (subst (λ o. AlikeAt m o (at m.keys.eq ys y.0)) none (alike-at xs ys y.0 here.2)), alike-distinct xs ys here.2 d.1)
 
   -- what the reply to a Read has
   record HasShard (i : ℕ) (P l : List (K × V)) : Type 0 where
@@ -63,7 +66,7 @@ module _ {K V : Type 0} (m : Rules K V) (laws : Lawful m) where
       let ps : List (K × V) = a.replies.0 in
       let like : alike ps l = subst (λ r. alike_reply m.alike_key m.alike_value r (Pairs l) ≡ true) a.replies.2 a.alike in
       let there : (k : K) → AlikeAt m (at m.keys.eq (on m.keys i P) k) (at m.keys.eq l k) = λ k. subst (λ o. AlikeAt m o (at m.keys.eq l k)) (a.replies.1.same k) (alike-at ps l k like) in
-      let said : (k : K) → at m.keys.eq (on m.keys i P) k ≡ cond (m.keys.route k == i) (at m.keys.eq P k) None = at-on m.keys laws.equal laws.route_same i P in
+      let said : (k : K) → at m.keys.eq (on m.keys i P) k ≡ cond (m.keys.route k == i) (at m.keys.eq P k) None = at-on m.keys laws.route_same i P in
       record {
         once = alike-distinct ps l like a.replies.1.distinct;
         here = λ k same. subst (λ o. AlikeAt m o (at m.keys.eq l k)) (said k ∙ ap (λ b. cond b (at m.keys.eq P k) None) (eq-eqb (m.keys.route k) i same)) (there k);

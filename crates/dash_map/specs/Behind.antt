@@ -1,4 +1,4 @@
--- What calls of a map promise where others may change it: of shards that stood behind its locks, and of what they left there.
+-- What calls of a map promise where others may change it: of shards that were found behind its locks, and of what they left there.
 use Rattle.std.specs.Prelude.{ℕ, ◌≡◌, Bool, List, Option, length}
 use Rattle.std.specs.Map.Calls.{CallableOnEachPair}
 use Rattle.dash_shard.specs.Hashing.{KeyHash, route_by}
@@ -23,11 +23,11 @@ module _ {K V S : Type 0} (h : KeyHash K S) where
   abbrev pub StandsAt : MapState S → K → ShardState K V S → Type 0
   StandsAt m key s = IsShardOf m (route_by h m.hasher m.amount key) s
 
-  -- P is so of a shard that stood where the key goes
+  -- P is so of a shard that was found where the key goes
   abbrev pub SawShard : MapState S → K → (ShardState K V S → Type 0) → Type 0
   SawShard m key P = (s : ShardState K V S) × StandsAt m key s × FoundBehind s × P s
 
-  -- P is so of what stood at the key: a pair, or none
+  -- P is so of what was found at the key: a pair, or none
   abbrev pub SawAt : MapState S → K → (Option (K × V) → Type 0) → Type 0
   SawAt m key P = SawShard m key (λ s. P (at h.eq (pairs s) key))
 
@@ -35,7 +35,7 @@ module _ {K V S : Type 0} (h : KeyHash K S) where
   abbrev pub LeftShard : MapState S → K → (ShardState K V S → Type 0) → Type 0
   LeftShard m key P = (t : ShardState K V S) × StandsAt m key t × LeftBehind t × P t
 
-  -- R of a shard that stood where the key goes, and of the one that was left there
+  -- R of a shard that was found where the key goes, and of the one that was left there
   abbrev pub LeavesShard : MapState S → K → (ShardState K V S → ShardState K V S → Type 0) → Type 0
   LeavesShard m key R = SawShard m key (λ s. LeftShard m key (R s))
 
@@ -66,6 +66,6 @@ module _ {K V S : Type 0} (h : KeyHash K S) where
   abbrev pub LeftShards : MapState S → (AloneState K V S → Type 0) → Type 0
   LeftShards m P = (b : AloneState K V S) × AreBehind LeftBehind m b × P b
 
-  -- R of shards that stood behind the locks of this map, each when its turn came, and of those that were left there
+  -- R of shards that were found behind the locks of this map, each when its turn came, and of those that were left there
   abbrev pub LeavesShards : MapState S → (AloneState K V S → AloneState K V S → Type 0) → Type 0
   LeavesShards m R = SawShards m (λ a. LeftShards m (R a))

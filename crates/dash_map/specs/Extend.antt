@@ -72,6 +72,6 @@ module _ {K V S : Type 0} (h : KeyHash K S) where
       pub gains : Gave becomes gives iter (refused_pair result) (λ ps. Gains old ps new)
       pub refused : IfErr result (λ e. HasNoRoom e.key new)
 
-    -- the same of shards that stood behind the locks of this map, and of those that were left there
+    -- the same of shards that were found behind the locks of this map, and of those that were left there
     abbrev pub ExtendsBehind : MapState S → Result (Unit {0}) (ExtendRefused K V) → Type 0
     ExtendsBehind m result = LeavesShards h m (λ old new. Extends old new result)

@@ -31,6 +31,6 @@ pub record Ran {K V A : Type 0} (m : Rules K V) (acts : A → table.Act K V) (P 
 abbrev pub RanAlone : {K V A S : Type 0} → KeyHash K S → (K → K → Bool) → (V → V → Bool) → (A → table.Act K V) → AloneState K V S → AloneState K V S → List (ShardStep K V A) → RunOutcome K V A → Type 0
 RanAlone h k v acts old new steps outcome = Ran (rules k v (keys_in h old)) acts (contents old) (contents new) steps outcome
 
--- the run was one on shards that stood behind the locks of this map, and what it left stands there
+-- the run was one on shards that were found behind the locks of this map, and what it left was left there
 abbrev pub RanBehind : {K V A S : Type 0} → KeyHash K S → (K → K → Bool) → (V → V → Bool) → (A → table.Act K V) → MapState S → List (ShardStep K V A) → RunOutcome K V A → Type 0
 RanBehind h k v acts m steps outcome = LeavesShards h m (λ old new. RanAlone h k v acts old new steps outcome)

@@ -15,12 +15,13 @@ ghost use Rattle.dash_map.specs.Walking.{at_start};
 ghost use Rattle.dash_shard.specs.Held.{Inserts};
 ghost use Rattle.dash_shard.specs.Steps.{RemoveIf, RemoveIfMut};
 
-use crate::iter::{Iter, IterMut};
+use crate::iter::Iter;
 use crate::map::DashMap;
 use core::mem::replace_with;
 use dash_ref::mapref::one::{Ref, RefMut};
 use dash_shard::error::TryReserveError;
 use dash_shard::keyed::Keyed;
+use dash_shard::lock::RwLockReadGuard;
 use dash_shard::shard::held::ShardMut;
 use dash_shard::shard::{InsertRefused, Shard};
 use std::hash::{BuildHasher, Hash};
@@ -57,6 +58,20 @@ impl<K: Eq + Hash, V, S: BuildHasher> DashMap<K, V, S> {
     {
         let hash = self.hash_usize(key);
         (hash as u64, self.determine_shard(hash))
+    }
+
+    // Waits until no writer has the shard, and holds it for reading.
+    #[inline]
+    pub(crate) fn read_shard<R: Wait + Clock>(
+        &self,
+        rt: &R,
+        shard: usize,
+    ) -> RwLockReadGuard<'_, Shard<K, V, S>>
+        requires { shard < self.now.amount }
+        ensures tagged { IsShardOf ⟦<Self as Keyed>⟧.by self.now shard result.value }
+        ensures found { FoundBehind result.value }
+    {
+        self.row[shard].read(rt)
     }
 
     /// Waits until nobody has the shard, and holds it for writing. The original lends the row of locks.
@@ -107,15 +122,6 @@ impl<K: Eq + Hash, V, S: BuildHasher> DashMap<K, V, S> {
         Iter::new(self, rt)
     }
 
-    /// A walk over the pairs, by rising shard, their values to be written. This call waits for nobody; the walk's steps do. None takes
-    /// memory.
-    #[inline]
-    pub fn iter_mut<'a, R>(&'a self, rt: &'a R) -> IterMut<'a, K, V, S, R>
-        ensures { result ≡ at_start self.now }
-    {
-        IterMut::new(self, rt)
-    }
-
     /// The pair whose key equals `key`, with a hold of its shard for reading. Waits until no writer has the shard.
     ///
     /// Till the reference is dropped, whoever wants to write the shard waits; in the same thread that is a deadlock. It takes no memory.
@@ -124,7 +130,7 @@ impl<K: Eq + Hash, V, S: BuildHasher> DashMap<K, V, S> {
         ensures { IsGot ⟦<Self as Keyed>⟧.by self.now key.now result }
     {
         let (hash, idx) = self.route_of(key);
-        Ref::find(self.row[idx].read(rt), hash, key)
+        Ref::find(self.read_shard(rt, idx), hash, key)
     }
 
     /// The pair whose key equals `key`, with a hold of its shard for writing. Waits until nobody has the shard.
@@ -187,7 +193,7 @@ impl<K: Eq + Hash, V, S: BuildHasher> DashMap<K, V, S> {
         ensures { SawAt ⟦<Self as Keyed>⟧.by self.now key.now (λ p. Viewed F.FnOnce f p result) }
     {
         let (hash, idx) = self.route_of(key);
-        let guard = self.row[idx].read(rt);
+        let guard = self.read_shard(rt, idx);
         let (key, value) = find(&guard, hash, key)?;
         Some(f(key, value))
     }
@@ -211,7 +217,7 @@ impl<K: Eq + Hash, V, S: BuildHasher> DashMap<K, V, S> {
         ensures { SawAt {V = V} ⟦<Self as Keyed>⟧.by self.now key.now (λ p. result ≡ is_some p) }
     {
         let (hash, idx) = self.route_of(key);
-        let guard = self.row[idx].read(rt);
+        let guard = self.read_shard(rt, idx);
         find(&guard, hash, key).is_some()
     }
 
@@ -221,8 +227,8 @@ impl<K: Eq + Hash, V, S: BuildHasher> DashMap<K, V, S> {
         ensures { SawShards {V = V} ⟦<Self as Keyed>⟧.by self.now (λ a. result ≡ len_in a) }
     {
         let mut len: usize = 0;
-        for lock in self.row.items() {
-            let shard = lock.read(rt);
+        for idx in 0..self.row.len() {
+            let shard = self.read_shard(rt, idx);
             len = len.saturating_add(shard.len());
         }
         len
@@ -241,8 +247,8 @@ impl<K: Eq + Hash, V, S: BuildHasher> DashMap<K, V, S> {
         ensures { SawShards {V = V} ⟦<Self as Keyed>⟧.by self.now (λ a. result ≡ room_in a) }
     {
         let mut capacity: usize = 0;
-        for lock in self.row.items() {
-            let shard = lock.read(rt);
+        for idx in 0..self.row.len() {
+            let shard = self.read_shard(rt, idx);
             capacity = capacity.saturating_add(shard.capacity());
         }
         capacity

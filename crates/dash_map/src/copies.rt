@@ -80,8 +80,8 @@ impl<K: KeptKey + Drop, V: Kept + Drop, S: BuildHasher + Clone + Drop> DashMap<K
         let alloc = self.row.allocator();
         let hasher = self.hasher.clone()?;
         let mut copies = Vec::with_capacity(alloc, self.row.len())?;
-        for lock in self.row.items() {
-            let shard = lock.read(rt);
+        for idx in 0..self.row.len() {
+            let shard = self.read_shard(rt, idx);
             copies.push_reserved(copy_shard(alloc, &shard)?);
         }
         let row = Row::of(alloc, copies)?;

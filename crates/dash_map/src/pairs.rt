@@ -40,8 +40,8 @@ impl<K: Eq + Hash + Kept + Drop, V: Kept + Drop, S: BuildHasher> DashMap<K, V, S
         ensures { IfOk result (λ list. SawShards ⟦<Self as Keyed>⟧.by self.now (CopiesPairs K.alike V.alike list.items)) }
     {
         let mut copies = Vec::with_capacity(self.row.allocator(), self.len(rt))?;
-        for lock in self.row.items() {
-            let shard = lock.read(rt);
+        for idx in 0..self.row.len() {
+            let shard = self.read_shard(rt, idx);
             add_copies(&mut copies, shard.iter())?;
         }
         Ok(copies)

@@ -216,7 +216,7 @@ impl<K: Eq + Hash, V, S: BuildHasher> Map<K, V, S> for DashMap<K, V, S> {
         rt: &R,
         shard: usize,
     ) -> RwLockReadGuard<'_, Shard<K, V, S>> {
-        self.row[shard].read(rt)
+        self.read_shard(rt, shard)
     }
 
     #[inline]

@@ -13,19 +13,19 @@ module _ {K V : Type 0} (w : Keys K) where
     | inr other ↦ ap (λ b. cond b (Some p) (at w.eq (ps ++ qs) k)) other ∙ at-append ps qs k (sym (ap (λ b. cond b (Some p) (at w.eq ps k)) other) ∙ none)
   ]
 
-  at-append-none : (ps qs : List (K × V)) (k : K) → at w.eq qs k ≡ None → at w.eq (ps ++ qs) k ≡ at w.eq ps k
+  pub at-append-none : (ps qs : List (K × V)) (k : K) → at w.eq qs k ≡ None → at w.eq (ps ++ qs) k ≡ at w.eq ps k
   at-append-none [] qs k none = none
   at-append-none (p ∷ ps) qs k none = ap (λ o. cond (w.eq p.0 k) (Some p) o) (at-append-none ps qs k none)
 
   -- what stands nowhere in a list stands nowhere behind its first pair
-  tail-none : (p : K × V) (ps : List (K × V)) (k : K) → at w.eq (p ∷ ps) k ≡ None → at w.eq ps k ≡ None
+  pub tail-none : (p : K × V) (ps : List (K × V)) (k : K) → at w.eq (p ∷ ps) k ≡ None → at w.eq ps k ≡ None
   tail-none p ps k none = elim (cases_Bool (w.eq p.0 k)) as (λ _. at w.eq ps k ≡ None) [
     | inl same ↦ absurd (none-some p (sym none ∙ ap (λ b. cond b (Some p) (at w.eq ps k)) same))
     | inr other ↦ sym (ap (λ b. cond b (Some p) (at w.eq ps k)) other) ∙ none
   ]
 
   -- two such lists, where no key of the one stands in the other
-  distinct-append : IsEquivalence w.eq → (ps qs : List (K × V)) → Distinct w.eq ps → Distinct w.eq qs → ((k : K) → (at w.eq ps k ≡ None → ⊥) → at w.eq qs k ≡ None) → Distinct w.eq (ps ++ qs)
+  pub distinct-append : IsEquivalence w.eq → (ps qs : List (K × V)) → Distinct w.eq ps → Distinct w.eq qs → ((k : K) → (at w.eq ps k ≡ None → ⊥) → at w.eq qs k ≡ None) → Distinct w.eq (ps ++ qs)
   distinct-append laws [] qs d e apart = e
   distinct-append laws (p ∷ ps) qs d e apart = (
     at-append ps qs p.0 d.0 ∙ apart p.0 (λ none. none-some p (sym none ∙ ap (λ b. cond b (Some p) (at w.eq ps p.0)) (laws.refl p.0))),

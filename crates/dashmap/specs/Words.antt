@@ -14,7 +14,7 @@ pub use Rattle.dash_ref.specs.EntryCases.{MatchEntry, IsEntryOf}
 pub use Rattle.dash_ref.specs.declared.mapref.entry.Entry.{Entry}
 pub use Rattle.dash_ref.specs.declared.mapref.entry.Entry.TheVariants.{Occupied, Vacant}
 pub use Rattle.dash_map.specs.Alone.{AloneState, contents, IsAlone, KeepsRoom, ReservesAlone, TakesAlone, TakesAloneBy, keys_in, len_in, room_in}
-pub use Rattle.dash_map.specs.Behind.{IsBehind, LeavesShard, LeavesShards, LeftShard, LeftShards, SawAt, SawShard, SawShards, IsShardOf, StandsAt, Removes, RemovesBy, AltersBy}
+pub use Rattle.dash_map.specs.Behind.{AreBehind, LeavesShard, LeavesShards, LeftShard, LeftShards, SawAt, SawShard, SawShards, IsShardOf, StandsAt, Removes, RemovesBy, AltersBy}
 pub use Rattle.dash_map.specs.Gets.{IsGot, IsGotMut, IsGotEntry}
 pub use Rattle.dash_map.specs.Lends.{with_value_at}
 pub use Rattle.dash_map.specs.Walking.{IterState, StepsOn, GivesPair, FindsEnd, at_start}

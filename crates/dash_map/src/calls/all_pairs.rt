@@ -10,16 +10,13 @@ use std::hash::{BuildHasher, Hash};
 use std::rt::Clock;
 use std::sync::Wait;
 
-impl<K: Eq + Hash, V, S: BuildHasher> DashMap<K, V, S> {
+impl<K: Eq + Hash + Drop, V: Drop, S: BuildHasher> DashMap<K, V, S> {
     /// Keeps the pairs on which `f` answers yes, each with the value that `f` leaves, and lets the others go. It waits until nobody has a
     /// shard, for one shard after the other, in rising order. It takes no memory, and can't be refused.
     ///
     /// `f` is called once at each pair, while the pair's shard is held: a call of this map from `f` deadlocks where it wants that shard.
     /// Others may change the shards that it left, and those that it comes to.
     pub fn retain<R: Wait + Clock, F: FnMut(&K, &mut V) -> bool>(&self, rt: &R, mut f: F)
-    where
-        K: Drop,
-        V: Drop,
         requires { CallableOnPairs (CalledAtPair F.FnMut) (TakesPair F.FnMut) f }
         ensures { LeavesShards ⟦<Self as Keyed>⟧.by self.now (RetainsAlone K.eq (CalledAtPair F.FnMut) f) }
     {
@@ -31,9 +28,6 @@ impl<K: Eq + Hash, V, S: BuildHasher> DashMap<K, V, S> {
     /// Lets all pairs go; the room stays. It waits until nobody has a shard, for one shard after the other, in rising order: others may
     /// put pairs in those that it left. It takes no memory, and can't be refused.
     pub fn clear<R: Wait + Clock>(&self, rt: &R)
-    where
-        K: Drop,
-        V: Drop,
         ensures { LeavesShards {V = V} ⟦<Self as Keyed>⟧.by self.now ClearsAlone }
     {
         for idx in 0..self.row.len() {
@@ -41,6 +35,19 @@ impl<K: Eq + Hash, V, S: BuildHasher> DashMap<K, V, S> {
         }
     }
 
+    /// Gives back what memory the shards have for more pairs than they hold; the pairs stay. It waits as `clear` does.
+    ///
+    /// A shard takes memory for its new slots, and keeps the old ones where there is none, so that it can't be refused.
+    pub fn shrink_to_fit<R: Wait + Clock>(&self, rt: &R)
+        ensures { LeavesShards {V = V} ⟦<Self as Keyed>⟧.by self.now (ShrinksAlone K.eq) }
+    {
+        for idx in 0..self.row.len() {
+            self.shards_mut(rt, idx).shrink_to_fit();
+        }
+    }
+}
+
+impl<K: Eq + Hash, V, S: BuildHasher> DashMap<K, V, S> {
     /// Puts what `f` makes of each value where it stood. It waits as `retain` does, and holds each shard while `f` runs over its pairs.
     /// It takes no memory, and can't be refused.
     pub fn alter_all<R: Wait + Clock, F: FnMut(&K, V) -> V>(&self, rt: &R, mut f: F)
@@ -49,20 +56,6 @@ impl<K: Eq + Hash, V, S: BuildHasher> DashMap<K, V, S> {
     {
         for idx in 0..self.row.len() {
             f = self.shards_mut(rt, idx).alter_all_by(f);
-        }
-    }
-
-    /// Gives back what memory the shards have for more pairs than they hold; the pairs stay. It waits as `clear` does.
-    ///
-    /// A shard takes memory for its new slots, and keeps the old ones where there is none, so that it can't be refused.
-    pub fn shrink_to_fit<R: Wait + Clock>(&self, rt: &R)
-    where
-        K: Drop,
-        V: Drop,
-        ensures { LeavesShards {V = V} ⟦<Self as Keyed>⟧.by self.now (ShrinksAlone K.eq) }
-    {
-        for idx in 0..self.row.len() {
-            self.shards_mut(rt, idx).shrink_to_fit();
         }
     }
 }

@@ -128,22 +128,26 @@ fn take_out<K: Eq + Hash, V, S: BuildHasher>(
     }
 }
 
-impl<'a, K: Eq + Hash, V, S: BuildHasher, R> IterMut<'a, K, V, S, R> {
+impl<K: Eq + Hash, V, S: BuildHasher> DashMap<K, V, S> {
+    /// A walk over the pairs, by rising shard, their values to be written. This call waits for nobody; the walk's steps do. None takes
+    /// memory.
     #[inline]
-    pub(crate) fn new(map: &'a DashMap<K, V, S>, rt: &'a R) -> Self
-        ensures { result ≡ at_start map.now }
+    pub fn iter_mut<'a, R>(&'a self, rt: &'a R) -> IterMut<'a, K, V, S, R>
+        ensures { result ≡ at_start self.now }
     {
         IterMut {
             rt,
-            map,
+            map: self,
             shard_i: 0,
             guard: None,
-            loan: Loan::new(map.row.allocator()),
+            loan: Loan::new(self.row.allocator()),
             position: 0,
             marker: PhantomData,
         }
     }
+}
 
+impl<'a, K: Eq + Hash, V, S: BuildHasher, R> IterMut<'a, K, V, S, R> {
     // Goes to the next pair of the shard that is held, if there is one.
     #[inline]
     fn goes_here(&mut self) -> bool

@@ -1,8 +1,10 @@
-use Rattle.std.proofs.Common.{sym, subst, ◌∙◌, arith}
+use Rattle.std.proofs.Common.{◌∷◌, sym, subst, ◌∙◌, arith}
 use Rattle.dash_shard.specs.Hashing.{key_hash}
 use Rattle.dash_shard.proofs.Lawful.{lawful-of}
 use Rattle.dash_map.specs.inner.Copies.{IsCopying}
 use Rattle.dash_map.proofs.Copying.{begins, put-absent, put-route, goes-on}
+use Rattle.dash_map.proofs.copies.copy_shard.Given.{Over}
+use Rattle.dash_map.proofs.copies.copy_shard.Goals.{In-Some}
 use Rattle.dash_map.proofs.copies.copy_shard.Goals as goal
 
 pub loop-key-init : goal.loop-key-init
@@ -16,24 +18,19 @@ loop-key-init g c =
     new.empty (omega (arith, new.capacity, c.len.ensures.len)) (new.number ∙ c.number.ensures.number) (new.amount ∙ c.amount.ensures.amount) clone (c.requires _ _ clone) c.number.ensures.lawful new.lawful in
     subst (λ ps. IsCopying g.K.PartialEq.eq g.K.Kept.alike g.V.Kept.alike g.S.Clone.is_clone h s c.in-Ok.copy ps) (sym (c.into_iter-key-iterator.ensures.into_iter_gives ∙ c.iter-key-items.ensures.pairs)) all
 
+-- the pair that the walk gives is the first of those that are left to copy
+left : (g : Over) (c : In-Some g) → IsCopying g.K.PartialEq.eq g.K.Kept.alike g.V.Kept.alike g.S.Clone.is_clone (key_hash g.K.PartialEq.eq g.K.Hash.hash_input g.S.BuildHasher g.S.Hasher.Hasher) c.args.shard.now c.loop-key.copy ((c.in-Some.key.now, c.in-Some.value.now) ∷ c.next.new.self)
+left g c = subst (λ ps. IsCopying g.K.PartialEq.eq g.K.Kept.alike g.V.Kept.alike g.S.Clone.is_clone (key_hash g.K.PartialEq.eq g.K.Hash.hash_input g.S.BuildHasher g.S.Hasher.Hasher) c.args.shard.now c.loop-key.copy ps) c.in-Some.ensures.steps c.loop-key.invariant
+
 pub put_copy-requires-clause-route : goal.put_copy-requires-clause-route
 put_copy-requires-clause-route g c =
-    let h = key_hash g.K.PartialEq.eq g.K.Hash.hash_input g.S.BuildHasher g.S.Hasher.Hasher in
-    let law = lawful-of g.S.BuildHasher g.S.Hasher.Hasher g.met.K.Eq.laws g.met.K.Hash.respects_eq in
-    let left = subst (λ ps. IsCopying g.K.PartialEq.eq g.K.Kept.alike g.V.Kept.alike g.S.Clone.is_clone h c.args.shard.now c.loop-key.copy ps) c.in-Some.ensures.steps c.loop-key.invariant in
-    put-route g.K.Kept.alike g.V.Kept.alike g.met.K.Kept.alike_laws g.met.V.Kept.alike_laws h law (λ i j e. g.met.K.KeptKey.alike_equal i j e) g.S.Clone.is_clone c.args.shard.now c.loop-key.copy (c.in-Some.key.now, c.in-Some.value.now) c.next.new.self left
+    put-route g.K.Kept.alike g.V.Kept.alike g.met.K.Kept.alike_laws g.met.V.Kept.alike_laws (key_hash g.K.PartialEq.eq g.K.Hash.hash_input g.S.BuildHasher g.S.Hasher.Hasher) (lawful-of g.S.BuildHasher g.S.Hasher.Hasher g.met.K.Eq.laws g.met.K.Hash.respects_eq) (λ i j e. g.met.K.KeptKey.alike_equal i j e) g.S.Clone.is_clone c.args.shard.now c.loop-key.copy (c.in-Some.key.now, c.in-Some.value.now) c.next.new.self (left g (goal.at.put_copy-requires-clause-route g c).In-Some)
 
 pub put_copy-requires-clause-absent : goal.put_copy-requires-clause-absent
 put_copy-requires-clause-absent g c =
-    let h = key_hash g.K.PartialEq.eq g.K.Hash.hash_input g.S.BuildHasher g.S.Hasher.Hasher in
-    let law = lawful-of g.S.BuildHasher g.S.Hasher.Hasher g.met.K.Eq.laws g.met.K.Hash.respects_eq in
-    let left = subst (λ ps. IsCopying g.K.PartialEq.eq g.K.Kept.alike g.V.Kept.alike g.S.Clone.is_clone h c.args.shard.now c.loop-key.copy ps) c.in-Some.ensures.steps c.loop-key.invariant in
-    put-absent g.K.Kept.alike g.V.Kept.alike g.met.K.Kept.alike_laws g.met.V.Kept.alike_laws h law (λ i j e. g.met.K.KeptKey.alike_equal i j e) g.S.Clone.is_clone c.args.shard.now c.loop-key.copy (c.in-Some.key.now, c.in-Some.value.now) c.next.new.self left
+    put-absent g.K.Kept.alike g.V.Kept.alike g.met.K.Kept.alike_laws g.met.V.Kept.alike_laws (key_hash g.K.PartialEq.eq g.K.Hash.hash_input g.S.BuildHasher g.S.Hasher.Hasher) (lawful-of g.S.BuildHasher g.S.Hasher.Hasher g.met.K.Eq.laws g.met.K.Hash.respects_eq) (λ i j e. g.met.K.KeptKey.alike_equal i j e) g.S.Clone.is_clone c.args.shard.now c.loop-key.copy (c.in-Some.key.now, c.in-Some.value.now) c.next.new.self (left g (goal.at.put_copy-requires-clause-absent g c).In-Some)
 
 pub loop-key-preserved : goal.loop-key-preserved
 loop-key-preserved g c =
-    let h = key_hash g.K.PartialEq.eq g.K.Hash.hash_input g.S.BuildHasher g.S.Hasher.Hasher in
-    let law = lawful-of g.S.BuildHasher g.S.Hasher.Hasher g.met.K.Eq.laws g.met.K.Hash.respects_eq in
-    let left = subst (λ ps. IsCopying g.K.PartialEq.eq g.K.Kept.alike g.V.Kept.alike g.S.Clone.is_clone h c.args.shard.now c.loop-key.copy ps) c.in-Some.ensures.steps c.loop-key.invariant in
-    goes-on g.K.Kept.alike g.V.Kept.alike g.met.K.Kept.alike_laws g.met.V.Kept.alike_laws h law (λ i j e. g.met.K.KeptKey.alike_equal i j e) g.S.Clone.is_clone c.args.shard.now c.loop-key.copy (c.in-Some.key.now, c.in-Some.value.now) c.next.new.self left
+    goes-on g.K.Kept.alike g.V.Kept.alike g.met.K.Kept.alike_laws g.met.V.Kept.alike_laws (key_hash g.K.PartialEq.eq g.K.Hash.hash_input g.S.BuildHasher g.S.Hasher.Hasher) (lawful-of g.S.BuildHasher g.S.Hasher.Hasher g.met.K.Eq.laws g.met.K.Hash.respects_eq) (λ i j e. g.met.K.KeptKey.alike_equal i j e) g.S.Clone.is_clone c.args.shard.now c.loop-key.copy (c.in-Some.key.now, c.in-Some.value.now) c.next.new.self (left g (goal.at.loop-key-preserved g c).In-Some)
     c.put_copy.new.shard c.in_ok-put_copy.ensures.puts c.in_ok-put_copy.ensures.lawful

@@ -12,21 +12,13 @@ abbrev spot : (g : Over) (c : After-index_mut g) → Spot (key_hash g.K.PartialE
 spot g c =
     spot-of _ (lawful-of g.S.BuildHasher g.S.Hasher.Hasher g.met.K.Eq.laws g.met.K.Hash.respects_eq) c.self.inside.hasher c.self.inside.row c.self.view_is c.self.invariant c.route_of-hash.ensures.idx c.route_of-hash.ensures.below c.index_mut.ensures.value
 
-pub alter_hashed-requires-clause-hash : goal.alter_hashed-requires-clause-hash
-alter_hashed-requires-clause-hash g c = spot-hash (spot g c) c.route_of-hash.result.0 c.route_of-hash.ensures.hash
-
-pub alter_hashed-requires-clause-route : goal.alter_hashed-requires-clause-route
-alter_hashed-requires-clause-route g c = spot-route (spot g c)
-
-pub alter_hashed-requires-clause-callable : goal.alter_hashed-requires-clause-callable
-alter_hashed-requires-clause-callable g c = spot-known (spot g c) (MayGive g.F.FnOnce c.args.f) c.requires
+pub alter_hashed-requires : goal.alter_hashed-requires
+alter_hashed-requires g c =
+    let x = spot g c in
+    record { hash = spot-hash x c.route_of-hash.result.0 c.route_of-hash.ensures.hash; route = spot-route x; callable = spot-known x (MayGive g.F.FnOnce c.args.f) c.requires }
 
 pub invariant_of-self : goal.invariant_of-self
-invariant_of-self g c =
-    let r = c.alter_hashed.ensures in
-    spot-alone (spot g (goal.at.invariant_of-self g c).After-index_mut) c.alter_hashed.new.self r.lawful r.alters.1.taken.stays
+invariant_of-self g c = spot-alone (spot g (goal.at.invariant_of-self g c).After-index_mut) c.alter_hashed.new.self c.alter_hashed.ensures.lawful c.alter_hashed.ensures.alters.1.taken.stays
 
 pub returns : goal.returns
-returns g c =
-    let r = c.alter_hashed.ensures in
-    spot-by (spot g (goal.at.returns g c).After-index_mut) c.alter_hashed.new.self r.lawful Alter Done (Given g.F.FnOnce c.args.f) (λ act. (_, _, refl)) r.alters
+returns g c = spot-by (spot g (goal.at.returns g c).After-index_mut) c.alter_hashed.new.self c.alter_hashed.ensures.lawful Alter Done (Given g.F.FnOnce c.args.f) (λ act. (_, _, refl)) c.alter_hashed.ensures.alters

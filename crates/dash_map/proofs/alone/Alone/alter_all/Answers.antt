@@ -1,5 +1,4 @@
-use Rattle.std.proofs.Common.{◌∙◌, sym, subst, arith}
-use Rattle.std.proofs.Math.ListN.{length-set}
+use Rattle.std.proofs.Common.{length, ap, subst, arith}
 use Rattle.dash_shard.specs.Each.{CalledOnPair, TakesOnPair}
 use Rattle.dash_shard.specs.inner.Walks.{altered}
 use Rattle.dash_map.specs.Alone.{AloneState, IsAlone}
@@ -8,24 +7,19 @@ use Rattle.dash_map.proofs.alone.Alone.alter_all.Goals as goal
 use Rattle.dash_shard.specs.Hashing.{key_hash}
 
 pub loop-idx-init : goal.loop-idx-init
-loop-idx-init g c = record {
-  so_far = sweeping-first (key_hash g.K.PartialEq.eq g.K.Hash.hash_input g.S.BuildHasher g.S.Hasher.Hasher) (CalledOnPair g.F.FnMut) (TakesOnPair g.F.FnMut) altered c.args.f _ _ c.self.view_is c.self.invariant c.requires;
-  end = c.len-idx-end.ensures;
-}
+loop-idx-init g c = sweeping-first (key_hash g.K.PartialEq.eq g.K.Hash.hash_input g.S.BuildHasher g.S.Hasher.Hasher) (CalledOnPair g.F.FnMut) (TakesOnPair g.F.FnMut) altered c.args.f _ _ c.self.view_is c.self.invariant c.requires
 
 pub alter_all_by-requires : goal.alter_all_by-requires
-alter_all_by-requires g c = sweeping-ready _ (CalledOnPair g.F.FnMut) (TakesOnPair g.F.FnMut) altered c.args.f c.loop-idx.idx c.args.self.now c.loop-idx.self-inside.hasher c.loop-idx.self-inside.row c.loop-idx.f c.loop-idx.invariant.so_far c.index_mut.result.now (omega (arith, c.loop-idx.invariant.end)) c.index_mut.ensures.value
+alter_all_by-requires g c = sweeping-ready (key_hash g.K.PartialEq.eq g.K.Hash.hash_input g.S.BuildHasher g.S.Hasher.Hasher) (CalledOnPair g.F.FnMut) (TakesOnPair g.F.FnMut) altered c.args.f c.loop-idx.idx c.args.self.now c.loop-idx.self-inside.hasher c.loop-idx.self-inside.row c.loop-idx.f c.loop-idx.invariant c.index_mut.result.now (omega (arith, c.len-idx-end.ensures, ap (λ a. length a.row) c.self.view_is)) c.index_mut.ensures.value
 
 pub loop-idx-preserved : goal.loop-idx-preserved
-loop-idx-preserved g c = record {
-  so_far = sweeping-next _ (CalledOnPair g.F.FnMut) (TakesOnPair g.F.FnMut) altered c.args.f c.loop-idx.idx c.args.self.now c.loop-idx.self-inside.hasher c.loop-idx.self-inside.row c.loop-idx.f c.loop-idx.invariant.so_far c.index_mut.result.now (omega (arith, c.loop-idx.invariant.end)) c.index_mut.ensures.value
-      c.alter_all_by.new.self c.alter_all_by.new.f c.alter_all_by.ensures.sweeps c.alter_all_by.ensures.lawful;
-  end = c.loop-idx.invariant.end ∙ sym (length-set c.loop-idx.self-inside.row c.loop-idx.idx c.alter_all_by.new.self);
-}
+loop-idx-preserved g c =
+    sweeping-next (key_hash g.K.PartialEq.eq g.K.Hash.hash_input g.S.BuildHasher g.S.Hasher.Hasher) (CalledOnPair g.F.FnMut) (TakesOnPair g.F.FnMut) altered c.args.f c.loop-idx.idx c.args.self.now c.loop-idx.self-inside.hasher c.loop-idx.self-inside.row c.loop-idx.f c.loop-idx.invariant c.index_mut.result.now (omega (arith, c.len-idx-end.ensures, ap (λ a. length a.row) c.self.view_is)) c.index_mut.ensures.value
+    c.alter_all_by.new.self c.alter_all_by.new.f c.alter_all_by.ensures.sweeps c.alter_all_by.ensures.lawful
 
 pub returns-clause-alters : goal.returns-clause-alters
 returns-clause-alters g c =
-    alters-all-alone (key_hash g.K.PartialEq.eq g.K.Hash.hash_input g.S.BuildHasher g.S.Hasher.Hasher) (CalledOnPair g.F.FnMut) (TakesOnPair g.F.FnMut) c.args.f g.met.K.Eq.laws c.loop-idx.idx c.args.self.now _ c.loop-idx.f (subst (λ (a : AloneState g.row.K.Denot g.row.V.Denot g.row.S.Denot). IsAlone (key_hash g.K.PartialEq.eq g.K.Hash.hash_input g.S.BuildHasher g.S.Hasher.Hasher) a) c.self.view_is c.self.invariant) (omega (arith, c.loop-idx.invariant.end)) c.loop-idx.invariant.so_far
+    alters-all-alone (key_hash g.K.PartialEq.eq g.K.Hash.hash_input g.S.BuildHasher g.S.Hasher.Hasher) (CalledOnPair g.F.FnMut) (TakesOnPair g.F.FnMut) c.args.f g.met.K.Eq.laws c.loop-idx.idx c.args.self.now _ c.loop-idx.f (subst (λ (a : AloneState g.row.K.Denot g.row.V.Denot g.row.S.Denot). IsAlone (key_hash g.K.PartialEq.eq g.K.Hash.hash_input g.S.BuildHasher g.S.Hasher.Hasher) a) c.self.view_is c.self.invariant) (omega (arith, c.len-idx-end.ensures, ap (λ a. length a.row) c.self.view_is, c.loop-idx.invariant.turning.amount)) c.loop-idx.invariant
 
 pub returns-clause-lawful : goal.returns-clause-lawful
-returns-clause-lawful g c = c.loop-idx.invariant.so_far.turning.lawful
+returns-clause-lawful g c = c.loop-idx.invariant.turning.lawful

@@ -15,11 +15,8 @@ abbrev spot : (g : Over) (c : After-index_mut g) → Spot (key_hash g.K.PartialE
 spot g c =
     spot-of _ (lawful-of g.S.BuildHasher g.S.Hasher.Hasher g.met.K.Eq.laws g.met.K.Hash.respects_eq) c.self.inside.hasher c.self.inside.row c.self.view_is c.self.invariant c.route_of-hash.ensures.idx c.route_of-hash.ensures.below c.index_mut.ensures.value
 
-pub insert_hashed-requires-clause-hash : goal.insert_hashed-requires-clause-hash
-insert_hashed-requires-clause-hash g c = spot-hash (spot g c) c.route_of-hash.result.0 c.route_of-hash.ensures.hash
-
-pub insert_hashed-requires-clause-route : goal.insert_hashed-requires-clause-route
-insert_hashed-requires-clause-route g c = spot-route (spot g c)
+pub insert_hashed-requires : goal.insert_hashed-requires
+insert_hashed-requires g c = let x = spot g c in record { hash = spot-hash x c.route_of-hash.result.0 c.route_of-hash.ensures.hash; route = spot-route x }
 
 pub invariant_of-self : goal.invariant_of-self
 invariant_of-self g c =

@@ -11,11 +11,8 @@ abbrev spot : (g : Over) (c : After-index_mut g) → Spot (key_hash g.K.PartialE
 spot g c =
     spot-of _ (lawful-of g.S.BuildHasher g.S.Hasher.Hasher g.met.K.Eq.laws g.met.K.Hash.respects_eq) c.self.inside.hasher c.self.inside.row c.self.view_is c.self.invariant c.requires.idx c.requires.below c.index_mut.ensures.value
 
-pub remove_hashed-requires-clause-hash : goal.remove_hashed-requires-clause-hash
-remove_hashed-requires-clause-hash g c = spot-hash (spot g c) c.args.hash c.requires.hash
-
-pub remove_hashed-requires-clause-route : goal.remove_hashed-requires-clause-route
-remove_hashed-requires-clause-route g c = spot-route (spot g c)
+pub remove_hashed-requires : goal.remove_hashed-requires
+remove_hashed-requires g c = let x = spot g c in record { hash = spot-hash x c.args.hash c.requires.hash; route = spot-route x }
 
 pub invariant_of-self : goal.invariant_of-self
 invariant_of-self g c =

@@ -12,21 +12,13 @@ abbrev spot : (g : Over) (c : After-index_mut g) → Spot (key_hash g.K.PartialE
 spot g c =
     spot-of _ (lawful-of g.S.BuildHasher g.S.Hasher.Hasher g.met.K.Eq.laws g.met.K.Hash.respects_eq) c.self.inside.hasher c.self.inside.row c.self.view_is c.self.invariant c.route_of-hash.ensures.idx c.route_of-hash.ensures.below c.index_mut.ensures.value
 
-pub remove_if_hashed-requires-clause-hash : goal.remove_if_hashed-requires-clause-hash
-remove_if_hashed-requires-clause-hash g c = spot-hash (spot g c) c.route_of-hash.result.0 c.route_of-hash.ensures.hash
-
-pub remove_if_hashed-requires-clause-route : goal.remove_if_hashed-requires-clause-route
-remove_if_hashed-requires-clause-route g c = spot-route (spot g c)
-
-pub remove_if_hashed-requires-clause-callable : goal.remove_if_hashed-requires-clause-callable
-remove_if_hashed-requires-clause-callable g c = spot-known (spot g c) (MayAsk g.F.FnOnce c.args.f) c.requires
+pub remove_if_hashed-requires : goal.remove_if_hashed-requires
+remove_if_hashed-requires g c =
+    let x = spot g c in
+    record { hash = spot-hash x c.route_of-hash.result.0 c.route_of-hash.ensures.hash; route = spot-route x; callable = spot-known x (MayAsk g.F.FnOnce c.args.f) c.requires }
 
 pub invariant_of-self : goal.invariant_of-self
-invariant_of-self g c =
-    let r = c.remove_if_hashed.ensures in
-    spot-alone (spot g (goal.at.invariant_of-self g c).After-index_mut) c.remove_if_hashed.new.self r.lawful r.removes.1.taken.stays
+invariant_of-self g c = spot-alone (spot g (goal.at.invariant_of-self g c).After-index_mut) c.remove_if_hashed.new.self c.remove_if_hashed.ensures.lawful c.remove_if_hashed.ensures.removes.1.taken.stays
 
 pub returns : goal.returns
-returns g c =
-    let r = c.remove_if_hashed.ensures in
-    spot-by (spot g (goal.at.returns g c).After-index_mut) c.remove_if_hashed.new.self r.lawful RemoveIf (Pair c.remove_if_hashed.result) (Answered g.F.FnOnce c.args.f) (λ act. (_, _, refl)) r.removes
+returns g c = spot-by (spot g (goal.at.returns g c).After-index_mut) c.remove_if_hashed.new.self c.remove_if_hashed.ensures.lawful RemoveIf (Pair c.remove_if_hashed.result) (Answered g.F.FnOnce c.args.f) (λ act. (_, _, refl)) c.remove_if_hashed.ensures.removes

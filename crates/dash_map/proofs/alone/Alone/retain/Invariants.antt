@@ -1,4 +1,3 @@
-use Rattle.std.proofs.Common.{◌≡◌, length}
 use Rattle.std.specs.Map.Calls.{CalledAtPair, TakesPair}
 use Rattle.dash_shard.specs.inner.Walks.{if_kept}
 use Rattle.dash_map.proofs.Sweeping.{Sweeping}
@@ -6,8 +5,4 @@ use Rattle.dash_map.proofs.alone.Alone.retain.Given as goal
 use Rattle.dash_shard.specs.Hashing.{key_hash}
 
 abbrev pub invariant-loop-idx : goal.invariant-loop-idx
-invariant-loop-idx g l =
-    record {
-      so_far : Sweeping (key_hash g.K.PartialEq.eq g.K.Hash.hash_input g.S.BuildHasher g.S.Hasher.Hasher) (CalledAtPair g.F.FnMut) (TakesPair g.F.FnMut) if_kept l.fn.f l.idx l.fn.self (record { hasher = l.self-inside.hasher; row = l.self-inside.row }) l.f;
-      end : l.idx-end ≡ length l.self-inside.row;
-    }
+invariant-loop-idx g l = Sweeping (key_hash g.K.PartialEq.eq g.K.Hash.hash_input g.S.BuildHasher g.S.Hasher.Hasher) (CalledAtPair g.F.FnMut) (TakesPair g.F.FnMut) if_kept l.fn.f l.idx l.fn.self (record { hasher = l.self-inside.hasher; row = l.self-inside.row }) l.f

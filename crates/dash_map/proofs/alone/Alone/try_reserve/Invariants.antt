@@ -1,11 +1,6 @@
-use Rattle.std.proofs.Common.{◌≡◌, length}
 use Rattle.dash_map.proofs.Reserving.{Reserving}
 use Rattle.dash_map.proofs.alone.Alone.try_reserve.Given as goal
 use Rattle.dash_shard.specs.Hashing.{key_hash}
 
 abbrev pub invariant-loop-idx : goal.invariant-loop-idx
-invariant-loop-idx g l =
-    record {
-      so_far : Reserving (key_hash g.K.PartialEq.eq g.K.Hash.hash_input g.S.BuildHasher g.S.Hasher.Hasher) l.additional l.idx l.fn.self (record { hasher = l.self-inside.hasher; row = l.self-inside.row });
-      end : l.idx-end ≡ length l.self-inside.row;
-    }
+invariant-loop-idx g l = Reserving (key_hash g.K.PartialEq.eq g.K.Hash.hash_input g.S.BuildHasher g.S.Hasher.Hasher) l.additional l.idx l.fn.self (record { hasher = l.self-inside.hasher; row = l.self-inside.row })

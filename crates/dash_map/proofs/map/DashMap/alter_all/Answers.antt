@@ -1,10 +1,9 @@
-use Rattle.std.proofs.Common.{◌≡◌, ap, subst, arith}
 use Rattle.dash_shard.specs.Each.{CalledOnPair, TakesOnPair}
 use Rattle.dash_shard.specs.inner.Walks.{altered}
-use Rattle.dash_shard.specs.Hashing.{IsAmount}
 use Rattle.dash_shard.specs.Hashing.{key_hash}
 use Rattle.dash_shard.specs.Shard.{pairs}
 use Rattle.dash_map.proofs.Leaving.{going-first, going-next, all-altered}
+use Rattle.dash_map.proofs.Seeing.{at-end}
 use Rattle.dash_map.proofs.map.DashMap.alter_all.Goals as goal
 
 pub loop-idx-init : goal.loop-idx-init
@@ -19,7 +18,4 @@ loop-idx-preserved g c =
     c.loop-idx.idx c.loop-idx.f c.loop-idx.invariant c.shards_mut.result c.alter_all_by-f.new.self c.alter_all_by-f.result c.shards_mut.ensures.tagged c.shards_mut.ensures.found c.alter_all_by-f.ensures.sweeps c.alter_all_by-f.ensures.lawful c.drop-shards_mut.ensures.left
 
 pub returns : goal.returns
-returns g c =
-    let amount = ap (λ m. m.amount) c.self.view_is in
-    let all : c.loop-idx.idx ≡ c.args.self.now.amount = omega (arith, amount, c.len-idx-end.ensures, c.loop-idx-test.false, c.loop-idx.auto.idx-end) in
-    all-altered (key_hash g.K.PartialEq.eq g.K.Hash.hash_input g.S.BuildHasher g.S.Hasher.Hasher) c.args.self.now (CalledOnPair g.F.FnMut) (TakesOnPair g.F.FnMut) c.args.f g.met.K.Eq.laws c.loop-idx.idx c.loop-idx.f all (subst IsAmount amount c.self.invariant.amount) c.loop-idx.invariant
+returns g c = all-altered (key_hash g.K.PartialEq.eq g.K.Hash.hash_input g.S.BuildHasher g.S.Hasher.Hasher) c.args.self.now (CalledOnPair g.F.FnMut) (TakesOnPair g.F.FnMut) c.args.f g.met.K.Eq.laws c.loop-idx.idx c.loop-idx.f (at-end _ _ c.self.view_is c.self.invariant.amount c.loop-idx.idx _ c.len-idx-end.ensures c.loop-idx-test.false c.loop-idx.auto.idx-end) c.loop-idx.invariant

@@ -1,29 +1,15 @@
-use Rattle.std.proofs.Common.{◌≡◌, ◌∷◌, ◌++◌, [], ◌∙◌, length, ap, subst, arith, refl, sym}
-use Rattle.dash_shard.specs.Hashing.{IsAmount}
+use Rattle.std.proofs.Common.{◌∙◌, ap, refl}
 use Rattle.dash_shard.specs.Hashing.{key_hash}
-use Rattle.dash_shard.specs.Lock.{FoundBehind}
-use Rattle.dash_map.proofs.Seeing.{read-at, one-more, all-seen, roomier, none-yet}
+use Rattle.dash_map.proofs.Seeing.{at-end, seen-none, seen-more, seen-all, roomier}
 use Rattle.dash_map.proofs.map.DashMap.capacity.Goals as goal
 
-pub loop-lock-init : goal.loop-lock-init
-loop-lock-init g c = ([], none-yet (key_hash g.K.PartialEq.eq g.K.Hash.hash_input g.S.BuildHasher g.S.Hasher.Hasher) c.args.self.now FoundBehind, refl)
+pub loop-idx-init : goal.loop-idx-init
+loop-idx-init g c = seen-none (key_hash g.K.PartialEq.eq g.K.Hash.hash_input g.S.BuildHasher g.S.Hasher.Hasher) c.args.self.now _ refl
 
-pub loop-lock-preserved : goal.loop-lock-preserved
-loop-lock-preserved g c =
-    let so = c.loop-lock.invariant in
-    let s = c.deref-in-loop-lock.result.now in
-    let tagged = read-at (key_hash g.K.PartialEq.eq g.K.Hash.hash_input g.S.BuildHasher g.S.Hasher.Hasher) _ _ c.self.view_is c.self.inside.row c.items-lock-items.result.now c.items-lock-items.ensures c.self.invariant c.loop-lock.lock-index c.loop-lock-test.true c.lock-item.result c.lock-item.is _ c.deref.ensures c.read-shard.result.value c.read-shard.ensures.fits s c.deref-in-loop-lock.ensures.0 in (
-      so.0 ++ s ∷ [],
-      one-more (key_hash g.K.PartialEq.eq g.K.Hash.hash_input g.S.BuildHasher g.S.Hasher.Hasher) c.args.self.now FoundBehind c.loop-lock.lock-index so.0 so.1 s tagged (subst FoundBehind (sym c.deref-in-loop-lock.ensures.0) c.read-shard.ensures.found),
-      c.saturating_add-capacity.ensures ∙ roomier so.0 s c.loop-lock.capacity c.capacity.result so.2 c.capacity.ensures,
-    )
+pub loop-idx-preserved : goal.loop-idx-preserved
+loop-idx-preserved g c =
+    let s = c.read_shard-shard.result.value in
+    seen-more (key_hash g.K.PartialEq.eq g.K.Hash.hash_input g.S.BuildHasher g.S.Hasher.Hasher) c.args.self.now _ c.loop-idx.idx c.loop-idx.invariant s c.read_shard-shard.ensures.tagged c.read_shard-shard.ensures.found (c.saturating_add-capacity.ensures ∙ roomier c.loop-idx.invariant.0 s c.loop-idx.capacity c.capacity.result c.loop-idx.invariant.2 (c.capacity.ensures ∙ ap (λ x. x.capacity) c.deref.ensures.0))
 
 pub returns : goal.returns
-returns g c =
-    let so = c.loop-lock.invariant in
-    let count : length c.items-lock-items.result.now ≡ c.args.self.now.amount = ap length c.items-lock-items.ensures ∙ ap (λ m. m.amount) c.self.view_is in
-    let all : c.loop-lock.lock-index ≡ c.args.self.now.amount = omega (arith, count, c.loop-lock-test.false, c.loop-lock.auto.lock-index-end) in (
-      record { hasher = c.args.self.now.hasher; row = so.0 },
-      all-seen (key_hash g.K.PartialEq.eq g.K.Hash.hash_input g.S.BuildHasher g.S.Hasher.Hasher) c.args.self.now FoundBehind c.loop-lock.lock-index so.0 so.1 all (subst IsAmount (ap (λ m. m.amount) c.self.view_is) c.self.invariant.amount),
-      so.2,
-    )
+returns g c = seen-all (key_hash g.K.PartialEq.eq g.K.Hash.hash_input g.S.BuildHasher g.S.Hasher.Hasher) c.args.self.now _ c.loop-idx.idx c.loop-idx.invariant (at-end _ _ c.self.view_is c.self.invariant.amount c.loop-idx.idx _ c.len-idx-end.ensures c.loop-idx-test.false c.loop-idx.auto.idx-end)

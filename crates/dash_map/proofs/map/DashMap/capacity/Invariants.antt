@@ -1,10 +1,7 @@
-use Rattle.std.proofs.Common.{◌≡◌, ◌-◌, ◌^◌, List, min, sum_by}
-use Rattle.dash_shard.specs.Shard.{ShardState}
-use Rattle.dash_shard.specs.Lock.{FoundBehind}
-use Rattle.dash_map.proofs.Seeing.{SoFar}
-use Rattle.dash_map.proofs.map.DashMap.capacity.Given as goal
+use Rattle.std.proofs.Common.{◌≡◌, ◌-◌, ◌^◌, min, sum_by}
 use Rattle.dash_shard.specs.Hashing.{key_hash}
+use Rattle.dash_map.proofs.Seeing.{SeenSo}
+use Rattle.dash_map.proofs.map.DashMap.capacity.Given as goal
 
-abbrev pub invariant-loop-lock : goal.invariant-loop-lock
-invariant-loop-lock g l =
-    (row : List (ShardState g.row.K.Denot g.row.V.Denot g.row.S.Denot)) × SoFar (key_hash g.K.PartialEq.eq g.K.Hash.hash_input g.S.BuildHasher g.S.Hasher.Hasher) l.self FoundBehind l.lock-index row × (l.capacity ≡ min (sum_by (λ s. s.capacity) row) (2 ^ 64 - 1))
+abbrev pub invariant-loop-idx : goal.invariant-loop-idx
+invariant-loop-idx g l = SeenSo {V = g.row.V.Denot} (key_hash g.K.PartialEq.eq g.K.Hash.hash_input g.S.BuildHasher g.S.Hasher.Hasher) l.self l.idx (λ row. l.capacity ≡ min (sum_by (λ s. s.capacity) row) (2 ^ 64 - 1))

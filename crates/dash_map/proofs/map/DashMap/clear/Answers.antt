@@ -1,8 +1,7 @@
-use Rattle.std.proofs.Common.{◌≡◌, ap, subst, arith}
 use Rattle.dash_shard.specs.Each.{Clears}
-use Rattle.dash_shard.specs.Hashing.{IsAmount}
 use Rattle.dash_shard.specs.Hashing.{key_hash}
 use Rattle.dash_map.proofs.Leaving.{one-left, all-cleared, none-left}
+use Rattle.dash_map.proofs.Seeing.{at-end}
 use Rattle.dash_map.proofs.map.DashMap.clear.Goals as goal
 
 pub loop-idx-init : goal.loop-idx-init
@@ -15,7 +14,4 @@ loop-idx-preserved g c =
     c.loop-idx.idx c.loop-idx.invariant c.shards_mut.result c.clear.new.self c.shards_mut.ensures.tagged c.shards_mut.ensures.found r.clears.stays r.lawful r.clears c.drop-shards_mut.ensures.left
 
 pub returns : goal.returns
-returns g c =
-    let amount = ap (λ m. m.amount) c.self.view_is in
-    let all : c.loop-idx.idx ≡ c.args.self.now.amount = omega (arith, amount, c.len-idx-end.ensures, c.loop-idx-test.false, c.loop-idx.auto.idx-end) in
-    all-cleared (key_hash g.K.PartialEq.eq g.K.Hash.hash_input g.S.BuildHasher g.S.Hasher.Hasher) c.args.self.now c.loop-idx.idx c.loop-idx.invariant all (subst IsAmount amount c.self.invariant.amount)
+returns g c = all-cleared (key_hash g.K.PartialEq.eq g.K.Hash.hash_input g.S.BuildHasher g.S.Hasher.Hasher) c.args.self.now c.loop-idx.idx c.loop-idx.invariant (at-end _ _ c.self.view_is c.self.invariant.amount c.loop-idx.idx _ c.len-idx-end.ensures c.loop-idx-test.false c.loop-idx.auto.idx-end)

@@ -1,8 +1,7 @@
-use Rattle.std.proofs.Common.{◌∙◌, sym, subst}
+use Rattle.std.proofs.Common.{◌∙◌, sym}
 use Rattle.dash_shard.specs.Hashing.{key_hash}
-use Rattle.dash_shard.specs.Shard.{IsTagged}
 use Rattle.dash_map.proofs.Entering.{entered}
-use Rattle.dash_map.proofs.Seeing.{routes}
+use Rattle.dash_map.proofs.Seeing.{routes, stands-at}
 use Rattle.dash_map.proofs.map.DashMap.entry.Goals as goal
 
 pub find-requires-clause-hash : goal.find-requires-clause-hash
@@ -10,16 +9,13 @@ find-requires-clause-hash g c = c.route_of-hash.ensures.hash ∙ sym (c.shards_m
 
 pub find-requires-clause-route : goal.find-requires-clause-route
 find-requires-clause-route g c =
-    let h = key_hash g.K.PartialEq.eq g.K.Hash.hash_input g.S.BuildHasher g.S.Hasher.Hasher in
-    let m = c.args.self.now in
-    routes h m.hasher m.amount c.args.key c.shards_mut.result (subst (λ n. IsTagged h m.hasher m.amount n c.shards_mut.result) c.route_of-hash.ensures.route c.shards_mut.ensures.tagged)
+    let here = stands-at (key_hash g.K.PartialEq.eq g.K.Hash.hash_input g.S.BuildHasher g.S.Hasher.Hasher) c.args.self.now c.args.key _ c.route_of-hash.ensures.route c.shards_mut.result c.shards_mut.ensures.tagged in
+    routes (key_hash g.K.PartialEq.eq g.K.Hash.hash_input g.S.BuildHasher g.S.Hasher.Hasher) c.args.self.now.hasher c.args.self.now.amount c.args.key c.shards_mut.result here
 
 pub returns : goal.returns
 returns g c =
-    let h = key_hash g.K.PartialEq.eq g.K.Hash.hash_input g.S.BuildHasher g.S.Hasher.Hasher in
-    let m = c.args.self.now in
-    let here = subst (λ n. IsTagged h m.hasher m.amount n c.shards_mut.result) c.route_of-hash.ensures.route c.shards_mut.ensures.tagged in
+    let here = stands-at (key_hash g.K.PartialEq.eq g.K.Hash.hash_input g.S.BuildHasher g.S.Hasher.Hasher) c.args.self.now c.args.key _ c.route_of-hash.ensures.route c.shards_mut.result c.shards_mut.ensures.tagged in
     record {
       saw = (c.shards_mut.result, here, c.shards_mut.ensures.found, c.find.ensures.case);
-      tagged = entered h m c.args.key c.shards_mut.result here c.find.result c.find.ensures.case c.find.ensures.lawful;
+      tagged = entered (key_hash g.K.PartialEq.eq g.K.Hash.hash_input g.S.BuildHasher g.S.Hasher.Hasher) c.args.self.now c.args.key c.shards_mut.result here c.find.result c.find.ensures.case c.find.ensures.lawful;
     }

@@ -1,27 +1,23 @@
-use Rattle.std.proofs.Common.{◌∙◌, sym, subst}
+use Rattle.std.proofs.Common.{◌∙◌, sym}
 use Rattle.dash_shard.specs.Hashing.{key_hash}
-use Rattle.dash_shard.specs.Shard.{IsTagged}
+use Rattle.dash_map.specs.Behind.{StandsAt}
+use Rattle.dash_map.proofs.Seeing.{stands-at}
+use Rattle.dash_map.proofs.map.DashMap.try_get_mut.Given.{Over}
+use Rattle.dash_map.proofs.map.DashMap.try_get_mut.Goals.{In-Some}
 use Rattle.dash_map.proofs.map.DashMap.try_get_mut.Goals as goal
+
+-- the shard that is held is the one of the key
+abbrev here : (g : Over) (c : In-Some g) → StandsAt (key_hash g.K.PartialEq.eq g.K.Hash.hash_input g.S.BuildHasher g.S.Hasher.Hasher) c.args.self.now c.args.key.now c.in-Some.shard
+here g c = stands-at (key_hash g.K.PartialEq.eq g.K.Hash.hash_input g.S.BuildHasher g.S.Hasher.Hasher) c.args.self.now c.args.key.now _ c.route_of-hash.ensures.route c.in-Some.shard c.in-Some.ensures.tagged
 
 pub find-requires : goal.find-requires
 find-requires g c = c.route_of-hash.ensures.hash ∙ sym (c.in-Some.ensures.tagged.hashes c.args.key.now)
 
 pub returns-in-Some-find : goal.returns-in-Some-find
 returns-in-Some-find g c =
-    let h = key_hash g.K.PartialEq.eq g.K.Hash.hash_input g.S.BuildHasher g.S.Hasher.Hasher in
-    let m = c.args.self.now in
-    let held = c.in-Some.shard in
-    let here = subst (λ n. IsTagged h m.hasher m.amount n held) c.route_of-hash.ensures.route c.in-Some.ensures.tagged in
-    record {
-      saw = (held, here, c.in-Some.ensures.found, c.in-Some-find.ensures.gets);
-      equal = c.in-Some-find.ensures.equal;
-      tagged = rw c.in-Some-find.ensures.shard here;
-    }
+    let at = here g (goal.at.returns-in-Some-find g c).In-Some in
+    record { saw = (_, at, c.in-Some.ensures.found, c.in-Some-find.ensures.gets); equal = c.in-Some-find.ensures.equal; tagged = rw c.in-Some-find.ensures.shard at }
 
 pub returns-in-None : goal.returns-in-None
 returns-in-None g c =
-    let h = key_hash g.K.PartialEq.eq g.K.Hash.hash_input g.S.BuildHasher g.S.Hasher.Hasher in
-    let m = c.args.self.now in
-    let held = c.in-Some.shard in
-    let here = subst (λ n. IsTagged h m.hasher m.amount n held) c.route_of-hash.ensures.route c.in-Some.ensures.tagged in
-    record { saw = (held, here, c.in-Some.ensures.found, c.in-None.ensures.gets); equal = tt; tagged = tt }
+    record { saw = (_, here g (goal.at.returns-in-None g c).In-Some, c.in-Some.ensures.found, c.in-None.ensures.gets); equal = tt; tagged = tt }

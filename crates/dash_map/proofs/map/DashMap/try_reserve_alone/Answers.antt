@@ -1,18 +1,6 @@
-use Rattle.std.proofs.Common.{◌∙◌}
+use Rattle.dash_shard.specs.Hashing.{key_hash}
+use Rattle.dash_map.proofs.Seeing.{behind-again}
 use Rattle.dash_map.proofs.map.DashMap.try_reserve_alone.Goals as goal
 
 pub returns-clause-reserves : goal.returns-clause-reserves
-returns-clause-reserves g c = (
-  c.alone-alone.result,
-  c.alone-alone.ensures,
-  (
-    c.try_reserve-made.new.self,
-    record {
-      hasher = c.try_reserve-made.ensures.reserves.stays.hasher ∙ c.alone-alone.ensures.hasher;
-      amount = c.try_reserve-made.ensures.reserves.stays.amount ∙ c.alone-alone.ensures.amount;
-      lawful = c.try_reserve-made.ensures.lawful;
-      each = c.end.ensures.left.each;
-    },
-    c.try_reserve-made.ensures.reserves,
-  ),
-)
+returns-clause-reserves g c = behind-again (key_hash g.K.PartialEq.eq g.K.Hash.hash_input g.S.BuildHasher g.S.Hasher.Hasher) _ _ c.try_reserve-made.new.self c.alone-alone.ensures c.try_reserve-made.ensures.reserves.stays c.try_reserve-made.ensures.lawful c.end.ensures.left.each _ c.try_reserve-made.ensures.reserves

@@ -1,6 +1,6 @@
 use Rattle.std.proofs.Common.{◌<◌, ap, length, arith}
 use Rattle.dash_map.proofs.Moves.{tagged-held}
-use Rattle.dash_map.proofs.t.DashMapMap._yield_read_shard.Goals as goal
+use Rattle.dash_map.proofs.map.DashMap.read_shard.Goals as goal
 use Rattle.dash_shard.specs.Hashing.{key_hash}
 
 pub returns-clause-tagged : goal.returns-clause-tagged
