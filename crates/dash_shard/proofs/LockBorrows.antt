@@ -1,30 +1,14 @@
 -- A borrow of a lock is cut into those of its word and of its value. Assumes `Logic`.
-use Rattle.dash_shard.proofs.Walking.{[], ℕ, zero, ◌+◌, List, ◌∷◌, Ura, Val, full_share, SProp, ent, sep, wand, ex, ex_i, all_e, upd_i, apply∗, id⊢, Lft, GName, Share, Fml, ftrue, fsep, fseps, fex, fwand, fupd, fdead, fbor, flft, fobs, Logic, sem, ‵, raw, ◌⊛◌, some, ◌$◌, ◌∵◌, !, qed, by, move, keep, drop, use1, use2, split, split3, join, fsplit, fsplit3, fjoin, fjoin3, fpick, fpack, pick, show, assume, suffices, updating, now, done, bor_open, obor_alter, name_new, RattleType, Denots, Lawful, part_of, part_at, cell_at, Struct, u64-laws, Member, row_of, rows_of, parts_at, PartsBack, Struct-parts, shape_of, word, flag, word_out, word_in}
+use Rattle.dash_shard.proofs.Walking.{[], ℕ, zero, ◌+◌, List, ◌∷◌, Ura, Val, full_share, SProp, ex, ex_i, all_e, upd_i, apply∗, id⊢, Lft, GName, Share, Fml, ftrue, fsep, fseps, fex, fwand, fupd, fdead, fbor, flft, fobs, Logic, ‵, raw, ◌⊛◌, some, ◌$◌, ◌∵◌, !, qed, by, move, keep, drop, use1, use2, split, split3, join, fsplit, fsplit3, fjoin, fjoin3, fpick, fpack, pick, show, assume, suffices, updating, now, done, bor_open, obor_alter, name_new, RattleType, Denots, Lawful, part_of, part_at, cell_at, Struct, u64-laws, Member, row_of, rows_of, parts_at, PartsBack, Struct-parts, shape_of, word, flag, word_out, word_in}
+use Rattle.dash_shard.proofs.Words.{words}
 use Rattle.dash_shard.specs.inner.Holding.{fact, offset, at_home, cell}
 use Rattle.dash_shard.specs.declared.lock.Tagged.{Ghosts}
 use Rattle.dash_shard.specs.contracts.lock.RwLock as C
 
 module _ {M : Type 1} {𝓤 : Ura M} (𝓛 : Logic 𝓤) (m : Member) (G : RattleType) (g : Ghosts m.row.Denot G.Denot) (d : G.Denot) (L : Lawful 𝓛 (row_of m)) (b o : ℕ) (κ : Lft) where
   open 𝓛 use {H, A}
+  open words 𝓛 use {◌⊢◌, ◌∗◌, ◌-∗◌, ⟦◌⟧}
 
-  abbrev Pr : Type 2
-  Pr = SProp 𝓤
-
-  abbrev ◌⊢◌ : Pr → Pr → Type 1
-  P ⊢ Q = ent 𝓤 P Q
-
-  abbrev ◌∗◌ : Pr → Pr → Pr
-  P ∗ Q = sep 𝓤 P Q
-
-  abbrev ◌-∗◌ : Pr → Pr → Pr
-  P -∗ Q = wand 𝓤 P Q
-
-  abbrev ⟦◌⟧ : Fml → Pr
-  ⟦ P ⟧ = sem 𝓛 P
-
-  infix 26 ◌⊢◌
-  infixr 35 ◌∗◌
-  infixr 30 ◌-∗◌
   abbrev R : RattleType
   R = row_of m
 
@@ -73,7 +57,7 @@ module _ {M : Type 1} {𝓤 : Ura M} (𝓛 : Logic 𝓤) (m : Member) (G : Rattl
       move ! (1 ∷ 0 ∷ []) $ use2 𝓛 (‵ (Fields (n, x))) (apply∗ 𝓤 ⟦ parts_at full_share ks zero (n, (x, tt)) b o ⟧ ⟦ Fields (n, x) ⟧) $ move ! (0 ∷ 1 ∷ []) $ keep ! (0 ∷ 1 ∷ []) $ by ! (whole (n, x))))
 
   -- the borrows of the word and of the value, which ε tracks
-  abbrev pub Cut : GName × R.Denot → Pr
+  abbrev pub Cut : GName × R.Denot → SProp 𝓤
   Cut u = A.bor κ Word ∗ A.bor κ (cell R ok b o u.0) ∗ ⟦ Ob u.0 u.1 ⟧
 
   pub cut : (q : Share) → A.bor κ P ∗ A.lft κ q ⊢ H.⇛ (ex 𝓤 Cut ∗ A.lft κ q)

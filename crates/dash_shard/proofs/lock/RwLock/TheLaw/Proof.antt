@@ -1,5 +1,6 @@
 -- A `&` to a lock is made of a borrow of it, whatever the word holds. Assumes `Logic`.
-use Rattle.dash_shard.proofs.Walking.{[], ◌++◌, ◌≡◌, ℕ, ◌+◌, ◌-◌, ◌^◌, ◌<◌, ◌≤◌, List, ◌∷◌, sym, subst, refl, arith, dite, ℕ_discrete, dec_le, Ura, Ty, full_share, Counts-all, gnum, SProp, ent, sep, wand, ex, emp, upd_i, via, apply∗, id⊢, Lft, GName, Share, Incl, Fml, ftrue, fsep, fseps, fex, fwand, fupd, fdead, fbor, flft, finv, fobs, Incl-refl, Incl-trans, before, meet_⊑_left, Toks, span, Logic, sem, lfts, ‵, raw, ◌⊛◌, some, later, ◌$◌, ◌∵◌, !, qed, move, keep, group, use0, use1, use2, split, split3, fsplit, fsplit3, fjoin, fjoin3, fpick, fpack, pick, assume, suffices, await, updating, now, rewrite, done, bor_open, obor_alter, name_new, one_token, out, before-Incl, basic, own_new, RattleType, Lawful, part_at, block_ptr, nothing, Shares, ends, some_shr_laws, beside_shr_laws, ends_shr_laws, always_shr_laws, layout, Laws, Member, row_of, Law, word, by_one}
+use Rattle.dash_shard.proofs.Walking.{[], ◌++◌, ◌≡◌, ℕ, ◌+◌, ◌-◌, ◌^◌, ◌<◌, ◌≤◌, List, ◌∷◌, sym, subst, refl, arith, dite, ℕ_discrete, dec_le, Ura, Ty, full_share, Counts-all, gnum, SProp, ex, emp, upd_i, via, apply∗, id⊢, Lft, GName, Share, Incl, Fml, ftrue, fsep, fseps, fex, fwand, fupd, fdead, fbor, flft, finv, fobs, Incl-refl, Incl-trans, before, meet_⊑_left, Toks, span, Logic, lfts, ‵, raw, ◌⊛◌, some, later, ◌$◌, ◌∵◌, !, qed, move, keep, group, use0, use1, use2, split, split3, fsplit, fsplit3, fjoin, fjoin3, fpick, fpack, pick, assume, suffices, await, updating, now, rewrite, done, bor_open, obor_alter, name_new, one_token, out, before-Incl, basic, own_new, RattleType, Lawful, part_at, block_ptr, nothing, Shares, ends, some_shr_laws, beside_shr_laws, ends_shr_laws, always_shr_laws, layout, Laws, Member, row_of, Law, word, by_one}
+use Rattle.dash_shard.proofs.Words.{words}
 use base.Share
 use denote.Sharing.{always}
 use Rattle.dash_shard.specs.inner.Holding.{most, count, rounds, names, parts, Fixed, Phase, away, shared, offset, cell, begun, state, State, Inv, kept, lock_shares}
@@ -12,25 +13,8 @@ use Rattle.dash_shard.proofs.LockBorrows as opened
 
 module _ {M : Type 1} {𝓤 : Ura M} (𝓛 : Logic 𝓤) (m : Member) (G : RattleType) (g : Ghosts m.row.Denot G.Denot) (d : G.Denot) (L : Lawful 𝓛 (row_of m)) (b o : ℕ) (κ : Lft) where
   open 𝓛 use {H, A}
+  open words 𝓛 use {◌⊢◌, ◌∗◌, ◌-∗◌, ⟦◌⟧}
 
-  abbrev Pr : Type 2
-  Pr = SProp 𝓤
-
-  abbrev ◌⊢◌ : Pr → Pr → Type 1
-  P ⊢ Q = ent 𝓤 P Q
-
-  abbrev ◌∗◌ : Pr → Pr → Pr
-  P ∗ Q = sep 𝓤 P Q
-
-  abbrev ◌-∗◌ : Pr → Pr → Pr
-  P -∗ Q = wand 𝓤 P Q
-
-  abbrev ⟦◌⟧ : Fml → Pr
-  ⟦ P ⟧ = sem 𝓛 P
-
-  infix 26 ◌⊢◌
-  infixr 35 ◌∗◌
-  infixr 30 ◌-∗◌
   abbrev R : RattleType
   R = row_of m
 
@@ -49,7 +33,7 @@ module _ {M : Type 1} {𝓤 : Ura M} (𝓛 : Logic 𝓤) (m : Member) (G : Rattl
   abbrev Ob : GName → R.Denot → Fml
   Ob ε x = fobs ε (R.coded.code x)
 
-  abbrev Cut : GName × R.Denot → Pr
+  abbrev Cut : GName × R.Denot → SProp 𝓤
   Cut = opened.Cut 𝓛 m G g d L b o κ
 
   module _ (x : R.Denot) (γ δ ε : GName) where
@@ -80,7 +64,7 @@ module _ {M : Type 1} {𝓤 : Ura M} (𝓛 : Logic 𝓤) (m : Member) (G : Rattl
         (λ high. qed 𝓛 (‵ (names γ full_share a) ∷ ‵ (out δ) ∷ ‵ (begun R ok b o t x a) ∷ []) ∵ keep ! (0 ∷ []) $ fpack ! ℕ (names γ full_share) a $ nothing ! $ fpack ! (most < count n) (λ _. ftrue) (omega arith) $ fjoin ! $
         fpack ! (Phase R.Denot) (state R ok b o t n) away $ done !)
 
-    abbrev Given : ℕ → Pr
+    abbrev Given : ℕ → SProp 𝓤
     Given a = A.bor κ Word ∗ ⟦ names γ full_share a ⟧ ∗ ⟦ out δ ⟧ ∗ ⟦ begun R ok b o t x a ⟧
 
     guarded : (a : ℕ) (q : Share) → Given a ∗ A.lft κ q ⊢ H.⇛ (⟦ lock_shares R ok (block_ptr b o) κ ⟧ ∗ A.lft κ q)
