@@ -25,7 +25,7 @@ impl<K: Eq + Hash, V, S: BuildHasher> Shard<K, V, S> {
         ensures len { shard_len self.new ≤ shard_len self.old }
         ensures lawful { IsShard ⟦<Self as Keyed>⟧.by self.new }
     {
-        self.table.retain(&mut f, &self.hasher);
+        self.retain_by(&mut f);
     }
 
     /// As `retain`, with an `f` that is lent: the caller may go on with it.
@@ -35,6 +35,7 @@ impl<K: Eq + Hash, V, S: BuildHasher> Shard<K, V, S> {
         V: Drop,
         requires { CallableOnEachPair (CalledAtPair F.FnMut) (TakesPair F.FnMut) f.old (pairs self.old) }
         ensures sweeps { SweepsShard (CalledAtPair F.FnMut) if_kept f.old f.new self.old self.new }
+        ensures was { IsShard ⟦<Self as Keyed>⟧.by self.old }
         ensures lawful { IsShard ⟦<Self as Keyed>⟧.by self.new }
     {
         self.table.retain(f, &self.hasher);
@@ -49,13 +50,14 @@ impl<K: Eq + Hash, V, S: BuildHasher> Shard<K, V, S> {
         ensures len { shard_len self.new ≡ shard_len self.old }
         ensures lawful { IsShard ⟦<Self as Keyed>⟧.by self.new }
     {
-        self.table.alter_all(&mut f);
+        self.alter_all_by(&mut f);
     }
 
     /// As `alter_all`, with an `f` that is lent: the caller may go on with it.
     pub fn alter_all_by<F: FnMut(&K, V) -> V>(&mut self, f: &mut F)
         requires { CallableOnEachPair (CalledOnPair F.FnMut) (TakesOnPair F.FnMut) f.old (pairs self.old) }
         ensures sweeps { SweepsShard (CalledOnPair F.FnMut) altered f.old f.new self.old self.new }
+        ensures was { IsShard ⟦<Self as Keyed>⟧.by self.old }
         ensures lawful { IsShard ⟦<Self as Keyed>⟧.by self.new }
     {
         self.table.alter_all(f);
