@@ -40,9 +40,6 @@ module _ {M : Type 1} {𝓤 : Ura M} (𝓛 : Logic 𝓤) (m : Member) (G : Rattl
   abbrev Word : Fml
   Word = fex ℕ (word b (o + 0))
 
-  abbrev Ob : GName → R.Denot → Fml
-  Ob ε x = fobs ε (R.coded.code x)
-
   apart : ⟦ P ⟧ ⊢ ex 𝓤 (λ (s : ℕ × R.Denot). ⟦ Fields s ⟧ ∗ ⟦ fact (ok s.1) ⟧)
   unfolding part_of
   apart = qed 𝓛 (‵ P ∷ []) ∵ fpick ! (λ vs. fsplit ! $ move ! (1 ∷ []) $ fpick ! (λ s. fsplit ! $ move ! (2 ∷ 0 ∷ []) $ fjoin ! $
