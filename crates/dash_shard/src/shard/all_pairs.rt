@@ -3,10 +3,12 @@ ghost use Rattle.std.specs.Prelude.{◌≡◌, ◌≤◌};
 ghost use Rattle.std.specs.Map.Calls.{CalledAtPair, TakesPair, CallableOnEachPair};
 ghost use Rattle.dash_shard.specs.Shard.{pairs, IsShard, shard_len};
 ghost use Rattle.dash_shard.specs.Each.{CalledOnPair, TakesOnPair, Clears, Shrinks, SweepsBy};
+ghost use Rattle.dash_shard.specs.inner.Table.{IsTable, pairs_in};
 ghost use Rattle.dash_shard.specs.inner.Walks.{if_kept, altered, SweepsShard};
 ghost use Rattle.dash_shard.specs.Steps.{Retain, AlterAll};
 
 use super::Shard;
+use super::table::Table;
 use super::table::walk::{IntoIter, Iter};
 use crate::keyed::Keyed;
 use std::hash::{BuildHasher, Hash};
@@ -96,12 +98,10 @@ impl<K: Eq + Hash, V, S: BuildHasher> Shard<K, V, S> {
         self.table.iter()
     }
 
-    /// The pairs, moved out in rising order of slots. The shard's hasher is dropped.
-    #[inline]
-    pub fn into_iter(self) -> IntoIter<K, V>
-    where
-        S: Drop,
-        ensures pairs { result ≡ pairs self }
+    // The table and the hasher of a shard that ends.
+    pub(super) fn into_parts(self) -> (Table<K, V>, S)
+        ensures table { IsTable result.0 }
+        ensures pairs { pairs_in result.0 ≡ self.slots }
     {
         let Shard {
             hasher,
@@ -109,6 +109,17 @@ impl<K: Eq + Hash, V, S: BuildHasher> Shard<K, V, S> {
             amount: _,
             table,
         } = self;
+        (table, hasher)
+    }
+
+    /// The pairs, moved out in rising order of slots. The shard's hasher is dropped.
+    #[inline]
+    pub fn into_iter(self) -> IntoIter<K, V>
+    where
+        S: Drop,
+        ensures pairs { result ≡ pairs self }
+    {
+        let (table, hasher) = self.into_parts();
         drop(hasher);
         table.into_iter()
     }
