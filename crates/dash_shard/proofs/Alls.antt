@@ -5,8 +5,8 @@ use Rattle.std.proofs.lemmas.Option.{none-some, same_Some}
 use Rattle.dash_shard.specs.Hashing.{KeyHash}
 use Rattle.dash_shard.specs.inner.Keys.{IsLawful, keys_of}
 use Rattle.dash_shard.specs.Contents.{Keys, at, IsOnShard}
-use Rattle.dash_shard.specs.Steps.{Act, Step, Retain, AlterAll, Done, on_shard, line, line_after, LineReplies}
-use Rattle.dash_shard.specs.Shard.{ShardState, slot, taken, pairs, own_keys, IsShard, TakesStep, StaysPut}
+use Rattle.dash_shard.specs.Steps.{Act, Step, Done, on_shard, line, line_after, LineReplies}
+use Rattle.dash_shard.specs.Shard.{ShardState, slot, taken, pairs, own_keys, IsShard}
 use Rattle.dash_shard.specs.Each.{SweepsBy, Clears}
 use Rattle.dash_shard.specs.inner.Walks.{Sweeps, if_kept, altered, SweepsShard}
 use Rattle.dash_shard.specs.declared.shard.table.Table.{Table}
@@ -39,12 +39,9 @@ module _ {K V S : Type 0} (h : KeyHash K S)
 
   module _ (t new : Table K V) (inside : Inside h law s number amount t) (becomes : K × V → Option (K × V)) (keeps : KeepsKey becomes)
       (slots : pairs_in new ≡ remade becomes (pairs_in t)) where
-    abbrev w : Keys K
-    w = keys_of h (of t)
-
     remade-shard : IsShard h (of new)
     remade-shard = record {
-      contents = subst (λ xs. IsOnShard w number (taken xs)) (sym slots) (on_shard-remade becomes keeps w law.laws number (pairs_in t) inside.shard.contents);
+      contents = subst (λ xs. IsOnShard (keys_of h (of t)) number (taken xs)) (sym slots) (on_shard-remade becomes keeps (keys_of h (of t)) law.laws number (pairs_in t) inside.shard.contents);
       number = inside.shard.number;
       amount = inside.shard.amount;
     }
@@ -57,99 +54,6 @@ module _ {K V S : Type 0} (h : KeyHash K S)
           (subst (λ hs. IsHashed (λ j. h.hash s j) (remade becomes (pairs_in t)) hs) (sym hashes) (hashed-remade becomes keeps (λ j. h.hash s j) _ _ inside.hashed));
       counted = table.counted;
     }
-
-    -- by the keys of the shard alone, which all go to it
-    abbrev o : Keys K
-    o = own_keys h.eq (of t)
-
-    all-own : IsOnShard o number (pairs (of t))
-    all-own = record { distinct = inside.shard.contents.distinct; routed = λ k away. absurd (away refl) }
-
-    -- a step on this shard that makes just this of each pair
-    module _ (step : Step K V) (is : line step ≡ on_shard number becomes (λ _. Done)) where
-      pub remade-takes : TakesStep h.eq (of t) (of new) step Done
-      remade-takes = record {
-        table = record {
-          replies = subst (λ l. LineReplies o l (pairs (of t)) Done) (sym is) (pairs (of t), each-once o law.laws number (pairs (of t)) all-own, refl);
-          becomes = λ j. ap (λ xs. at h.eq (taken xs) j) slots ∙ becomes-remade becomes keeps o law.laws number (pairs_in t) all-own j
-              ∙ ap (λ l. line_after o l j (at h.eq (pairs (of t)) j)) (sym is);
-        };
-        stays = record { number = refl; amount = refl; hasher = refl };
-      }
-
-      pub remade-stays : StaysPut h.eq (of t) (of new) step
-      remade-stays i p e = ap (λ xs. slot xs i) slots ∙ stays-remade becomes keeps o law.laws number (pairs_in t) all-own i p e
-          ∙ ap (λ l. line_after o l p.0 (Some p)) (sym is)
-
-  module _ (t new : Table K V) (inside : Inside h law s number amount t) {F : Type 0} (T : F → K → V → Bool → V → F → Type 0) (f : F) where
-    -- the pairs that were kept
-    module _ (swept : (last : F) × Sweeps T if_kept f (pairs_in t) (pairs_in new) last) where
-      did : Acts T if_kept (keys_of h (of t)) law.laws f (pairs_in t) (pairs_in new) swept.0
-      did = acts T if_kept (keys_of h (of t)) law.laws f _ _ swept.0 inside.shard.contents.distinct swept.1
-
-      pub retained-inside : hashes_in new ≡ hashes_in t → IsTable new → Inside h law s number amount new
-      retained-inside = remade-inside t new inside _ (kept-key did.act) did.made
-
-      pub retained-shard : IsShard h (of new)
-      retained-shard = remade-shard t new inside _ (kept-key did.act) did.made
-
-      pub retains : slots_in new ≡ slots_in t → (z : ShardState K V S) → of t ≡ z → SweepsBy T h.eq f z (of new) (Retain z.number)
-      retains room z view = subst (λ x. SweepsBy T h.eq f x (of new) (Retain x.number)) view (record {
-        act = did.act;
-        last = swept.0;
-        called = did.called;
-        does = record {
-          taken = remade-takes t new inside _ (kept-key did.act) did.made (Retain number did.act) refl;
-          slots = remade-stays t new inside _ (kept-key did.act) did.made (Retain number did.act) refl;
-          room = ap limit room;
-        };
-      })
-
-      pub fewer : (z : ShardState K V S) → of t ≡ z → length (pairs (of new)) ≤ length (pairs z)
-      fewer z view = subst (λ x. length (pairs (of new)) ≤ length (pairs x)) view (subst (λ xs. length (taken xs) ≤ length (taken (pairs_in t))) (sym did.made) (fewer-remade (makes T if_kept (keys_of h (of t)) law.laws did.act) (pairs_in t)))
-
-      pub sweeps-kept : slots_in new ≡ slots_in t → (z : ShardState K V S) → of t ≡ z → SweepsShard T if_kept f swept.0 z (of new)
-      sweeps-kept room z view = subst (λ x. SweepsShard T if_kept f swept.0 x (of new)) view (record {
-        swept = swept.1;
-        room = ap limit room;
-        stays = record { number = refl; amount = refl; hasher = refl };
-      })
-
-    -- the pairs whose values were altered
-    module _ (swept : (last : F) × Sweeps T altered f (pairs_in t) (pairs_in new) last) where
-      made : Acts T altered (keys_of h (of t)) law.laws f (pairs_in t) (pairs_in new) swept.0
-      made = acts T altered (keys_of h (of t)) law.laws f _ _ swept.0 inside.shard.contents.distinct swept.1
-
-      same-length : length (taken (pairs_in new)) ≡ length (taken (pairs_in t))
-      same-length = ap (λ xs. length (taken xs)) made.made ∙ length-altered made.act (pairs_in t)
-
-      pub altered-inside : hashes_in new ≡ hashes_in t → IsTable new → Inside h law s number amount new
-      altered-inside hashes table = remade-inside t new inside _ (altered-key made.act) made.made hashes table
-
-      pub altered-shard : IsShard h (of new)
-      altered-shard = remade-shard t new inside _ (altered-key made.act) made.made
-
-      pub alters : slots_in new ≡ slots_in t → (z : ShardState K V S) → of t ≡ z → SweepsBy T h.eq f z (of new) (AlterAll z.number)
-      alters room z view = subst (λ x. SweepsBy T h.eq f x (of new) (AlterAll x.number)) view (record {
-        act = made.act;
-        last = swept.0;
-        called = made.called;
-        does = record {
-          taken = remade-takes t new inside _ (altered-key made.act) made.made (AlterAll number made.act) refl;
-          slots = remade-stays t new inside _ (altered-key made.act) made.made (AlterAll number made.act) refl;
-          room = ap limit room;
-        };
-      })
-
-      pub as-many : (z : ShardState K V S) → of t ≡ z → length (pairs (of new)) ≡ length (pairs z)
-      as-many z view = subst (λ x. length (pairs (of new)) ≡ length (pairs x)) view same-length
-
-      pub sweeps-altered : slots_in new ≡ slots_in t → (z : ShardState K V S) → of t ≡ z → SweepsShard T altered f swept.0 z (of new)
-      sweeps-altered room z view = subst (λ x. SweepsShard T altered f swept.0 x (of new)) view (record {
-        swept = swept.1;
-        room = ap limit room;
-        stays = record { number = refl; amount = refl; hasher = refl };
-      })
 
   -- no pair is left
   module _ (t new : Table K V) (inside : Inside h law s number amount t) (slots : pairs_in new ≡ map (λ _. None) (pairs_in t)) where
@@ -179,3 +83,60 @@ module _ {K V S : Type 0} (h : KeyHash K S)
       room = ap limit room;
       stays = record { number = refl; amount = refl; hasher = refl };
     })
+
+-- a walk with f, which left of each pair what `leaves` says under its key
+module _ {K V S : Type 0} (h : KeyHash K S) (law : IsLawful h) {F : Type 0} (T : F → K → V → Bool → V → F → Type 0) (leaves : K → V × Bool → Option (K × V))
+    (key : (act : Act K V) → KeepsKey (λ p. leaves p.0 (act p.0 p.1))) (f last : F) where
+  -- over a shard: by the keys of the shard alone, which all go to it
+  module _ (z x : ShardState K V S) (lawful : IsShard h z) (sweeps : SweepsShard T leaves f last z x) where
+    abbrev o : Keys K
+    o = own_keys h.eq z
+
+    all-own : IsOnShard o z.number (pairs z)
+    all-own = record { distinct = lawful.contents.distinct; routed = λ k away. absurd (away refl) }
+
+    did : Acts T leaves o law.laws f z.slots x.slots last
+    did = acts T leaves o law.laws f z.slots x.slots last lawful.contents.distinct sweeps.swept
+
+    pub sweeps-by : (step : ℕ → Act K V → Step K V) → ((n : ℕ) (act : Act K V) → line (step n act) ≡ on_shard n (λ p. leaves p.0 (act p.0 p.1)) (λ _. Done)) → SweepsBy T h.eq f z x (step z.number)
+    sweeps-by step is =
+        let said = sym (is z.number did.act) in
+        record {
+          act = did.act;
+          last = last;
+          called = did.called;
+          does = record {
+            taken = record {
+              table = record {
+                replies = subst (λ l. LineReplies o l (pairs z) Done) said (pairs z, each-once o law.laws z.number (pairs z) all-own, refl);
+                becomes = λ j. ap (λ xs. at h.eq (taken xs) j) did.made ∙ becomes-remade _ (key did.act) o law.laws z.number z.slots all-own j ∙ ap (λ l. line_after o l j (at h.eq (pairs z) j)) said;
+              };
+              stays = sweeps.stays;
+            };
+            slots = λ i p e. ap (λ xs. slot xs i) did.made ∙ stays-remade _ (key did.act) o law.laws z.number z.slots all-own i p e ∙ ap (λ l. line_after o l p.0 (Some p)) said;
+            room = sweeps.room;
+          };
+        }
+
+    pub fewer : length (pairs x) ≤ length (pairs z)
+    fewer = subst (λ xs. length (taken xs) ≤ length (pairs z)) (sym did.made) (fewer-remade (makes T leaves o law.laws did.act) z.slots)
+
+    pub as-many : ((act : Act K V) (xs : List (Option (K × V))) → length (taken (remade (λ p. leaves p.0 (act p.0 p.1)) xs)) ≡ length (taken xs)) → length (pairs x) ≡ length (pairs z)
+    as-many same = ap (λ xs. length (taken xs)) did.made ∙ same did.act z.slots
+
+  -- over its table
+  module _ (s : S) (number amount : ℕ) (t new : Table K V) (inside : Inside h law s number amount t) (swept : Sweeps T leaves f (pairs_in t) (pairs_in new) last) where
+    made : Acts T leaves (keys_of h (state h law s number amount t)) law.laws f (pairs_in t) (pairs_in new) last
+    made = acts T leaves _ law.laws f _ _ last inside.shard.contents.distinct swept
+
+    pub walked-inside : hashes_in new ≡ hashes_in t → IsTable new → Inside h law s number amount new
+    walked-inside = remade-inside h law s number amount t new inside _ (key made.act) made.made
+
+    -- as a shard shows it
+    pub walked : slots_in new ≡ slots_in t → (z : ShardState K V S) → state h law s number amount t ≡ z
+        → record { sweeps : SweepsShard T leaves f last z (state h law s number amount new); was : IsShard h z; lawful : IsShard h (state h law s number amount new) }
+    walked room z view = record {
+      sweeps = subst (λ x. SweepsShard T leaves f last x (state h law s number amount new)) view (record { swept = swept; room = ap limit room; stays = record { number = refl; amount = refl; hasher = refl } });
+      was = subst (IsShard h) view inside.shard;
+      lawful = remade-shard h law s number amount t new inside _ (key made.act) made.made;
+    }

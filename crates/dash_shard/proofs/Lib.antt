@@ -37,4 +37,5 @@ pub mod Unions
 mod Walking
 mod Ways
 mod WordSteps
+mod Words
 mod Written

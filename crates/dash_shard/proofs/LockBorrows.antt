@@ -1,30 +1,18 @@
 -- A borrow of a lock is cut into those of its word and of its value. Assumes `Logic`.
-use Rattle.dash_shard.proofs.Walking.{[], ℕ, zero, ◌+◌, List, ◌∷◌, Ura, Val, full_share, SProp, ent, sep, wand, ex, ex_i, all_e, upd_i, apply∗, id⊢, Lft, GName, Share, Fml, ftrue, fsep, fseps, fex, fwand, fupd, fdead, fbor, flft, fobs, Logic, sem, ‵, raw, ◌⊛◌, some, ◌$◌, ◌∵◌, !, qed, by, move, keep, drop, use1, use2, split, split3, join, fsplit, fsplit3, fjoin, fjoin3, fpick, fpack, pick, show, assume, suffices, updating, now, done, bor_open, obor_alter, name_new, RattleType, Denots, Lawful, part_of, part_at, cell_at, Struct, u64-laws, Member, row_of, rows_of, parts_at, PartsBack, Struct-parts, shape_of, word, flag, word_out, word_in}
+use Rattle.dash_shard.proofs.Walking.{[], ℕ, zero, ◌+◌, List, ◌∷◌, Ura, Val, full_share, SProp, sep, ex, ex_i, all_e, upd_i, apply∗, id⊢, Lft, GName, Share, Fml, ftrue, fsep, fseps, fex, fwand, fupd, fdead, fbor, flft, fobs, Logic, sem, ‵, raw, ◌⊛◌, some, ◌$◌, ◌∵◌, !, qed, by, move, keep, drop, use1, use2, split, split3, join, fsplit, fsplit3, fjoin, fjoin3, fpick, fpack, pick, show, assume, suffices, updating, now, done, bor_open, obor_alter, name_new, RattleType, Denots, Lawful, part_of, part_at, cell_at, Struct, u64-laws, Member, row_of, rows_of, parts_at, PartsBack, Struct-parts, shape_of, word, flag, word_out, word_in}
+use Rattle.dash_shard.proofs.Words.{words}
 use Rattle.dash_shard.specs.inner.Holding.{fact, offset, at_home, cell}
 use Rattle.dash_shard.specs.declared.lock.Tagged.{Ghosts}
 use Rattle.dash_shard.specs.contracts.lock.RwLock as C
 
+-- the borrows of the word and of the value, which u.0 tracks
+abbrev pub Cut : {M : Type 1} {𝓤 : Ura M} (𝓛 : Logic 𝓤) (R : RattleType) → (R.Denot → Type 0) → ℕ → ℕ → Lft → GName × R.Denot → SProp 𝓤
+Cut {𝓤 = 𝓤} 𝓛 R ok b o κ u = sep 𝓤 (𝓛.A.bor κ (fex ℕ (word b (o + 0)))) (sep 𝓤 (𝓛.A.bor κ (cell R ok b o u.0)) (sem 𝓛 (fobs u.0 (R.coded.code u.1))))
+
 module _ {M : Type 1} {𝓤 : Ura M} (𝓛 : Logic 𝓤) (m : Member) (G : RattleType) (g : Ghosts m.row.Denot G.Denot) (d : G.Denot) (L : Lawful 𝓛 (row_of m)) (b o : ℕ) (κ : Lft) where
   open 𝓛 use {H, A}
+  open words 𝓛 use {◌⊢◌, ◌∗◌, ◌-∗◌, ⟦◌⟧}
 
-  abbrev Pr : Type 2
-  Pr = SProp 𝓤
-
-  abbrev ◌⊢◌ : Pr → Pr → Type 1
-  P ⊢ Q = ent 𝓤 P Q
-
-  abbrev ◌∗◌ : Pr → Pr → Pr
-  P ∗ Q = sep 𝓤 P Q
-
-  abbrev ◌-∗◌ : Pr → Pr → Pr
-  P -∗ Q = wand 𝓤 P Q
-
-  abbrev ⟦◌⟧ : Fml → Pr
-  ⟦ P ⟧ = sem 𝓛 P
-
-  infix 26 ◌⊢◌
-  infixr 35 ◌∗◌
-  infixr 30 ◌-∗◌
   abbrev R : RattleType
   R = row_of m
 
@@ -52,9 +40,6 @@ module _ {M : Type 1} {𝓤 : Ura M} (𝓛 : Logic 𝓤) (m : Member) (G : Rattl
   abbrev Word : Fml
   Word = fex ℕ (word b (o + 0))
 
-  abbrev Ob : GName → R.Denot → Fml
-  Ob ε x = fobs ε (R.coded.code x)
-
   apart : ⟦ P ⟧ ⊢ ex 𝓤 (λ (s : ℕ × R.Denot). ⟦ Fields s ⟧ ∗ ⟦ fact (ok s.1) ⟧)
   unfolding part_of
   apart = qed 𝓛 (‵ P ∷ []) ∵ fpick ! (λ vs. fsplit ! $ move ! (1 ∷ []) $ fpick ! (λ s. fsplit ! $ move ! (2 ∷ 0 ∷ []) $ fjoin ! $
@@ -72,11 +57,7 @@ module _ {M : Type 1} {𝓤 : Ura M} (𝓛 : Logic 𝓤) (m : Member) (G : Rattl
       use1 𝓛 (raw (⟦ parts_at full_share ks zero (n, (x, tt)) b o ⟧ -∗ ⟦ Fields (n, x) ⟧)) (all_e 𝓤 (λ (a : Denots (rows_of ks)). ⟦ parts_at full_share ks zero a b o ⟧ -∗ ⟦ part_at Data full_share a b o ⟧) (n, (x, tt))) $
       move ! (1 ∷ 0 ∷ []) $ use2 𝓛 (‵ (Fields (n, x))) (apply∗ 𝓤 ⟦ parts_at full_share ks zero (n, (x, tt)) b o ⟧ ⟦ Fields (n, x) ⟧) $ move ! (0 ∷ 1 ∷ []) $ keep ! (0 ∷ 1 ∷ []) $ by ! (whole (n, x))))
 
-  -- the borrows of the word and of the value, which ε tracks
-  abbrev pub Cut : GName × R.Denot → Pr
-  Cut u = A.bor κ Word ∗ A.bor κ (cell R ok b o u.0) ∗ ⟦ Ob u.0 u.1 ⟧
-
-  pub cut : (q : Share) → A.bor κ P ∗ A.lft κ q ⊢ H.⇛ (ex 𝓤 Cut ∗ A.lft κ q)
+  pub cut : (q : Share) → A.bor κ P ∗ A.lft κ q ⊢ H.⇛ (ex 𝓤 (Cut 𝓛 R ok b o κ) ∗ A.lft κ q)
   unfolding fseps
   cut q = qed 𝓛 (‵ (fbor κ P) ∷ ‵ (flft κ q) ∷ []) ∵ updating ! $ bor_open ! tt $ move ! (1 ∷ []) $ use1 𝓛 (some (λ (s : ℕ × R.Denot). ‵ (Fields s) ⊛ ‵ (fact (ok s.1)))) apart $ pick ! (λ s. split ! $
       use1 𝓛 ((‵ (wd s.0) ⊛ ‵ (At s.1) ⊛ ‵ ftrue) ⊛ raw (PartsBack 𝓛 full_share [] ks b o)) (Struct-parts 𝓛 full_share [] ks (u64-laws.lawful 𝓛, (L, tt)) (s.0, (s.1, tt)) b o) $ split ! $ split3 ! $
@@ -87,4 +68,4 @@ module _ {M : Type 1} {𝓤 : Ura M} (𝓛 : Logic 𝓤) (m : Member) (G : Rattl
       move ! (2 ∷ []) $ use1 𝓛 (‵ (word b (o + 0) s.0)) (word_out 𝓛 b (o + 0) s.0) $ fpack ! ℕ (word b (o + 0)) s.0 $ move ! (0 ∷ 1 ∷ 3 ∷ []) $ fjoin3 ! $ move ! (2 ∷ []) $
       use1 𝓛 (‵ (fwand (fsep (fdead κ) (fseps (Word ∷ cell R ok b o ε ∷ []))) (fupd P))) (way_back ε) $ move ! (3 ∷ 1 ∷ 0 ∷ []) $ obor_alter ! tt (Word ∷ cell R ok b o ε ∷ []) $
       use1 𝓛 (‵ (fbor κ Word) ⊛ ‵ (fbor κ (cell R ok b o ε)) ⊛ ‵ ftrue) (id⊢ 𝓤 _) $ split3 ! $ move ! (1 ∷ 4 ∷ []) $ join ! $ move ! (1 ∷ 0 ∷ []) $ join ! $
-      use1 𝓛 (raw (ex 𝓤 Cut)) (ex_i 𝓤 Cut (ε, s.1)) $ now ! $ keep ! (0 ∷ 2 ∷ []) $ done !))
+      use1 𝓛 (raw (ex 𝓤 (Cut 𝓛 R ok b o κ))) (ex_i 𝓤 (Cut 𝓛 R ok b o κ) (ε, s.1)) $ now ! $ keep ! (0 ∷ 2 ∷ []) $ done !))

@@ -30,7 +30,7 @@ module _ {M : Type 1} {𝓤 : Ura M} (𝓛 : Logic 𝓤) (m : Member) (G : Rattl
   made : (l : Lft) → Shares 𝓛 R l → (ts : Toks) → Incl (span ts) l → Incl (span ts) κ → ent 𝓤 (sep 𝓤 (A.bor κ (P 𝓛 m G g d L b o κ)) (lfts 𝓛 ts)) (H.⇛ (sep 𝓤 (sem 𝓛 (shown R G g d b o κ)) (lfts 𝓛 ts)))
   made l shares ts inc sp = let ok = g.fits d in
       qed 𝓛 (‵ (fbor κ (P 𝓛 m G g d L b o κ)) ∷ raw (lfts 𝓛 ts) ∷ []) ∵ updating ! $
-      use2 𝓛 (later (some (λ (u : GName × R.Denot). ‵ (fbor κ (fex ℕ (Rattle.core.specs.Sync.RawAtomic.word b (o + 0)))) ⊛ ‵ (fbor κ (cell R ok b o u.0)) ⊛ ‵ (Ob u.0 u.1)) ⊛ raw (lfts 𝓛 ts))) (by_one 𝓛 κ ts sp (A.bor κ (P 𝓛 m G g d L b o κ)) (ex 𝓤 (Cut 𝓛 m G g d L b o κ)) (cut 𝓛 m G g d L b o κ)) $
+      use2 𝓛 (later (some (λ (u : GName × R.Denot). ‵ (fbor κ (fex ℕ (Rattle.core.specs.Sync.RawAtomic.word b (o + 0)))) ⊛ ‵ (fbor κ (cell R ok b o u.0)) ⊛ ‵ (Ob u.0 u.1)) ⊛ raw (lfts 𝓛 ts))) (by_one 𝓛 κ ts sp (A.bor κ (P 𝓛 m G g d L b o κ)) (ex 𝓤 (Cut 𝓛 R ok b o κ)) (cut 𝓛 m G g d L b o κ)) $
       await ! tt $ split ! $ pick ! (λ u. split3 ! $ drop ! $ move ! (1 ∷ 0 ∷ []) $ join ! $ let x : R.Denot = u.1 in
       use2 𝓛 (later (given (ok x) (‵ (Ob u.0 x) ⊛ ‵ (fbor κ (At x))) ⊛ raw (lfts 𝓛 ts))) (by_one 𝓛 κ ts sp (sep 𝓤 (sem 𝓛 (Ob u.0 x)) (A.bor κ (cell R ok b o u.0))) (guard 𝓤 (ok x) (sep 𝓤 (sem 𝓛 (Ob u.0 x)) (A.bor κ (At x)))) (value_at 𝓛 R ok b o u.0 x κ)) $
       await ! tt $ split ! $ learn ! (λ h. split ! $ drop ! $ use2 𝓛 (later (‵ (shared_of R x b (o + offset R) κ) ⊛ raw (lfts 𝓛 ts))) (shares x κ ts b (o + offset R) inc sp) $ await ! tt $ split ! $

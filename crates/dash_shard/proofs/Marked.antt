@@ -63,10 +63,6 @@ module _ {A : Type 0} where
       let ih = tally-at f (suc k) xs i m (omega (arith, is)) (omega (arith, lt)) in
       omega (arith, ih)
 
-  tally-most : (f : ℕ → Option A → ℕ) (k : ℕ) (xs : List (Option A)) → ((j : ℕ) (r : Option A) → f j r ≤ 1) → tally f k xs ≤ length xs
-  tally-most f k [] most = omega arith
-  tally-most f k (p ∷ xs) most = let a = most k p in let ih = tally-most f (suc k) xs most in omega (arith, a, ih)
-
   tally-none : (f : ℕ → Option A → ℕ) (k : ℕ) (xs : List (Option A)) → ((j : ℕ) → f j None ≡ 0) → ((j : ℕ) → slot xs j ≡ None) → tally f k xs ≡ 0
   tally-none f k [] none empty = refl
   tally-none f k (p ∷ xs) none empty =

@@ -1,25 +1,14 @@
 -- The parts of a round: cut, glued and compared. Assumes `Logic`.
-use Rattle.dash_shard.proofs.Walking.{[], ◌≡◌, ℕ, ◌+◌, ◌-◌, ◌^◌, ◌<◌, ◌≤◌, ◌∷◌, refl, arith, ◌∈◌, Ura, full_share, Counts, counts_some, Counts-op, Counts-all, not-OpDef-full_share, coded_ℕ, coded, SetCoded-set, SProp, ent, sep, guard, upd, guard_i, GName, Share, Fml, fex, flft, Logic, sem, ‵, ◌⊛◌, given, ◌$◌, ◌∵◌, !, qed, by, move, keep, split, fsplit, fjoin, fpick, fpack, learn, check, use1, use2, done, own_glued, own_sum, own_join, own_step}
+use Rattle.dash_shard.proofs.Walking.{[], ◌≡◌, ℕ, ◌+◌, ◌-◌, ◌^◌, ◌<◌, ◌≤◌, ◌∷◌, refl, arith, ◌∈◌, Ura, full_share, Counts, counts_some, Counts-op, Counts-all, not-OpDef-full_share, coded_ℕ, coded, SetCoded-set, SProp, guard, upd, guard_i, GName, Share, Fml, fex, flft, Logic, ‵, ◌⊛◌, given, ◌$◌, ◌∵◌, !, qed, by, move, keep, split, fsplit, fjoin, fpick, fpack, learn, check, use1, use2, done, own_glued, own_sum, own_join, own_step}
+use Rattle.dash_shard.proofs.Words.{words}
 use seplogic.Ra.Constructions.Prod
 use seplogic.Ra.Instances.Ag
 use base.Share
 use Rattle.dash_shard.specs.inner.Holding.{rounds, names, share, parts}
 
 module _ {M : Type 1} {𝓤 : Ura M} (𝓛 : Logic 𝓤) (γ : GName) where
-  abbrev Pr : Type 2
-  Pr = SProp 𝓤
+  open words 𝓛 use {◌⊢◌, ◌∗◌, ⟦◌⟧}
 
-  abbrev ◌⊢◌ : Pr → Pr → Type 1
-  P ⊢ Q = ent 𝓤 P Q
-
-  abbrev ◌∗◌ : Pr → Pr → Pr
-  P ∗ Q = sep 𝓤 P Q
-
-  abbrev ⟦◌⟧ : Fml → Pr
-  ⟦ P ⟧ = sem 𝓛 P
-
-  infix 26 ◌⊢◌
-  infixr 35 ◌∗◌
   both_say : (a : ℕ) (r e f : Share) → r ∈ Share.op e f → ◌∈◌ {α = Share × ℕ} (r, a) (rounds.op (e, a) (f, a))
   both_say a r e f m = Prod.mk-mem-op Share.op (Ag.op (SetCoded-set (coded coded_ℕ))) {a = e} {a' = f} {x = r} {b = a} {b' = a} {y = a} m (Ag.idem (SetCoded-set (coded coded_ℕ)) a)
 
@@ -48,13 +37,13 @@ module _ {M : Type 1} {𝓤 : Ura M} (𝓛 : Logic 𝓤) (γ : GName) where
       by ! (glued a 1 (2 ^ 63 - 1) full_share (Counts-all 63))
 
   -- no part stands beside the whole name
-  pub none_beside : (a c k : ℕ) (Z : Pr) → ⟦ names γ full_share c ⟧ ∗ ⟦ parts γ a k ⟧ ⊢ Z
+  pub none_beside : (a c k : ℕ) (Z : SProp 𝓤) → ⟦ names γ full_share c ⟧ ∗ ⟦ parts γ a k ⟧ ⊢ Z
   none_beside a c k Z = qed 𝓛 (‵ (names γ full_share c) ∷ ‵ (parts γ a k) ∷ []) ∵ move ! (1 ∷ []) $ fpick ! (λ e. fpick ! (λ _. fsplit ! $ keep ! (2 ∷ 1 ∷ []) $
       by ! (own_glued 𝓛 rounds γ (full_share, c) (e, a) Z (λ x m. absurd (not-OpDef-full_share e m.0.0)))))
 
   pub parts_agree : (a c i j : ℕ) → ⟦ parts γ a i ⟧ ∗ ⟦ parts γ c j ⟧ ⊢ guard 𝓤 (a ≡ c) (⟦ parts γ a i ⟧ ∗ ⟦ parts γ c j ⟧)
   parts_agree a c i j = qed 𝓛 (‵ (parts γ a i) ∷ ‵ (parts γ c j) ∷ []) ∵ fpick ! (λ e. fpick ! (λ ce. fsplit ! $ move ! (2 ∷ []) $ fpick ! (λ f. fpick ! (λ cf. fsplit ! $ move ! (3 ∷ 1 ∷ []) $
-      let Z : Pr = ⟦ names γ e a ⟧ ∗ ⟦ names γ f c ⟧ in use2 𝓛 (given (a ≡ c) (‵ (names γ e a) ⊛ ‵ (names γ f c))) (own_sum 𝓛 rounds γ (e, a) (f, c) (guard 𝓤 (a ≡ c) Z) (λ x m. guard_i 𝓤 (a ≡ c) Z m.0.1)) $
+      let Z : SProp 𝓤 = ⟦ names γ e a ⟧ ∗ ⟦ names γ f c ⟧ in use2 𝓛 (given (a ≡ c) (‵ (names γ e a) ⊛ ‵ (names γ f c))) (own_sum 𝓛 rounds γ (e, a) (f, c) (guard 𝓤 (a ≡ c) Z) (λ x m. guard_i 𝓤 (a ≡ c) Z m.0.1)) $
       learn ! (λ same. check ! same $ split ! $ move ! (2 ∷ 1 ∷ []) $ fjoin ! $ use1 𝓛 (‵ (parts γ c j)) (parts_in c j f cf) $ move ! (2 ∷ 1 ∷ []) $ fjoin ! $ use1 𝓛 (‵ (parts γ a i)) (parts_in a i e ce) $ done !)))))
 
   pub renames : (c a : ℕ) → ⟦ names γ full_share c ⟧ ⊢ upd 𝓤 ⟦ names γ full_share a ⟧

@@ -1,5 +1,6 @@
 -- A round begins and ends, and a hold lends what it sees. Assumes `Logic`.
-use Rattle.dash_shard.proofs.Walking.{[], ◌++◌, ℕ, zero, suc, ◌+◌, ◌∷◌, refl, sym, Ura, full_share, apply∗, guard, guard_i, SProp, ent, sep, wand, ex, upd_i, id⊢, Lft, GName, Share, Incl, Incl-trans, Fml, ftrue, ffalse, fsep, fseps, fex, fwand, fupd, fdead, fbor, flft, fobs, fauth, before, meet_⊑_left, meet_⊑_right, ⊑_meet, Toks, span, Logic, sem, lfts, given, learn, ‵, raw, ◌⊛◌, some, later, ◌$◌, ◌∵◌, !, qed, by, move, keep, drop, use1, use2, split, split3, group, fsplit, fsplit3, fjoin, fjoin3, fpick, fpack, pick, show, check, frame, assume, suffices, await, updating, now, rewrite, join, done, lft_new, lft_end, lent_back, bor_open, obor_alter, bor_fracture, name_agree, before_dup, before_shorten, RattleType, RowLaws, part_at, shared_of, moves, moves_before, Ptr, block_ptr, null_ptr, Shares, ShrLaws, said, beside_shr_laws, contraction, shortens, nothing_shr_laws, said_shr_laws, within_shr_laws, nothing, Lends, Lends-false, Lends-nothing, by_one}
+use Rattle.dash_shard.proofs.Walking.{[], ◌++◌, ℕ, zero, suc, ◌+◌, ◌∷◌, refl, sym, Ura, full_share, apply∗, guard, guard_i, SProp, ex, upd_i, id⊢, Lft, GName, Share, Incl, Incl-trans, Fml, ftrue, ffalse, fsep, fseps, fex, fwand, fupd, fdead, fbor, flft, fobs, fauth, before, meet_⊑_left, meet_⊑_right, ⊑_meet, Toks, span, Logic, lfts, given, learn, ‵, raw, ◌⊛◌, some, later, ◌$◌, ◌∵◌, !, qed, by, move, keep, drop, use1, use2, split, split3, group, fsplit, fsplit3, fjoin, fjoin3, fpick, fpack, pick, show, check, frame, assume, suffices, await, updating, now, rewrite, join, done, lft_new, lft_end, lent_back, bor_open, obor_alter, bor_fracture, name_agree, before_dup, before_shorten, RattleType, RowLaws, part_at, shared_of, moves, moves_before, Ptr, block_ptr, null_ptr, Shares, ShrLaws, said, beside_shr_laws, contraction, shortens, nothing_shr_laws, said_shr_laws, within_shr_laws, nothing, Lends, Lends-false, Lends-nothing, by_one}
+use Rattle.dash_shard.proofs.Words.{words}
 use denote.Sharing.{within}
 use Rattle.dash_shard.specs.inner.Holding.{fact, parts, Fixed, offset, at_home, cell, seen, waits, kept, reader, begun, writer, hold_owns, hold_shares}
 use Rattle.dash_shard.proofs.RoundParts.{parts_in}
@@ -14,25 +15,8 @@ hold_laws β R ok L (block_ptr b o) (suc k) x = within_shr_laws β (seen R ok b 
 
 module _ {M : Type 1} {𝓤 : Ura M} (𝓛 : Logic 𝓤) where
   open 𝓛 use {H, A}
+  open words 𝓛 use {◌⊢◌, ◌∗◌, ◌-∗◌, ⟦◌⟧}
 
-  abbrev Pr : Type 2
-  Pr = SProp 𝓤
-
-  abbrev ◌⊢◌ : Pr → Pr → Type 1
-  P ⊢ Q = ent 𝓤 P Q
-
-  abbrev ◌∗◌ : Pr → Pr → Pr
-  P ∗ Q = sep 𝓤 P Q
-
-  abbrev ◌-∗◌ : Pr → Pr → Pr
-  P -∗ Q = wand 𝓤 P Q
-
-  abbrev ⟦◌⟧ : Fml → Pr
-  ⟦ P ⟧ = sem 𝓛 P
-
-  infix 26 ◌⊢◌
-  infixr 35 ◌∗◌
-  infixr 30 ◌-∗◌
   module _ (R : RattleType) (ok : R.Denot → Type 0) (b o : ℕ) where
     abbrev At : R.Denot → Fml
     At x = part_at R full_share x b (o + offset R)
@@ -50,7 +34,7 @@ module _ {M : Type 1} {𝓤 : Ura M} (𝓛 : Logic 𝓤) where
 
     pub value_at : (ε : GName) (x : R.Denot) (κ : Lft) (q : Share) → (⟦ Ob ε x ⟧ ∗ A.bor κ (cell R ok b o ε)) ∗ A.lft κ q ⊢ H.⇛ (guard 𝓤 (ok x) (⟦ Ob ε x ⟧ ∗ A.bor κ (At x)) ∗ A.lft κ q)
     unfolding fseps
-    value_at ε x κ q = let C : Fml = cell R ok b o ε in let Z : Pr = ⟦ Ob ε x ⟧ ∗ A.bor κ (At x) in
+    value_at ε x κ q = let C : Fml = cell R ok b o ε in let Z : SProp 𝓤 = ⟦ Ob ε x ⟧ ∗ A.bor κ (At x) in
         qed 𝓛 ((‵ (Ob ε x) ⊛ ‵ (fbor κ C)) ∷ ‵ (flft κ q) ∷ []) ∵ updating ! $ split ! $ move ! (1 ∷ 2 ∷ []) $ bor_open ! tt $ move ! (1 ∷ []) $ fpick ! (λ y. fsplit3 ! $ move ! (1 ∷ []) $ fpick ! (λ h. drop ! $
         move ! (3 ∷ 1 ∷ []) $ name_agree ! R.coded (λ same. rewrite ! 1 (λ (z : R.Denot). ‵ (fauth ε (R.coded.code z))) (sym same) refl $ rewrite ! 2 (λ (z : R.Denot). ‵ (At z)) (sym same) refl $
         let h' : ok x = mathlib.Core.Path.subst ok (sym same) h in move ! (1 ∷ []) $ use1 𝓛 (‵ (fwand (fsep (fdead κ) (fseps (At x ∷ []))) (fupd C))) (packs ε κ x h') $
@@ -88,7 +72,7 @@ module _ {M : Type 1} {𝓤 : Ura M} (𝓛 : Logic 𝓤) where
 
     module _ (L : RowLaws R) (x : R.Denot) (ν β : Lft) (inc : Incl ν β) (P : Fml) where
       -- β outlasts the lock's lifetime u.0, and some of the token of u.1 is what P is lent by
-      abbrev pub Gives : Lft × ℕ × Share → Pr
+      abbrev pub Gives : Lft × ℕ × Share → SProp 𝓤
       Gives u = ⟦ before β u.0 ⟧ ∗ ⟦ seen R ok b o x (u.1 ∷ u.0) ⟧ ∗ A.lft (u.1 ∷ []) u.2 ∗ (A.lft (u.1 ∷ []) u.2 -∗ ⟦ P ⟧)
 
       again : (u : Lft × ℕ × Share) → (A.lft (u.1 ∷ []) u.2 -∗ ⟦ P ⟧) ⊢ ⟦ fwand (fsep (fdead ν) (fseps (flft (u.1 ∷ []) u.2 ∷ []))) (fupd P) ⟧

@@ -143,14 +143,16 @@ module _ {K V : Type 0} where
     misses-seen table g tag row m same is bits none j p lt e whose =
         none j p lt ((bits j).1 (lt, same j lt ∙ table.marked.tagged (16 * g + j) p e ∙ ap tag_of whose ∙ sym is)) e
 
-    pub passes-first : IsTable t → (count g tag : ℕ) (row : List ℕ) (m e : ℕ) → count ≡ groups_in t → g < count → g ≡ hash % count → IsRow t.tags.items g row
+    pub passes-first : IsTable t → (count g tag : ℕ) (tags row : List ℕ) (m e : ℕ) → count ≡ groups_in t → g < count → g ≡ hash % count → tags ≡ t.tags.items → IsRow tags g row
         → tag ≡ tag_of hash → IsMask row tag m → MissesLanes eq (pairs_in t) k (16 * g) m → IsMask row 128 e → e ≡ 0 → PassesFirst eq t hash k g
-    passes-first table count g tag row m e long below is same of-hash bits none empty full = record {
-      within = omega (arith, below, long);
-      first = is ∙ ap (λ n. hash % n) long;
-      full = full-seen t.tags.items g row e same empty full;
-      missed = misses-seen table g tag row m same of-hash bits none;
-    }
+    passes-first table count g tag tags row m e long below is whose shown of-hash bits none empty full =
+        let same = subst (λ l. IsRow l g row) whose shown in
+        record {
+          within = omega (arith, below, long);
+          first = is ∙ ap (λ n. hash % n) long;
+          full = full-seen t.tags.items g row e same empty full;
+          missed = misses-seen table g tag row m same of-hash bits none;
+        }
 
     module _ (step : ℕ) (s : Searching eq t hash k step) (table : IsTable t) where
       -- a pair of the hash, and the step of its group

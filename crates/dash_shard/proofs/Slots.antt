@@ -1,23 +1,13 @@
 -- The contents of a row of slots, and after a write to one slot.
-use Rattle.std.proofs.Common.{◌≡◌, ◌≢◌, ℕ, zero, suc, ◌+◌, ◌<◌, true, false, cond, List, [], ◌∷◌, ◌++◌, length, set, Option, Some, None, refl, sym, ap, subst, ◌∙◌, inl, inr, arith, get_or-set_same, get_or-set_other}
+use Rattle.std.proofs.Common.{◌≡◌, ◌≢◌, ℕ, zero, suc, ◌+◌, ◌<◌, true, false, cond, List, [], ◌∷◌, length, set, Option, Some, None, refl, sym, ap, subst, ◌∙◌, inl, inr, arith, get_or-set_same, get_or-set_other}
 use Rattle.std.specs.Cmp.{IsEquivalence}
 use Rattle.std.proofs.lemmas.Bool.{cases_Bool, cases_eq, both_ways}
-use Rattle.std.proofs.Math.ListN.{replicate}
 use Rattle.std.proofs.lemmas.Option.{none-some, same_Some}
 use Rattle.dash_shard.specs.Contents.{Keys, at, Distinct, IsOnShard}
 use Rattle.dash_shard.specs.Shard.{slot, taken}
 use Rattle.dash_shard.proofs.Equals.{along, apart}
 
 module _ {A : Type 0} where
-  pub taken-empties : (xs : List (Option A)) (n : ℕ) → taken (xs ++ replicate n None) ≡ taken xs
-  taken-empties [] n = nothing n
-    where
-      nothing : (n : ℕ) → taken (replicate {A = Option A} n None) ≡ []
-      nothing zero = refl
-      nothing (suc n) = nothing n
-  taken-empties (None ∷ xs) n = taken-empties xs n
-  taken-empties (Some p ∷ xs) n = ap (λ l. p ∷ l) (taken-empties xs n)
-
   pub length-taken-fill : (xs : List (Option A)) (i : ℕ) (p : A) → i < length xs → slot xs i ≡ None → length (taken (set xs i (Some p))) ≡ length (taken xs) + 1
   length-taken-fill [] i p lt e = absurd (omega arith)
   length-taken-fill (None ∷ xs) zero p lt e = omega arith

@@ -16,12 +16,6 @@ module _ {A : Type 0} where
   pub passes-free : (xs : List (Option A)) (i : ℕ) → i < length xs → slot xs i ≡ None → taken (drop (i + 1) xs) ≡ taken (drop i xs)
   passes-free xs i lt none = sym (ap taken (begins xs i lt) ∙ ap (λ o. taken (o ∷ drop (i + 1) xs)) none)
 
-  pub passes-all : (xs : List (Option A)) (i : ℕ) → length xs ≤ i → taken (drop i xs) ≡ []
-  passes-all [] zero le = refl
-  passes-all [] (suc i) le = refl
-  passes-all (x ∷ xs) zero le = absurd (omega (arith, le))
-  passes-all (x ∷ xs) (suc i) le = passes-all xs i (omega (arith, le))
-
   -- the first pair of a row goes
   pub first-taken : (xs : List (Option A)) (i : ℕ) (p : A) → ((j : ℕ) → j < i → slot xs j ≡ None) → slot xs i ≡ Some p → taken xs ≡ p ∷ taken (set xs i None)
   first-taken [] i p behind some = absurd (none-some p some)

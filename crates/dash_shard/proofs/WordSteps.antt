@@ -1,5 +1,6 @@
 -- One step on a lock's word, under its invariant. Assumes `Logic`.
-use Rattle.dash_shard.proofs.Walking.{[], ◌≢◌, ◌≡◌, ℕ, ◌+◌, ◌-◌, ◌%◌, ◌^◌, ◌<◌, ◌≤◌, eqb, Bool, ◌∷◌, sym, refl, subst, arith, eq-eqb, ne_eqb, w64, dite, ℕ_discrete, dec_le, Ura, ty_int, vint, has_ty, WT, full_share, Counts-all, SProp, ent, sep, ex, upd, upd_i, Lft, Share, Fml, ftrue, fsep, fex, fbor, flft, either, Logic, sem, ‵, raw, ◌⊛◌, given, ◌$◌, ◌∵◌, !, qed, by, move, keep, drop, split, fsplit, fsplit3, fjoin, fjoin3, fpick, fpack, learn, show, frame, each, assume, suffices, settle, use1, use2, rewrite, done, out_once, RattleType, RowLaws, block_ptr, contraction, nothing, asks, word, borrowed, Lies, Again}
+use Rattle.dash_shard.proofs.Walking.{[], ◌≢◌, ◌≡◌, ℕ, ◌+◌, ◌-◌, ◌%◌, ◌^◌, ◌<◌, ◌≤◌, eqb, Bool, ◌∷◌, sym, refl, subst, arith, eq-eqb, ne_eqb, w64, dite, ℕ_discrete, dec_le, Ura, ty_int, vint, has_ty, WT, full_share, Counts-all, SProp, ex, upd, upd_i, Lft, Share, Fml, ftrue, fsep, fex, fbor, flft, either, Logic, ‵, raw, ◌⊛◌, given, ◌$◌, ◌∵◌, !, qed, by, move, keep, drop, split, fsplit, fsplit3, fjoin, fjoin3, fpick, fpack, learn, show, frame, each, assume, suffices, settle, use1, use2, rewrite, done, out_once, RattleType, RowLaws, block_ptr, contraction, nothing, asks, word, borrowed, Lies, Again}
+use Rattle.dash_shard.proofs.Words.{words}
 use Rattle.core.specs.Sync.RawAtomic.{always}
 use Rattle.dash_shard.specs.inner.Holding.{most, count, one_reader, IsTake, Gains, fact, names, share, parts, Fixed, Phase, away, shared, seen, state, State, Inv, begun, writer, right_to}
 use Rattle.dash_shard.proofs.RoundParts.{parts_in, parts_cut, parts_glue, parts_whole, none_beside, parts_agree, renames}
@@ -7,21 +8,8 @@ use Rattle.dash_shard.proofs.Rounds.{seen_laws, seen_fits}
 
 module _ {M : Type 1} {𝓤 : Ura M} (𝓛 : Logic 𝓤) (R : RattleType) (ok : R.Denot → Type 0) (b o : ℕ) (t : Fixed R.Denot) where
   open 𝓛 use {H, A}
+  open words 𝓛 use {◌⊢◌, ◌∗◌, ⟦◌⟧}
 
-  abbrev Pr : Type 2
-  Pr = SProp 𝓤
-
-  abbrev ◌⊢◌ : Pr → Pr → Type 1
-  P ⊢ Q = ent 𝓤 P Q
-
-  abbrev ◌∗◌ : Pr → Pr → Pr
-  P ∗ Q = sep 𝓤 P Q
-
-  abbrev ⟦◌⟧ : Fml → Pr
-  ⟦ P ⟧ = sem 𝓛 P
-
-  infix 26 ◌⊢◌
-  infixr 35 ◌∗◌
   abbrev α : Lft
   α = t.life
 
@@ -38,7 +26,7 @@ module _ {M : Type 1} {𝓤 : Ura M} (𝓛 : Logic 𝓤) (R : RattleType) (ok : 
     -- any step, from what it does to the state beside the word
     opened : (f : ℕ → ℕ) (after : ℕ → Fml) (K : Fml) → ((n : ℕ) → n < 2 ^ 64 → (p : Phase R.Denot) → ⟦ st n p ⟧ ∗ ⟦ K ⟧ ⊢ upd 𝓤 (⟦ St (f n) ⟧ ∗ ⟦ after n ⟧))
         → A.inv (fbor α I) ∗ (A.lft α q ∗ ⟦ K ⟧) ⊢ asks 𝓛 (block_ptr b (o + 0)) f always (λ n. fsep (flft α q) (after n))
-    opened f after K law = let e : ℕ = o + 0 in let G : Pr = ex 𝓤 (Lies 𝓛 α q I b e f always after) in borrowed 𝓛 α q I b e f always after ⟦ K ⟧ (
+    opened f after K law = let e : ℕ = o + 0 in let G : SProp 𝓤 = ex 𝓤 (Lies 𝓛 α q I b e f always after) in borrowed 𝓛 α q I b e f always after ⟦ K ⟧ (
         qed 𝓛 (‵ I ∷ ‵ K ∷ []) ∵ suffices ! _ (upd_i 𝓤 G) $ fpick ! (λ n. fsplit ! $
         use1 𝓛 (given (lib.Dec.T (has_ty (ty_int w64) (vint w64 n)) × WT (vint w64 n)) (‵ (word b e n))) (𝓛.laws.at_wt full_share (ty_int w64) b e (vint w64 n)) $ learn ! (λ g.
         show ! (Lies 𝓛 α q I b e f always after) n $ frame ! $ each ! (λ (_ : Unit {0}). Again 𝓛 α q I b e f always after n) (λ _. assume ! (‵ (word b e (f n))) $ move ! (1 ∷ []) $ fpick ! (λ p. move ! (0 ∷ 2 ∷ []) $
@@ -68,7 +56,7 @@ module _ {M : Type 1} {𝓤 : Ura M} (𝓛 : Logic 𝓤) (R : RattleType) (ok : 
     -- a writer goes
     back : (x : R.Denot) (n : ℕ) (p : Phase R.Denot) → ⟦ st n p ⟧ ∗ ⟦ writer R ok b o t x ⟧ ⊢ upd 𝓤 (⟦ St 0 ⟧ ∗ ⟦ ftrue ⟧)
     back x n (shared c y) = qed 𝓛 (‵ (st n (shared c y)) ∷ ‵ (writer R ok b o t x) ∷ []) ∵ fsplit3 ! $ move ! (2 ∷ []) $ fsplit ! $ move ! (4 ∷ []) $ fsplit ! $ keep ! (0 ∷ 2 ∷ []) $ by ! (out_once 𝓛 t.lent (⟦ St 0 ⟧ ∗ ⟦ ftrue ⟧))
-    back x n away = let Z : Pr = ⟦ St 0 ⟧ ∗ ⟦ ftrue ⟧ in qed 𝓛 (‵ (st n away) ∷ ‵ (writer R ok b o t x) ∷ []) ∵ fsplit ! $ drop ! $ fpick ! (λ c. move ! (1 ∷ []) $ fsplit ! $ move ! (1 ∷ []) $ fpick ! (λ a. fsplit ! $ move ! (3 ∷ []) $
+    back x n away = let Z : SProp 𝓤 = ⟦ St 0 ⟧ ∗ ⟦ ftrue ⟧ in qed 𝓛 (‵ (st n away) ∷ ‵ (writer R ok b o t x) ∷ []) ∵ fsplit ! $ drop ! $ fpick ! (λ c. move ! (1 ∷ []) $ fsplit ! $ move ! (1 ∷ []) $ fpick ! (λ a. fsplit ! $ move ! (3 ∷ []) $
         -- [the name; the token; the round; out]
         use1 𝓛 (raw (upd 𝓤 ⟦ names t.round full_share a ⟧)) (renames 𝓛 t.round c a) $ settle 𝓛 Z (‵ (names t.round full_share a)) $
         move ! (1 ∷ 0 ∷ []) $ fjoin ! $ use1 𝓛 (‵ (parts t.round a (2 ^ 63))) (parts_in 𝓛 t.round a (2 ^ 63) full_share (Counts-all 63)) $ move ! (0 ∷ 2 ∷ 1 ∷ []) $ fjoin3 ! $

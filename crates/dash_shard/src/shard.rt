@@ -58,12 +58,7 @@ impl<K: Eq + Hash, V, S: BuildHasher> Model for Shard<K, V, S> {
 
 impl<K: Eq + Hash + Drop, V: Drop, S: BuildHasher + Drop> Drop for Shard<K, V, S> {
     fn drop(self) {
-        let Shard {
-            hasher,
-            number: _,
-            amount: _,
-            table,
-        } = self;
+        let (table, hasher) = self.into_parts();
         table.end();
         drop(hasher);
     }

@@ -22,9 +22,12 @@ module _ {X : Type 0} (e : X → X → Bool) where
   copied xs ys i x y h is so k =
       subst (λ l. pointwise e l (ys ++ y ∷ []) ≡ true) (sym (take_more xs i x h ∙ ap (λ z. take i xs ++ z ∷ []) (sym is))) (pushed (take i xs) ys x y so k)
 
-  pub first : (xs ys : List X) (i : ℕ) (x y : X) → i < length xs → i < length ys → x ≡ get_or xs i x → y ≡ get_or ys i y → pointwise e (drop i xs) (drop i ys) ≡ (e x y && pointwise e (drop (i + 1) xs) (drop (i + 1) ys))
-  first xs ys i x y h g is js =
+  -- the first items are alike or not, as r says
+  pub first : (xs ys : List X) (i : ℕ) (x y : X) (r : Bool) → i < length xs → i < length ys → x ≡ get_or xs i x → y ≡ get_or ys i y → r ≡ e x y
+      → pointwise e (drop i xs) (drop i ys) ≡ (r && pointwise e (drop (i + 1) xs) (drop (i + 1) ys))
+  first xs ys i x y r h g is js so =
       ap₂ (pointwise e) (drop_more xs i x h ∙ ap (λ z. z ∷ drop (i + 1) xs) (sym is)) (drop_more ys i y g ∙ ap (λ z. z ∷ drop (i + 1) ys) (sym js))
+      ∙ ap (λ b. b && pointwise e (drop (i + 1) xs) (drop (i + 1) ys)) (sym so)
 
   pub last : (xs ys : List X) (i : ℕ) → length xs ≤ i → length ys ≤ i → pointwise e (drop i xs) (drop i ys) ≡ true
   last xs ys i h g = ap₂ (pointwise e) (drop_all i xs h) (drop_all i ys g)

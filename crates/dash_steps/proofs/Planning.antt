@@ -1,8 +1,7 @@
 -- What was decided for a step is what the step leaves.
-use Rattle.std.proofs.Common.{◌≡◌, ℕ, ◌==◌, ◌∙◌, Bool, IsTrue, cond, List, [], ◌∷◌, ◌++◌, ◌<◌, Option, Some, None, Ok, refl, sym, ap, subst, inl, inr}
+use Rattle.std.proofs.Common.{◌≡◌, ℕ, ◌==◌, ◌∙◌, Bool, IsTrue, cond, List, [], ◌∷◌, ◌<◌, Option, Some, None, Ok, refl, sym, ap, subst, inl, inr}
 use Rattle.std.specs.Cmp.{IsEquivalence}
 use Rattle.std.proofs.lemmas.Bool.{cases_Bool}
-use Rattle.std.proofs.lemmas.List.Elements.{filter-append}
 use Rattle.std.proofs.lemmas.Option.{none-some}
 use Rattle.dash_shard.specs.Contents.{Keys, at, on, Distinct}
 use Rattle.dash_shard.specs.Steps.{Step, Reply, Get, Pair, LineReplies, at_key, line, line_shard, line_after, Line, on_shard}
@@ -38,10 +37,6 @@ module _ {K V : Type 0} (w : Keys K) (laws : IsEquivalence w.eq) (i : ℕ) where
     | inl here ↦ rw here (on-none ps p.0 d.0, on-distinct ps d.1)
     | inr other ↦ rw other (on-distinct ps d.1)
   ]
-
-  -- with one pair more
-  pub on-more : (ps : List (K × V)) (p : K × V) → on w i (ps ++ p ∷ []) ≡ on w i ps ++ cond (w.route p.0 == i) (p ∷ []) []
-  on-more ps p = filter-append (λ (q : K × V). w.route q.0 == i) ps (p ∷ [])
 
 module _ {K V : Type 0} (w : Keys K) (k : K) where
   -- a look-up changes nothing

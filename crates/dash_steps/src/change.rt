@@ -3,9 +3,9 @@
 ghost use Rattle.std.specs.Prelude.{◌≡◌, IsTrue, IsSome, IfOk, OnErr};
 ghost use Rattle.std.specs.Option.{option_map};
 ghost use Rattle.std.specs.Map.Iter.{deref_pair};
-ghost use Rattle.dash_shard.specs.Steps.{RemoveIf, RemoveIfMut, Alter, line};
+ghost use Rattle.dash_shard.specs.Steps.{line};
 ghost use Rattle.dash_steps.specs.inner.Copied.{AlikeFound};
-ghost use Rattle.dash_steps.specs.inner.Plan.{PlansBy, Plans};
+ghost use Rattle.dash_steps.specs.inner.Plan.{Plans};
 ghost use Rattle.dash_steps.specs.Steps.{step_of};
 ghost use Rattle.dash_steps.specs.inner.Hashed.{Asks};
 
@@ -54,59 +54,6 @@ pub fn ask<K: Kept, V: Kept + Drop, A: Action<K, V>>(
     Ok((changed, answer))
 }
 
-// The reply and the change of a `RemoveIf`, where this pair stands at its key.
-fn plan_remove_if<K: Kept + Drop, V: Kept + Drop, A: Action<K, V>>(
-    found: Option<(&K, &V)>,
-    action: &A,
-) -> Result<(Reply<K, V>, Change<V>), AllocError>
-    ensures plan { IfOk result (PlansBy K.alike V.alike RemoveIf (A.acts action.now) found.entry) }
-    ensures memory { OnErr result (IsSome found.entry) }
-{
-    let Some((key, value)) = found else {
-        return Ok((Reply::Pair(None), Change::Stays));
-    };
-    let (_, answer) = ask(key, value, action)?;
-    if !answer {
-        return Ok((Reply::Pair(None), Change::Stays));
-    }
-    let key = key.copy()?;
-    Ok((Reply::Pair(Some((key, value.copy()?))), Change::Goes))
-}
-
-// The reply and the change of a `RemoveIfMut`, where this pair stands at its key.
-fn plan_remove_if_mut<K: Kept + Drop, V: Kept + Drop, A: Action<K, V>>(
-    found: Option<(&K, &V)>,
-    action: &A,
-) -> Result<(Reply<K, V>, Change<V>), AllocError>
-    ensures plan { IfOk result (PlansBy K.alike V.alike RemoveIfMut (A.acts action.now) found.entry) }
-    ensures memory { OnErr result (IsSome found.entry) }
-{
-    let Some((key, value)) = found else {
-        return Ok((Reply::Pair(None), Change::Stays));
-    };
-    let (changed, answer) = ask(key, value, action)?;
-    if !answer {
-        return Ok((Reply::Pair(None), Change::Becomes(changed)));
-    }
-    let key = key.copy()?;
-    Ok((Reply::Pair(Some((key, changed))), Change::Goes))
-}
-
-// The reply and the change of an `Alter`, where this pair stands at its key.
-fn plan_alter<K: Kept + Drop, V: Kept + Drop, A: Action<K, V>>(
-    found: Option<(&K, &V)>,
-    action: &A,
-) -> Result<(Reply<K, V>, Change<V>), AllocError>
-    ensures plan { IfOk result (PlansBy K.alike V.alike Alter (A.acts action.now) found.entry) }
-    ensures memory { OnErr result (IsSome found.entry) }
-{
-    let Some((key, value)) = found else {
-        return Ok((Reply::Done, Change::Stays));
-    };
-    let (changed, _) = ask(key, value, action)?;
-    Ok((Reply::Done, Change::Becomes(changed)))
-}
-
 /// The reply and the change of a step that asks its action of the pair at its key, where this pair stands there.
 pub fn plan_asked<K: Kept + Drop, V: Kept + Drop, A: Action<K, V>>(
     found: Option<(&K, &V)>,
@@ -116,10 +63,33 @@ pub fn plan_asked<K: Kept + Drop, V: Kept + Drop, A: Action<K, V>>(
     ensures plan { IfOk result (Plans K.alike V.alike (line (step_of A.acts step.now)) (option_map deref_pair found.entry)) }
     ensures memory { OnErr result (IsSome found.entry) }
 {
+    let Some((key, value)) = found else {
+        return Ok(match step {
+            ShardStep::Alter(_, _) => (Reply::Done, Change::Stays),
+            _ => (Reply::Pair(None), Change::Stays),
+        });
+    };
     match step {
-        ShardStep::RemoveIf(_, action) => plan_remove_if(found, action),
-        ShardStep::RemoveIfMut(_, action) => plan_remove_if_mut(found, action),
-        ShardStep::Alter(_, action) => plan_alter(found, action),
+        ShardStep::RemoveIf(_, action) => {
+            let (_, answer) = ask(key, value, action)?;
+            if !answer {
+                return Ok((Reply::Pair(None), Change::Stays));
+            }
+            let key = key.copy()?;
+            Ok((Reply::Pair(Some((key, value.copy()?))), Change::Goes))
+        }
+        ShardStep::RemoveIfMut(_, action) => {
+            let (changed, answer) = ask(key, value, action)?;
+            if !answer {
+                return Ok((Reply::Pair(None), Change::Becomes(changed)));
+            }
+            let key = key.copy()?;
+            Ok((Reply::Pair(Some((key, changed))), Change::Goes))
+        }
+        ShardStep::Alter(_, action) => {
+            let (changed, _) = ask(key, value, action)?;
+            Ok((Reply::Done, Change::Becomes(changed)))
+        }
         _ => unreachable!(),
     }
 }

@@ -2,10 +2,13 @@
 use Rattle.std.specs.Prelude.{ℕ, ◌≡◌, ◌⊎◌, ◌+◌, ◌-◌, ◌*◌, ◌/◌, ◌%◌, ◌<◌, ◌≤◌, true, false, Bool, List, [], length, slice_index, slice_set, Option, Some, None, IsSome, if◌then◌else◌}
 use Rattle.std.specs.Borrow.{Bor}
 use Rattle.std.specs.Cmp.{IsEquivalence}
+use Rattle.std.specs.Hash.{HashWrites}
 use Rattle.std.specs.Int.{bit_at}
 use Rattle.std.specs.Option.{option_map}
+use Rattle.std.specs.declared.hash.Hasher as hasher
+use Rattle.std.specs.declared.hash.BuildHasher as builder
 use Rattle.dash_slots.specs.inner.Slots.{SlotsState}
-use Rattle.dash_shard.specs.Hashing.{KeyHash}
+use Rattle.dash_shard.specs.Hashing.{KeyHash, hash_of}
 use Rattle.dash_shard.specs.Contents.{Keys, Distinct, EachOnce}
 use Rattle.dash_shard.specs.Shard.{ShardState, IsShard, shard_len, slot, taken}
 use Rattle.dash_shard.specs.Search.{class_of}
@@ -123,6 +126,10 @@ module _ {K V : Type 0} where
 -- each pair stands beside the hash of its key
 abbrev pub IsHashed : {K V : Type 0} → (K → ℕ) → List (Option (K × V)) → List ℕ → Type 0
 IsHashed {K} {V} hash slots hashes = (i : ℕ) (p : K × V) → slot slots i ≡ Some p → slice_index hashes i ≡ hash p.0
+
+-- the same by what a hasher makes of what each key writes
+abbrev pub IsHashedBy : {K V S H : Type 0} → (K → HashWrites) → builder.Ghosts S H → hasher.Ghosts H → S → SlotsState (K × V) → Type 0
+IsHashedBy input b h s slots = IsHashed (λ k. hash_of b h s (input k)) slots.values slots.labels
 
 module _ {K V S : Type 0} where
   -- the shard with this table

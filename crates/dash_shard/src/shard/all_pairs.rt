@@ -3,10 +3,12 @@ ghost use Rattle.std.specs.Prelude.{◌≡◌, ◌≤◌};
 ghost use Rattle.std.specs.Map.Calls.{CalledAtPair, TakesPair, CallableOnEachPair};
 ghost use Rattle.dash_shard.specs.Shard.{pairs, IsShard, shard_len};
 ghost use Rattle.dash_shard.specs.Each.{CalledOnPair, TakesOnPair, Clears, Shrinks, SweepsBy};
+ghost use Rattle.dash_shard.specs.inner.Table.{IsTable, pairs_in};
 ghost use Rattle.dash_shard.specs.inner.Walks.{if_kept, altered, SweepsShard};
 ghost use Rattle.dash_shard.specs.Steps.{Retain, AlterAll};
 
 use super::Shard;
+use super::table::Table;
 use super::table::walk::{IntoIter, Iter};
 use crate::keyed::Keyed;
 use std::hash::{BuildHasher, Hash};
@@ -25,7 +27,7 @@ impl<K: Eq + Hash, V, S: BuildHasher> Shard<K, V, S> {
         ensures len { shard_len self.new ≤ shard_len self.old }
         ensures lawful { IsShard ⟦<Self as Keyed>⟧.by self.new }
     {
-        self.table.retain(&mut f, &self.hasher);
+        self.retain_by(&mut f);
     }
 
     /// As `retain`, with an `f` that is lent: the caller may go on with it.
@@ -35,6 +37,7 @@ impl<K: Eq + Hash, V, S: BuildHasher> Shard<K, V, S> {
         V: Drop,
         requires { CallableOnEachPair (CalledAtPair F.FnMut) (TakesPair F.FnMut) f.old (pairs self.old) }
         ensures sweeps { SweepsShard (CalledAtPair F.FnMut) if_kept f.old f.new self.old self.new }
+        ensures was { IsShard ⟦<Self as Keyed>⟧.by self.old }
         ensures lawful { IsShard ⟦<Self as Keyed>⟧.by self.new }
     {
         self.table.retain(f, &self.hasher);
@@ -49,13 +52,14 @@ impl<K: Eq + Hash, V, S: BuildHasher> Shard<K, V, S> {
         ensures len { shard_len self.new ≡ shard_len self.old }
         ensures lawful { IsShard ⟦<Self as Keyed>⟧.by self.new }
     {
-        self.table.alter_all(&mut f);
+        self.alter_all_by(&mut f);
     }
 
     /// As `alter_all`, with an `f` that is lent: the caller may go on with it.
     pub fn alter_all_by<F: FnMut(&K, V) -> V>(&mut self, f: &mut F)
         requires { CallableOnEachPair (CalledOnPair F.FnMut) (TakesOnPair F.FnMut) f.old (pairs self.old) }
         ensures sweeps { SweepsShard (CalledOnPair F.FnMut) altered f.old f.new self.old self.new }
+        ensures was { IsShard ⟦<Self as Keyed>⟧.by self.old }
         ensures lawful { IsShard ⟦<Self as Keyed>⟧.by self.new }
     {
         self.table.alter_all(f);
@@ -94,12 +98,10 @@ impl<K: Eq + Hash, V, S: BuildHasher> Shard<K, V, S> {
         self.table.iter()
     }
 
-    /// The pairs, moved out in rising order of slots. The shard's hasher is dropped.
-    #[inline]
-    pub fn into_iter(self) -> IntoIter<K, V>
-    where
-        S: Drop,
-        ensures pairs { result ≡ pairs self }
+    // The table and the hasher of a shard that ends.
+    pub(super) fn into_parts(self) -> (Table<K, V>, S)
+        ensures table { IsTable result.0 }
+        ensures pairs { pairs_in result.0 ≡ self.slots }
     {
         let Shard {
             hasher,
@@ -107,6 +109,17 @@ impl<K: Eq + Hash, V, S: BuildHasher> Shard<K, V, S> {
             amount: _,
             table,
         } = self;
+        (table, hasher)
+    }
+
+    /// The pairs, moved out in rising order of slots. The shard's hasher is dropped.
+    #[inline]
+    pub fn into_iter(self) -> IntoIter<K, V>
+    where
+        S: Drop,
+        ensures pairs { result ≡ pairs self }
+    {
+        let (table, hasher) = self.into_parts();
         drop(hasher);
         table.into_iter()
     }

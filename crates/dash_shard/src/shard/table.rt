@@ -1,8 +1,7 @@
 //! A table of pairs, found by the tags of their hashes, sixteen at a time.
 ghost use Rattle.std.specs.Prelude.{ℕ, ◌≡◌, ◌+◌, ◌-◌, ◌*◌, ◌/◌, ◌^◌, ◌<◌, ◌≤◌, ◌++◌, IfSome, IfNone, IsOk, IfOk, IfErr, OnOk, OnErr, IsSome, length, [], vec_len, vec_capacity, slice_set, slice_index, replicate};
-ghost use Rattle.dash_shard.specs.inner.Table.{IsTable, IsHashed, Holds, IsAbsent, AreTaken, MissesLanes, PassesFirst, MayEnd, limit, slots_in, groups_in, pairs_in, hashes_in};
+ghost use Rattle.dash_shard.specs.inner.Table.{IsTable, IsHashedBy, Holds, IsAbsent, AreTaken, MissesLanes, PassesFirst, MayEnd, limit, slots_in, groups_in, pairs_in, hashes_in};
 ghost use Rattle.dash_shard.specs.inner.Marks.{group_at};
-ghost use Rattle.dash_shard.specs.Hashing.{hash_of};
 ghost use Rattle.dash_shard.specs.Shard.{slot, IsNextTaken};
 ghost use Rattle.dash_slots.specs.inner.Slots.{IsBlank};
 ghost use Rattle.std.specs.Int.{bit_at};
@@ -84,10 +83,10 @@ impl<K, V> Table<K, V> {
         self.slots.allocator()
     }
 
-    /// Ends a table with no pairs, and gives its memory back.
-    #[inline]
-    pub fn end_blank(self)
-        requires { IsBlank self.slots }
+    // The slots and their tags. The counts go.
+    fn into_slots(self) -> (Slots<(K, V)>, Vec<u8>)
+        ensures slots { result.0 ≡ self.slots }
+        ensures tags { result.1 ≡ self.tags }
     {
         let Table {
             slots,
@@ -95,8 +94,17 @@ impl<K, V> Table<K, V> {
             counts,
             len: _,
         } = self;
-        drop(tags);
         drop(counts);
+        (slots, tags)
+    }
+
+    /// Ends a table with no pairs, and gives its memory back.
+    #[inline]
+    pub fn end_blank(self)
+        requires { IsBlank self.slots }
+    {
+        let (slots, tags) = self.into_slots();
+        drop(tags);
         slots.end();
     }
 
@@ -223,7 +231,7 @@ impl<K, V> Table<K, V> {
     where
         K: Eq + Hash,
         requires taken { IsSome (slot (pairs_in self.now) position) }
-        requires hashed { IsHashed (λ k. hash_of S.BuildHasher S.Hasher.Hasher hasher.now (K.hash_input k)) (pairs_in self.now) (hashes_in self.now) }
+        requires hashed { IsHashedBy K.hash_input S.BuildHasher S.Hasher.Hasher hasher.now self.now.slots }
         ensures { result ≡ slice_index (hashes_in self.now) position }
     {
         hasher.hash_one(self.at(position).0)

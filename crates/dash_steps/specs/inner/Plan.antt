@@ -1,8 +1,6 @@
 -- What a step will do to the pairs of a shard: it is decided before anything changes.
 use Rattle.std.specs.Prelude.{Bool, true, false, List, Option, Some, None, IsTrue, IsSome, ⊤, ◌≡◌, ℕ, option_and_then, IfSome}
-use Rattle.std.specs.Option.{option_map, option_eq}
-use Rattle.std.specs.Map.Iter.{deref_pair}
-use denote.Ref.{Bor}
+use Rattle.std.specs.Option.{option_eq}
 use Rattle.dash_shard.specs.Contents.{at}
 use Rattle.dash_shard.specs.Steps as table
 use Rattle.dash_shard.specs.inner.Steps as parts
@@ -85,10 +83,6 @@ module _ {K V : Type 0} where
     abbrev pub Plans : Line K V → Option (K × V) → Reply K V × Change V → Type 0
     Plans (at_key key becomes replies) o plan = IsTrue (alike_reply k v (replies o) (reply_of plan.0)) × Fits key becomes o plan.1
     Plans (on_shard i becomes replies) o plan = ⊥
-
-    -- the same of the step with an action, at any key, where a look-up found this pair
-    abbrev pub PlansBy : (K → table.Act K V → table.Step K V) → table.Act K V → Option (Bor K × Bor V) → Reply K V × Change V → Type 0
-    PlansBy step act found plan = (key : K) → Plans (line (step key act)) (option_map deref_pair found) plan
 
     -- the change is that of a line
     abbrev pub FitsLine : Line K V → Option (K × V) → Change V → Type 0

@@ -1,7 +1,6 @@
 //! A table that takes memory, and one that gives it back: the pairs move to other slots.
 ghost use Rattle.std.specs.Prelude.{ℕ, ◌≡◌, ◌+◌, ◌*◌, ◌<◌, ◌≤◌, [], None, IsOk, IfOk, OnOk, OnErr, length, replicate};
-ghost use Rattle.dash_shard.specs.Hashing.{hash_of};
-ghost use Rattle.dash_shard.specs.inner.Table.{IsTable, IsHashed, CarriesOnce, IsCarried, IsMoved, TellsTaken, limit, slots_in, groups_in, pairs_in, hashes_in};
+ghost use Rattle.dash_shard.specs.inner.Table.{IsTable, IsHashedBy, CarriesOnce, IsCarried, IsMoved, TellsTaken, limit, slots_in, groups_in, pairs_in, hashes_in};
 ghost use Rattle.dash_shard.specs.Shard.{taken};
 ghost use Rattle.dash_slots.specs.inner.Slots.{IsBlank};
 
@@ -53,7 +52,7 @@ fn move_pairs<K: Eq + Hash, V, S: BuildHasher>(
     requires table { IsTable table.old }
     requires empty { taken (pairs_in table.old) ≡ [] }
     requires room { length (taken slots.old.values) ≤ limit (slots_in table.old) }
-    requires hashed { IsHashed (λ k. hash_of S.BuildHasher S.Hasher.Hasher hasher.now (K.hash_input k)) slots.old.values slots.old.labels }
+    requires hashed { IsHashedBy K.hash_input S.BuildHasher S.Hasher.Hasher hasher.now slots.old }
     ensures once { CarriesOnce slots.old table.new.slots }
     ensures carried { IsCarried slots.old table.new.slots }
     ensures len { table.new.len ≡ length (taken slots.old.values) }
@@ -111,7 +110,7 @@ impl<K, V> Table<K, V> {
     where
         K: Eq + Hash,
         requires table { IsTable self.old }
-        requires hashed { IsHashed (λ k. hash_of S.BuildHasher S.Hasher.Hasher hasher.now (K.hash_input k)) (pairs_in self.old) (hashes_in self.old) }
+        requires hashed { IsHashedBy K.hash_input S.BuildHasher S.Hasher.Hasher hasher.now self.old.slots }
         requires room { self.old.len ≤ limit (16 * count) }
         ensures moved { OnOk result (IsMoved self.old self.new) }
         ensures slots { OnOk result (slots_in self.new ≡ 16 * count) }
@@ -132,7 +131,7 @@ impl<K, V> Table<K, V> {
     where
         K: Eq + Hash,
         requires table { IsTable self.old }
-        requires hashed { IsHashed (λ k. hash_of S.BuildHasher S.Hasher.Hasher hasher.now (K.hash_input k)) (pairs_in self.old) (hashes_in self.old) }
+        requires hashed { IsHashedBy K.hash_input S.BuildHasher S.Hasher.Hasher hasher.now self.old.slots }
         ensures moved { IsMoved self.old self.new }
         ensures ok { OnOk result (self.new.len + additional ≤ limit (slots_in self.new)) }
         ensures kept { self.old.len + additional ≤ limit (slots_in self.old) → self.new ≡ self.old }
@@ -155,7 +154,7 @@ impl<K, V> Table<K, V> {
     where
         K: Eq + Hash,
         requires table { IsTable self.old }
-        requires hashed { IsHashed (λ k. hash_of S.BuildHasher S.Hasher.Hasher hasher.now (K.hash_input k)) (pairs_in self.old) (hashes_in self.old) }
+        requires hashed { IsHashedBy K.hash_input S.BuildHasher S.Hasher.Hasher hasher.now self.old.slots }
         ensures moved { OnOk result (IsMoved self.old self.new) }
         ensures ok { OnOk result (self.new.len < limit (slots_in self.new)) }
         ensures err { OnErr result (self.new ≡ self.old) }
@@ -168,7 +167,7 @@ impl<K, V> Table<K, V> {
     where
         K: Eq + Hash,
         requires table { IsTable self.old }
-        requires hashed { IsHashed (λ k. hash_of S.BuildHasher S.Hasher.Hasher hasher.now (K.hash_input k)) (pairs_in self.old) (hashes_in self.old) }
+        requires hashed { IsHashedBy K.hash_input S.BuildHasher S.Hasher.Hasher hasher.now self.old.slots }
         ensures moved { IsMoved self.old self.new }
         ensures slots { slots_in self.new ≤ slots_in self.old }
         ensures none { self.old.len ≡ 0 → slots_in self.new ≡ 0 }

@@ -1,8 +1,7 @@
 //! What goes over all pairs of a table, in rising order of slots.
 ghost use Rattle.std.specs.Prelude.{ℕ, ◌≡◌, ◌<◌, Option, Some, None, IfSome, true, length, map, slice_set};
 ghost use Rattle.std.specs.Map.Calls.{CalledAtPair, TakesPair, CallableOnEachPair};
-ghost use Rattle.dash_shard.specs.inner.Table.{IsTable, IsHashed, TellsTaken, slots_in, pairs_in, hashes_in};
-ghost use Rattle.dash_shard.specs.Hashing.{hash_of};
+ghost use Rattle.dash_shard.specs.inner.Table.{IsTable, IsHashedBy, TellsTaken, slots_in, pairs_in, hashes_in};
 ghost use Rattle.dash_shard.specs.Shard.{slot, taken};
 ghost use Rattle.dash_shard.specs.Each.{CalledOnPair, TakesOnPair};
 ghost use Rattle.dash_shard.specs.inner.Walks.{Asks, Visits, Sweeps, if_kept, altered};
@@ -51,7 +50,7 @@ impl<K, V> Table<K, V> {
         K: Eq + Hash + Drop,
         V: Drop,
         requires table { IsTable self.old }
-        requires hashed { IsHashed (λ k. hash_of S.BuildHasher S.Hasher.Hasher hasher.now (K.hash_input k)) (pairs_in self.old) (hashes_in self.old) }
+        requires hashed { IsHashedBy K.hash_input S.BuildHasher S.Hasher.Hasher hasher.now self.old.slots }
         requires callable { CallableOnEachPair (CalledAtPair F.FnMut) (TakesPair F.FnMut) f.old (taken (pairs_in self.old)) }
         ensures swept { Sweeps (CalledAtPair F.FnMut) if_kept f.old (pairs_in self.old) (pairs_in self.new) f.new }
         ensures hashes { hashes_in self.new ≡ hashes_in self.old }

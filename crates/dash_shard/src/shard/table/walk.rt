@@ -157,13 +157,7 @@ impl<K, V> Table<K, V> {
         requires { IsTable self }
         ensures { result ≡ taken (pairs_in self) }
     {
-        let Table {
-            slots,
-            tags,
-            counts,
-            len: _,
-        } = self;
-        drop(counts);
+        let (slots, tags) = self.into_slots();
         IntoIter {
             slots,
             tags,

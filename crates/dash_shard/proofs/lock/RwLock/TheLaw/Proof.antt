@@ -1,56 +1,22 @@
 -- A `&` to a lock is made of a borrow of it, whatever the word holds. Assumes `Logic`.
-use Rattle.dash_shard.proofs.Walking.{[], ◌++◌, ◌≡◌, ℕ, ◌+◌, ◌-◌, ◌^◌, ◌<◌, ◌≤◌, List, ◌∷◌, sym, subst, refl, arith, dite, ℕ_discrete, dec_le, Ura, Ty, full_share, Counts-all, gnum, SProp, ent, sep, wand, ex, emp, upd_i, via, apply∗, id⊢, Lft, GName, Share, Incl, Fml, ftrue, fsep, fseps, fex, fwand, fupd, fdead, fbor, flft, finv, fobs, Incl-refl, Incl-trans, before, meet_⊑_left, Toks, span, Logic, sem, lfts, ‵, raw, ◌⊛◌, some, later, ◌$◌, ◌∵◌, !, qed, move, keep, group, use0, use1, use2, split, split3, fsplit, fsplit3, fjoin, fjoin3, fpick, fpack, pick, assume, suffices, await, updating, now, rewrite, done, bor_open, obor_alter, name_new, one_token, out, before-Incl, basic, own_new, RattleType, Lawful, part_at, block_ptr, nothing, Shares, ends, some_shr_laws, beside_shr_laws, ends_shr_laws, always_shr_laws, layout, Laws, Member, row_of, Law, word, by_one}
+use Rattle.dash_shard.proofs.Walking.{[], ◌++◌, ◌≡◌, ℕ, ◌+◌, ◌-◌, ◌^◌, ◌<◌, ◌≤◌, List, ◌∷◌, sym, subst, refl, arith, dite, ℕ_discrete, dec_le, Ura, Ty, full_share, Counts-all, gnum, SProp, ex, emp, upd_i, via, apply∗, id⊢, Lft, GName, Share, Incl, Fml, ftrue, fsep, fseps, fex, fwand, fupd, fdead, fbor, flft, finv, fobs, Incl-refl, Incl-trans, before, meet_⊑_left, Toks, span, Logic, lfts, ‵, raw, ◌⊛◌, some, later, ◌$◌, ◌∵◌, !, qed, move, keep, group, use0, use1, use2, split, split3, fsplit, fsplit3, fjoin, fjoin3, fpick, fpack, pick, assume, suffices, await, updating, now, rewrite, done, bor_open, obor_alter, name_new, one_token, out, before-Incl, basic, own_new, RattleType, Lawful, block_ptr, nothing, Shares, ends, some_shr_laws, beside_shr_laws, ends_shr_laws, always_shr_laws, layout, Laws, Member, row_of, Law, word, by_one}
+use Rattle.dash_shard.proofs.Words.{words}
 use base.Share
 use denote.Sharing.{always}
-use Rattle.dash_shard.specs.inner.Holding.{most, count, rounds, names, parts, Fixed, Phase, away, shared, offset, cell, begun, state, State, Inv, kept, lock_shares}
+use Rattle.dash_shard.specs.inner.Holding.{most, count, rounds, names, parts, Fixed, Phase, away, shared, cell, begun, state, State, Inv, kept, lock_shares}
 use Rattle.dash_shard.specs.declared.lock.Tagged.{Ghosts}
 use Rattle.dash_shard.specs.contracts.lock.RwLock as C
 use Rattle.dash_shard.proofs.lock.RwLock.TheLaw.Statement.{statement}
 use Rattle.dash_shard.proofs.RoundParts.{parts_in, parts_cut}
 use Rattle.dash_shard.proofs.Rounds.{fresh}
-use Rattle.dash_shard.proofs.LockBorrows as opened
+use Rattle.dash_shard.proofs.LockBorrows.{Cut, cut}
 
-module _ {M : Type 1} {𝓤 : Ura M} (𝓛 : Logic 𝓤) (m : Member) (G : RattleType) (g : Ghosts m.row.Denot G.Denot) (d : G.Denot) (L : Lawful 𝓛 (row_of m)) (b o : ℕ) (κ : Lft) where
+module _ {M : Type 1} {𝓤 : Ura M} (𝓛 : Logic 𝓤) (R : RattleType) (ok : R.Denot → Type 0) (b o : ℕ) (κ : Lft) where
   open 𝓛 use {H, A}
-
-  abbrev Pr : Type 2
-  Pr = SProp 𝓤
-
-  abbrev ◌⊢◌ : Pr → Pr → Type 1
-  P ⊢ Q = ent 𝓤 P Q
-
-  abbrev ◌∗◌ : Pr → Pr → Pr
-  P ∗ Q = sep 𝓤 P Q
-
-  abbrev ◌-∗◌ : Pr → Pr → Pr
-  P -∗ Q = wand 𝓤 P Q
-
-  abbrev ⟦◌⟧ : Fml → Pr
-  ⟦ P ⟧ = sem 𝓛 P
-
-  infix 26 ◌⊢◌
-  infixr 35 ◌∗◌
-  infixr 30 ◌-∗◌
-  abbrev R : RattleType
-  R = row_of m
-
-  abbrev ok : R.Denot → Type 0
-  ok = g.fits d
-
-  abbrev P : Fml
-  P = opened.P 𝓛 m G g d L b o κ
-
-  abbrev At : R.Denot → Fml
-  At x = part_at R full_share x b (o + offset R)
+  open words 𝓛 use {◌⊢◌, ◌∗◌, ◌-∗◌, ⟦◌⟧}
 
   abbrev Word : Fml
   Word = fex ℕ (word b (o + 0))
-
-  abbrev Ob : GName → R.Denot → Fml
-  Ob ε x = fobs ε (R.coded.code x)
-
-  abbrev Cut : GName × R.Denot → Pr
-  Cut = opened.Cut 𝓛 m G g d L b o κ
 
   module _ (x : R.Denot) (γ δ ε : GName) where
     abbrev t : (Fixed R.Denot)
@@ -58,9 +24,6 @@ module _ {M : Type 1} {𝓤 : Ura M} (𝓛 : Logic 𝓤) (m : Member) (G : Rattl
 
     abbrev I : Fml
     I = Inv R ok b o t
-
-    abbrev Round : Fml
-    Round = fex ℕ (begun R ok b o t x)
 
     word_back : emp 𝓤 ⊢ ⟦ fwand (fsep (fdead κ) (fseps (I ∷ []))) (fupd Word) ⟧
     unfolding fseps
@@ -80,7 +43,7 @@ module _ {M : Type 1} {𝓤 : Ura M} (𝓛 : Logic 𝓤) (m : Member) (G : Rattl
         (λ high. qed 𝓛 (‵ (names γ full_share a) ∷ ‵ (out δ) ∷ ‵ (begun R ok b o t x a) ∷ []) ∵ keep ! (0 ∷ []) $ fpack ! ℕ (names γ full_share) a $ nothing ! $ fpack ! (most < count n) (λ _. ftrue) (omega arith) $ fjoin ! $
         fpack ! (Phase R.Denot) (state R ok b o t n) away $ done !)
 
-    abbrev Given : ℕ → Pr
+    abbrev Given : ℕ → SProp 𝓤
     Given a = A.bor κ Word ∗ ⟦ names γ full_share a ⟧ ∗ ⟦ out δ ⟧ ∗ ⟦ begun R ok b o t x a ⟧
 
     guarded : (a : ℕ) (q : Share) → Given a ∗ A.lft κ q ⊢ H.⇛ (⟦ lock_shares R ok (block_ptr b o) κ ⟧ ∗ A.lft κ q)
@@ -94,9 +57,11 @@ module _ {M : Type 1} {𝓤 : Ura M} (𝓛 : Logic 𝓤) (m : Member) (G : Rattl
   named : (a : ℕ) → emp 𝓤 ⊢ H.⇛ (ex 𝓤 (λ (γ : GName). ⟦ names γ full_share a ⟧))
   named a = via 𝓤 _ (own_new 𝓛 rounds (full_share, a)) (basic 𝓛 (ex 𝓤 (λ (γ : GName). ⟦ names γ full_share a ⟧)))
 
-  made : (l : Lft) → Shares 𝓛 R l → (ts : Toks) → Incl (span ts) l → Incl (span ts) κ → A.bor κ P ∗ lfts 𝓛 ts ⊢ H.⇛ (⟦ lock_shares R ok (block_ptr b o) κ ⟧ ∗ lfts 𝓛 ts)
-  made l shares ts inc sp = let μ : Lft = span ts in
-      qed 𝓛 (‵ (fbor κ P) ∷ raw (lfts 𝓛 ts) ∷ []) ∵ updating ! $ use2 𝓛 (later (some (λ (u : GName × R.Denot). ‵ (fbor κ Word) ⊛ ‵ (fbor κ (cell R ok b o u.0)) ⊛ ‵ (Ob u.0 u.1)) ⊛ raw (lfts 𝓛 ts))) (by_one 𝓛 κ ts sp (A.bor κ P) (ex 𝓤 Cut) (opened.cut 𝓛 m G g d L b o κ)) $
+  -- P is what is cut into the borrows of the word and of the value
+  made : (P : Fml) → ((q : Share) → A.bor κ P ∗ A.lft κ q ⊢ H.⇛ (ex 𝓤 (Cut 𝓛 R ok b o κ) ∗ A.lft κ q)) → (l : Lft) → Shares 𝓛 R l → (ts : Toks) → Incl (span ts) l → Incl (span ts) κ
+      → A.bor κ P ∗ lfts 𝓛 ts ⊢ H.⇛ (⟦ lock_shares R ok (block_ptr b o) κ ⟧ ∗ lfts 𝓛 ts)
+  made P cuts l shares ts inc sp = let μ : Lft = span ts in
+      qed 𝓛 (‵ (fbor κ P) ∷ raw (lfts 𝓛 ts) ∷ []) ∵ updating ! $ use2 𝓛 (later (some (λ (u : GName × R.Denot). ‵ (fbor κ Word) ⊛ ‵ (fbor κ (cell R ok b o u.0)) ⊛ ‵ (fobs u.0 (R.coded.code u.1))) ⊛ raw (lfts 𝓛 ts))) (by_one 𝓛 κ ts sp (A.bor κ P) (ex 𝓤 (Cut 𝓛 R ok b o κ)) cuts) $
       await ! tt $ split ! $ pick ! (λ u. split3 ! $ name_new ! tt (gnum 0) (λ δ. let t : Fixed R.Denot = record { life = κ; round = 0; lent = δ; track = u.0; first = u.1 } in fjoin ! $
       -- [out; the word; the value; the observation; the tokens]
       move ! (4 ∷ []) $ use1 𝓛 (some (λ (q : Share). ‵ (flft μ q) ⊛ raw (A.lft μ q -∗ lfts 𝓛 ts))) (one_token 𝓛 ts) $ pick ! (λ q. split ! $ use1 𝓛 (‵ (flft μ (Share.left q)) ⊛ ‵ (flft μ (Share.right q))) (𝓛.lfts.lft_split μ q) $ split ! $
@@ -112,6 +77,6 @@ shares T G g L K = let m : Member = record { row = T; ty = layout T } in
     let same : T ≡ row_of m = λ i. record { Denot = T.Denot; mir = L.one i; written = T.written; reaches = T.reaches; lives = T.lives; own_val = T.own_val; exit = T.exit; coded = T.coded; shr_at = T.shr_at } in
     subst (λ (τ : List Ty). Law (C.the_written (record T { mir = τ }) G g)) (sym L.one) (record {
       shr_laws = λ d b o. some_shr_laws (Fixed (row_of m).Denot) (kept (row_of m) (g.fits d) b o) (λ t. beside_shr_laws (ends t.life) (always (fbor t.life (Inv (row_of m) (g.fits d) b o t))) (ends_shr_laws t.life) (always_shr_laws (fbor t.life (Inv (row_of m) (g.fits d) b o t))));
-      shares = λ M 𝓤 𝓛 d κ ts b o inc sp. made 𝓛 m G g d (subst (Lawful 𝓛) same (L.lawful 𝓛)) b o κ T.lives (subst (λ (R : RattleType). Shares 𝓛 R T.lives) same (L.shares 𝓛)) ts
+      shares = λ M 𝓤 𝓛 d κ ts b o inc sp. made 𝓛 (row_of m) (g.fits d) b o κ _ (cut 𝓛 m G g d (subst (Lawful 𝓛) same (L.lawful 𝓛)) b o κ) T.lives (subst (λ (R : RattleType). Shares 𝓛 R T.lives) same (L.shares 𝓛)) ts
           (Incl-trans inc (Incl-trans (meet_⊑_left (T.lives ++ (G.lives ++ [])) _) (meet_⊑_left T.lives (G.lives ++ [])))) sp;
     })

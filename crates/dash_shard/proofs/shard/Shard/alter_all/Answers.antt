@@ -1,18 +1,12 @@
-use Rattle.dash_shard.specs.Each.{CalledOnPair}
-use Rattle.dash_shard.proofs.Alls.{altered-inside, altered-shard, alters, as-many}
+use Rattle.std.proofs.Common.{refl}
+use Rattle.dash_shard.specs.Steps.{AlterAll}
+use Rattle.dash_shard.specs.inner.Walks.{altered}
+use Rattle.dash_shard.proofs.Alls.{altered-key, length-altered, sweeps-by, as-many}
 use Rattle.dash_shard.proofs.Lawful.{lawful-of}
 use Rattle.dash_shard.proofs.shard.Shard.alter_all.Goals as goal
 
-pub invariant_of-self : goal.invariant_of-self
-invariant_of-self g c =
-    let r = c.alter_all.ensures in
-    altered-inside _ (lawful-of g.S.BuildHasher g.S.Hasher.Hasher g.met.K.Eq.laws g.met.K.Hash.respects_eq) _ _ _ c.self.inside.table c.alter_all.new.self c.self.invariant (CalledOnPair g.F.FnMut) c.args.f (_, r.swept) r.hashes r.table
+pub returns-clause-alters : goal.returns-clause-alters
+returns-clause-alters g c = sweeps-by _ (lawful-of g.S.BuildHasher g.S.Hasher.Hasher g.met.K.Eq.laws g.met.K.Hash.respects_eq) _ altered altered-key _ _ _ _ c.alter_all_by.ensures.was c.alter_all_by.ensures.sweeps AlterAll (λ n act. refl)
 
-pub returns : goal.returns
-returns g c =
-    let r = c.alter_all.ensures in
-    record {
-      alters = alters _ (lawful-of g.S.BuildHasher g.S.Hasher.Hasher g.met.K.Eq.laws g.met.K.Hash.respects_eq) _ _ _ c.self.inside.table c.alter_all.new.self c.self.invariant (CalledOnPair g.F.FnMut) c.args.f (_, r.swept) r.slots _ c.self.view_is;
-      len = as-many _ (lawful-of g.S.BuildHasher g.S.Hasher.Hasher g.met.K.Eq.laws g.met.K.Hash.respects_eq) _ _ _ c.self.inside.table c.alter_all.new.self c.self.invariant (CalledOnPair g.F.FnMut) c.args.f (_, r.swept) _ c.self.view_is;
-      lawful = altered-shard _ (lawful-of g.S.BuildHasher g.S.Hasher.Hasher g.met.K.Eq.laws g.met.K.Hash.respects_eq) _ _ _ c.self.inside.table c.alter_all.new.self c.self.invariant (CalledOnPair g.F.FnMut) c.args.f (_, r.swept);
-    }
+pub returns-clause-len : goal.returns-clause-len
+returns-clause-len g c = as-many _ (lawful-of g.S.BuildHasher g.S.Hasher.Hasher g.met.K.Eq.laws g.met.K.Hash.respects_eq) _ altered altered-key _ _ _ _ c.alter_all_by.ensures.was c.alter_all_by.ensures.sweeps length-altered

@@ -1,18 +1,12 @@
-use Rattle.std.specs.Map.Calls.{CalledAtPair}
-use Rattle.dash_shard.proofs.Alls.{retained-inside, retained-shard, retains, fewer}
+use Rattle.std.proofs.Common.{refl}
+use Rattle.dash_shard.specs.Steps.{Retain}
+use Rattle.dash_shard.specs.inner.Walks.{if_kept}
+use Rattle.dash_shard.proofs.Alls.{kept-key, sweeps-by, fewer}
 use Rattle.dash_shard.proofs.Lawful.{lawful-of}
 use Rattle.dash_shard.proofs.shard.Shard.retain.Goals as goal
 
-pub invariant_of-self : goal.invariant_of-self
-invariant_of-self g c =
-    let r = c.retain.ensures in
-    retained-inside _ (lawful-of g.S.BuildHasher g.S.Hasher.Hasher g.met.K.Eq.laws g.met.K.Hash.respects_eq) _ _ _ c.self.inside.table c.retain.new.self c.self.invariant (CalledAtPair g.F.FnMut) c.args.f (_, r.swept) r.hashes r.table
+pub returns-clause-retains : goal.returns-clause-retains
+returns-clause-retains g c = sweeps-by _ (lawful-of g.S.BuildHasher g.S.Hasher.Hasher g.met.K.Eq.laws g.met.K.Hash.respects_eq) _ if_kept kept-key _ _ _ _ c.retain_by.ensures.was c.retain_by.ensures.sweeps Retain (λ n act. refl)
 
-pub returns : goal.returns
-returns g c =
-    let r = c.retain.ensures in
-    record {
-      retains = retains _ (lawful-of g.S.BuildHasher g.S.Hasher.Hasher g.met.K.Eq.laws g.met.K.Hash.respects_eq) _ _ _ c.self.inside.table c.retain.new.self c.self.invariant (CalledAtPair g.F.FnMut) c.args.f (_, r.swept) r.slots _ c.self.view_is;
-      len = fewer _ (lawful-of g.S.BuildHasher g.S.Hasher.Hasher g.met.K.Eq.laws g.met.K.Hash.respects_eq) _ _ _ c.self.inside.table c.retain.new.self c.self.invariant (CalledAtPair g.F.FnMut) c.args.f (_, r.swept) _ c.self.view_is;
-      lawful = retained-shard _ (lawful-of g.S.BuildHasher g.S.Hasher.Hasher g.met.K.Eq.laws g.met.K.Hash.respects_eq) _ _ _ c.self.inside.table c.retain.new.self c.self.invariant (CalledAtPair g.F.FnMut) c.args.f (_, r.swept);
-    }
+pub returns-clause-len : goal.returns-clause-len
+returns-clause-len g c = fewer _ (lawful-of g.S.BuildHasher g.S.Hasher.Hasher g.met.K.Eq.laws g.met.K.Hash.respects_eq) _ if_kept kept-key _ _ _ _ c.retain_by.ensures.was c.retain_by.ensures.sweeps

@@ -36,8 +36,5 @@ returns-then-seen-ne0-clause-steps g c =
 
 pub place_past-requires-clause-passes : goal.place_past-requires-clause-passes
 place_past-requires-clause-passes g c =
-    let t = c.args.self.now in
-    let long : c.len-count.result ≡ groups_in t = omega (arith, c.len-count.ensures, t.counts.ok.0) in
-    let row = subst (λ (l : List ℕ). IsRow l c.home-first.result c.group_of.result.now) c.deref.ensures.value c.group_of.ensures in
-    passes-first g.K.PartialEq.eq t c.args.hash c.args.key.now c.requires c.len-count.result c.home-first.result _ _ _ _ long c.home-first.ensures.below c.home-first.ensures.is row
-    c.tag.ensures.is c.probe-seen.ensures.matches c.in_default.ensures.absent c.probe-seen.ensures.empty c.if-seen-ne0.false
+    passes-first g.K.PartialEq.eq c.args.self.now c.args.hash c.args.key.now c.requires c.len-count.result c.home-first.result _ _ c.group_of.result.now _ _ (omega (arith, c.len-count.ensures, c.args.self.now.counts.ok.0)) c.home-first.ensures.below c.home-first.ensures.is
+    c.deref.ensures.value c.group_of.ensures c.tag.ensures.is c.probe-seen.ensures.matches c.in_default.ensures.absent c.probe-seen.ensures.empty c.if-seen-ne0.false

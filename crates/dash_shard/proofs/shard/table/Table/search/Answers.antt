@@ -1,4 +1,4 @@
-use Rattle.std.proofs.Common.{◌≡◌, ℕ, ◌+◌, ◌-◌, ◌/◌, ◌%◌, ◌<◌, List, sym, ap, subst, ◌∙◌, arith}
+use Rattle.std.proofs.Common.{◌≡◌, ℕ, ◌+◌, ◌-◌, ◌/◌, ◌%◌, ◌<◌, List, sym, ap, subst, ◌∙◌, arith, rules}
 use Rattle.dash_shard.specs.inner.Marks.{step_to, group_at}
 use Rattle.dash_shard.specs.inner.Table.{groups_in}
 use Rattle.dash_shard.proofs.Searching.{IsRow, at-first, searching-first, misses-seen, passes-first, empty-seen, absent-here, ends-empty}
@@ -25,27 +25,23 @@ returns-in-Ok-clause-last g c =
     let within : g-of < groups_in t = omega (arith, c.in-Ok.ensures.found.within, wide) in
     sym (ap (λ s. group_at (groups_in t) c.args.hash s) all ∙ round_step (groups_in t) (c.args.hash % groups_in t) g-of (mod_below (groups_in t) c.args.hash (omega (arith, within))) within)
 
-pub returns-then-seen-ne0-clause-absent : goal.returns-then-seen-ne0-clause-absent
-returns-then-seen-ne0-clause-absent g c =
+pub returns-then-seen-ne0 : goal.returns-then-seen-ne0
+returns-then-seen-ne0 g c =
     let t = c.args.self.now in
     let long : c.len-count.result ≡ groups_in t = omega (arith, c.len-count.ensures, t.counts.ok.0) in
     let at = at-first t c.args.hash c.home-first.result (omega (arith, c.home-first.ensures.below, long)) (c.home-first.ensures.is ∙ ap (λ n. c.args.hash % n) long) in
     let row = subst (λ (l : List ℕ). IsRow l c.home-first.result c.group_of.result.now) c.deref.ensures.value c.group_of.ensures in
     let missing = misses-seen g.K.PartialEq.eq t c.args.hash c.args.key.now c.requires c.home-first.result _ _ _ row c.tag.ensures.is c.probe-seen.ensures.matches c.in_default.ensures.absent in
-    absent-here g.K.PartialEq.eq t c.args.hash c.args.key.now 0 (searching-first _ _ _ _) c.requires c.home-first.result at missing (empty-seen _ _ _ _ row c.probe-seen.ensures.empty c.if-seen-ne0.true c.probe-seen.ensures.fits.1)
-
-pub returns-then-seen-ne0-clause-ended : goal.returns-then-seen-ne0-clause-ended
-returns-then-seen-ne0-clause-ended g c =
-    let t = c.args.self.now in
-    let long : c.len-count.result ≡ groups_in t = omega (arith, c.len-count.ensures, t.counts.ok.0) in
-    let at = at-first t c.args.hash c.home-first.result (omega (arith, c.home-first.ensures.below, long)) (c.home-first.ensures.is ∙ ap (λ n. c.args.hash % n) long) in
-    let row = subst (λ (l : List ℕ). IsRow l c.home-first.result c.group_of.result.now) c.deref.ensures.value c.group_of.ensures in
-    ends-empty t c.args.hash c.requires 1 c.home-first.result at (empty-seen _ _ _ _ row c.probe-seen.ensures.empty c.if-seen-ne0.true c.probe-seen.ensures.fits.1)
+    let empty = empty-seen _ _ _ _ row c.probe-seen.ensures.empty c.if-seen-ne0.true c.probe-seen.ensures.fits.1 in
+    record {
+      found = search rules;
+      absent = absent-here g.K.PartialEq.eq t c.args.hash c.args.key.now 0 (searching-first _ _ _ _) c.requires c.home-first.result at missing empty;
+      visits = (omega (arith, c.home-first.ensures.below, long), λ _. omega arith);
+      last = search rules;
+      ended = ends-empty t c.args.hash c.requires 1 c.home-first.result at empty;
+    }
 
 pub search_past-requires-clause-passes : goal.search_past-requires-clause-passes
 search_past-requires-clause-passes g c =
-    let t = c.args.self.now in
-    let long : c.len-count.result ≡ groups_in t = omega (arith, c.len-count.ensures, t.counts.ok.0) in
-    let row = subst (λ (l : List ℕ). IsRow l c.home-first.result c.group_of.result.now) c.deref.ensures.value c.group_of.ensures in
-    passes-first g.K.PartialEq.eq t c.args.hash c.args.key.now c.requires c.len-count.result c.home-first.result _ _ _ _ long c.home-first.ensures.below c.home-first.ensures.is row
-    c.tag.ensures.is c.probe-seen.ensures.matches c.in_default.ensures.absent c.probe-seen.ensures.empty c.if-seen-ne0.false
+    passes-first g.K.PartialEq.eq c.args.self.now c.args.hash c.args.key.now c.requires c.len-count.result c.home-first.result _ _ c.group_of.result.now _ _ (omega (arith, c.len-count.ensures, c.args.self.now.counts.ok.0)) c.home-first.ensures.below c.home-first.ensures.is
+    c.deref.ensures.value c.group_of.ensures c.tag.ensures.is c.probe-seen.ensures.matches c.in_default.ensures.absent c.probe-seen.ensures.empty c.if-seen-ne0.false
