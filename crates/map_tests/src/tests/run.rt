@@ -10,6 +10,8 @@ use dash_steps::kept::Kept;
 use dash_steps::step::{Reply, ShardStep};
 use std::alloc::Global;
 use std::process::Abort;
+use std::rt::Clock;
+use std::sync::Wait;
 
 fn six_steps(rt: &impl Abort, alloc: Global) -> Vec<ShardStep<u64, u64>> {
     vec![in alloc;
@@ -88,45 +90,46 @@ fn a_refused_step_comes_back(rt: HostRuntime) {
     is(&rt, alone.len(), 1);
 }
 
-// The replies as text.
-#[test]
-fn counts_may_miss_every_pair(rt: HostRuntime) {
-    let mut map = map_of_four(&rt, rt.alloc());
-    put(&rt, &map, 3, 30);
-    let outcome: RunOutcome<u64, u64> = map.run(vec![in rt.alloc();
+// Counts the shards 0 to 2 of a map with this pair, takes the two steps, and counts the shard 3.
+fn count_around<R: Abort + Wait + Clock>(
+    rt: &R,
+    alloc: Global,
+    (key, value): (u64, u64),
+    [first, second]: [ShardStep<u64, u64>; 2],
+    wanted: &str,
+) {
+    let mut map = map_of_four(rt, alloc);
+    put(rt, &map, key, value);
+    let outcome: RunOutcome<u64, u64> = map.run(vec![in alloc;
         ShardStep::Count(0),
         ShardStep::Count(1),
         ShardStep::Count(2),
-        ShardStep::Insert(0, 5),
-        ShardStep::Remove(3),
+        first,
+        second,
         ShardStep::Count(3),
     ]
-    .expect(&rt, "refused"));
-    prints(
+    .expect(rt, "refused"));
+    prints(rt, alloc, &outcome.replies, wanted);
+}
+
+#[test]
+fn counts_may_miss_every_pair(rt: HostRuntime) {
+    count_around(
         &rt,
         rt.alloc(),
-        &outcome.replies,
+        (3, 30),
+        [ShardStep::Insert(0, 5), ShardStep::Remove(3)],
         "[Number(0), Number(0), Number(0), Old(None), Pair(Some((3, 30))), Number(0)]",
     );
 }
 
 #[test]
 fn counts_may_see_pairs_that_never_met(rt: HostRuntime) {
-    let mut map = map_of_four(&rt, rt.alloc());
-    put(&rt, &map, 0, 5);
-    let outcome: RunOutcome<u64, u64> = map.run(vec![in rt.alloc();
-        ShardStep::Count(0),
-        ShardStep::Count(1),
-        ShardStep::Count(2),
-        ShardStep::Remove(0),
-        ShardStep::Insert(3, 30),
-        ShardStep::Count(3),
-    ]
-    .expect(&rt, "refused"));
-    prints(
+    count_around(
         &rt,
         rt.alloc(),
-        &outcome.replies,
+        (0, 5),
+        [ShardStep::Remove(0), ShardStep::Insert(3, 30)],
         "[Number(1), Number(0), Number(0), Pair(Some((0, 5))), Old(None), Number(1)]",
     );
 }
@@ -209,11 +212,11 @@ fn steps_on_each_pair_of_a_shard(rt: HostRuntime) {
         ShardStep::Retain(4, Adds(1)),
     ]
     .expect(&rt, "refused"));
-    assert_eq!(rt;
-        format!(in rt.alloc(); "{:?}", outcome.replies)
-            .expect(&rt, "refused")
-            .as_str(),
-        "[Old(None), Old(None), Old(None), Done, Pairs([(2, 20)]), Pair(Some((1, 11))), Pair(Some((5, 52))), Done, Pairs([(5, 54)]), Pairs([]), Number(1)]"
+    prints(
+        &rt,
+        rt.alloc(),
+        &outcome.replies,
+        "[Old(None), Old(None), Old(None), Done, Pairs([(2, 20)]), Pair(Some((1, 11))), Pair(Some((5, 52))), Done, Pairs([(5, 54)]), Pairs([]), Number(1)]",
     );
     let (rest, fault) = outcome.stopped.expect(&rt, "no stop");
     is(&rt, fault, Fault::NoSuchShard);
