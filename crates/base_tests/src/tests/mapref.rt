@@ -1,6 +1,6 @@
 //! References into one shard behind its lock, as worked by hand.
 use crate::tests::by_hand::lock_of_one;
-use crate::tests::checks::{is, is_at};
+use crate::tests::checks::is;
 use dash_ref::mapref::one::Ref;
 use dash_shard::hash::PlaceState;
 use dash_shard::lock::RwLock;
@@ -27,9 +27,9 @@ fn lends_the_pair_of_a_key(rt: HostRuntime) {
     for (key, value) in [(1, 10), (5, 50), (9, 90)] {
         let found = find(&rt, &lock, key).expect(&rt, "no pair");
         is(&rt, found.key(), &key);
-        is_at(&rt, found.value(), &value, key);
+        is(&rt, (key, found.value()), (key, &value));
         is(&rt, found.pair(), (&key, &value));
-        is_at(&rt, *found, value, key);
+        is(&rt, (key, *found), (key, value));
     }
     // Of this shard, and of another one.
     for absent in [13, 4] {

@@ -1,6 +1,6 @@
 //! One shard's calls, as worked by hand.
 use crate::tests::by_hand::{here, new_shard, put, shard_one};
-use crate::tests::checks::{is, is_at};
+use crate::tests::checks::is;
 use crate::values::Noted;
 use dash_shard::hash::PlaceState;
 use dash_shard::shard::Shard;
@@ -24,11 +24,10 @@ fn grows(rt: HostRuntime) {
     is(&rt, shard.capacity(), 0);
     for i in 0..1000u64 {
         let key = 4 * i + 1;
-        is_at(
+        is(
             &rt,
-            put(&rt, &mut shard, key, i).expect(&rt, "refused"),
-            None,
-            key,
+            (key, put(&rt, &mut shard, key, i).expect(&rt, "refused")),
+            (key, None),
         );
         assert!(rt; shard.capacity() >= shard.len(), "{key}");
     }
@@ -60,11 +59,13 @@ fn the_stored_key_stays(rt: HostRuntime) {
     let mut shard = new_shard(&rt, rt.alloc(), PlaceState, 1, 4, 0).expect(&rt, "refused");
     for (note, value, old) in [(1, 100, None), (2, 200, Some(100))] {
         let key = Noted { name: 5, note };
-        is_at(
+        is(
             &rt,
-            put(&rt, &mut shard, key, value).expect(&rt, "refused"),
-            old,
-            note,
+            (
+                note,
+                put(&rt, &mut shard, key, value).expect(&rt, "refused"),
+            ),
+            (note, old),
         );
     }
     let key = Noted { name: 5, note: 3 };
@@ -103,11 +104,10 @@ fn removed_marks_go(rt: HostRuntime) {
     shard.try_reserve(20).expect(&rt, "refused");
     is(&rt, shard.groups(), 2);
     for i in 0..20u64 {
-        is_at(
+        is(
             &rt,
-            put(&rt, &mut shard, 4 * i + 1, i).expect(&rt, "refused"),
-            None,
-            i,
+            (i, put(&rt, &mut shard, 4 * i + 1, i).expect(&rt, "refused")),
+            (i, None),
         );
     }
     is(&rt, shard.search(&81).visits, 2);
@@ -118,7 +118,7 @@ fn removed_marks_go(rt: HostRuntime) {
     is(&rt, shard.search(&81).visits, 2);
     for i in 16..20u64 {
         let key = here(&rt, &shard, 4 * i + 1);
-        is_at(&rt, shard.remove(&key), Some((key, i)), i);
+        is(&rt, (i, shard.remove(&key)), (i, Some((key, i))));
     }
     is(&rt, shard.search(&81).visits, 1);
     is(&rt, shard.search(&5).visits, 1);

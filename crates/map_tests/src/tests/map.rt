@@ -1,5 +1,5 @@
 //! Amounts, capacities and routes of a map, as worked by hand.
-use crate::tests::checks::{is, is_at};
+use crate::tests::checks::is;
 use crate::tests::maps::map_of_four;
 use dash_map::map::DashMap;
 use dash_map::t::Map as _;
@@ -75,7 +75,7 @@ fn capacities(rt: HostRuntime) {
 fn routes(rt: HostRuntime) {
     let four = Map::with_shard_amount(rt.alloc(), 4).expect(&rt, "refused");
     for (hash, shard) in [(1 << 55, 1), (1 << 56, 2), (1 << 57, 0), (usize::MAX, 3)] {
-        is_at(&rt, four.determine_shard(hash), shard, hash);
+        is(&rt, (hash, four.determine_shard(hash)), (hash, shard));
     }
     let two = Map::with_shard_amount(rt.alloc(), 2).expect(&rt, "refused");
     is(&rt, two.determine_shard((1 << 56) - 1), 0);
@@ -83,6 +83,10 @@ fn routes(rt: HostRuntime) {
 
     let places = map_of_four::<u64>(&rt, rt.alloc());
     for key in 0..16u64 {
-        is_at(&rt, places.determine_map(&key) as u64, key % 4, key);
+        is(
+            &rt,
+            (key, places.determine_map(&key) as u64),
+            (key, key % 4),
+        );
     }
 }

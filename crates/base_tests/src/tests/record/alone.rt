@@ -1,5 +1,5 @@
 //! A recorded map's refusals, its stamps and its replies, as worked by hand.
-use crate::tests::checks::{is, is_at};
+use crate::tests::checks::is;
 use dash_history::alone::RecAlone;
 use dash_history::record::{CallerLog, RecordFault};
 use dash_shard::error::ConstructError;
@@ -77,8 +77,8 @@ fn first_steps(rt: HostRuntime) {
     is(&rt, log.entries().len(), 3);
     for (record, stamp) in log.entries().iter().zip([1, 2, 3]) {
         is(&rt, record.stamp, stamp);
-        is_at(&rt, record.caller, 0, stamp);
-        is_at(&rt, record.shard, 1, stamp);
+        is(&rt, (stamp, record.caller), (stamp, 0));
+        is(&rt, (stamp, record.shard), (stamp, 1));
     }
 }
 
@@ -168,6 +168,6 @@ fn replies_as_the_plain_map(rt: HostRuntime) {
         let want = format!(in rt.alloc(); "{want:?}").expect(&rt, "refused");
         let reply = apply(&rt, &mut alone, &mut log, step);
         let reply = format!(in rt.alloc(); "{reply:?}").expect(&rt, "refused");
-        is_at(&rt, reply.as_str(), want.as_str(), i);
+        is(&rt, (i, reply.as_str()), (i, want.as_str()));
     }
 }

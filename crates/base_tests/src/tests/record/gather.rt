@@ -1,6 +1,6 @@
 //! Merging and gathering, as worked by hand: logs that match the histories, and logs that don't.
 use super::map::{Alone, Log, Map, apply, last_of, record_steps};
-use crate::tests::checks::{is, is_at};
+use crate::tests::checks::is;
 use crate::values::Uncopied;
 use dash_history::alone::RecAlone;
 use dash_history::gather::{At, GatherError, gather};
@@ -169,11 +169,15 @@ fn what_was_learned_stands_before(rt: HostRuntime) {
         second.learn(learned);
         is(&rt, second.last_stamp(), learned);
         apply(&rt, &map, &mut second, ShardStep::Insert(1, 1));
-        is_at(&rt, second.last_stamp(), stamp, learned);
+        is(&rt, (learned, second.last_stamp()), (learned, stamp));
         let alone = map.alone();
-        is_at(&rt, last_of(&rt, &alone, 1), stamp, learned);
+        is(&rt, (learned, last_of(&rt, &alone, 1)), (learned, stamp));
         let places = alone.gather(&[first, second]).expect(&rt, "refused");
-        is_at(&rt, places.contains(&at(stamp, 1, 2, 1)), true, learned);
+        is(
+            &rt,
+            (learned, places.contains(&at(stamp, 1, 2, 1))),
+            (learned, true),
+        );
     }
 }
 
@@ -242,7 +246,11 @@ fn four_threads_have_one_history(rt: HostRuntime) {
         &|_, log: &mut Log| { record_steps(&rt, &map, log, 1_000) },
     );
     for log in &logs {
-        is_at(&rt, log.entries().len(), 1_000, log.caller());
+        is(
+            &rt,
+            (log.caller(), log.entries().len()),
+            (log.caller(), 1_000),
+        );
     }
     is(
         &rt,

@@ -1,7 +1,7 @@
 //! A recorded map behind its locks: as worked by hand, shared by threads, and moved out of its locks and back.
 ghost use Rattle.std.specs.Prelude.{◌≡◌, ◌<◌};
 
-use crate::tests::checks::{is, is_at};
+use crate::tests::checks::is;
 use dash_history::alone::RecAlone;
 use dash_history::record::CallerLog;
 use dash_history::record::map::RecordedMap;
@@ -116,12 +116,16 @@ fn four_threads_record_on_one_map(rt: HostRuntime) {
         &|_, log: &mut Log| { record_steps(&rt, &map, log, 10_000) },
     );
     for log in &logs {
-        is_at(&rt, log.entries().len(), 10_000, log.caller());
+        is(
+            &rt,
+            (log.caller(), log.entries().len()),
+            (log.caller(), 10_000),
+        );
     }
     let mut alone = map.alone();
     for shard in 0..4 {
         let mut stamps = stamps_of(&rt, rt.alloc(), &logs, shard);
-        is_at(&rt, stamps.len(), 10_000, shard);
+        is(&rt, (shard, stamps.len()), (shard, 10_000));
         assert_eq!(rt;
             stamps.last(),
             Some(&last_of(&rt, &alone, shard)),
@@ -211,7 +215,7 @@ fn stamped<R: Abort + Wait + Clock>(rt: &R, alloc: Global, rows: &[(usize, u64, 
     for &(caller, key, stamp) in rows {
         let log = logs.get_mut(caller).expect(rt, "no log");
         apply(rt, &map, log, ShardStep::Insert(key, 10));
-        is_at(rt, log.last_stamp(), stamp, key);
+        is(rt, (key, log.last_stamp()), (key, stamp));
     }
     map.alone()
 }

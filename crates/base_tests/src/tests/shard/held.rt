@@ -1,6 +1,6 @@
 //! One shard behind its lock, as worked by hand.
 use crate::tests::by_hand::{here_held, lock_of_one, put_held};
-use crate::tests::checks::{is, is_at};
+use crate::tests::checks::is;
 use dash_shard::hash::PlaceState;
 use dash_shard::lock::RwLock;
 use dash_shard::shard::Shard;
@@ -16,11 +16,13 @@ fn a_held_shard_is_changed_in_place(rt: HostRuntime) {
     is(&rt, held.amount(), 4);
     is(&rt, held.capacity(), 0);
     for (key, value, old) in [(1, 10, None), (1, 11, Some(10)), (5, 50, None)] {
-        is_at(
+        is(
             &rt,
-            put_held(&rt, &mut held, key, value).expect(&rt, "refused"),
-            old,
-            key,
+            (
+                key,
+                put_held(&rt, &mut held, key, value).expect(&rt, "refused"),
+            ),
+            (key, old),
         );
     }
     is(&rt, held.get(&1), Some((&1, &11)));
@@ -56,7 +58,7 @@ fn a_held_value_is_lent(rt: HostRuntime) {
     let shard = lock.into_inner();
     is(&rt, shard.len(), 3);
     for (key, value) in [(1, 20), (5, 55), (9, 91)] {
-        is_at(&rt, shard.get(&key), Some((&key, &value)), key);
+        is(&rt, (key, shard.get(&key)), (key, Some((&key, &value))));
     }
 }
 
