@@ -83,14 +83,10 @@ fn clones(rt: HostRuntime) {
 
 // Puts into the first of two shards what goes there of some keys, and answers how many that are.
 fn fill<S: BuildHasher + Drop>(rt: &impl Abort, alloc: Global, state: S) -> usize {
-    let mut shard = new_shard(rt, alloc, state, 0, 2, 0).expect(rt, "refused");
+    let mut shard = new_shard(rt, alloc, state, 0, 2, 0);
     for key in 0..64u64 {
         if shard.routes(&key) {
-            is(
-                rt,
-                (key, put(rt, &mut shard, key, !key).expect(rt, "refused")),
-                (key, None),
-            );
+            is(rt, (key, put(rt, &mut shard, key, !key)), (key, None));
         }
     }
     for key in 0..64u64 {

@@ -1,5 +1,5 @@
 //! A recorded map's refusals, its stamps and its replies, as worked by hand.
-use crate::tests::checks::is;
+use crate::tests::checks::{is, prints};
 use dash_history::alone::RecAlone;
 use dash_history::record::{CallerLog, RecordFault};
 use dash_shard::error::ConstructError;
@@ -63,13 +63,7 @@ fn first_steps(rt: HostRuntime) {
         (Step::Get(1), "Pair(Some((1, 11)))"),
     ] {
         let reply = apply(&rt, &mut alone, &mut log, step);
-        is(
-            &rt,
-            format!(in rt.alloc(); "{reply:?}")
-                .expect(&rt, "refused")
-                .as_str(),
-            text,
-        );
+        prints(&rt, rt.alloc(), &reply, text);
     }
     is(&rt, log.last_stamp(), 3);
     is(&rt, last_of(&rt, &alone, 1), 3);
@@ -117,13 +111,7 @@ fn reads_and_sweeps_a_shard(rt: HostRuntime) {
         (Step::Read(2), "Pairs([(6, 60)])"),
     ] {
         let reply = apply(&rt, &mut alone, &mut log, step);
-        is(
-            &rt,
-            format!(in rt.alloc(); "{reply:?}")
-                .expect(&rt, "refused")
-                .as_str(),
-            text,
-        );
+        prints(&rt, rt.alloc(), &reply, text);
     }
     is(&rt, log.entries().len(), 7);
     assert!(rt; log.caller() < alone.callers());
