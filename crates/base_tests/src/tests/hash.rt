@@ -58,27 +58,13 @@ fn hash_by_clone<K: Eq + Hash, S: BuildHasher + Clone + Drop>(
 
 #[test]
 fn clones(rt: HostRuntime) {
-    is(
-        &rt,
-        hash_by_clone(&FixedState, &1u64).expect(&rt, "refused"),
-        0x89cd_3129_1d2a_efa4,
-    );
-    is(
-        &rt,
-        hash_by_clone(&ZeroState, &1u64).expect(&rt, "refused"),
-        0,
-    );
-    is(
-        &rt,
-        hash_by_clone(&PlaceState, &1u64).expect(&rt, "refused"),
-        1 << 55,
-    );
+    let fixed = 0x89cd_3129_1d2a_efa4;
+    is(&rt, hash_by_clone(&FixedState, &1u64), Ok(fixed));
+    is(&rt, hash_by_clone(&ZeroState, &1u64), Ok(0));
+    is(&rt, hash_by_clone(&PlaceState, &1u64), Ok(1 << 55));
     let state = RandomState::new(&rt).expect(&rt, "refused");
-    is(
-        &rt,
-        hash_by_clone(&state, &1u64).expect(&rt, "refused"),
-        state.hash_one(&1u64),
-    );
+    let random = state.hash_one(&1u64);
+    is(&rt, hash_by_clone(&state, &1u64), Ok(random));
 }
 
 // Puts into the first of two shards what goes there of some keys, and answers how many that are.
@@ -126,18 +112,12 @@ fn routes(rt: HostRuntime) {
         (2, (1 << 56) - 1, 0),
         (2, 1 << 56, 1),
     ] {
-        assert_eq!(rt;
-            shard_of(&rt, hash, amount),
-            shard,
-            "the hash {hash} among {amount}"
-        );
+        let found = shard_of(&rt, hash, amount);
+        is(&rt, (hash, amount, found), (hash, amount, shard));
     }
     for (key, shard) in [(0u64, 0), (1, 1), (5, 1), (7, 3), (u64::MAX, 3)] {
-        assert_eq!(rt;
-            shard_of(&rt, PlaceState.hash_one(&key), 4),
-            shard,
-            "the key {key}"
-        );
+        let found = shard_of(&rt, PlaceState.hash_one(&key), 4);
+        is(&rt, (key, found), (key, shard));
     }
 }
 
