@@ -63,3 +63,13 @@ where
     assert!(rt; shard.routes(&key), "the key goes to another shard");
     shard.insert(key, value).expect(rt, "refused")
 }
+
+/// Takes the pair of a key, which has to go to the shard.
+pub(crate) fn remove<S: BuildHasher>(
+    rt: &impl Abort,
+    shard: &mut Shard<u64, u64, S>,
+    key: u64,
+) -> Option<(u64, u64)> {
+    assert!(rt; shard.routes(&key), "the key goes to another shard");
+    shard.remove(&key)
+}

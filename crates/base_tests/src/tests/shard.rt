@@ -1,5 +1,5 @@
 //! One shard's calls, as worked by hand.
-use crate::tests::by_hand::{new_shard, put, shard_one};
+use crate::tests::by_hand::{new_shard, put, remove, shard_one};
 use crate::tests::checks::is;
 use crate::values::Noted;
 use dash_shard::hash::PlaceState;
@@ -17,12 +17,6 @@ fn put_new(rt: &impl Abort, shard: &mut Numbers, key: u64) -> usize {
     assert!(rt; !shard.contains_key(&key));
     assert!(rt; shard.routes(&key));
     shard.insert_new(key, key)
-}
-
-// Takes the pair of a key, which has to go to the shard.
-fn remove(rt: &impl Abort, shard: &mut Numbers, key: u64) -> Option<(u64, u64)> {
-    assert!(rt; shard.routes(&key));
-    shard.remove(&key)
 }
 
 #[test]

@@ -47,7 +47,11 @@ fn refuses_amounts_and_then_callers(rt: HostRuntime) {
         (4, 65_537, ConstructError::Callers),
     ] {
         let refused = Alone::new(rt.alloc(), PlaceState, amount, callers).err();
-        assert_eq!(rt; refused, Some(error), "{callers} callers of {amount}");
+        is(
+            &rt,
+            (callers, amount, refused),
+            (callers, amount, Some(error)),
+        );
     }
 }
 

@@ -1,7 +1,7 @@
 //! A recorded map behind its locks: as worked by hand, shared by threads, and moved out of its locks and back.
 ghost use Rattle.std.specs.Prelude.{◌≡◌, ◌<◌};
 
-use crate::tests::checks::is;
+use crate::tests::checks::{is, prints};
 use dash_history::alone::RecAlone;
 use dash_history::record::CallerLog;
 use dash_history::record::map::RecordedMap;
@@ -54,15 +54,16 @@ pub(crate) fn last_of(rt: &impl Abort, alone: &Alone, shard: usize) -> u64 {
 #[test]
 fn first_steps(rt: HostRuntime) {
     let (map, mut logs) = Map::new(rt.alloc(), PlaceState, 4, 1).expect(&rt, "refused");
-    is(&rt, map.shard_count(), 4);
-    is(&rt, map.callers(), 1);
+    is(&rt, (map.shard_count(), map.callers()), (4, 1));
     let mut log = logs.pop().expect(&rt, "no log");
-    let reply = apply(&rt, &map, &mut log, ShardStep::Insert(1, 10));
-    assert!(rt; matches!(reply, Reply::Old(None)));
-    let reply = apply(&rt, &map, &mut log, ShardStep::Insert(1, 11));
-    assert!(rt; matches!(reply, Reply::Old(Some(10))));
-    let reply = apply(&rt, &map, &mut log, ShardStep::Get(1));
-    assert!(rt; matches!(reply, Reply::Pair(Some((1, 11)))));
+    for (step, text) in [
+        (ShardStep::Insert(1, 10), "Old(None)"),
+        (ShardStep::Insert(1, 11), "Old(Some(10))"),
+        (ShardStep::Get(1), "Pair(Some((1, 11)))"),
+    ] {
+        let reply = apply(&rt, &map, &mut log, step);
+        prints(&rt, rt.alloc(), &reply, text);
+    }
     is(&rt, log.last_stamp(), 3);
     is(&rt, map.alone().last_of(1), 3);
 }
@@ -73,7 +74,7 @@ fn a_held_shard_leaves_the_others_free(rt: HostRuntime) {
     let mut log = logs.pop().expect(&rt, "no log");
     let held = map.held(&rt, 0);
     let reply = apply(&rt, &map, &mut log, ShardStep::Insert(1, 10));
-    assert!(rt; matches!(reply, Reply::Old(None)));
+    prints(&rt, rt.alloc(), &reply, "Old(None)");
     is(&rt, held.last_stamp(), 0);
 }
 
@@ -143,10 +144,7 @@ fn four_threads_record_on_one_map(rt: HostRuntime) {
     let mut log = logs.pop().expect(&rt, "no log");
     for shard in 0..4 {
         let count = apply_alone(&rt, &mut alone, &mut log, ShardStep::Count(shard));
-        assert!(rt;
-            matches!(count, Reply::Number(4)),
-            "{count:?} of shard {shard}"
-        );
+        prints(&rt, rt.alloc(), &count, "Number(4)");
     }
 }
 
