@@ -148,10 +148,8 @@ fn structs_are_found_as_they_were_put(rt: HostRuntime) {
     }
     for i in 0..10 {
         let found = map.get(&rt, &i).expect(&rt, "no pair");
-        assert_eq!(rt;
-            *found.value(),
-            note_of(rt.alloc(), i).expect(&rt, "refused")
-        );
+        let note = note_of(rt.alloc(), i).expect(&rt, "refused");
+        is(&rt, found.value(), &note);
     }
 }
 

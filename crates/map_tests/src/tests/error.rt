@@ -39,11 +39,8 @@ fn texts(rt: HostRuntime) {
     ];
     have_texts(&rt, rt.alloc(), &construct);
     has_text(&rt, rt.alloc(), &TryReserveError {}, "no memory (11)");
-    let run = [
-        (Fault::NoSuchShard, "no such shard (13)"),
-        (Fault::Memory, "no memory (14)"),
-    ];
-    have_texts(&rt, rt.alloc(), &run);
+    has_text(&rt, rt.alloc(), &Fault::NoSuchShard, "no such shard (13)");
+    has_text(&rt, rt.alloc(), &Fault::Memory, "no memory (14)");
     let record = [
         (RecordFault::LastStamp, "last stamp (18)"),
         (RecordFault::Memory, "no memory (19)"),
@@ -51,11 +48,8 @@ fn texts(rt: HostRuntime) {
         (RecordFault::Locked, "locked (21)"),
     ];
     have_texts(&rt, rt.alloc(), &record);
-    let gather = [
-        (GatherError::Mismatch, "mismatch (22)"),
-        (GatherError::Memory, "no memory (23)"),
-    ];
-    have_texts(&rt, rt.alloc(), &gather);
+    has_text(&rt, rt.alloc(), &GatherError::Mismatch, "mismatch (22)");
+    has_text(&rt, rt.alloc(), &GatherError::Memory, "no memory (23)");
 }
 
 #[test]

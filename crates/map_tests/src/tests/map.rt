@@ -13,18 +13,18 @@ type Map = DashMap<u64, u64>;
 fn amounts_that_are_refused(rt: HostRuntime) {
     for amount in [0, 1, 3] {
         let refused = Map::with_shard_amount(rt.alloc(), amount).err();
-        assert_eq!(rt;
-            refused,
-            Some(ConstructError::ShardAmount),
-            "{amount} shards"
+        is(
+            &rt,
+            (amount, refused),
+            (amount, Some(ConstructError::ShardAmount)),
         );
     }
     for parallelism in [0, (1 << 61) + 1] {
         let refused = Map::new(rt.alloc(), parallelism).err();
-        assert_eq!(rt;
-            refused,
-            Some(ConstructError::Parallelism),
-            "{parallelism} processors"
+        is(
+            &rt,
+            (parallelism, refused),
+            (parallelism, Some(ConstructError::Parallelism)),
         );
     }
 }
@@ -35,17 +35,9 @@ fn amounts_that_are_taken(rt: HostRuntime) {
     is(&rt, map.alone().shard_count(), 2);
     for (parallelism, amount) in [(1, 4), (3, 16)] {
         let map = Map::new(rt.alloc(), parallelism).expect(&rt, "refused");
-        assert_eq!(rt;
-            map.alone().shard_count(),
-            amount,
-            "{parallelism} processors"
-        );
+        is(&rt, map.alone().shard_count(), amount);
         let map = Map::default(rt.alloc(), parallelism).expect(&rt, "refused");
-        assert_eq!(rt;
-            map.alone().shard_count(),
-            amount,
-            "{parallelism} processors"
-        );
+        is(&rt, map.alone().shard_count(), amount);
     }
 }
 

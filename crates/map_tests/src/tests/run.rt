@@ -7,7 +7,7 @@ use dash_map::run::{Fault, RunOutcome};
 use dash_shard::hash::PlaceState;
 use dash_steps::action::Action;
 use dash_steps::kept::Kept;
-use dash_steps::step::{Reply, ShardStep};
+use dash_steps::step::ShardStep;
 use std::alloc::Global;
 use std::process::Abort;
 use std::rt::Clock;
@@ -26,20 +26,13 @@ fn six_steps(rt: &impl Abort, alloc: Global) -> Vec<ShardStep<u64, u64>> {
 }
 
 // The replies to the six steps on an empty map, all of them.
-fn assert_replies<R: Abort>(rt: &R, outcome: &RunOutcome<u64, u64>) {
+fn assert_replies(rt: &impl Abort, alloc: Global, outcome: &RunOutcome<u64, u64>) {
     assert!(rt; outcome.stopped.is_none());
-    assert!(rt;
-        matches!(
-            outcome.replies.as_slice(),
-            [
-                Reply::Old(None),
-                Reply::Old(None),
-                Reply::Pair(Some((1, 10))),
-                Reply::Pair(Some((1, 10))),
-                Reply::Pair(None),
-                Reply::Pair(None),
-            ]
-        )
+    prints(
+        rt,
+        alloc,
+        &outcome.replies,
+        "[Old(None), Old(None), Pair(Some((1, 10))), Pair(Some((1, 10))), Pair(None), Pair(None)]",
     );
 }
 
@@ -47,7 +40,7 @@ fn assert_replies<R: Abort>(rt: &R, outcome: &RunOutcome<u64, u64>) {
 fn six_steps_on_a_map(rt: HostRuntime) {
     let mut map = map_of_four(&rt, rt.alloc());
     let outcome = map.run(six_steps(&rt, rt.alloc()));
-    assert_replies(&rt, &outcome);
+    assert_replies(&rt, rt.alloc(), &outcome);
     let found = map.get(&rt, &5).expect(&rt, "no pair");
     is(&rt, found.pair(), (&5, &50));
     assert!(rt; map.get(&rt, &1).is_none());
@@ -57,7 +50,7 @@ fn six_steps_on_a_map(rt: HostRuntime) {
 fn six_steps_of_one_owner(rt: HostRuntime) {
     let mut alone = map_of_four(&rt, rt.alloc()).alone();
     let outcome = alone.run(six_steps(&rt, rt.alloc()));
-    assert_replies(&rt, &outcome);
+    assert_replies(&rt, rt.alloc(), &outcome);
     is(&rt, alone.get(&5), Some((&5, &50)));
     is(&rt, alone.get(&1), None);
     is(&rt, alone.len(), 1);
@@ -73,20 +66,10 @@ fn a_refused_step_comes_back(rt: HostRuntime) {
         ShardStep::Insert(5, Uncopied(50)),
     ]
     .expect(&rt, "refused"));
-    assert!(rt;
-        matches!(
-            outcome.replies.as_slice(),
-            [Reply::Old(None), Reply::Pair(None)]
-        )
-    );
+    prints(&rt, rt.alloc(), &outcome.replies, "[Old(None), Pair(None)]");
     let (rest, fault) = outcome.stopped.expect(&rt, "no stop");
     is(&rt, fault, Fault::Memory);
-    assert!(rt;
-        matches!(
-            rest.as_slice(),
-            [ShardStep::Get(1), ShardStep::Insert(5, Uncopied(50))]
-        )
-    );
+    prints(&rt, rt.alloc(), &rest, "[Get(1), Insert(5, Uncopied(50))]");
     is(&rt, alone.len(), 1);
 }
 
