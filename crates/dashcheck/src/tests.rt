@@ -1,6 +1,7 @@
 //! What `dashcheck` prints, where reads and writes succeed and where they fail.
 use crate::command::{exit_code, refuse_memory, run_words};
 use std::alloc::{AllocError, Global};
+use std::fmt;
 use std::io::{self, Read, Write};
 use std::process::Abort;
 use std::rt::Clock;
@@ -53,6 +54,11 @@ fn words(alloc: Global, line: &str) -> Result<Vec<String>, AllocError> {
     Ok(words)
 }
 
+/// Ends the test where what was found isn't what is wanted.
+pub(crate) fn is<T: PartialEq + fmt::Debug + Drop>(rt: &impl Abort, found: T, wanted: T) {
+    assert_eq!(rt; found, wanted);
+}
+
 // What a run left on its outputs, and the exit status.
 #[derive(Debug, Drop, PartialEq)]
 struct Ran {
@@ -80,6 +86,16 @@ fn run<T: Threads + Wait + Clock + Sync, R: Read>(
     })
 }
 
+// Ends the test where a run of this line left something else.
+fn is_ran(rt: &impl Abort, line: &[u8], ran: &Ran, output: &str, errors: &str, code: u8) {
+    let found = (ran.output.as_slice(), ran.errors.as_slice(), ran.code);
+    is(
+        rt,
+        (line, found),
+        (line, (output.as_bytes(), errors.as_bytes(), code)),
+    );
+}
+
 // Runs a script, which is to print these. It is refused where it prints an error.
 fn check<T: Abort + Threads + Wait + Clock + Sync>(
     rt: &T,
@@ -91,17 +107,7 @@ fn check<T: Abort + Threads + Wait + Clock + Sync>(
     let mut input = script;
     let ran = run(rt, alloc, "script", &mut input).expect(rt, "refused");
     let code = if errors.is_empty() { 0 } else { 1 };
-    assert_eq!(rt;
-        ran.output.as_slice(),
-        output.as_bytes(),
-        "output of {script:?}"
-    );
-    assert_eq!(rt;
-        ran.errors.as_slice(),
-        errors.as_bytes(),
-        "errors of {script:?}"
-    );
-    assert_eq!(rt; ran.code, code, "status of {script:?}");
+    is_ran(rt, script, &ran, output, errors, code);
 }
 
 #[test]
@@ -316,9 +322,14 @@ fn refuses_failed_reads(rt: HostRuntime) {
             bytes: bytes.as_bytes(),
         };
         let ran = run(&rt, rt.alloc(), "script", &mut input).expect(&rt, "refused");
-        assert_eq!(rt; ran.output.as_slice(), output.as_bytes());
-        assert_eq!(rt; ran.errors.as_slice(), b"refused: read failed\n".as_slice());
-        assert_eq!(rt; ran.code, 1);
+        is_ran(
+            &rt,
+            bytes.as_bytes(),
+            &ran,
+            output,
+            "refused: read failed\n",
+            1,
+        );
     }
 }
 
@@ -337,8 +348,11 @@ fn stops_where_a_write_fails(rt: HostRuntime) {
             &mut errors,
         );
         assert!(rt; ran.is_err());
-        assert_eq!(rt; errors.len(), 0);
-        assert_eq!(rt; exit_code(words.as_slice(), ran), 1);
+        is(
+            &rt,
+            (errors.len(), exit_code(words.as_slice(), ran)),
+            (0, 1),
+        );
     }
 }
 
@@ -367,10 +381,8 @@ fn checks_the_command_line_first(rt: HostRuntime) {
     ] {
         let mut input = Failing { bytes: b"get 1\n" };
         let ran = run(&rt, rt.alloc(), line, &mut input).expect(&rt, "refused");
-        assert_eq!(rt; input.bytes.len(), 6);
-        assert_eq!(rt; ran.output.len(), 0);
-        assert_eq!(rt; ran.errors.as_slice(), USAGE.as_bytes());
-        assert_eq!(rt; ran.code, 2, "status of {line:?}");
+        is(&rt, input.bytes.len(), 6);
+        is_ran(&rt, line.as_bytes(), &ran, "", USAGE, 2);
     }
 }
 
@@ -388,11 +400,11 @@ fn fails_where_the_errors_cannot_be_written(rt: HostRuntime) {
             &mut output,
             &mut Full { room: 0 },
         );
-        assert!(rt; ran.is_err(), "end of {line:?}");
-        assert_eq!(rt; output.len(), 0);
-        assert_eq!(rt; exit_code(words.as_slice(), ran), code);
+        assert!(rt; ran.is_err());
+        let found = (line, output.len(), exit_code(words.as_slice(), ran));
+        is(&rt, found, (line, 0, code));
     }
-    assert_eq!(rt; refuse_memory(&mut Full { room: 0 }), 1);
+    is(&rt, refuse_memory(&mut Full { room: 0 }), 1);
 }
 
 #[test]
@@ -405,13 +417,7 @@ fn threads_print_how_many_entries_they_logged_and_that_they_are_legal(rt: HostRu
     ] {
         let mut input = Failing { bytes: b"get 1\n" };
         let ran = run(&rt, rt.alloc(), line, &mut input).expect(&rt, "refused");
-        assert_eq!(rt;
-            ran.output.as_slice(),
-            output.as_bytes(),
-            "output of {line:?}"
-        );
-        assert_eq!(rt; ran.errors.len(), 0);
-        assert_eq!(rt; input.bytes.len(), 6);
-        assert_eq!(rt; ran.code, 0);
+        is(&rt, input.bytes.len(), 6);
+        is_ran(&rt, line.as_bytes(), &ran, output, "", 0);
     }
 }

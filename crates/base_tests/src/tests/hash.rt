@@ -3,7 +3,7 @@ ghost use Rattle.std.specs.Prelude.{◌≡◌, IfOk};
 ghost use Rattle.dash_shard.specs.Hashing.{by, HashAlike};
 
 use crate::tests::by_hand::{new_shard, put};
-use crate::tests::checks::{is, is_at};
+use crate::tests::checks::is;
 use dash_shard::hash::{FixedState, PlaceState, ZeroState, determine_shard, is_shard_amount};
 use std::alloc::{AllocError, Global};
 use std::hash::{BuildHasher, Hash, Hasher, RandomState};
@@ -19,7 +19,7 @@ fn fixed_bytes(rt: HostRuntime) {
     ] {
         let mut hasher = FixedState.build_hasher();
         hasher.write(text.as_bytes());
-        is_at(&rt, hasher.finish(), hash, text);
+        is(&rt, (text, hasher.finish()), (text, hash));
     }
 }
 
@@ -32,14 +32,14 @@ fn fixed_numbers(rt: HostRuntime) {
         (0x0102_0304_0506_0708, 0x0c6d_4496_e178_59d5),
         (u64::MAX, 0x8cf5_1a8b_fca3_883d),
     ] {
-        is_at(&rt, FixedState.hash_one(&number), hash, number);
+        is(&rt, (number, FixedState.hash_one(&number)), (number, hash));
     }
 }
 
 #[test]
 fn zero(rt: HostRuntime) {
     for number in [1u64, u64::MAX] {
-        is_at(&rt, ZeroState.hash_one(&number), 0, number);
+        is(&rt, (number, ZeroState.hash_one(&number)), (number, 0));
     }
     is(&rt, ZeroState.hash_one(&"a"), 0);
 }
@@ -58,45 +58,26 @@ fn hash_by_clone<K: Eq + Hash, S: BuildHasher + Clone + Drop>(
 
 #[test]
 fn clones(rt: HostRuntime) {
-    is(
-        &rt,
-        hash_by_clone(&FixedState, &1u64).expect(&rt, "refused"),
-        0x89cd_3129_1d2a_efa4,
-    );
-    is(
-        &rt,
-        hash_by_clone(&ZeroState, &1u64).expect(&rt, "refused"),
-        0,
-    );
-    is(
-        &rt,
-        hash_by_clone(&PlaceState, &1u64).expect(&rt, "refused"),
-        1 << 55,
-    );
+    let fixed = 0x89cd_3129_1d2a_efa4;
+    is(&rt, hash_by_clone(&FixedState, &1u64), Ok(fixed));
+    is(&rt, hash_by_clone(&ZeroState, &1u64), Ok(0));
+    is(&rt, hash_by_clone(&PlaceState, &1u64), Ok(1 << 55));
     let state = RandomState::new(&rt).expect(&rt, "refused");
-    is(
-        &rt,
-        hash_by_clone(&state, &1u64).expect(&rt, "refused"),
-        state.hash_one(&1u64),
-    );
+    let random = state.hash_one(&1u64);
+    is(&rt, hash_by_clone(&state, &1u64), Ok(random));
 }
 
 // Puts into the first of two shards what goes there of some keys, and answers how many that are.
 fn fill<S: BuildHasher + Drop>(rt: &impl Abort, alloc: Global, state: S) -> usize {
-    let mut shard = new_shard(rt, alloc, state, 0, 2, 0).expect(rt, "refused");
+    let mut shard = new_shard(rt, alloc, state, 0, 2, 0);
     for key in 0..64u64 {
         if shard.routes(&key) {
-            is_at(
-                rt,
-                put(rt, &mut shard, key, !key).expect(rt, "refused"),
-                None,
-                key,
-            );
+            is(rt, (key, put(rt, &mut shard, key, !key)), (key, None));
         }
     }
     for key in 0..64u64 {
         let is_here = shard.routes(&key);
-        is_at(rt, shard.contains_key(&key), is_here, key);
+        is(rt, (key, shard.contains_key(&key)), (key, is_here));
     }
     shard.len()
 }
@@ -131,18 +112,12 @@ fn routes(rt: HostRuntime) {
         (2, (1 << 56) - 1, 0),
         (2, 1 << 56, 1),
     ] {
-        assert_eq!(rt;
-            shard_of(&rt, hash, amount),
-            shard,
-            "the hash {hash} among {amount}"
-        );
+        let found = shard_of(&rt, hash, amount);
+        is(&rt, (hash, amount, found), (hash, amount, shard));
     }
     for (key, shard) in [(0u64, 0), (1, 1), (5, 1), (7, 3), (u64::MAX, 3)] {
-        assert_eq!(rt;
-            shard_of(&rt, PlaceState.hash_one(&key), 4),
-            shard,
-            "the key {key}"
-        );
+        let found = shard_of(&rt, PlaceState.hash_one(&key), 4);
+        is(&rt, (key, found), (key, shard));
     }
 }
 
@@ -156,6 +131,6 @@ fn amounts(rt: HostRuntime) {
         (4, true),
         (1 << 63, true),
     ] {
-        is_at(&rt, is_shard_amount(amount), lawful, amount);
+        is(&rt, (amount, is_shard_amount(amount)), (amount, lawful));
     }
 }

@@ -27,28 +27,32 @@ fn locked(number: u64) -> RwLock<Bounded>
     RwLock::new(Bounded { number }, &100)
 }
 
+// Whether a reader and a writer would get the lock now.
+fn admits(lock: &RwLock<Bounded>) -> (bool, bool) {
+    let reader = lock.try_read().is_some();
+    (reader, lock.try_write().is_some())
+}
+
 #[test]
 fn readers_share_and_keep_writers_out(rt: HostRuntime) {
     let lock = locked(7);
     let first = lock.read(&rt);
     let second = lock.read(&rt);
-    is(&rt, first.number, 7);
-    is(&rt, second.number, 7);
-    assert!(rt; lock.try_write().is_none(), "two readers have the lock");
+    is(&rt, (first.number, second.number), (7, 7));
+    is(&rt, admits(&lock), (true, false));
     drop(first);
-    assert!(rt; lock.try_write().is_none(), "a reader has the lock");
+    is(&rt, admits(&lock), (true, false));
     drop(second);
-    assert!(rt; lock.try_write().is_some(), "nobody has the lock");
+    is(&rt, admits(&lock), (true, true));
 }
 
 #[test]
 fn a_writer_keeps_others_out(rt: HostRuntime) {
     let lock = locked(7);
     let guard = lock.write(&rt);
-    assert!(rt; lock.try_read().is_none(), "a writer has the lock");
-    assert!(rt; lock.try_write().is_none(), "a writer has the lock");
+    is(&rt, admits(&lock), (false, false));
     drop(guard);
-    assert!(rt; lock.try_read().is_some(), "nobody has the lock");
+    is(&rt, admits(&lock), (true, true));
 }
 
 #[test]
@@ -57,7 +61,7 @@ fn the_lock_is_free_once_a_writer_has_gone(rt: HostRuntime) {
     drop(lock.write(&rt));
     let mut guard = lock.try_write().expect(&rt, "a writer after a writer");
     is(&rt, guard.replace(Bounded { number: 8 }).number, 7);
-    assert!(rt; lock.try_read().is_none(), "a writer has the lock");
+    is(&rt, admits(&lock), (false, false));
     drop(guard);
     let guard = lock.try_read().expect(&rt, "a reader after a writer");
     is(&rt, guard.number, 8);
@@ -82,20 +86,20 @@ fn ten_thousand_readers_hold_it_at_once(rt: HostRuntime) {
     for _ in 0..10_000 {
         guards.push(lock.read(&rt)).expect(&rt, "refused");
     }
-    assert!(rt; lock.try_write().is_none(), "readers have the lock");
+    is(&rt, admits(&lock), (true, false));
     drop(guards);
-    assert!(rt; lock.try_write().is_some(), "the readers are gone");
+    is(&rt, admits(&lock), (true, true));
 }
 
 #[test]
 fn leaked_guards_leave_a_lock_that_can_be_dropped(rt: HostRuntime) {
     let lock = locked(7);
     mem::forget(lock.write(&rt));
-    assert!(rt; lock.try_read().is_none(), "the writer is never gone");
+    is(&rt, admits(&lock), (false, false));
     drop(lock);
     let lock = locked(8);
     mem::forget(lock.read(&rt));
-    assert!(rt; lock.try_write().is_none(), "the reader is never gone");
+    is(&rt, admits(&lock), (true, false));
     is(&rt, lock.into_inner().number, 8);
 }
 
@@ -111,6 +115,5 @@ fn threads_may_share_a_lock(rt: HostRuntime) {
     let lock = Arc::new(rt.alloc(), locked(7)).expect(&rt, "refused");
     let other = share(&lock).expect(&rt, "refused");
     let guard = other.read(&rt);
-    assert!(rt; lock.try_read().is_some(), "readers share the lock");
-    assert!(rt; lock.try_write().is_none(), "a reader has the lock");
+    is(&rt, admits(&lock), (true, false));
 }

@@ -1,6 +1,6 @@
 //! References into one shard behind its lock, as worked by hand.
 use crate::tests::by_hand::lock_of_one;
-use crate::tests::checks::{is, is_at};
+use crate::tests::checks::{is, prints};
 use dash_ref::mapref::one::Ref;
 use dash_shard::hash::PlaceState;
 use dash_shard::lock::RwLock;
@@ -27,9 +27,9 @@ fn lends_the_pair_of_a_key(rt: HostRuntime) {
     for (key, value) in [(1, 10), (5, 50), (9, 90)] {
         let found = find(&rt, &lock, key).expect(&rt, "no pair");
         is(&rt, found.key(), &key);
-        is_at(&rt, found.value(), &value, key);
+        is(&rt, (key, found.value()), (key, &value));
         is(&rt, found.pair(), (&key, &value));
-        is_at(&rt, *found, value, key);
+        is(&rt, (key, *found), (key, value));
     }
     // Of this shard, and of another one.
     for absent in [13, 4] {
@@ -59,14 +59,12 @@ fn holds_the_shard_for_reading(rt: HostRuntime) {
 fn prints_key_and_value(rt: HostRuntime) {
     let lock = lock_of_one(&rt, rt.alloc(), [(1, 2)]);
     let found = find(&rt, &lock, 1).expect(&rt, "no pair");
-    let text = format!(in rt.alloc(); "{found:?}").expect(&rt, "refused");
-    is(&rt, text.as_str(), "Ref { k: 1, v: 2 }");
+    prints(&rt, rt.alloc(), &found, "Ref { k: 1, v: 2 }");
     drop(found);
 
     let name = String::from_str(rt.alloc(), "five").expect(&rt, "refused");
     let lock = lock_of_one(&rt, rt.alloc(), [(5, name)]);
     let found = find(&rt, &lock, 5).expect(&rt, "no pair");
     is(&rt, found.as_str(), "five");
-    let text = format!(in rt.alloc(); "{found:?}").expect(&rt, "refused");
-    is(&rt, text.as_str(), "Ref { k: 5, v: \"five\" }");
+    prints(&rt, rt.alloc(), &found, "Ref { k: 5, v: \"five\" }");
 }

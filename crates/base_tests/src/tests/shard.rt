@@ -1,6 +1,6 @@
 //! One shard's calls, as worked by hand.
-use crate::tests::by_hand::{here, new_shard, put, shard_one};
-use crate::tests::checks::{is, is_at};
+use crate::tests::by_hand::{new_shard, put, remove, shard_one};
+use crate::tests::checks::is;
 use crate::values::Noted;
 use dash_shard::hash::PlaceState;
 use dash_shard::shard::Shard;
@@ -15,7 +15,8 @@ type Numbers = Shard<u64, u64, PlaceState>;
 fn put_new(rt: &impl Abort, shard: &mut Numbers, key: u64) -> usize {
     assert!(rt; shard.len() < shard.capacity());
     assert!(rt; !shard.contains_key(&key));
-    shard.insert_new(here(rt, shard, key), key)
+    assert!(rt; shard.routes(&key));
+    shard.insert_new(key, key)
 }
 
 #[test]
@@ -24,12 +25,7 @@ fn grows(rt: HostRuntime) {
     is(&rt, shard.capacity(), 0);
     for i in 0..1000u64 {
         let key = 4 * i + 1;
-        is_at(
-            &rt,
-            put(&rt, &mut shard, key, i).expect(&rt, "refused"),
-            None,
-            key,
-        );
+        is(&rt, (key, put(&rt, &mut shard, key, i)), (key, None));
         assert!(rt; shard.capacity() >= shard.len(), "{key}");
     }
     is(&rt, shard.len(), 1000);
@@ -41,9 +37,7 @@ fn grows(rt: HostRuntime) {
 
 #[test]
 fn makes_room_ahead(rt: HostRuntime) {
-    let shard: Shard<u64, u64, _> = new_shard(&rt, rt.alloc(), PlaceState, 0, 2, 100).expect(
-        &rt, "refused",
-    );
+    let shard: Shard<u64, u64, _> = new_shard(&rt, rt.alloc(), PlaceState, 0, 2, 100);
     assert!(rt; shard.capacity() >= 100);
     is(&rt, shard.len(), 0);
 
@@ -57,15 +51,10 @@ fn makes_room_ahead(rt: HostRuntime) {
 
 #[test]
 fn the_stored_key_stays(rt: HostRuntime) {
-    let mut shard = new_shard(&rt, rt.alloc(), PlaceState, 1, 4, 0).expect(&rt, "refused");
+    let mut shard = new_shard(&rt, rt.alloc(), PlaceState, 1, 4, 0);
     for (note, value, old) in [(1, 100, None), (2, 200, Some(100))] {
         let key = Noted { name: 5, note };
-        is_at(
-            &rt,
-            put(&rt, &mut shard, key, value).expect(&rt, "refused"),
-            old,
-            note,
-        );
+        is(&rt, (note, put(&rt, &mut shard, key, value)), (note, old));
     }
     let key = Noted { name: 5, note: 3 };
     let (key, value) = shard.get(&key).expect(&rt, "no pair");
@@ -103,22 +92,16 @@ fn removed_marks_go(rt: HostRuntime) {
     shard.try_reserve(20).expect(&rt, "refused");
     is(&rt, shard.groups(), 2);
     for i in 0..20u64 {
-        is_at(
-            &rt,
-            put(&rt, &mut shard, 4 * i + 1, i).expect(&rt, "refused"),
-            None,
-            i,
-        );
+        is(&rt, (i, put(&rt, &mut shard, 4 * i + 1, i)), (i, None));
     }
     is(&rt, shard.search(&81).visits, 2);
     is(&rt, shard.search(&77).position, shard.position_of(&77));
     is(&rt, shard.search(&77).visits, 2);
-    let key = here(&rt, &shard, 1);
-    is(&rt, shard.remove(&key), Some((1, 0)));
+    is(&rt, remove(&rt, &mut shard, 1), Some((1, 0)));
     is(&rt, shard.search(&81).visits, 2);
     for i in 16..20u64 {
-        let key = here(&rt, &shard, 4 * i + 1);
-        is_at(&rt, shard.remove(&key), Some((key, i)), i);
+        let key = 4 * i + 1;
+        is(&rt, remove(&rt, &mut shard, key), Some((key, i)));
     }
     is(&rt, shard.search(&81).visits, 1);
     is(&rt, shard.search(&5).visits, 1);

@@ -1,5 +1,5 @@
 //! Copies of steps and replies, and the shards of steps.
-use crate::tests::checks::prints;
+use crate::tests::checks::{is, prints};
 use dash_shard::hash::{PlaceState, is_shard_amount};
 use dash_steps::step::{Reply, ShardStep};
 
@@ -35,6 +35,6 @@ fn shards(rt: HostRuntime) {
         (Step::Count(9), 9),
     ] {
         assert!(rt; is_shard_amount(4));
-        assert_eq!(rt; step.shard(&PlaceState, 4), shard, "{step:?}");
+        is(&rt, step.shard(&PlaceState, 4), shard);
     }
 }

@@ -92,52 +92,36 @@ mod tests {
     use super::*;
     use std::test::Fail;
 
-    fn told(step: ShardStep<u64, u64>, reply: Reply<u64, u64>) -> Record<u64, u64> {
-        Record {
+    // Whether a plain map takes the step with this reply.
+    fn fits(
+        plain: &mut HashMap<u64, u64>,
+        step: ShardStep<u64, u64>,
+        reply: Reply<u64, u64>,
+    ) -> Result<bool, AllocError>
+        requires { IsUnique nat_eq plain.old }
+        ensures { IsUnique nat_eq plain.new }
+    {
+        let record = Record {
             stamp: 1,
             caller: 0,
             shard: 1,
             step,
             reply,
-        }
+        };
+        takes(plain, &record)
     }
 
     #[test]
     fn true_replies_are_those_of_a_plain_map(rt: HostRuntime) -> Result<(), Fail> {
         let mut plain = HashMap::new(rt.alloc());
-        assert!(rt; takes(&mut plain, &told(ShardStep::Get(1), Reply::Pair(None)))?);
-        assert!(rt; takes(&mut plain, &told(ShardStep::Remove(1), Reply::Pair(None)))?);
-        assert!(rt;
-            takes(
-                &mut plain,
-                &told(ShardStep::Insert(1, 10), Reply::Old(None))
-            )?
-        );
-        assert!(rt;
-            takes(
-                &mut plain,
-                &told(ShardStep::Insert(1, 11), Reply::Old(Some(10)))
-            )?
-        );
-        assert!(rt;
-            takes(
-                &mut plain,
-                &told(ShardStep::Get(1), Reply::Pair(Some((1, 11))))
-            )?
-        );
-        assert!(rt; takes(&mut plain, &told(ShardStep::Get(5), Reply::Pair(None)))?);
-        assert!(rt;
-            takes(
-                &mut plain,
-                &told(ShardStep::Remove(1), Reply::Pair(Some((1, 11))))
-            )?
-        );
-        assert!(rt;
-            takes(
-                &mut plain,
-                &told(ShardStep::Insert(1, 12), Reply::Old(None))
-            )?
-        );
+        assert!(rt; fits(&mut plain, ShardStep::Get(1), Reply::Pair(None))?);
+        assert!(rt; fits(&mut plain, ShardStep::Remove(1), Reply::Pair(None))?);
+        assert!(rt; fits(&mut plain, ShardStep::Insert(1, 10), Reply::Old(None))?);
+        assert!(rt; fits(&mut plain, ShardStep::Insert(1, 11), Reply::Old(Some(10)))?);
+        assert!(rt; fits(&mut plain, ShardStep::Get(1), Reply::Pair(Some((1, 11))))?);
+        assert!(rt; fits(&mut plain, ShardStep::Get(5), Reply::Pair(None))?);
+        assert!(rt; fits(&mut plain, ShardStep::Remove(1), Reply::Pair(Some((1, 11))))?);
+        assert!(rt; fits(&mut plain, ShardStep::Insert(1, 12), Reply::Old(None))?);
         assert!(rt; has_just(plain, [(1, 12)].as_slice()));
         Ok(())
     }
@@ -145,50 +129,15 @@ mod tests {
     #[test]
     fn false_replies_are_seen(rt: HostRuntime) -> Result<(), Fail> {
         let mut plain = HashMap::new(rt.alloc());
-        assert!(rt;
-            !takes(
-                &mut plain,
-                &told(ShardStep::Get(1), Reply::Pair(Some((1, 0))))
-            )?
-        );
-        assert!(rt;
-            !takes(
-                &mut plain,
-                &told(ShardStep::Insert(1, 10), Reply::Old(Some(10)))
-            )?
-        );
-        assert!(rt;
-            !takes(
-                &mut plain,
-                &told(ShardStep::Insert(1, 11), Reply::Old(None))
-            )?
-        );
-        assert!(rt;
-            !takes(
-                &mut plain,
-                &told(ShardStep::Get(1), Reply::Pair(Some((1, 10))))
-            )?
-        );
-        assert!(rt;
-            !takes(
-                &mut plain,
-                &told(ShardStep::Get(1), Reply::Pair(Some((5, 11))))
-            )?
-        );
-        assert!(rt; !takes(&mut plain, &told(ShardStep::Get(1), Reply::Old(Some(11))))?);
-        assert!(rt;
-            !takes(
-                &mut plain,
-                &told(ShardStep::Contains(1), Reply::Found(true))
-            )?
-        );
-        assert!(rt; !takes(&mut plain, &told(ShardStep::Remove(1), Reply::Pair(None)))?);
-        assert!(rt;
-            !takes(
-                &mut plain,
-                &told(ShardStep::Remove(1), Reply::Pair(Some((1, 11))))
-            )?
-        );
+        assert!(rt; !fits(&mut plain, ShardStep::Get(1), Reply::Pair(Some((1, 0))))?);
+        assert!(rt; !fits(&mut plain, ShardStep::Insert(1, 10), Reply::Old(Some(10)))?);
+        assert!(rt; !fits(&mut plain, ShardStep::Insert(1, 11), Reply::Old(None))?);
+        assert!(rt; !fits(&mut plain, ShardStep::Get(1), Reply::Pair(Some((1, 10))))?);
+        assert!(rt; !fits(&mut plain, ShardStep::Get(1), Reply::Pair(Some((5, 11))))?);
+        assert!(rt; !fits(&mut plain, ShardStep::Get(1), Reply::Old(Some(11)))?);
+        assert!(rt; !fits(&mut plain, ShardStep::Contains(1), Reply::Found(true))?);
+        assert!(rt; !fits(&mut plain, ShardStep::Remove(1), Reply::Pair(None))?);
+        assert!(rt; !fits(&mut plain, ShardStep::Remove(1), Reply::Pair(Some((1, 11))))?);
         Ok(())
     }
 

@@ -1,4 +1,5 @@
 //! What tests ask of what they found.
+use std::alloc::Global;
 use std::fmt;
 use std::process::Abort;
 
@@ -9,12 +10,8 @@ pub(crate) fn is<T: PartialEq + fmt::Debug + Drop>(rt: &impl Abort, found: T, wa
     assert_eq!(rt; found, wanted);
 }
 
-/// As `is`, and says where.
-pub(crate) fn is_at<T: PartialEq + fmt::Debug + Drop, A: fmt::Display + Drop>(
-    rt: &impl Abort,
-    found: T,
-    wanted: T,
-    at: A,
-) {
-    assert_eq!(rt; found, wanted, "at {at}");
+/// Ends the test where a value prints as another text.
+pub(crate) fn prints<T: fmt::Debug>(rt: &impl Abort, alloc: Global, found: &T, wanted: &str) {
+    let text = format!(in alloc; "{found:?}").expect(rt, "no memory");
+    is(rt, text.as_str(), wanted);
 }

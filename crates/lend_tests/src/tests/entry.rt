@@ -1,6 +1,6 @@
 //! Entries of a map that threads share, as worked by hand.
 use crate::tests::checks::is;
-use crate::tests::maps::{map_of_four, put};
+use crate::tests::maps::{map_of, put};
 use base_tests::values::Noted;
 use dash_map::map::DashMap;
 use dash_ref::mapref::entry::{Entry, OccupiedEntry, TryEntryRefused, VacantEntry};
@@ -40,8 +40,7 @@ fn value_of<R: Wait + Clock>(rt: &R, map: &Map<u64>, key: u64) -> Option<u64> {
 
 #[test]
 fn an_entry_holds_its_shard(rt: HostRuntime) {
-    let map: Map<u64> = map_of_four(&rt, rt.alloc());
-    put(&rt, &map, 1, 10);
+    let map: Map<u64> = map_of(&rt, rt.alloc(), [(1, 10)]);
     let entry = occupied(&map, 1).expect(&rt, "no pair");
     assert!(rt; map.try_get(&5).is_locked());
     assert!(rt; map.try_get(&2).is_absent());
@@ -60,7 +59,7 @@ fn an_entry_holds_its_shard(rt: HostRuntime) {
 // key comes back, and not from a lock. Either way the pairs stand there still.
 #[test]
 fn an_entry_of_a_full_shard(rt: HostRuntime) {
-    let map: Map<u64> = map_of_four(&rt, rt.alloc());
+    let map: Map<u64> = map_of(&rt, rt.alloc(), []);
     for i in 0..14u64 {
         put(&rt, &map, 4 * i + 1, i);
     }
@@ -96,7 +95,7 @@ fn noted_keys(rt: HostRuntime) {
 
 #[test]
 fn vacant_then_occupied(rt: HostRuntime) {
-    let map: Map<u64> = map_of_four(&rt, rt.alloc());
+    let map: Map<u64> = map_of(&rt, rt.alloc(), []);
     let entry = Entry::Vacant(vacant(&map, 1).expect(&rt, "a pair"));
     let entry = entry.insert_entry(2).ok().expect(&rt, "no memory");
     is(&rt, *entry.get(), 2);
@@ -114,7 +113,7 @@ fn vacant_then_occupied(rt: HostRuntime) {
 
 #[test]
 fn what_stands_or_is_put(rt: HostRuntime) {
-    let map: Map<u64> = map_of_four(&rt, rt.alloc());
+    let map: Map<u64> = map_of(&rt, rt.alloc(), []);
     is(
         &rt,
         *map.entry(&rt, 1).expect(&rt, "refused").or_default(),
@@ -164,7 +163,7 @@ fn what_stands_or_is_put(rt: HostRuntime) {
 
 #[test]
 fn what_is_put_may_be_refused(rt: HostRuntime) {
-    let map: Map<u64> = map_of_four(&rt, rt.alloc());
+    let map: Map<u64> = map_of(&rt, rt.alloc(), []);
     let refused = map
         .entry(&rt, 1)
         .expect(&rt, "refused")
@@ -184,8 +183,7 @@ fn what_is_put_may_be_refused(rt: HostRuntime) {
 
 #[test]
 fn what_an_entry_leaves_stays(rt: HostRuntime) {
-    let map: Map<u64> = map_of_four(&rt, rt.alloc());
-    put(&rt, &map, 1, 10);
+    let map: Map<u64> = map_of(&rt, rt.alloc(), [(1, 10)]);
     let mut entry = occupied(&map, 1).expect(&rt, "no pair");
     *entry.get_mut() = 11;
     drop(entry);
@@ -223,7 +221,7 @@ fn keys_that_are_handed_in(rt: HostRuntime) {
 
 #[test]
 fn values_that_are_put(rt: HostRuntime) {
-    let map: Map<u64> = map_of_four(&rt, rt.alloc());
+    let map: Map<u64> = map_of(&rt, rt.alloc(), []);
     is(&rt, *vacant(&map, 1).expect(&rt, "a pair").insert(10), 10);
     let mut entry = occupied(&map, 1).expect(&rt, "no pair");
     is(&rt, entry.insert(11), 10);

@@ -8,9 +8,17 @@ use std::process::Abort;
 use std::rt::Clock;
 use std::sync::Wait;
 
-/// A map of four shards, where the key k goes to shard k modulo 4.
-pub(crate) fn map_of_four<V: Drop>(rt: &impl Abort, alloc: Global) -> DashMap<u64, V, PlaceState> {
-    DashMap::with_hasher_and_shard_amount(alloc, PlaceState, 4).expect(rt, "no memory")
+/// A map of four shards with these pairs, where the key k goes to shard k modulo 4.
+pub(crate) fn map_of<R: Abort + Wait + Clock, V: fmt::Debug + Drop, const N: usize>(
+    rt: &R,
+    alloc: Global,
+    pairs: [(u64, V); N],
+) -> DashMap<u64, V, PlaceState> {
+    let map = DashMap::with_hasher_and_shard_amount(alloc, PlaceState, 4).expect(rt, "no memory");
+    for (key, value) in Vec::from_array(alloc, pairs).expect(rt, "no memory") {
+        put(rt, &map, key, value);
+    }
+    map
 }
 
 /// Puts a pair, which the map must take, and answers the old value.
@@ -30,11 +38,7 @@ pub(crate) type Places = DashMap<u64, u64, PlaceState>;
 
 /// A map of four shards with a pair in the shards 0, 1 and 3.
 pub(crate) fn three_pairs<R: Abort + Wait + Clock>(rt: &R, alloc: Global) -> Places {
-    let map = map_of_four(rt, alloc);
-    for (key, value) in [(3, 30), (0, 5), (1, 10)] {
-        put(rt, &map, key, value);
-    }
-    map
+    map_of(rt, alloc, [(3, 30), (0, 5), (1, 10)])
 }
 
 /// Whether somebody holds the shard of a key.

@@ -1,19 +1,17 @@
 //! References that are mapped to a part of their value.
 use crate::parts::{Left, Payload, Sides};
-use crate::tests::checks::is;
-use crate::tests::maps::{map_of_four, put};
+use crate::tests::checks::{is, prints};
+use crate::tests::maps::{map_of, put};
 use dash_ref::mapref::one::Compose;
 use std::convert::AsRef;
 
 #[test]
 fn writes_a_part(rt: HostRuntime) {
-    let map = map_of_four(&rt, rt.alloc());
-    put(&rt, &map, 1, Sides { left: 3, right: 4 });
+    let map = map_of(&rt, rt.alloc(), [(1, Sides { left: 3, right: 4 })]);
     let mut left = map.get_mut(&rt, &1).expect(&rt, "no pair").map(Left);
     *left.value_mut() = 1;
     *left = left.wrapping_add(*left.key());
-    let text = format!(in rt.alloc(); "{left:?}").expect(&rt, "refused");
-    is(&rt, text.as_str(), "MappedRefMut { k: 1, v: 2 }");
+    prints(&rt, rt.alloc(), &left, "MappedRefMut { k: 1, v: 2 }");
     *left = 9;
     drop(left);
     let found = map.get(&rt, &1).expect(&rt, "no pair");
@@ -22,8 +20,7 @@ fn writes_a_part(rt: HostRuntime) {
 
 #[test]
 fn reads_a_part(rt: HostRuntime) {
-    let map = map_of_four(&rt, rt.alloc());
-    put(&rt, &map, 1, Sides { left: 2, right: 4 });
+    let map = map_of(&rt, rt.alloc(), [(1, Sides { left: 2, right: 4 })]);
     let left = map.get(&rt, &1).expect(&rt, "no pair").map(Left);
     let text = format!(in rt.alloc(); "{left:?}, {left}").expect(&rt, "refused");
     is(&rt, text.as_str(), "MappedRef { k: 1, v: 2 }, 2");
@@ -31,8 +28,7 @@ fn reads_a_part(rt: HostRuntime) {
 
 #[test]
 fn reads_a_part_of_a_part(rt: HostRuntime) {
-    let map = map_of_four::<Option<Sides>>(&rt, rt.alloc());
-    put(&rt, &map, 1, Some(Sides { left: 3, right: 4 }));
+    let map = map_of(&rt, rt.alloc(), [(1, Some(Sides { left: 3, right: 4 }))]);
     let found = map.get(&rt, &1).expect(&rt, "no pair");
     let sides = found.try_map(Payload).ok().expect(&rt, "no payload");
     let right: &u64 = sides.as_ref();
@@ -42,8 +38,7 @@ fn reads_a_part_of_a_part(rt: HostRuntime) {
 
 #[test]
 fn a_part_that_is_not_there(rt: HostRuntime) {
-    let map = map_of_four::<Option<Sides>>(&rt, rt.alloc());
-    put(&rt, &map, 1, None);
+    let map = map_of(&rt, rt.alloc(), [(1, None)]);
     let found = map.get_mut(&rt, &1).expect(&rt, "no pair");
     let Err(found) = found.try_map(Payload) else {
         panic!(&rt; "a payload");

@@ -1,6 +1,6 @@
 //! References that may be written, and calls that wait for nobody.
-use crate::tests::checks::is;
-use crate::tests::maps::{map_of_four, put};
+use crate::tests::checks::{is, prints};
+use crate::tests::maps::{Places, map_of, put};
 use dash_map::map::DashMap;
 use dash_ref::mapref::entry::Entry;
 use dash_ref::try_result::TryResult;
@@ -44,7 +44,7 @@ fn try_get_mut(rt: HostRuntime) {
 // A shard without pairs has no memory of its own.
 #[test]
 fn a_shard_without_pairs_is_no_held_one(rt: HostRuntime) {
-    let map = map_of_four::<u64>(&rt, rt.alloc());
+    let map: Places = map_of(&rt, rt.alloc(), []);
     for key in 0..4u64 {
         assert!(rt; map.try_get(&key).is_absent(), "{key}");
         assert!(rt; map.try_get_mut(&key).is_absent(), "{key}");
@@ -54,7 +54,7 @@ fn a_shard_without_pairs_is_no_held_one(rt: HostRuntime) {
 
 #[test]
 fn a_sum_over_all_shards_gives_up_its_holds(rt: HostRuntime) {
-    let map = map_of_four::<u64>(&rt, rt.alloc());
+    let map = map_of(&rt, rt.alloc(), []);
     for key in 0..4u64 {
         put(&rt, &map, key, key);
     }
@@ -72,9 +72,7 @@ fn a_sum_over_all_shards_gives_up_its_holds(rt: HostRuntime) {
 
 #[test]
 fn held_pairs(rt: HostRuntime) {
-    let map = map_of_four::<u64>(&rt, rt.alloc());
-    put(&rt, &map, 0, 10);
-    put(&rt, &map, 1, 11);
+    let map = map_of(&rt, rt.alloc(), [(0, 10), (1, 11)]);
     let held = map.get_mut(&rt, &0).expect(&rt, "no pair");
     assert!(rt; map.try_get(&0).is_locked());
     assert!(rt; map.try_get(&1).is_present());
@@ -92,9 +90,7 @@ fn held_pairs(rt: HostRuntime) {
 
 #[test]
 fn writes_in_place(rt: HostRuntime) {
-    let map = map_of_four::<u64>(&rt, rt.alloc());
-    put(&rt, &map, 1, 10);
-    put(&rt, &map, 5, 50);
+    let map = map_of(&rt, rt.alloc(), [(1, 10u64), (5, 50)]);
     assert!(rt; map.get_mut(&rt, &9).is_none());
     let mut found = map.get_mut(&rt, &1).expect(&rt, "no pair");
     is(&rt, found.pair(), (&1, &10));
@@ -102,8 +98,7 @@ fn writes_in_place(rt: HostRuntime) {
     let (key, value) = found.pair_mut();
     *value = value.wrapping_sub(*key);
     is(&rt, (*found.key(), *found.value()), (1, 2));
-    let text = format!(in rt.alloc(); "{found:?}").expect(&rt, "refused");
-    is(&rt, text.as_str(), "RefMut { k: 1, v: 2 }");
+    prints(&rt, rt.alloc(), &found, "RefMut { k: 1, v: 2 }");
     is(&rt, found.into_shard().len(), 2);
     is(&rt, map.remove(&rt, &1), Some((1, 2)));
     is(&rt, map.remove(&rt, &5), Some((5, 50)));

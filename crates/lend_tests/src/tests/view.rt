@@ -1,18 +1,19 @@
 //! Views of a map that nobody writes any more.
 use crate::tests::checks::is;
-use crate::tests::maps::{map_of_four, put};
+use crate::tests::maps::{map_of, put};
 
 #[test]
 fn a_view_and_back(rt: HostRuntime) {
-    let map = map_of_four(&rt, rt.alloc());
-    for (key, name) in [
-        (1, "one"),
-        (10, "ten"),
-        (27, "twenty seven"),
-        (45, "forty five"),
-    ] {
-        put(&rt, &map, key, name);
-    }
+    let map = map_of(
+        &rt,
+        rt.alloc(),
+        [
+            (1, "one"),
+            (10, "ten"),
+            (27, "twenty seven"),
+            (45, "forty five"),
+        ],
+    );
     let view = map.into_read_only();
     is(&rt, view.len(), 4);
     is(&rt, view.get(&27), Some(&"twenty seven"));
@@ -33,7 +34,7 @@ fn a_view_and_back(rt: HostRuntime) {
 
 #[test]
 fn a_cloned_view(rt: HostRuntime) {
-    let map = map_of_four::<String>(&rt, rt.alloc());
+    let map = map_of(&rt, rt.alloc(), []);
     let pairs = [
         (1, "one"),
         (10, "ten"),

@@ -1,11 +1,11 @@
 //! The operators of a map, its shards, and what it prints.
-use crate::tests::checks::is;
-use crate::tests::maps::{map_of_four, put};
+use crate::tests::checks::{is, prints};
+use crate::tests::maps::{map_of, put};
 use dash_map::map::DashMap;
 
 #[test]
 fn operators(rt: HostRuntime) {
-    let map = map_of_four::<u64>(&rt, rt.alloc());
+    let map = map_of(&rt, rt.alloc(), []);
     let map = map.waiting(&rt);
     is(&rt, (map << (1, 10)).expect(&rt, "refused"), None);
     is(&rt, (map << (1, 11)).expect(&rt, "refused"), Some(10));
@@ -20,23 +20,16 @@ fn operators(rt: HostRuntime) {
 
 #[test]
 fn prints_its_pairs(rt: HostRuntime) {
-    let map = map_of_four::<u64>(&rt, rt.alloc());
-    put(&rt, &map, 0, 5);
-    put(&rt, &map, 1, 6);
-    let text = format!(in rt.alloc(); "{:?}", map.waiting(&rt)).expect(&rt, "refused");
-    is(&rt, text.as_str(), "{0: 5, 1: 6}");
+    let map = map_of(&rt, rt.alloc(), [(0, 5), (1, 6)]);
+    prints(&rt, rt.alloc(), &map.waiting(&rt), "{0: 5, 1: 6}");
     let view = map.into_read_only();
-    let text = format!(in rt.alloc(); "{view:?}").expect(&rt, "refused");
-    is(&rt, text.as_str(), "{0: 5, 1: 6}");
+    prints(&rt, rt.alloc(), &view, "{0: 5, 1: 6}");
 }
 
 // Two of the pairs stand in one shard, in either order.
 #[test]
 fn a_view_prints_each_pair(rt: HostRuntime) {
-    let map = map_of_four::<u64>(&rt, rt.alloc());
-    for (key, value) in [(0, 5), (1, 6), (5, 7), (3, 8)] {
-        put(&rt, &map, key, value);
-    }
+    let map = map_of(&rt, rt.alloc(), [(0, 5), (1, 6), (5, 7), (3, 8)]);
     let view = map.into_read_only();
     let text = format!(in rt.alloc(); "{view:?}").expect(&rt, "refused");
     is(&rt, text.len(), "{0: 5, 1: 6, 5: 7, 3: 8}".len());
@@ -63,7 +56,7 @@ fn shards(rt: HostRuntime) {
 
 #[test]
 fn raw_insert(rt: HostRuntime) {
-    let map = map_of_four(&rt, rt.alloc());
+    let map = map_of(&rt, rt.alloc(), []);
     let mut shard = map.shards_mut(&rt, map.determine_map(&42));
     is(
         &rt,

@@ -1,5 +1,5 @@
 //! The calls of a map that threads share: what is put is found, taken once, and changed in its place.
-use crate::tests::checks::{is, is_at};
+use crate::tests::checks::is;
 use crate::tests::maps::{map_of_four, put};
 use dash_map::map::DashMap;
 use dash_shard::error::TryReserveError;
@@ -98,21 +98,25 @@ fn one_shard_may_have_all_keys(rt: HostRuntime) {
         4,
     ).expect(&rt, "refused");
     for key in 0..200u64 {
-        is_at(&rt, map.determine_map(&key), 0, key);
-        is_at(&rt, put(&rt, &map, key, key), None, key);
+        is(&rt, (key, map.determine_map(&key)), (key, 0));
+        is(&rt, (key, put(&rt, &map, key, key)), (key, None));
     }
     for key in 0..200u64 {
-        is_at(&rt, value_at(&rt, &map, key), Some(key), key);
+        is(&rt, (key, value_at(&rt, &map, key)), (key, Some(key)));
     }
     is(&rt, map.len(&rt), 200);
     for half in 0..100u64 {
         let key = 2 * half;
-        is_at(&rt, map.remove(&rt, &key), Some((key, key)), key);
+        is(&rt, (key, map.remove(&rt, &key)), (key, Some((key, key))));
     }
     for half in 0..100u64 {
         let key = 2 * half;
-        is_at(&rt, value_at(&rt, &map, key), None, key);
-        is_at(&rt, value_at(&rt, &map, key + 1), Some(key + 1), key);
+        is(&rt, (key, value_at(&rt, &map, key)), (key, None));
+        is(
+            &rt,
+            (key, value_at(&rt, &map, key + 1)),
+            (key, Some(key + 1)),
+        );
     }
     is(&rt, map.len(&rt), 100);
 }
@@ -144,10 +148,8 @@ fn structs_are_found_as_they_were_put(rt: HostRuntime) {
     }
     for i in 0..10 {
         let found = map.get(&rt, &i).expect(&rt, "no pair");
-        assert_eq!(rt;
-            *found.value(),
-            note_of(rt.alloc(), i).expect(&rt, "refused")
-        );
+        let note = note_of(rt.alloc(), i).expect(&rt, "refused");
+        is(&rt, found.value(), &note);
     }
 }
 
@@ -161,7 +163,7 @@ fn a_random_hasher_finds_each_key(rt: HostRuntime) {
         put(&rt, &map, i, i);
     }
     for i in 0..10 {
-        is_at(&rt, value_at(&rt, &map, i), Some(i), i);
+        is(&rt, (i, value_at(&rt, &map, i)), (i, Some(i)));
     }
 }
 
@@ -193,7 +195,7 @@ fn four_threads_share_a_map(rt: HostRuntime) {
         &|_, thread: &mut u64| { insert_all(&rt, &map, *thread) },
     );
     for key in 0..64 {
-        is_at(&rt, value_at(&rt, &map, key), Some(key / 16), key);
+        is(&rt, (key, value_at(&rt, &map, key)), (key, Some(key / 16)));
     }
     is(&rt, value_at(&rt, &map, 37), Some(2));
     is(&rt, value_at(&rt, &map, 64), None);

@@ -1,5 +1,5 @@
 //! Amounts, capacities and routes of a map, as worked by hand.
-use crate::tests::checks::{is, is_at};
+use crate::tests::checks::is;
 use crate::tests::maps::map_of_four;
 use dash_map::map::DashMap;
 use dash_map::t::Map as _;
@@ -13,18 +13,18 @@ type Map = DashMap<u64, u64>;
 fn amounts_that_are_refused(rt: HostRuntime) {
     for amount in [0, 1, 3] {
         let refused = Map::with_shard_amount(rt.alloc(), amount).err();
-        assert_eq!(rt;
-            refused,
-            Some(ConstructError::ShardAmount),
-            "{amount} shards"
+        is(
+            &rt,
+            (amount, refused),
+            (amount, Some(ConstructError::ShardAmount)),
         );
     }
     for parallelism in [0, (1 << 61) + 1] {
         let refused = Map::new(rt.alloc(), parallelism).err();
-        assert_eq!(rt;
-            refused,
-            Some(ConstructError::Parallelism),
-            "{parallelism} processors"
+        is(
+            &rt,
+            (parallelism, refused),
+            (parallelism, Some(ConstructError::Parallelism)),
         );
     }
 }
@@ -35,17 +35,9 @@ fn amounts_that_are_taken(rt: HostRuntime) {
     is(&rt, map.alone().shard_count(), 2);
     for (parallelism, amount) in [(1, 4), (3, 16)] {
         let map = Map::new(rt.alloc(), parallelism).expect(&rt, "refused");
-        assert_eq!(rt;
-            map.alone().shard_count(),
-            amount,
-            "{parallelism} processors"
-        );
+        is(&rt, map.alone().shard_count(), amount);
         let map = Map::default(rt.alloc(), parallelism).expect(&rt, "refused");
-        assert_eq!(rt;
-            map.alone().shard_count(),
-            amount,
-            "{parallelism} processors"
-        );
+        is(&rt, map.alone().shard_count(), amount);
     }
 }
 
@@ -75,7 +67,7 @@ fn capacities(rt: HostRuntime) {
 fn routes(rt: HostRuntime) {
     let four = Map::with_shard_amount(rt.alloc(), 4).expect(&rt, "refused");
     for (hash, shard) in [(1 << 55, 1), (1 << 56, 2), (1 << 57, 0), (usize::MAX, 3)] {
-        is_at(&rt, four.determine_shard(hash), shard, hash);
+        is(&rt, (hash, four.determine_shard(hash)), (hash, shard));
     }
     let two = Map::with_shard_amount(rt.alloc(), 2).expect(&rt, "refused");
     is(&rt, two.determine_shard((1 << 56) - 1), 0);
@@ -83,6 +75,10 @@ fn routes(rt: HostRuntime) {
 
     let places = map_of_four::<u64>(&rt, rt.alloc());
     for key in 0..16u64 {
-        is_at(&rt, places.determine_map(&key) as u64, key % 4, key);
+        is(
+            &rt,
+            (key, places.determine_map(&key) as u64),
+            (key, key % 4),
+        );
     }
 }

@@ -7,9 +7,11 @@ use dash_map::run::{Fault, RunOutcome};
 use dash_shard::hash::PlaceState;
 use dash_steps::action::Action;
 use dash_steps::kept::Kept;
-use dash_steps::step::{Reply, ShardStep};
+use dash_steps::step::ShardStep;
 use std::alloc::Global;
 use std::process::Abort;
+use std::rt::Clock;
+use std::sync::Wait;
 
 fn six_steps(rt: &impl Abort, alloc: Global) -> Vec<ShardStep<u64, u64>> {
     vec![in alloc;
@@ -24,20 +26,13 @@ fn six_steps(rt: &impl Abort, alloc: Global) -> Vec<ShardStep<u64, u64>> {
 }
 
 // The replies to the six steps on an empty map, all of them.
-fn assert_replies<R: Abort>(rt: &R, outcome: &RunOutcome<u64, u64>) {
+fn assert_replies(rt: &impl Abort, alloc: Global, outcome: &RunOutcome<u64, u64>) {
     assert!(rt; outcome.stopped.is_none());
-    assert!(rt;
-        matches!(
-            outcome.replies.as_slice(),
-            [
-                Reply::Old(None),
-                Reply::Old(None),
-                Reply::Pair(Some((1, 10))),
-                Reply::Pair(Some((1, 10))),
-                Reply::Pair(None),
-                Reply::Pair(None),
-            ]
-        )
+    prints(
+        rt,
+        alloc,
+        &outcome.replies,
+        "[Old(None), Old(None), Pair(Some((1, 10))), Pair(Some((1, 10))), Pair(None), Pair(None)]",
     );
 }
 
@@ -45,7 +40,7 @@ fn assert_replies<R: Abort>(rt: &R, outcome: &RunOutcome<u64, u64>) {
 fn six_steps_on_a_map(rt: HostRuntime) {
     let mut map = map_of_four(&rt, rt.alloc());
     let outcome = map.run(six_steps(&rt, rt.alloc()));
-    assert_replies(&rt, &outcome);
+    assert_replies(&rt, rt.alloc(), &outcome);
     let found = map.get(&rt, &5).expect(&rt, "no pair");
     is(&rt, found.pair(), (&5, &50));
     assert!(rt; map.get(&rt, &1).is_none());
@@ -55,7 +50,7 @@ fn six_steps_on_a_map(rt: HostRuntime) {
 fn six_steps_of_one_owner(rt: HostRuntime) {
     let mut alone = map_of_four(&rt, rt.alloc()).alone();
     let outcome = alone.run(six_steps(&rt, rt.alloc()));
-    assert_replies(&rt, &outcome);
+    assert_replies(&rt, rt.alloc(), &outcome);
     is(&rt, alone.get(&5), Some((&5, &50)));
     is(&rt, alone.get(&1), None);
     is(&rt, alone.len(), 1);
@@ -71,62 +66,53 @@ fn a_refused_step_comes_back(rt: HostRuntime) {
         ShardStep::Insert(5, Uncopied(50)),
     ]
     .expect(&rt, "refused"));
-    assert!(rt;
-        matches!(
-            outcome.replies.as_slice(),
-            [Reply::Old(None), Reply::Pair(None)]
-        )
-    );
+    prints(&rt, rt.alloc(), &outcome.replies, "[Old(None), Pair(None)]");
     let (rest, fault) = outcome.stopped.expect(&rt, "no stop");
     is(&rt, fault, Fault::Memory);
-    assert!(rt;
-        matches!(
-            rest.as_slice(),
-            [ShardStep::Get(1), ShardStep::Insert(5, Uncopied(50))]
-        )
-    );
+    prints(&rt, rt.alloc(), &rest, "[Get(1), Insert(5, Uncopied(50))]");
     is(&rt, alone.len(), 1);
 }
 
-// The replies as text.
-#[test]
-fn counts_may_miss_every_pair(rt: HostRuntime) {
-    let mut map = map_of_four(&rt, rt.alloc());
-    put(&rt, &map, 3, 30);
-    let outcome: RunOutcome<u64, u64> = map.run(vec![in rt.alloc();
+// Counts the shards 0 to 2 of a map with this pair, takes the two steps, and counts the shard 3.
+fn count_around<R: Abort + Wait + Clock>(
+    rt: &R,
+    alloc: Global,
+    (key, value): (u64, u64),
+    [first, second]: [ShardStep<u64, u64>; 2],
+    wanted: &str,
+) {
+    let mut map = map_of_four(rt, alloc);
+    put(rt, &map, key, value);
+    let outcome: RunOutcome<u64, u64> = map.run(vec![in alloc;
         ShardStep::Count(0),
         ShardStep::Count(1),
         ShardStep::Count(2),
-        ShardStep::Insert(0, 5),
-        ShardStep::Remove(3),
+        first,
+        second,
         ShardStep::Count(3),
     ]
-    .expect(&rt, "refused"));
-    prints(
+    .expect(rt, "refused"));
+    prints(rt, alloc, &outcome.replies, wanted);
+}
+
+#[test]
+fn counts_may_miss_every_pair(rt: HostRuntime) {
+    count_around(
         &rt,
         rt.alloc(),
-        &outcome.replies,
+        (3, 30),
+        [ShardStep::Insert(0, 5), ShardStep::Remove(3)],
         "[Number(0), Number(0), Number(0), Old(None), Pair(Some((3, 30))), Number(0)]",
     );
 }
 
 #[test]
 fn counts_may_see_pairs_that_never_met(rt: HostRuntime) {
-    let mut map = map_of_four(&rt, rt.alloc());
-    put(&rt, &map, 0, 5);
-    let outcome: RunOutcome<u64, u64> = map.run(vec![in rt.alloc();
-        ShardStep::Count(0),
-        ShardStep::Count(1),
-        ShardStep::Count(2),
-        ShardStep::Remove(0),
-        ShardStep::Insert(3, 30),
-        ShardStep::Count(3),
-    ]
-    .expect(&rt, "refused"));
-    prints(
+    count_around(
         &rt,
         rt.alloc(),
-        &outcome.replies,
+        (0, 5),
+        [ShardStep::Remove(0), ShardStep::Insert(3, 30)],
         "[Number(1), Number(0), Number(0), Pair(Some((0, 5))), Old(None), Number(1)]",
     );
 }
@@ -209,11 +195,11 @@ fn steps_on_each_pair_of_a_shard(rt: HostRuntime) {
         ShardStep::Retain(4, Adds(1)),
     ]
     .expect(&rt, "refused"));
-    assert_eq!(rt;
-        format!(in rt.alloc(); "{:?}", outcome.replies)
-            .expect(&rt, "refused")
-            .as_str(),
-        "[Old(None), Old(None), Old(None), Done, Pairs([(2, 20)]), Pair(Some((1, 11))), Pair(Some((5, 52))), Done, Pairs([(5, 54)]), Pairs([]), Number(1)]"
+    prints(
+        &rt,
+        rt.alloc(),
+        &outcome.replies,
+        "[Old(None), Old(None), Old(None), Done, Pairs([(2, 20)]), Pair(Some((1, 11))), Pair(Some((5, 52))), Done, Pairs([(5, 54)]), Pairs([]), Number(1)]",
     );
     let (rest, fault) = outcome.stopped.expect(&rt, "no stop");
     is(&rt, fault, Fault::NoSuchShard);

@@ -1,5 +1,5 @@
 //! Code for any map that threads share, called with a `DashMap`.
-use crate::tests::checks::{is, is_at};
+use crate::tests::checks::is;
 use crate::tests::maps::map_of_four;
 use dash_map::t::Map;
 use dash_ref::mapref::entry::{Entry, TryEntryRefused};
@@ -17,7 +17,7 @@ fn calls_on_pairs<R: Abort + Wait + Clock, M: Map<u64, u64, PlaceState>>(rt: &R,
     is(rt, amount, 4);
     for i in 0..amount {
         let shard = map._yield_write_shard(rt, i);
-        is_at(rt, shard.len(), if i == 1 { 2 } else { 0 }, i);
+        is(rt, (i, shard.len()), (i, if i == 1 { 2 } else { 0 }));
     }
     assert!(rt; map._contains_key(rt, &5));
     assert!(rt; !map._contains_key(rt, &9));

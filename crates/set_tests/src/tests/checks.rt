@@ -8,13 +8,3 @@ use std::process::Abort;
 pub(crate) fn is<T: PartialEq + fmt::Debug + Drop>(rt: &impl Abort, found: T, wanted: T) {
     assert_eq!(rt; found, wanted);
 }
-
-/// As `is`, and says where.
-pub(crate) fn is_at<T: PartialEq + fmt::Debug + Drop, A: fmt::Display + Drop>(
-    rt: &impl Abort,
-    found: T,
-    wanted: T,
-    at: A,
-) {
-    assert_eq!(rt; found, wanted, "at {at}");
-}

@@ -1,5 +1,5 @@
 //! Sets that threads share, and of one owner.
-use crate::tests::checks::{is, is_at};
+use crate::tests::checks::is;
 use dashmap::DashSet;
 use dashmap::hash::{FixedState, PlaceState};
 use dashmap::set::AloneSet;
@@ -46,14 +46,14 @@ fn twice(rt: HostRuntime) {
     let set = Keys::new(rt.alloc(), 1).expect(&rt, "refused");
     for new in [true, false] {
         for i in 0..100 {
-            is_at(&rt, set.insert(&rt, i), Ok(new), i);
+            is(&rt, (i, set.insert(&rt, i)), (i, Ok(new)));
         }
     }
     for i in 0..100 {
-        is_at(&rt, set.remove(&rt, &i), Some(i), i);
+        is(&rt, (i, set.remove(&rt, &i)), (i, Some(i)));
     }
     for i in 0..100 {
-        is_at(&rt, set.remove(&rt, &i), None, i);
+        is(&rt, (i, set.remove(&rt, &i)), (i, None));
     }
 }
 

@@ -1,5 +1,5 @@
 //! A page whose words two threads count.
-use crate::tests::checks::{is, is_at};
+use crate::tests::checks::is;
 use dashmap::DashMap;
 use std::thread;
 use uses::words::{count, count_words, start_anew};
@@ -24,7 +24,7 @@ fn two_threads_count_the_words_of_a_page(rt: HostRuntime) {
         ("sleeps", 1),
     ] {
         let found = counts.view(&rt, &word, |_, count| *count);
-        is_at(&rt, found, Some(count), word);
+        is(&rt, (word, found), (word, Some(count)));
     }
     is(&rt, start_anew(&rt, &counts, &"the"), Some(3));
     is(&rt, start_anew(&rt, &counts, &"cat"), None);

@@ -1,5 +1,5 @@
 //! A recorded map's refusals, its stamps and its replies, as worked by hand.
-use crate::tests::checks::{is, is_at};
+use crate::tests::checks::{is, prints};
 use dash_history::alone::RecAlone;
 use dash_history::record::{CallerLog, RecordFault};
 use dash_shard::error::ConstructError;
@@ -47,7 +47,11 @@ fn refuses_amounts_and_then_callers(rt: HostRuntime) {
         (4, 65_537, ConstructError::Callers),
     ] {
         let refused = Alone::new(rt.alloc(), PlaceState, amount, callers).err();
-        assert_eq!(rt; refused, Some(error), "{callers} callers of {amount}");
+        is(
+            &rt,
+            (callers, amount, refused),
+            (callers, amount, Some(error)),
+        );
     }
 }
 
@@ -63,13 +67,7 @@ fn first_steps(rt: HostRuntime) {
         (Step::Get(1), "Pair(Some((1, 11)))"),
     ] {
         let reply = apply(&rt, &mut alone, &mut log, step);
-        is(
-            &rt,
-            format!(in rt.alloc(); "{reply:?}")
-                .expect(&rt, "refused")
-                .as_str(),
-            text,
-        );
+        prints(&rt, rt.alloc(), &reply, text);
     }
     is(&rt, log.last_stamp(), 3);
     is(&rt, last_of(&rt, &alone, 1), 3);
@@ -77,8 +75,8 @@ fn first_steps(rt: HostRuntime) {
     is(&rt, log.entries().len(), 3);
     for (record, stamp) in log.entries().iter().zip([1, 2, 3]) {
         is(&rt, record.stamp, stamp);
-        is_at(&rt, record.caller, 0, stamp);
-        is_at(&rt, record.shard, 1, stamp);
+        is(&rt, (stamp, record.caller), (stamp, 0));
+        is(&rt, (stamp, record.shard), (stamp, 1));
     }
 }
 
@@ -117,13 +115,7 @@ fn reads_and_sweeps_a_shard(rt: HostRuntime) {
         (Step::Read(2), "Pairs([(6, 60)])"),
     ] {
         let reply = apply(&rt, &mut alone, &mut log, step);
-        is(
-            &rt,
-            format!(in rt.alloc(); "{reply:?}")
-                .expect(&rt, "refused")
-                .as_str(),
-            text,
-        );
+        prints(&rt, rt.alloc(), &reply, text);
     }
     is(&rt, log.entries().len(), 7);
     assert!(rt; log.caller() < alone.callers());
@@ -168,6 +160,6 @@ fn replies_as_the_plain_map(rt: HostRuntime) {
         let want = format!(in rt.alloc(); "{want:?}").expect(&rt, "refused");
         let reply = apply(&rt, &mut alone, &mut log, step);
         let reply = format!(in rt.alloc(); "{reply:?}").expect(&rt, "refused");
-        is_at(&rt, reply.as_str(), want.as_str(), i);
+        is(&rt, (i, reply.as_str()), (i, want.as_str()));
     }
 }

@@ -1,17 +1,17 @@
 //! Merging and gathering, as worked by hand: logs that match the histories, and logs that don't.
-use super::map::{Alone, Log, Map, apply, last_of, record_steps};
-use crate::tests::checks::{is, is_at};
+use super::map::{Alone, Log, Map, apply, four_threads, last_of};
+use crate::tests::checks::is;
 use crate::values::Uncopied;
 use dash_history::alone::RecAlone;
 use dash_history::gather::{At, GatherError, gather};
 use dash_history::record::RecordFault;
 use dash_shard::hash::PlaceState;
-use dash_steps::step::ShardStep;
+use dash_steps::step::{Record, ShardStep};
 use std::alloc::Global;
 use std::process::Abort;
 use std::rt::Clock;
+use std::slice;
 use std::sync::Wait;
-use std::{slice, thread};
 
 /// A map of four shards and two callers, beside the logs of caller 0 and of caller 1.
 pub(crate) fn map_of_two(rt: &impl Abort, alloc: Global) -> (Map, Log, Log) {
@@ -58,6 +58,18 @@ fn is_mismatch(rt: &impl Abort, alone: &Alone, logs: &[Log]) {
     is(rt, alone.gather(logs).err(), Some(GatherError::Mismatch));
 }
 
+// Ends the test where this isn't the record of the last of the three inserts.
+fn is_last(rt: &impl Abort, record: &Record<u64, u64>) {
+    is(rt, (record.stamp, record.caller, record.shard), (2, 0, 0));
+    assert!(rt; matches!(record.step, ShardStep::Insert(0, 20)));
+}
+
+// Ends the test where these aren't the pairs of the three inserts.
+fn are_three(rt: &impl Abort, mut pairs: Vec<(u64, u64)>) {
+    pairs.sort_unstable();
+    is(rt, pairs.as_slice(), &[(0, 20), (1, 10), (4, 30)]);
+}
+
 #[test]
 fn three_stamps_are_one_history(rt: HostRuntime) {
     let (alone, first, second) = three_stamps(&rt, rt.alloc());
@@ -72,20 +84,14 @@ fn three_stamps_are_one_history(rt: HostRuntime) {
     is_gathered(&rt, &alone, &logs, &three_places());
     let alone = alone.end().alone();
     is_gathered(&rt, &alone, &logs, &three_places());
-    let mut pairs = alone.pairs().expect(&rt, "refused");
-    pairs.sort_unstable();
-    is(&rt, pairs.as_slice(), &[(0, 20), (1, 10), (4, 30)]);
+    are_three(&rt, alone.pairs().expect(&rt, "refused"));
 }
 
 #[test]
 fn records_stand_at_their_places(rt: HostRuntime) {
     let (alone, _, _) = three_stamps(&rt, rt.alloc());
     assert!(rt; 3 < alone.shard_count());
-    let record = alone.entry_at(0, 1).expect(&rt, "no record");
-    is(&rt, record.stamp, 2);
-    is(&rt, record.caller, 0);
-    is(&rt, record.shard, 0);
-    assert!(rt; matches!(record.step, ShardStep::Insert(0, 20)));
+    is_last(&rt, alone.entry_at(0, 1).expect(&rt, "no record"));
     assert!(rt; alone.entry_at(0, 2).is_none());
     assert!(rt; alone.entry_at(2, 0).is_none());
     is(&rt, alone.last_of(0), 2);
@@ -100,19 +106,12 @@ fn a_map_behind_locks_is_one_history(rt: HostRuntime) {
     let gathered = gather(&mut map, &[first, second]).expect(&rt, "refused");
     is(&rt, gathered.as_slice(), &three_places());
     assert!(rt; 3 < map.shard_count());
-    let record = map
-        .entry_at(0, 1)
-        .expect(&rt, "refused")
-        .expect(&rt, "no record");
-    is(&rt, record.stamp, 2);
-    is(&rt, record.caller, 0);
-    assert!(rt; matches!(record.step, ShardStep::Insert(0, 20)));
+    let record = map.entry_at(0, 1).expect(&rt, "refused");
+    is_last(&rt, &record.expect(&rt, "no record"));
     assert!(rt; map.entry_at(0, 2).expect(&rt, "refused").is_none());
     is(&rt, map.last_of(0), 2);
     is(&rt, map.last_of(3), 0);
-    let mut pairs = map.pairs().expect(&rt, "refused");
-    pairs.sort_unstable();
-    is(&rt, pairs.as_slice(), &[(0, 20), (1, 10), (4, 30)]);
+    are_three(&rt, map.pairs().expect(&rt, "refused"));
 }
 
 #[test]
@@ -169,11 +168,15 @@ fn what_was_learned_stands_before(rt: HostRuntime) {
         second.learn(learned);
         is(&rt, second.last_stamp(), learned);
         apply(&rt, &map, &mut second, ShardStep::Insert(1, 1));
-        is_at(&rt, second.last_stamp(), stamp, learned);
+        is(&rt, (learned, second.last_stamp()), (learned, stamp));
         let alone = map.alone();
-        is_at(&rt, last_of(&rt, &alone, 1), stamp, learned);
+        is(&rt, (learned, last_of(&rt, &alone, 1)), (learned, stamp));
         let places = alone.gather(&[first, second]).expect(&rt, "refused");
-        is_at(&rt, places.contains(&at(stamp, 1, 2, 1)), true, learned);
+        is(
+            &rt,
+            (learned, places.contains(&at(stamp, 1, 2, 1))),
+            (learned, true),
+        );
     }
 }
 
@@ -234,16 +237,7 @@ fn a_step_without_memory_is_in_no_history(rt: HostRuntime) {
 
 #[test]
 fn four_threads_have_one_history(rt: HostRuntime) {
-    let (map, mut logs) = Map::new(rt.alloc(), PlaceState, 4, 4).expect(&rt, "refused");
-    thread::for_each_mut(
-        &rt,
-        logs.as_mut_slice(),
-        4,
-        &|_, log: &mut Log| { record_steps(&rt, &map, log, 1_000) },
-    );
-    for log in &logs {
-        is_at(&rt, log.entries().len(), 1_000, log.caller());
-    }
+    let (map, logs) = four_threads(&rt, rt.alloc(), 1_000);
     is(
         &rt,
         map.alone().gather(&logs).expect(&rt, "refused").len(),

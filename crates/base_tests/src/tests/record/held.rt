@@ -1,5 +1,5 @@
 //! A recorded shard behind its lock, as worked by hand.
-use crate::tests::checks::is;
+use crate::tests::checks::{is, prints};
 use dash_history::record::CallerLog;
 use dash_history::record::held::RecShardMut;
 use dash_history::record::map::RecordedMap;
@@ -27,18 +27,15 @@ fn records_in_place(rt: HostRuntime) {
     let mut log = logs.pop().expect(&rt, "no log");
     is(&rt, log.caller(), 1);
     let mut held = map.held(&rt, 1);
-    is(&rt, held.number(), 1);
-    is(&rt, held.amount(), 4);
-    is(&rt, held.callers(), 2);
-    is(&rt, held.last_stamp(), 0);
+    is(&rt, (held.number(), held.amount()), (1, 4));
+    is(&rt, (held.callers(), held.last_stamp()), (2, 0));
     for (key, value) in [(1, 10), (5, 50), (1, 11)] {
         insert(&rt, &mut held, &mut log, key, value);
     }
     let reply = insert(&rt, &mut held, &mut log, 1, 12);
-    assert!(rt; matches!(reply, Reply::Old(Some(11))));
-    is(&rt, held.last_stamp(), 4);
-    is(&rt, log.last_stamp(), 4);
-    is(&rt, log.entries().len(), 4);
+    prints(&rt, rt.alloc(), &reply, "Old(Some(11))");
+    let stamps = (held.last_stamp(), log.last_stamp());
+    is(&rt, (stamps, log.entries().len()), ((4, 4), 4));
     drop(held);
     is(&rt, map.held(&rt, 1).last_stamp(), 4);
 }

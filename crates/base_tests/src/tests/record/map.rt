@@ -1,17 +1,18 @@
 //! A recorded map behind its locks: as worked by hand, shared by threads, and moved out of its locks and back.
 ghost use Rattle.std.specs.Prelude.{◌≡◌, ◌<◌};
 
-use crate::tests::checks::{is, is_at};
+use crate::tests::checks::{is, prints};
 use dash_history::alone::RecAlone;
 use dash_history::record::CallerLog;
 use dash_history::record::map::RecordedMap;
 use dash_shard::hash::PlaceState;
 use dash_steps::step::{Reply, ShardStep};
 use std::alloc::Global;
+use std::mem;
 use std::process::Abort;
 use std::rt::Clock;
 use std::sync::Wait;
-use std::{mem, thread};
+use std::thread::{self, Threads};
 
 /// A recorded map of numbers, where of four shards the key k goes to shard k modulo 4.
 pub(crate) type Map = RecordedMap<u64, u64, PlaceState>;
@@ -53,15 +54,16 @@ pub(crate) fn last_of(rt: &impl Abort, alone: &Alone, shard: usize) -> u64 {
 #[test]
 fn first_steps(rt: HostRuntime) {
     let (map, mut logs) = Map::new(rt.alloc(), PlaceState, 4, 1).expect(&rt, "refused");
-    is(&rt, map.shard_count(), 4);
-    is(&rt, map.callers(), 1);
+    is(&rt, (map.shard_count(), map.callers()), (4, 1));
     let mut log = logs.pop().expect(&rt, "no log");
-    let reply = apply(&rt, &map, &mut log, ShardStep::Insert(1, 10));
-    assert!(rt; matches!(reply, Reply::Old(None)));
-    let reply = apply(&rt, &map, &mut log, ShardStep::Insert(1, 11));
-    assert!(rt; matches!(reply, Reply::Old(Some(10))));
-    let reply = apply(&rt, &map, &mut log, ShardStep::Get(1));
-    assert!(rt; matches!(reply, Reply::Pair(Some((1, 11)))));
+    for (step, text) in [
+        (ShardStep::Insert(1, 10), "Old(None)"),
+        (ShardStep::Insert(1, 11), "Old(Some(10))"),
+        (ShardStep::Get(1), "Pair(Some((1, 11)))"),
+    ] {
+        let reply = apply(&rt, &map, &mut log, step);
+        prints(&rt, rt.alloc(), &reply, text);
+    }
     is(&rt, log.last_stamp(), 3);
     is(&rt, map.alone().last_of(1), 3);
 }
@@ -72,12 +74,12 @@ fn a_held_shard_leaves_the_others_free(rt: HostRuntime) {
     let mut log = logs.pop().expect(&rt, "no log");
     let held = map.held(&rt, 0);
     let reply = apply(&rt, &map, &mut log, ShardStep::Insert(1, 10));
-    assert!(rt; matches!(reply, Reply::Old(None)));
+    prints(&rt, rt.alloc(), &reply, "Old(None)");
     is(&rt, held.last_stamp(), 0);
 }
 
-/// So many steps of one caller over sixteen keys, or as many as it could take.
-pub(crate) fn record_steps<R: Wait + Clock>(rt: &R, map: &Map, log: &mut Log, count: u32) {
+// So many steps of one caller over sixteen keys, or as many as it could take.
+fn record_steps<R: Wait + Clock>(rt: &R, map: &Map, log: &mut Log, count: u32) {
     let caller = u64::from(log.caller());
     for i in 0..u64::from(count) {
         let key = (caller + i) % 16;
@@ -106,41 +108,43 @@ fn stamps_of(rt: &impl Abort, alloc: Global, logs: &[Log], shard: usize) -> Vec<
     stamps
 }
 
-#[test]
-fn four_threads_record_on_one_map(rt: HostRuntime) {
-    let (map, mut logs) = Map::new(rt.alloc(), PlaceState, 4, 4).expect(&rt, "refused");
+/// A map on which four threads took so many steps each, which their logs must have.
+pub(crate) fn four_threads<R: Abort + Threads + Wait + Clock + Sync>(
+    rt: &R,
+    alloc: Global,
+    count: u32,
+) -> (Map, Vec<Log>) {
+    let (map, mut logs) = Map::new(alloc, PlaceState, 4, 4).expect(rt, "refused");
     thread::for_each_mut(
-        &rt,
+        rt,
         logs.as_mut_slice(),
         4,
-        &|_, log: &mut Log| { record_steps(&rt, &map, log, 10_000) },
+        &|_, log: &mut Log| { record_steps(rt, &map, log, count) },
     );
     for log in &logs {
-        is_at(&rt, log.entries().len(), 10_000, log.caller());
+        let (caller, taken) = (log.caller(), log.entries().len());
+        is(rt, (caller, taken), (caller, count as usize));
     }
+    (map, logs)
+}
+
+#[test]
+fn four_threads_record_on_one_map(rt: HostRuntime) {
+    let (map, mut logs) = four_threads(&rt, rt.alloc(), 10_000);
     let mut alone = map.alone();
     for shard in 0..4 {
         let mut stamps = stamps_of(&rt, rt.alloc(), &logs, shard);
-        is_at(&rt, stamps.len(), 10_000, shard);
-        assert_eq!(rt;
-            stamps.last(),
-            Some(&last_of(&rt, &alone, shard)),
-            "of shard {shard}"
-        );
+        is(&rt, (shard, stamps.len()), (shard, 10_000));
+        let last = last_of(&rt, &alone, shard);
+        is(&rt, (shard, stamps.last()), (shard, Some(&last)));
+        // No stamp comes twice.
         stamps.dedup();
-        assert_eq!(rt;
-            stamps.len(),
-            10_000,
-            "no stamp of shard {shard} comes twice"
-        );
+        is(&rt, (shard, stamps.len()), (shard, 10_000));
     }
     let mut log = logs.pop().expect(&rt, "no log");
     for shard in 0..4 {
         let count = apply_alone(&rt, &mut alone, &mut log, ShardStep::Count(shard));
-        assert!(rt;
-            matches!(count, Reply::Number(4)),
-            "{count:?} of shard {shard}"
-        );
+        prints(&rt, rt.alloc(), &count, "Number(4)");
     }
 }
 
@@ -205,35 +209,29 @@ fn a_leaked_hold_leaves_a_map_that_can_be_dropped(rt: HostRuntime) {
     drop(map);
 }
 
-// The map of two callers after inserts that get these stamps: rows of a caller, a key and a stamp.
-fn stamped<R: Abort + Wait + Clock>(rt: &R, alloc: Global, rows: &[(usize, u64, u64)]) -> Alone {
+// The map of two callers after inserts of keys that get rising stamps: rows of a caller, the first stamp and the keys.
+fn stamped<R: Abort + Wait + Clock>(rt: &R, alloc: Global, rows: &[(usize, u64, &[u64])]) -> Alone {
     let (map, mut logs) = Map::new(alloc, PlaceState, 4, 2).expect(rt, "refused");
-    for &(caller, key, stamp) in rows {
+    for &(caller, first, keys) in rows {
         let log = logs.get_mut(caller).expect(rt, "no log");
-        apply(rt, &map, log, ShardStep::Insert(key, 10));
-        is_at(rt, log.last_stamp(), stamp, key);
+        for (stamp, &key) in (first..100).zip(keys) {
+            apply(rt, &map, log, ShardStep::Insert(key, 10));
+            is(rt, (key, log.last_stamp()), (key, stamp));
+        }
     }
     map.alone()
 }
 
 #[test]
 fn stamps_rise_above_the_shards_and_the_callers_last(rt: HostRuntime) {
-    let alone = stamped(&rt, rt.alloc(), &[(0, 1, 1), (1, 4, 1), (0, 0, 2)]);
+    let rows: [(usize, u64, &[u64]); 3] = [(0, 1, &[1]), (1, 1, &[4]), (0, 2, &[0])];
+    let alone = stamped(&rt, rt.alloc(), &rows);
     is(&rt, last_of(&rt, &alone, 0), 2);
     is(&rt, last_of(&rt, &alone, 1), 1);
-    let rows = [
-        (0, 0, 1),
-        (0, 4, 2),
-        (0, 8, 3),
-        (0, 12, 4),
-        (0, 16, 5),
-        (0, 20, 6),
-        (0, 24, 7),
-        (1, 1, 1),
-        (1, 5, 2),
-        (1, 9, 3),
-        (1, 13, 4),
-        (0, 1, 8),
+    let rows: [(usize, u64, &[u64]); 3] = [
+        (0, 1, &[0, 4, 8, 12, 16, 20, 24]),
+        (1, 1, &[1, 5, 9, 13]),
+        (0, 8, &[1]),
     ];
     let alone = stamped(&rt, rt.alloc(), &rows);
     is(&rt, last_of(&rt, &alone, 1), 8);

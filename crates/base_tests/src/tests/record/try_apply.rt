@@ -1,7 +1,7 @@
 //! Steps that wait for nobody, as worked by hand.
 use super::gather::{is_gathered, map_of_two, three_places};
 use super::map::{Log, Map};
-use crate::tests::checks::is;
+use crate::tests::checks::{is, prints};
 use dash_history::record::RecordFault;
 use dash_steps::step::{Reply, ShardStep};
 use std::process::Abort;
@@ -37,21 +37,11 @@ fn three_stamps_that_wait_for_nobody(rt: HostRuntime) {
 fn a_held_shard_is_locked_alone(rt: HostRuntime) {
     let (map, first, mut second) = map_of_two(&rt, rt.alloc());
     let held = map.held(&rt, 0);
-    let Err((step, fault)) = try_apply(&rt, &map, &mut second, Step::Get(0)) else {
-        panic!(&rt; "the shard is held");
-    };
-    is(&rt, fault, RecordFault::Locked);
-    is(
-        &rt,
-        format!(in rt.alloc(); "{fault}")
-            .expect(&rt, "refused")
-            .as_str(),
-        "locked (21)",
-    );
-    assert!(rt; matches!(step, Step::Get(0)));
+    let locked = try_apply(&rt, &map, &mut second, Step::Get(0));
+    prints(&rt, rt.alloc(), &locked, "Err((Get(0), Locked))");
     is(&rt, second.entries().len(), 0);
-    let reply = try_apply(&rt, &map, &mut second, Step::Get(1)).expect(&rt, "refused");
-    assert!(rt; matches!(reply, Reply::Pair(None)));
+    let reply = try_apply(&rt, &map, &mut second, Step::Get(1));
+    prints(&rt, rt.alloc(), &reply, "Ok(Pair(None))");
     drop(held);
     try_apply(&rt, &map, &mut second, Step::Get(0)).expect(&rt, "refused");
     is(&rt, second.last_stamp(), 2);
@@ -70,11 +60,11 @@ fn a_held_shard_is_not_asked_for_what_is_missing(rt: HostRuntime) {
     let (map, _, mut second) = map_of_two(&rt, rt.alloc());
     let held = map.held(&rt, 0);
     let missing = try_apply(&rt, &map, &mut second, Step::Count(4));
-    assert!(rt; matches!(missing, Err((Step::Count(4), RecordFault::NoSuchShard))));
+    prints(&rt, rt.alloc(), &missing, "Err((Count(4), NoSuchShard))");
     second.learn(u64::MAX);
     let locked = try_apply(&rt, &map, &mut second, Step::Get(0));
-    assert!(rt; matches!(locked, Err((Step::Get(0), RecordFault::Locked))));
+    prints(&rt, rt.alloc(), &locked, "Err((Get(0), Locked))");
     drop(held);
     let last = try_apply(&rt, &map, &mut second, Step::Get(0));
-    assert!(rt; matches!(last, Err((Step::Get(0), RecordFault::LastStamp))));
+    prints(&rt, rt.alloc(), &last, "Err((Get(0), LastStamp))");
 }

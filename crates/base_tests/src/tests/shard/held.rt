@@ -1,12 +1,22 @@
 //! One shard behind its lock, as worked by hand.
-use crate::tests::by_hand::{here_held, lock_of_one, put_held};
-use crate::tests::checks::{is, is_at};
+use crate::tests::by_hand::lock_of_one;
+use crate::tests::checks::is;
 use dash_shard::hash::PlaceState;
 use dash_shard::lock::RwLock;
 use dash_shard::shard::Shard;
+use dash_shard::shard::held::ShardMut;
 use std::mem;
+use std::process::Abort;
 
 type Locked = RwLock<Shard<u64, u64, PlaceState>>;
+
+type Held<'a> = ShardMut<'a, u64, u64, PlaceState>;
+
+// Puts a pair, which has to go to the held shard, and answers the old value.
+fn put(rt: &impl Abort, held: &mut Held<'_>, key: u64, value: u64) -> Option<u64> {
+    assert!(rt; held.routes(&key), "the key goes to another shard");
+    held.insert(key, value).expect(rt, "refused")
+}
 
 #[test]
 fn a_held_shard_is_changed_in_place(rt: HostRuntime) {
@@ -16,15 +26,11 @@ fn a_held_shard_is_changed_in_place(rt: HostRuntime) {
     is(&rt, held.amount(), 4);
     is(&rt, held.capacity(), 0);
     for (key, value, old) in [(1, 10, None), (1, 11, Some(10)), (5, 50, None)] {
-        is_at(
-            &rt,
-            put_held(&rt, &mut held, key, value).expect(&rt, "refused"),
-            old,
-            key,
-        );
+        is(&rt, (key, put(&rt, &mut held, key, value)), (key, old));
     }
     is(&rt, held.get(&1), Some((&1, &11)));
-    is(&rt, held.remove(&here_held(&rt, &held, 5)), Some((5, 50)));
+    assert!(rt; held.routes(&5));
+    is(&rt, held.remove(&5), Some((5, 50)));
     is(&rt, held.len(), 1);
     assert!(rt; lock.try_read().is_none(), "a writer has the shard");
     drop(held);
@@ -45,18 +51,14 @@ fn a_held_value_is_lent(rt: HostRuntime) {
     let (key, value) = held.at_mut(position);
     *value = value.wrapping_add(*key);
     is(&rt, held.at(position), (&5, &55));
-    is(
-        &rt,
-        put_held(&rt, &mut held, 9, 90).expect(&rt, "refused"),
-        None,
-    );
+    is(&rt, put(&rt, &mut held, 9, 90), None);
     is(&rt, held.get(&5), Some((&5, &55)));
     *held.get_mut(&9).expect(&rt, "no pair") = 91;
     drop(held);
     let shard = lock.into_inner();
     is(&rt, shard.len(), 3);
     for (key, value) in [(1, 20), (5, 55), (9, 91)] {
-        is_at(&rt, shard.get(&key), Some((&key, &value)), key);
+        is(&rt, (key, shard.get(&key)), (key, Some((&key, &value))));
     }
 }
 
@@ -64,11 +66,7 @@ fn a_held_value_is_lent(rt: HostRuntime) {
 fn a_leaked_hold_leaves_a_shard(rt: HostRuntime) {
     let lock = lock_of_one(&rt, rt.alloc(), [(1, 10u64)]);
     let mut held = lock.write(&rt).shard();
-    is(
-        &rt,
-        put_held(&rt, &mut held, 5, 50).expect(&rt, "refused"),
-        None,
-    );
+    is(&rt, put(&rt, &mut held, 5, 50), None);
     mem::forget(held);
     assert!(rt; lock.try_write().is_none(), "the writer is never gone");
     is(&rt, lock.into_inner().get(&5), Some((&5, &50)));

@@ -1,7 +1,8 @@
 //! The marks of sixteen slots, and what becomes of them where keys come and go.
+use crate::tests::by_hand::{new_shard, put, remove};
+use crate::tests::checks::is;
 use dash_shard::hash::{PlaceState, ZeroState};
-use dash_shard::shard::{Shard, probe};
-use std::process::Abort;
+use dash_shard::shard::probe;
 
 // Whether the group has the tag in the lanes of the first mask, and is empty in those of the second.
 fn shows(group: &[u8; 16], tag: u8, matches: u16, empty: u16) -> bool {
@@ -25,49 +26,33 @@ fn looks_at_sixteen_tags(rt: HostRuntime) {
 
 #[test]
 fn one_key_comes_and_goes(rt: HostRuntime) {
-    let mut shard = Shard::<u64, u64, PlaceState>::new(rt.alloc(), PlaceState, 1, 2, 0).expect(
-        &rt, "refused",
-    );
+    let mut shard = new_shard(&rt, rt.alloc(), PlaceState, 1, 2, 0);
     for turn in 0..10_000u64 {
-        assert!(rt; shard.routes(&6));
-        assert_eq!(rt; shard.insert(6, turn).expect(&rt, "refused"), None);
-        assert!(rt; shard.routes(&6));
-        assert_eq!(rt; shard.remove(&6), Some((6, turn)));
+        is(&rt, put(&rt, &mut shard, 6, turn), None);
+        is(&rt, remove(&rt, &mut shard, 6), Some((6, turn)));
     }
-    assert_eq!(rt; shard.len(), 0);
+    is(&rt, (shard.len(), shard.groups()), (0, 1));
     assert!(rt; !shard.contains_key(&6));
-    assert_eq!(rt; shard.groups(), 1);
-}
-
-type OneHash = Shard<u64, u64, ZeroState>;
-
-// Puts each of these keys, which the shard must take, with itself as its value.
-fn fill(rt: &impl Abort, shard: &mut OneHash, keys: &[u64]) {
-    for key in keys {
-        assert!(rt; shard.routes(key));
-        assert_eq!(rt; shard.insert(*key, *key).expect(rt, "refused"), None);
-    }
 }
 
 #[test]
 fn keys_of_one_hash(rt: HostRuntime) {
-    let mut shard = OneHash::new(rt.alloc(), ZeroState, 0, 2, 0).expect(&rt, "refused");
+    let mut shard = new_shard(&rt, rt.alloc(), ZeroState, 0, 2, 0);
     for key in 0..200u64 {
-        fill(&rt, &mut shard, &[key]);
+        is(&rt, put(&rt, &mut shard, key, key), None);
     }
-    assert_eq!(rt; shard.len(), 200);
+    is(&rt, shard.len(), 200);
     for key in 0..200u64 {
         if key % 2 == 1 {
-            assert!(rt; shard.routes(&key));
-            assert_eq!(rt; shard.remove(&key), Some((key, key)));
+            is(&rt, remove(&rt, &mut shard, key), Some((key, key)));
         }
     }
     for key in 200..300u64 {
-        fill(&rt, &mut shard, &[key]);
+        is(&rt, put(&rt, &mut shard, key, key), None);
     }
-    assert_eq!(rt; shard.len(), 200);
+    is(&rt, shard.len(), 200);
     for key in 0..300u64 {
         let is_there = key >= 200 || key % 2 == 0;
-        assert_eq!(rt; shard.contains_key(&key), is_there, "{key}");
+        is(&rt, (key, shard.contains_key(&key)), (key, is_there));
     }
 }

@@ -1,11 +1,11 @@
 //! A walk over a map that threads share: rising shards, each pair once, and which shard it holds.
-use crate::tests::checks::is;
-use crate::tests::maps::{is_held, map_of_four, put, three_pairs};
+use crate::tests::checks::{is, prints};
+use crate::tests::maps::{is_held, map_of, put, three_pairs};
 use dash_map::t::Map;
 
 #[test]
 fn gives_each_pair_by_rising_shard(rt: HostRuntime) {
-    let map = map_of_four(&rt, rt.alloc());
+    let map = map_of(&rt, rt.alloc(), []);
     for key in 0..40u64 {
         put(&rt, &map, key, key);
     }
@@ -51,8 +51,7 @@ fn holds_the_shard_that_it_is_in(rt: HostRuntime) {
     assert!(rt; !is_held(&map, 0), "a walk that took no step");
     let first = walk.next().expect(&rt, "no pair").expect(&rt, "refused");
     assert!(rt; is_held(&map, 0) && !is_held(&map, 1));
-    let text = format!(in rt.alloc(); "{first:?}").expect(&rt, "refused");
-    is(&rt, text.as_str(), "RefMulti { k: 0, v: 5 }");
+    prints(&rt, rt.alloc(), &first, "RefMulti { k: 0, v: 5 }");
     let second = walk.next().expect(&rt, "no pair").expect(&rt, "refused");
     assert!(rt; is_held(&map, 0), "its pair is kept");
     assert!(rt; is_held(&map, 1));

@@ -1,6 +1,6 @@
 //! Walks that write: over a map of one owner, and over one that threads share, which show the shard that they hold.
 use crate::tests::checks::is;
-use crate::tests::maps::{map_of_four, put};
+use crate::tests::maps::{map_of, put};
 use dash_map::alone::Alone;
 use dash_map::map::DashMap;
 use dash_map::t::Map;
@@ -54,7 +54,7 @@ fn next_mut(rt: HostRuntime) {
 
 #[test]
 fn lends_each_pair_once(rt: HostRuntime) {
-    let map = map_of_four(&rt, rt.alloc());
+    let map = map_of(&rt, rt.alloc(), []);
     for key in 0..9u64 {
         put(&rt, &map, key, key);
     }
@@ -68,7 +68,7 @@ fn lends_each_pair_once(rt: HostRuntime) {
 
 #[test]
 fn items_of_an_alone(rt: HostRuntime) {
-    let mut alone: Alone<u64, u64, PlaceState> = map_of_four(&rt, rt.alloc()).alone();
+    let mut alone: Alone<u64, u64, PlaceState> = map_of(&rt, rt.alloc(), []).alone();
     alone.insert(3, 30).expect(&rt, "refused");
     alone.insert(1, 10).expect(&rt, "refused");
     let mut walk = alone.iter_mut();
@@ -97,9 +97,7 @@ fn is_held(map: &DashMap<u64, u64, PlaceState>, key: u64) -> bool {
 
 #[test]
 fn holds_the_shard_that_it_is_in(rt: HostRuntime) {
-    let map = map_of_four(&rt, rt.alloc());
-    put(&rt, &map, 0, 5);
-    put(&rt, &map, 2, 20);
+    let map = map_of(&rt, rt.alloc(), [(0, 5), (2, 20)]);
     let mut walk = map.iter_mut(&rt);
     assert!(rt; !is_held(&map, 0), "a walk that took no step");
     assert!(rt; walk.advance());
