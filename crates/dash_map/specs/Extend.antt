@@ -1,5 +1,6 @@
 -- Pairs that come one after the other, and are inserted into a map of one owner.
-use Rattle.std.specs.Prelude.{◌≡◌, Bool, List, [], ◌∷◌, ◌++◌, reverse, option_map, option_and_then, Option, Some, None, Result, Ok, Err, IfErr, IsSomeAnd, slice_get}
+use Rattle.std.specs.Prelude.{◌≡◌, Bool, List, [], ◌∷◌, ◌++◌, reverse, option_map, option_and_then, Option, Some, Result, IfErr, IsSomeAnd, slice_get}
+use Rattle.std.specs.Result.{result_err}
 use Rattle.std.specs.Iterator.{YieldsThen}
 use Rattle.dash_shard.specs.Hashing.{KeyHash}
 use Rattle.dash_shard.specs.Contents.{at}
@@ -23,11 +24,6 @@ abbrev pub Gave : {U T A : Type 0} → (U → T → Type 0) → (T → Option A 
 Gave {U} {T} {A} becomes gives iter then P = (it : T) × (rest : T) × (items : List A) × becomes iter it × YieldsThen gives it items then rest × P items
 
 module _ {K V : Type 0} where
-  -- the pair that is refused, or none
-  abbrev pub refused_pair : Result (Unit {0}) (ExtendRefused K V) → Option (K × V)
-  refused_pair (Ok _) = None
-  refused_pair (Err e) = Some (e.key, e.value)
-
   -- why no map was made: a bad parallelism or no memory for a map, or P of the pair that is refused
   abbrev pub NotMade : (ExtendRefused K V → Type 0) → FromRefused K V → Type 0
   NotMade P (Construct e) = IsOneOf (Parallelism ∷ Memory ∷ []) e
@@ -69,7 +65,7 @@ module _ {K V S : Type 0} (h : KeyHash K S) where
 
     -- all that `extend` promises: the pairs up to the end, or up to the one that is refused, were inserted
     pub record Extends (old new : AloneState K V S) (result : Result (Unit {0}) (ExtendRefused K V)) : Type 0 where
-      pub gains : Gave becomes gives iter (refused_pair result) (λ ps. Gains old ps new)
+      pub gains : Gave becomes gives iter (option_map (λ e. (e.key, e.value)) (result_err result)) (λ ps. Gains old ps new)
       pub refused : IfErr result (λ e. HasNoRoom e.key new)
 
     -- the same of shards that were found behind the locks of this map, and of those that were left there

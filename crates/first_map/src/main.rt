@@ -1,10 +1,10 @@
 //! How often pages were seen, and who is logged in.
 #![tactic(auto)]
 
-ghost use Rattle.std.specs.Prelude.{◌≡◌, ◌<◌, IfOk, IfErr};
+ghost use Rattle.std.specs.Prelude.{◌<◌, IfOk};
 
 use dashmap::DashMap;
-use dashmap::error::EntryRefused;
+use std::alloc::AllocError;
 use std::rt::Clock;
 use std::sync::Wait;
 use std::thread;
@@ -25,13 +25,8 @@ fn main(rt: HostRuntime) -> anyhow::Result<()> {
 }
 
 // Counts a page once more, and says how often it was seen. The entry holds its shard, so that no count is lost.
-fn count<R: Wait + Clock>(
-    rt: &R,
-    seen: &DashMap<u64, u64>,
-    page: u64,
-) -> Result<u64, EntryRefused<u64>>
+fn count<R: Wait + Clock>(rt: &R, seen: &DashMap<u64, u64>, page: u64) -> Result<u64, AllocError>
     ensures counted { IfOk result (λ n. 0 < n) }
-    ensures refused { IfErr result (λ e. e.key ≡ page) }
 {
     let mut count = seen.entry(rt, page)?.or_insert(0);
     let now = count.saturating_add(1);
