@@ -1,5 +1,5 @@
 -- Pairs that come one after the other, and are inserted into a map of one owner.
-use Rattle.std.specs.Prelude.{◌≡◌, Bool, List, [], ◌∷◌, ◌++◌, reverse, option_map, option_and_then, Option, Some, Result, IfErr, IsSomeAnd, slice_get}
+use Rattle.std.specs.Prelude.{◌≡◌, Bool, List, [], ◌∷◌, ◌++◌, reverse, option_map, option_and_then, Option, Some, None, Result, IfErr, IsSomeAnd, slice_get}
 use Rattle.std.specs.Result.{result_err}
 use Rattle.std.specs.Iterator.{YieldsThen}
 use Rattle.dash_shard.specs.Hashing.{KeyHash}
