@@ -29,6 +29,10 @@ fn equal_keys_of_a_list(rt: HostRuntime) {
     is(&rt, copy.len(), 2);
     is(&rt, copy.get(&1), Some(&11));
     is(&rt, copy.get(&5), Some(&50));
+}
+
+#[test]
+fn equal_keys_of_what_is_put_in(rt: HostRuntime) {
     let mut map = Map::new(rt.alloc(), 1).expect(&rt, "refused");
     map.insert(&rt, 5, 40).expect(&rt, "refused");
     map.extend(three_pairs(&rt, rt.alloc()))
@@ -57,20 +61,20 @@ fn the_first_key_and_the_last_value(rt: HostRuntime) {
     is(&rt, (found.key().note, *found.value()), (1, 2));
 }
 
+// Ends the test where a list wasn't refused for the processors.
+fn is_parallelism(rt: &impl Abort, refused: Option<FromRefused<u64, u64>>) {
+    assert!(rt;
+        matches!(
+            refused,
+            Some(FromRefused::Construct(ConstructError::Parallelism))
+        )
+    );
+}
+
 #[test]
 fn no_processor(rt: HostRuntime) {
     let refused = Map::from_pairs(rt.alloc(), three_pairs(&rt, rt.alloc()), 0).err();
-    assert!(rt;
-        matches!(
-            refused,
-            Some(FromRefused::Construct(ConstructError::Parallelism))
-        )
-    );
+    is_parallelism(&rt, refused);
     let refused = Map::from_iter(rt.alloc(), three_pairs(&rt, rt.alloc()), 0).err();
-    assert!(rt;
-        matches!(
-            refused,
-            Some(FromRefused::Construct(ConstructError::Parallelism))
-        )
-    );
+    is_parallelism(&rt, refused);
 }
