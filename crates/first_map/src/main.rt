@@ -4,7 +4,6 @@
 ghost use Rattle.std.specs.Prelude.{◌<◌, IfOk};
 
 use dashmap::DashMap;
-use std::alloc::AllocError;
 use std::rt::Clock;
 use std::sync::Wait;
 use std::thread;
@@ -25,7 +24,7 @@ fn main(rt: HostRuntime) -> anyhow::Result<()> {
 }
 
 // Counts a page once more, and says how often it was seen. The entry holds its shard, so that no count is lost.
-fn count<R: Wait + Clock>(rt: &R, seen: &DashMap<u64, u64>, page: u64) -> Result<u64, AllocError>
+fn count<R: Wait + Clock>(rt: &R, seen: &DashMap<u64, u64>, page: u64) -> anyhow::Result<u64>
     ensures counted { IfOk result (λ n. 0 < n) }
 {
     let mut count = seen.entry(rt, page)?.or_insert(0);
