@@ -8,6 +8,7 @@ const SHARDS: usize = 16;
 const PAIRS: usize = 1_000_000;
 const SMALL: usize = 1_000;
 const STEPS: usize = 4_000_000;
+const HOLDS: usize = 200_000;
 
 /// FNV-1a on 64 bits, as the default hasher of the map that is measured.
 #[derive(Clone, Copy)]
@@ -88,7 +89,11 @@ impl Worker {
             "remove" => self.remove(map),
             "iterate" => self.walk(map),
             "get-mut" => self.add_by_reference(map),
+            "small-update" => self.update(map),
             "alter" => self.alter(map),
+            "entry" => self.add_by_entry(map),
+            "contend" => self.contend(map),
+            "hold" => self.hold(map),
             "read" => self.mix(map, READ),
             "exchange" => self.mix(map, EXCHANGE),
             "grow" => self.mix(map, GROW),
@@ -162,6 +167,48 @@ impl Worker {
         }
     }
 
+    fn update(&mut self, map: &Map) {
+        let (first, end) = self.share(STEPS);
+        for step in first..end {
+            if let Some(mut found) = map.get_mut(&key(step % SMALL as u64)) {
+                *found = found.wrapping_add(1);
+                self.count(1);
+            }
+        }
+    }
+
+    fn add_by_entry(&mut self, map: &Map) {
+        let (first, end) = self.share(2 * PAIRS);
+        for number in first..end {
+            let mut found = map.entry(key(number)).or_insert(0);
+            let value = found.wrapping_add(1);
+            *found = value;
+            self.count(value);
+        }
+    }
+
+    fn contend(&mut self, map: &Map) {
+        let (first, end) = self.share(STEPS);
+        for _ in first..end {
+            map.alter(&key(0), |_, value| value.wrapping_add(1));
+            self.count(1);
+        }
+    }
+
+    fn hold(&mut self, map: &Map) {
+        let (first, end) = self.share(HOLDS);
+        for _ in first..end {
+            if let Some(mut found) = map.get_mut(&key(0)) {
+                let mut value = *found;
+                for _ in 0..200u64 {
+                    value = key(value);
+                }
+                *found = value;
+                self.count(1);
+            }
+        }
+    }
+
     fn mix(&mut self, map: &Map, mix: Mix) {
         let (first, end) = self.share(PAIRS);
         let (from, to) = self.share(STEPS);
@@ -206,12 +253,13 @@ fn main() {
     let (work, threads) = (words[0].as_str(), words[1].parse::<usize>().unwrap());
     let room = match work {
         "insert0" | "grow" | "memory" => 0,
-        "small-hit" => SMALL,
+        "small-hit" | "small-update" | "contend" | "hold" => SMALL,
+        "entry" => 2 * PAIRS,
         _ => PAIRS,
     };
     let filled = match work {
         "insert" | "insert0" | "grow" | "memory" => 0,
-        "small-hit" => SMALL,
+        "small-hit" | "small-update" | "contend" | "hold" => SMALL,
         "exchange" => PAIRS / 2,
         _ => PAIRS,
     };

@@ -19,8 +19,16 @@ pub enum Work {
     Iterate,
     /// Adds one to values through `get_mut`.
     GetMut,
+    /// The same among a thousand, over and over.
+    SmallUpdate,
     /// Adds one to values by `alter`.
     Alter,
+    /// Adds one through `entry` and `or_insert`, to a million values that are there and a million that aren't.
+    Entry,
+    /// Adds one to the value of one key by `alter`, from all threads.
+    Contend,
+    /// The same by `get_mut`, each hold for about a microsecond.
+    Hold,
     /// A mix: mostly look-ups.
     Read,
     /// A mix: mostly inserts and removals, as many of each.
@@ -42,7 +50,11 @@ impl Work {
             "remove" => Work::Remove,
             "iterate" => Work::Iterate,
             "get-mut" => Work::GetMut,
+            "small-update" => Work::SmallUpdate,
             "alter" => Work::Alter,
+            "entry" => Work::Entry,
+            "contend" => Work::Contend,
+            "hold" => Work::Hold,
             "read" => Work::Read,
             "exchange" => Work::Exchange,
             "grow" => Work::Grow,
@@ -55,7 +67,8 @@ impl Work {
     pub fn room(self) -> usize {
         match self {
             Work::Insert0 | Work::Grow | Work::Memory => 0,
-            Work::SmallHit => SMALL,
+            Work::SmallHit | Work::SmallUpdate | Work::Contend | Work::Hold => SMALL,
+            Work::Entry => 2 * PAIRS,
             _ => PAIRS,
         }
     }
@@ -64,7 +77,7 @@ impl Work {
     pub fn filled(self) -> usize {
         match self {
             Work::Insert | Work::Insert0 | Work::Grow | Work::Memory => 0,
-            Work::SmallHit => SMALL,
+            Work::SmallHit | Work::SmallUpdate | Work::Contend | Work::Hold => SMALL,
             Work::Exchange => PAIRS / 2,
             _ => PAIRS,
         }
@@ -78,3 +91,6 @@ pub const SMALL: usize = 1_000;
 
 /// How many steps the mixes and look-ups take in all.
 pub const STEPS: usize = 4_000_000;
+
+/// How many holds of about a microsecond there are in all.
+pub const HOLDS: usize = 200_000;

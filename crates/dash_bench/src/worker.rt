@@ -3,9 +3,9 @@
 //! Each thread has numbers of its own, so that what it finds doesn't depend on the others, and the checksum is the same at every run.
 
 use crate::keys::{Random, key};
-use crate::work::{PAIRS, SMALL, STEPS, Work};
+use crate::work::{HOLDS, PAIRS, SMALL, STEPS, Work};
 use dashmap::DashMap;
-use dashmap::error::InsertRefused;
+use dashmap::error::{EntryRefused, InsertRefused};
 use std::alloc::AllocError;
 use std::rt::Clock;
 use std::sync::Wait;
@@ -28,6 +28,12 @@ struct NoMemory;
 
 impl From<InsertRefused<u64, u64>> for NoMemory {
     fn from(_: InsertRefused<u64, u64>) -> NoMemory {
+        NoMemory
+    }
+}
+
+impl From<EntryRefused<u64>> for NoMemory {
+    fn from(_: EntryRefused<u64>) -> NoMemory {
         NoMemory
     }
 }
@@ -84,7 +90,11 @@ impl Worker {
             Work::Remove => self.remove(rt, map),
             Work::Iterate => self.walk(rt, map),
             Work::GetMut => self.add_by_reference(rt, map),
+            Work::SmallUpdate => self.update(rt, map),
             Work::Alter => self.alter(rt, map),
+            Work::Entry => self.add_by_entry(rt, map),
+            Work::Contend => self.contend(rt, map),
+            Work::Hold => self.hold(rt, map),
             Work::Read => self.mix(rt, map, &READ),
             Work::Exchange => self.mix(rt, map, &EXCHANGE),
             Work::Grow => self.mix(rt, map, &GROW),
@@ -170,6 +180,52 @@ impl Worker {
         for number in first..end {
             map.alter(rt, &key(number), |_, value| value.wrapping_add(1));
             self.count(1);
+        }
+        Ok(())
+    }
+
+    fn update<R: Wait + Clock>(&mut self, rt: &R, map: &Map) -> Result<(), NoMemory> {
+        let (first, end) = self.share(STEPS);
+        for step in first..end {
+            if let Some(mut found) = map.get_mut(rt, &key(step % SMALL as u64)) {
+                *found = found.wrapping_add(1);
+                self.count(1);
+            }
+        }
+        Ok(())
+    }
+
+    fn add_by_entry<R: Wait + Clock>(&mut self, rt: &R, map: &Map) -> Result<(), NoMemory> {
+        let (first, end) = self.share(2 * PAIRS);
+        for number in first..end {
+            let mut found = map.entry(rt, key(number))?.or_insert(0);
+            let value = found.wrapping_add(1);
+            *found = value;
+            self.count(value);
+        }
+        Ok(())
+    }
+
+    fn contend<R: Wait + Clock>(&mut self, rt: &R, map: &Map) -> Result<(), NoMemory> {
+        let (first, end) = self.share(STEPS);
+        for _ in first..end {
+            map.alter(rt, &key(0), |_, value| value.wrapping_add(1));
+            self.count(1);
+        }
+        Ok(())
+    }
+
+    fn hold<R: Wait + Clock>(&mut self, rt: &R, map: &Map) -> Result<(), NoMemory> {
+        let (first, end) = self.share(HOLDS);
+        for _ in first..end {
+            if let Some(mut found) = map.get_mut(rt, &key(0)) {
+                let mut value = *found;
+                for _ in 0..200u64 {
+                    value = key(value);
+                }
+                *found = value;
+                self.count(1);
+            }
         }
         Ok(())
     }
