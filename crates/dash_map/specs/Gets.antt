@@ -2,10 +2,9 @@
 use Rattle.std.specs.Prelude.{◌≡◌, Option, Result, IsTrue, IfSome, IfOk, option_map}
 use Rattle.dash_shard.specs.Hashing.{KeyHash}
 use Rattle.dash_shard.specs.Shard.{HasKey}
-use Rattle.dash_ref.specs.EntryCases.{IsEntryOf, entry_shard}
+use Rattle.dash_ref.specs.EntryCases.{Entry, IsEntryOf, entry_shard}
 use Rattle.dash_ref.specs.Ref.{RefState, Stands, pair_of}
 use Rattle.dash_ref.specs.RefMut.{RefMutState, GetsMut}
-use Rattle.dash_ref.specs.declared.mapref.entry.Entry.{Entry}
 use Rattle.dash_ref.specs.declared.mapref.entry.EntryRefused.{EntryRefused}
 use Rattle.dash_map.specs.Behind.{SawShard, SawAt, StandsAt}
 use Rattle.dash_map.specs.Map.{MapState}
@@ -25,6 +24,6 @@ module _ {K V S : Type 0} (h : KeyHash K S) (m : MapState S) (key : K) where
     pub tagged : IfSome result (λ found. StandsAt h m key found.shard)
 
   -- what `entry` promises
-  pub record IsGotEntry {H : Type 0} (result : Result (Entry K V S H) (EntryRefused K)) : Type 0 where
+  pub record IsGotEntry (result : Result (Entry K V S) (EntryRefused K)) : Type 0 where
     pub saw : SawShard h m key (λ s. IsEntryOf h.eq s key result)
     pub tagged : IfOk result (λ entry. StandsAt h m key (entry_shard entry))

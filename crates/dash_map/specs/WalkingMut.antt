@@ -14,15 +14,22 @@ abbrev pub LendsItem : (R T : RattleType) → MutBor R.Denot → Option (MutBor 
 LendsItem R T s r P = LendsSo R T s r (λ n w. IfSome r (λ v. P (Some (v.now, w)) n)) (λ n. IfNone r (P None n))
 
 module _ {K V S : Type 0} where
-  -- the pair in the slot in front of a position of a shard, if it is held
-  abbrev pub pair_before : Option (ShardState K V S) → ℕ → Option (K × V)
-  pair_before held zero = None
-  pair_before held (suc i) = option_and_then (λ s. slot s.slots i) held
+  -- the pair in a slot of a shard, if it is held
+  abbrev pub pair_at : Option (ShardState K V S) → ℕ → Option (K × V)
+  pair_at held i = option_and_then (λ s. slot s.slots i) held
 
   -- the shard with another value in that pair
+  abbrev pub valued_at : Option (ShardState K V S) → ℕ → V → Option (ShardState K V S)
+  valued_at held i v = option_map (λ s. with_value_in s i v) held
+
+  -- the same in the slot in front of a position
+  abbrev pub pair_before : Option (ShardState K V S) → ℕ → Option (K × V)
+  pair_before held zero = None
+  pair_before held (suc i) = pair_at held i
+
   abbrev pub valued_before : Option (ShardState K V S) → ℕ → V → Option (ShardState K V S)
   valued_before held zero v = held
-  valued_before held (suc i) v = option_map (λ s. with_value_in s i v) held
+  valued_before held (suc i) v = valued_at held i v
 
   -- the pair on which the walk stands
   abbrev pub here : IterState K V S → Option (K × V)

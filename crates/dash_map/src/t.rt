@@ -109,7 +109,7 @@ pub trait Map<K: Eq + Hash, V, S: BuildHasher> {
         ensures { result ≡ at_start (state self.now) };
 
     /// As `DashMap::iter_mut`.
-    fn _iter_mut<'a, R>(&'a self, rt: &'a R) -> IterMut<'a, K, V, S, R>
+    fn _iter_mut<'a, 'r, R>(&'a self, rt: &'r R) -> IterMut<'a, 'r, K, V, S, R>
         ensures { result ≡ at_start (state self.now) };
 
     /// As `DashMap::get`.
@@ -279,7 +279,7 @@ impl<K: Eq + Hash, V, S: BuildHasher> Map<K, V, S> for DashMap<K, V, S> {
     }
 
     #[inline]
-    fn _iter_mut<'a, R>(&'a self, rt: &'a R) -> IterMut<'a, K, V, S, R> {
+    fn _iter_mut<'a, 'r, R>(&'a self, rt: &'r R) -> IterMut<'a, 'r, K, V, S, R> {
         self.iter_mut(rt)
     }
 

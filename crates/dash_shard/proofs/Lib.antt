@@ -5,15 +5,18 @@ pub mod BySlot
 mod Asking
 mod Carrying
 mod Changing
+mod Counting
 mod Counts
 pub mod Equals
 mod Exchanging
+mod Fitting
 mod Fours
+mod Handing
 mod HoldFields
+mod Kept
 pub mod Lawful
 mod Lanes
 pub mod Lending
-pub mod Loans
 mod LockBorrows
 mod LockShown
 mod Marked

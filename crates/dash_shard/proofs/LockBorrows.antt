@@ -3,7 +3,7 @@ use Rattle.dash_shard.proofs.Walking.{[], ℕ, zero, ◌+◌, List, ◌∷◌, U
 use Rattle.dash_shard.proofs.Words.{words}
 use Rattle.dash_shard.specs.inner.Holding.{fact, offset, at_home, cell}
 use Rattle.dash_shard.specs.declared.lock.Tagged.{Ghosts}
-use Rattle.dash_shard.specs.contracts.lock.RwLock as C
+use Rattle.dash_shard.specs.contracts.lock.cell.Cell as C
 
 -- the borrows of the word and of the value, which u.0 tracks
 abbrev pub Cut : {M : Type 1} {𝓤 : Ura M} (𝓛 : Logic 𝓤) (R : RattleType) → (R.Denot → Type 0) → ℕ → ℕ → Lft → GName × R.Denot → SProp 𝓤
@@ -53,7 +53,7 @@ module _ {M : Type 1} {𝓤 : Ura M} (𝓛 : Logic 𝓤) (m : Member) (G : Rattl
   way_back : (ε : GName) → PartsBack 𝓛 full_share [] ks b o ⊢ ⟦ fwand (fsep (fdead κ) (fseps (Word ∷ cell R ok b o ε ∷ []))) (fupd P) ⟧
   unfolding fseps
   way_back ε = qed 𝓛 (raw (PartsBack 𝓛 full_share [] ks b o) ∷ []) ∵ assume ! (‵ (fsep (fdead κ) (fseps (Word ∷ cell R ok b o ε ∷ [])))) $ suffices ! ⟦ P ⟧ (upd_i 𝓤 ⟦ P ⟧) $
-      fsplit ! $ drop ! $ fsplit3 ! $ fpick ! (λ n. use1 𝓛 (‵ (wd n)) (word_in 𝓛 b (o + 0) n) $ move ! (1 ∷ []) $ fpick ! (λ x. fsplit3 ! $ move ! (3 ∷ 0 ∷ 4 ∷ []) $ fjoin3 ! $ move ! (3 ∷ []) $
+      fsplit ! $ drop ! $ fsplit3 ! $ fpick ! (λ n. use1 𝓛 (‵ (wd n)) (word_in 𝓛 b (o + 0) n) $ move ! (1 ∷ []) $ fpick ! (λ x. fsplit ! $ fsplit ! $ move ! (3 ∷ 0 ∷ 4 ∷ []) $ fjoin3 ! $ move ! (3 ∷ []) $
       use1 𝓛 (raw (⟦ parts_at full_share ks zero (n, (x, tt)) b o ⟧ -∗ ⟦ Fields (n, x) ⟧)) (all_e 𝓤 (λ (a : Denots (rows_of ks)). ⟦ parts_at full_share ks zero a b o ⟧ -∗ ⟦ part_at Data full_share a b o ⟧) (n, (x, tt))) $
       move ! (1 ∷ 0 ∷ []) $ use2 𝓛 (‵ (Fields (n, x))) (apply∗ 𝓤 ⟦ parts_at full_share ks zero (n, (x, tt)) b o ⟧ ⟦ Fields (n, x) ⟧) $ move ! (0 ∷ 1 ∷ []) $ keep ! (0 ∷ 1 ∷ []) $ by ! (whole (n, x))))
 
@@ -63,7 +63,7 @@ module _ {M : Type 1} {𝓤 : Ura M} (𝓛 : Logic 𝓤) (m : Member) (G : Rattl
       use1 𝓛 ((‵ (wd s.0) ⊛ ‵ (At s.1) ⊛ ‵ ftrue) ⊛ raw (PartsBack 𝓛 full_share [] ks b o)) (Struct-parts 𝓛 full_share [] ks (u64-laws.lawful 𝓛, (L, tt)) (s.0, (s.1, tt)) b o) $ split ! $ split3 ! $
       name_new ! tt (R.coded.code s.1) (λ ε.
       -- [the observation; its authority; the word; the value; nothing; the way back; the fact; the open borrow]
-      move ! (6 ∷ 1 ∷ []) $ fjoin ! $ move ! (3 ∷ 0 ∷ []) $ fjoin ! $ fpack ! R.Denot (at_home R ok b o ε) s.1 $
+      move ! (3 ∷ 6 ∷ []) $ fjoin ! $ move ! (0 ∷ 2 ∷ []) $ fjoin ! $ fpack ! R.Denot (at_home R ok b o ε) s.1 $
       -- [the cell; the observation; the word; nothing; the way back; the open borrow]
       move ! (2 ∷ []) $ use1 𝓛 (‵ (word b (o + 0) s.0)) (word_out 𝓛 b (o + 0) s.0) $ fpack ! ℕ (word b (o + 0)) s.0 $ move ! (0 ∷ 1 ∷ 3 ∷ []) $ fjoin3 ! $ move ! (2 ∷ []) $
       use1 𝓛 (‵ (fwand (fsep (fdead κ) (fseps (Word ∷ cell R ok b o ε ∷ []))) (fupd P))) (way_back ε) $ move ! (3 ∷ 1 ∷ 0 ∷ []) $ obor_alter ! tt (Word ∷ cell R ok b o ε ∷ []) $

@@ -3,9 +3,9 @@ use Rattle.dash_shard.proofs.Walking.{[], ◌++◌, ◌≡◌, ℕ, ◌+◌, Lis
 use denote.Sharing as sharing
 use Rattle.dash_shard.specs.inner.Holding.{offset, cell, seen}
 use Rattle.dash_shard.specs.declared.lock.Tagged.{Ghosts}
-use Rattle.dash_shard.specs.declared.lock.RwLock as D
-use Rattle.dash_shard.specs.contracts.lock.RwLock as C
-use Rattle.dash_shard.specs.contracts.lock.RwLock.TheInside as inside
+use Rattle.dash_shard.specs.declared.lock.cell.Cell as D
+use Rattle.dash_shard.specs.contracts.lock.cell.Cell as C
+use Rattle.dash_shard.specs.contracts.lock.cell.Cell.TheInside as inside
 use Rattle.dash_shard.proofs.Rounds.{seen_laws, value_at}
 use Rattle.dash_shard.proofs.LockBorrows.{P, Cut, cut}
 
@@ -13,7 +13,7 @@ abbrev pub shown : (T G : RattleType) (g : Ghosts T.Denot G.Denot) → G.Denot �
 shown T G g d b o = sharing.some T.Denot (λ x. seen T (g.fits d) b o x)
 
 abbrev pub written : (T G : RattleType) → Ghosts T.Denot G.Denot → RattleType
-written T G g = Written (inside.the_row T G g) (D.RwLock T.Denot G.Denot) (D.the_code T.Denot G.Denot T.coded G.coded) (C.the_own T G g) (shown T G g)
+written T G g = Written (inside.the_row T G g) (D.Cell T.Denot G.Denot) (D.the_code T.Denot G.Denot T.coded G.coded) (C.the_own T G g) (shown T G g)
 
 module _ {M : Type 1} {𝓤 : Ura M} (𝓛 : Logic 𝓤) (m : Member) (G : RattleType) (g : Ghosts m.row.Denot G.Denot) (d : G.Denot) (L : Lawful 𝓛 (row_of m)) (b o : ℕ) (κ : Lft) where
   open 𝓛 use {H, A}
@@ -46,7 +46,7 @@ law T G g L = let m : Member = record { row = T; ty = layout T } in
     })
 
 abbrev pub laid : (T G : RattleType) → Ghosts T.Denot G.Denot → RattleType
-laid T G g = Laid (inside.the_row T G g) (D.RwLock T.Denot G.Denot) (D.the_code T.Denot G.Denot T.coded G.coded) (C.the_own T G g) (shown T G g)
+laid T G g = Laid (inside.the_row T G g) (D.Cell T.Denot G.Denot) (D.the_code T.Denot G.Denot T.coded G.coded) (C.the_own T G g) (shown T G g)
 
 pub laws : (T G : RattleType) (g : Ghosts T.Denot G.Denot) → Laws T → Laws (laid T G g)
-laws T G g L = Laid-laws (inside.the_row T G g) (D.RwLock T.Denot G.Denot) (D.the_code T.Denot G.Denot T.coded G.coded) (C.the_own T G g) (shown T G g) refl (law T G g L)
+laws T G g L = Laid-laws (inside.the_row T G g) (D.Cell T.Denot G.Denot) (D.the_code T.Denot G.Denot T.coded G.coded) (C.the_own T G g) (shown T G g) refl (law T G g L)

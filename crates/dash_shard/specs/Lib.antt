@@ -6,6 +6,7 @@ pub mod Search
 pub mod Held
 pub mod Guarded
 pub mod Lock
+pub mod LockState
 pub mod Closures
 pub mod Errors
 pub mod Each

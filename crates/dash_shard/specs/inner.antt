@@ -2,10 +2,12 @@
 pub mod Codes
 pub mod Gives
 pub mod Holding
+pub mod IsHold
 pub mod Keys
 pub mod Rows
+pub mod Stays
 pub mod Steps
 pub mod Table
 pub mod Walks
-pub mod Loans
+pub mod Lending
 pub mod Marks

@@ -1,35 +1,28 @@
-//! The reader-writer lock round each shard: a value in place beside one word.
+//! The reader-writer lock round each shard: a value in place beside one word, and where waiters sleep.
 //!
-//! The word is 0 where nobody has the lock, r for r readers, at most 2^62 - 2, and 2^64 - 1 for a writer. It changes in four kinds of
-//! atomic step: a reader counts itself and a writer the whole lock by a compare-exchange, a reader goes by a subtraction and a writer
-//! by a swap to 0. Whoever can't have the lock spins: it pauses, for longer each time, and then yields the processor.
-ghost use Rattle.std.specs.Prelude.{◌≡◌, IfOk, IfSome};
+//! The word counts readers or says a writer, and has a mark for readers that wait and one for writers. It changes by the events of
+//! `LockEvent` alone, each one atomic step. Whoever can't have the lock spins, pauses for longer each time, and then sets its mark and sleeps.
+ghost use Rattle.std.specs.Prelude.{◌≡◌, ℕ, Option, Some, IfSome};
+ghost use Rattle.std.specs.Borrow.{Lends, sem};
 ghost use Rattle.std.specs.Fn.{FnOnceReturnsAtMut, FnOnceTakesAtMut};
+ghost use Rattle.std.specs.Map.Iter.{deref_pair_mut};
 ghost use Rattle.dash_shard.specs.Guarded.{KeepsFit};
 ghost use Rattle.dash_shard.specs.Lock.{FoundBehind, LeftBehind};
-ghost use Rattle.dash_shard.specs.inner.Holding.{lock_owns, lock_shares};
 
-use crossbeam_utils::Backoff;
+use cell::Cell;
 use hold::Hold;
-use std::marker::{Model, Move, Owns};
+use sleepers::Sleepers;
+use std::marker::Model;
 use std::mem::{self, ManuallyDrop};
 use std::ops::Deref;
 use std::rt::Clock;
 use std::sync::Wait;
 
-mod hold;
-
-/// The most readers at once.
-const MOST_READERS: u64 = 0x3fff_ffff_ffff_fffe;
-
-/// One reader, as the word counts it.
-const ONE_READER: u64 = 1;
-
-/// The word of a writer.
-const ONE_WRITER: u64 = u64::MAX;
-
-/// A try form makes at most so many exchanges.
-const TRIES: u32 = 8;
+mod cell;
+pub(crate) mod hold;
+pub mod raw;
+mod sleepers;
+pub mod word;
 
 /// A type whose lock has a tag, fixed when the lock is made. Each value that the lock ever has fits it.
 pub trait Tagged {
@@ -39,30 +32,46 @@ pub trait Tagged {
     ghost fits: { Self.Tag → Self → Type 0 };
 }
 
+/// A value that lends pairs of a key and a part while it stays behind its lock. Whatever is written in the part, the value fits as before.
+pub trait Lendable: Tagged {
+    type Key;
+
+    type Part;
+
+    /// Whether there is a pair at a position.
+    ghost has: { Self → ℕ → Type 0 };
+
+    /// The pair there.
+    ghost pair: { Self → ℕ → Option (Self.Key × Self.Part) };
+
+    /// The value with another part there.
+    ghost with: { Self → ℕ → Self.Part → Self };
+
+    /// Lends the pair, its part to be written.
+    fn pair_mut(&mut self, position: usize) -> (&Self::Key, &mut Self::Part)
+        requires { has self.old position }
+        ensures* writes_back { sem 𝓛 (Lends Self.row Self.Part.row self.entry result.1 (with self.old position)) }
+        ensures pair { pair self.old position ≡ Some (deref_pair_mut result) }
+        ensures keeps { (tag : Self.Tag) (w : Self.Part) → Self.fits tag self.old → Self.fits tag (with self.old position w) }
+        ensures stays { (w : Self.Part) (j : ℕ) → has self.old j → has (with self.old position w) j };
+}
+
 /// A value behind a reader-writer lock, as the original's `RwLock` over its `RawRwLock`. A contract sees a lock as its tag.
 ///
 /// Nothing is said of who gets the lock first, nor that a call that waits returns: a thread that has a guard and waits for a second one
 /// may wait for itself. A guard that is leaked keeps its hold for good, and leaves the lock safe to use and to drop.
 pub struct RwLock<T: Tagged> {
-    word: u64,
-    value: T,
+    cell: Cell<T>,
+    sleepers: Sleepers,
 }
 
-impl<T: Tagged> Owns for RwLock<T> {
+impl<T: Tagged> Model for RwLock<T> {
     ghost Value = { T.Tag };
 
     ghost coded = { T.Tag.code };
 
-    ghost shr_at = { λ tag p κ. lock_shares T.row (T.fits tag) p κ };
+    ghost view = { λ s. s.cell };
 }
-
-impl<T: Tagged> Move for RwLock<T> {
-    ghost own_val = { λ tag vs. lock_owns T.row (T.fits tag) (λ n x. Fields.own_val (record { word = n; value = x }) vs) };
-}
-
-unsafe impl<T: Tagged + Send> Send for RwLock<T> {}
-
-unsafe impl<T: Tagged + Send + Sync> Sync for RwLock<T> {}
 
 impl<T: Tagged + Drop> Drop for RwLock<T> {
     fn drop(self) {
@@ -71,15 +80,17 @@ impl<T: Tagged + Drop> Drop for RwLock<T> {
 }
 
 impl<T: Tagged> RwLock<T> {
-    /// A lock that nobody has. The original's `new` takes no tag.
+    /// A lock that nobody has. It takes no memory. The original's `new` takes no tag.
     #[inline]
     pub fn new(value: T, tag: &T::Tag) -> RwLock<T>
         requires fits { T.fits tag.now value }
         ensures tag { result ≡ tag.now }
         ensures left { LeftBehind value }
     {
-        let _ = tag;
-        RwLock { word: 0, value }
+        RwLock {
+            cell: Cell::new(value, tag),
+            sleepers: Sleepers::new(),
+        }
     }
 
     /// The value. It waits for nobody, even where a guard was leaked.
@@ -88,8 +99,11 @@ impl<T: Tagged> RwLock<T> {
         ensures fits { T.fits self result }
         ensures found { FoundBehind result }
     {
-        let Self { word: _, value } = self;
-        value
+        let Self {
+            cell,
+            sleepers: _sleepers,
+        } = self;
+        cell.into_inner()
     }
 
     /// Lends the value for reading, as the original's `get_mut` does for writing. It waits for nobody.
@@ -98,33 +112,29 @@ impl<T: Tagged> RwLock<T> {
         ensures fits { T.fits self.old result.now }
         ensures found { FoundBehind result.now }
     {
-        &self.value
+        self.cell.get()
     }
 
-    /// Waits until no writer has the lock, as the original's `read`, whose waiters sleep. Where the most readers have it, this waits too.
+    /// Waits until no writer has the lock, as the original's `read`. Where the most readers have it, this waits too.
     #[inline]
     pub fn read<R: Wait + Clock>(&self, rt: &R) -> RwLockReadGuard<'_, T>
         ensures tag { result.tag ≡ self.now }
         ensures fits { T.fits self.now result.value }
         ensures found { FoundBehind result.value }
     {
-        match self.read_once(self.word()) {
-            Ok(guard) => guard,
-            Err(_) => self.wait_to_read(rt),
-        }
+        let hold = self.lock_shared(rt);
+        RwLockReadGuard { hold, lock: self }
     }
 
-    /// Waits until nobody has the lock, as the original's `write`, whose waiters sleep.
+    /// Waits until nobody has the lock, as the original's `write`.
     #[inline]
     pub fn write<R: Wait + Clock>(&self, rt: &R) -> RwLockWriteGuard<'_, T>
         ensures tag { result.tag ≡ self.now }
         ensures fits { T.fits self.now result.value }
         ensures found { FoundBehind result.value }
     {
-        match self.try_write() {
-            Some(guard) => guard,
-            None => self.wait_to_write(rt),
-        }
+        let hold = self.lock_exclusive(rt);
+        RwLockWriteGuard { hold, lock: self }
     }
 
     /// Takes the lock for reading, as the original's `try_read`, if at most eight exchanges do it. `None` says nothing of who has it.
@@ -134,106 +144,19 @@ impl<T: Tagged> RwLock<T> {
         ensures fits { IfSome result (λ guard. T.fits self.now guard.value) }
         ensures found { IfSome result (λ guard. FoundBehind guard.value) }
     {
-        match self.read_once(self.word()) {
-            Ok(guard) => Some(guard),
-            Err(seen) => self.read_again(seen),
-        }
+        let hold = self.try_lock_shared()?;
+        Some(RwLockReadGuard { hold, lock: self })
     }
 
-    /// Takes the lock for writing, as the original's `try_write`, if one exchange does it. `None` says nothing of who has it.
+    /// Takes the lock for writing, as the original's `try_write`, if at most eight exchanges do it. `None` says nothing of who has it.
     #[inline]
     pub fn try_write(&self) -> Option<RwLockWriteGuard<'_, T>>
         ensures tag { IfSome result (λ guard. guard.tag ≡ self.now) }
         ensures fits { IfSome result (λ guard. T.fits self.now guard.value) }
         ensures found { IfSome result (λ guard. FoundBehind guard.value) }
     {
-        let (found, hold) = self.take(0, ONE_WRITER);
-        if found.is_ok() {
-            return Some(RwLockWriteGuard { hold });
-        }
-        hold.done();
-        None
-    }
-
-    /// One reader more by at most one exchange, if the word is still `seen`. Else the word as it was found.
-    #[inline]
-    fn read_once(&self, seen: u64) -> Result<RwLockReadGuard<'_, T>, u64>
-        ensures tag { IfOk result (λ guard. guard.tag ≡ self.now) }
-        ensures fits { IfOk result (λ guard. T.fits self.now guard.value) }
-        ensures found { IfOk result (λ guard. FoundBehind guard.value) }
-    {
-        if seen >= MOST_READERS {
-            return Err(seen);
-        }
-        let (found, hold) = self.take(seen, seen + ONE_READER);
-        match found {
-            Ok(_) => Ok(RwLockReadGuard { hold }),
-            Err(found) => {
-                hold.done();
-                Err(found)
-            }
-        }
-    }
-
-    /// The exchanges that are left to `try_read`.
-    #[cold]
-    #[inline(never)]
-    fn read_again(&self, seen: u64) -> Option<RwLockReadGuard<'_, T>>
-        ensures tag { IfSome result (λ guard. guard.tag ≡ self.now) }
-        ensures fits { IfSome result (λ guard. T.fits self.now guard.value) }
-        ensures found { IfSome result (λ guard. FoundBehind guard.value) }
-    {
-        let backoff = Backoff::new();
-        let mut seen = seen;
-        for _ in 1..TRIES {
-            if seen >= MOST_READERS {
-                return None;
-            }
-            backoff.spin();
-            match self.read_once(seen) {
-                Ok(guard) => return Some(guard),
-                Err(found) => seen = found,
-            }
-        }
-        None
-    }
-
-    /// Spins until it has the lock for reading.
-    #[cold]
-    #[inline(never)]
-    fn wait_to_read<R: Wait + Clock>(&self, rt: &R) -> RwLockReadGuard<'_, T>
-        ensures tag { result.tag ≡ self.now }
-        ensures fits { T.fits self.now result.value }
-        ensures found { FoundBehind result.value }
-    {
-        let backoff = Backoff::new();
-        for _ in rt.forever() {
-            if let Ok(guard) = self.read_once(self.word()) {
-                return guard;
-            }
-            backoff.snooze();
-        }
-        unreachable!()
-    }
-
-    /// Spins until it has the lock for writing. It tries only where it saw the lock free.
-    #[cold]
-    #[inline(never)]
-    fn wait_to_write<R: Wait + Clock>(&self, rt: &R) -> RwLockWriteGuard<'_, T>
-        ensures tag { result.tag ≡ self.now }
-        ensures fits { T.fits self.now result.value }
-        ensures found { FoundBehind result.value }
-    {
-        let backoff = Backoff::new();
-        for _ in rt.forever() {
-            if self.word() == 0 {
-                if let Some(guard) = self.try_write() {
-                    return guard;
-                }
-            }
-            backoff.snooze();
-        }
-        unreachable!()
+        let hold = self.try_lock_exclusive()?;
+        Some(RwLockWriteGuard { hold, lock: self })
     }
 }
 
@@ -243,6 +166,7 @@ impl<T: Tagged> RwLock<T> {
 #[must_use]
 pub struct RwLockReadGuard<'a, T: Tagged> {
     hold: Hold<'a, T>,
+    lock: &'a RwLock<T>,
 }
 
 impl<'a, T: Tagged> Model for RwLockReadGuard<'a, T> {
@@ -273,8 +197,8 @@ impl<'a, T: Tagged> Deref for RwLockReadGuard<'a, T> {
 impl<T: Tagged> Drop for RwLockReadGuard<'_, T> {
     #[inline]
     fn drop(self) {
-        let Self { hold } = self;
-        hold.leave();
+        let Self { hold, lock } = self;
+        lock.unlock_shared(hold);
     }
 }
 
@@ -286,6 +210,7 @@ impl<T: Tagged> Drop for RwLockReadGuard<'_, T> {
 #[must_use]
 pub struct RwLockWriteGuard<'a, T: Tagged> {
     hold: Hold<'a, T>,
+    lock: &'a RwLock<T>,
 }
 
 impl<'a, T: Tagged> Model for RwLockWriteGuard<'a, T> {
@@ -342,12 +267,51 @@ impl<T: Tagged> RwLockWriteGuard<'_, T> {
     }
 }
 
+impl<'a, T: Tagged> RwLockWriteGuard<'a, T> {
+    /// The right to read the same value, as the original's `downgrade`, by one atomic step: no other writer comes between. Readers that wait
+    /// are woken.
+    #[inline]
+    pub fn downgrade(self) -> RwLockReadGuard<'a, T>
+        ensures tag { result.tag ≡ self.entry.tag }
+        ensures value { result.value ≡ self.entry.value }
+        ensures fits { T.fits result.tag result.value }
+        ensures left { LeftBehind self.entry.value }
+    {
+        let Self { hold, lock } = self;
+        let hold = lock.downgrade(hold);
+        RwLockReadGuard { hold, lock }
+    }
+}
+
+impl<'a, T: Tagged> RwLockWriteGuard<'a, T> {
+    /// The guard's hold, and its lock.
+    #[inline]
+    pub(crate) fn into_parts(self) -> (Hold<'a, T>, &'a RwLock<T>)
+        ensures right { result.0.right ≡ 2 }
+        ensures same { (result.0.tag ≡ self.entry.tag) × (result.0.value ≡ self.entry.value) }
+        ensures fits { T.fits self.entry.tag self.entry.value }
+    {
+        let Self { hold, lock } = self;
+        (hold, lock)
+    }
+
+    /// The guard of a hold and its lock.
+    #[inline]
+    pub(crate) fn of_parts(hold: Hold<'a, T>, lock: &'a RwLock<T>) -> RwLockWriteGuard<'a, T>
+        requires right { hold.right ≡ 2 }
+        requires fits { T.fits hold.tag hold.value }
+        ensures same { (result.tag ≡ hold.entry.tag) × (result.value ≡ hold.entry.value) }
+    {
+        RwLockWriteGuard { hold, lock }
+    }
+}
+
 impl<T: Tagged> Drop for RwLockWriteGuard<'_, T> {
     #[inline]
     fn drop(self)
         ensures left { LeftBehind self.entry.value }
     {
-        let Self { hold } = self;
-        hold.open();
+        let Self { hold, lock } = self;
+        lock.unlock_exclusive(hold);
     }
 }

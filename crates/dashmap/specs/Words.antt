@@ -10,9 +10,8 @@ pub use Rattle.dash_shard.specs.declared.error.ConstructError.TheVariants.{Capac
 pub use Rattle.dash_ref.specs.Ref.{RefState, Stands, pair_of}
 pub use Rattle.dash_ref.specs.RefMut.{RefMutState, GetsMut, stored, rewritten}
 pub use Rattle.dash_ref.specs.Entry.{OccupiedOf, VacantOf, Puts}
-pub use Rattle.dash_ref.specs.EntryCases.{MatchEntry, IsEntryOf}
-pub use Rattle.dash_ref.specs.declared.mapref.entry.Entry.{Entry}
-pub use Rattle.dash_ref.specs.declared.mapref.entry.Entry.TheVariants.{Occupied, Vacant}
+pub use Rattle.dash_ref.specs.EntryCases.{Entry, MatchEntry, IsEntryOf}
+pub use Rattle.dash_ref.specs.declared.mapref.entry.EntryCase.TheVariants.{Occupied, Vacant}
 pub use Rattle.dash_map.specs.Alone.{AloneState, contents, IsAlone, KeepsRoom, ReservesAlone, TakesAlone, TakesAloneBy, keys_in, len_in, room_in}
 pub use Rattle.dash_map.specs.Behind.{AreBehind, LeavesShard, LeavesShards, LeftShard, LeftShards, SawAt, SawShard, SawShards, IsShardOf, StandsAt, Removes, RemovesBy, AltersBy}
 pub use Rattle.dash_map.specs.Gets.{IsGot, IsGotMut, IsGotEntry}

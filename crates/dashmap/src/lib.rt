@@ -57,6 +57,8 @@ pub mod keyed {
 
 /// The lock of a shard.
 pub mod lock {
+    pub use dash_shard::lock::raw::{ExclusiveHold, RawRwLock, SharedHold};
+    pub use dash_shard::lock::word::{LockEvent, LockWord, Mark};
     pub use dash_shard::lock::{RwLock, RwLockReadGuard, RwLockWriteGuard};
 }
 

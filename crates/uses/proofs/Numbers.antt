@@ -15,7 +15,7 @@ module _ {K : Type 0} where
   numbered d (Some p) n e = same_Some p.1 n e
 
   -- a new pair was put with d
-  pub number-before : {S H : Type 0} (eq : K → K → Bool) (s : ShardState K ℕ S) (key : K) (d : ℕ) (e : Entry K ℕ S H) → MatchEntry e (OccupiedOf eq s key) (VacantOf eq s key)
+  pub number-before : {S : Type 0} (eq : K → K → Bool) (s : ShardState K ℕ S) (key : K) (d : ℕ) (e : Entry K ℕ S) → MatchEntry e (OccupiedOf eq s key) (VacantOf eq s key)
       → (r : RefMutState K ℕ S) → MatchEntry e (λ o. r ≡ o.pair) (λ v. Puts eq v.shard v.key d r)
       → (n : ℕ) → option_map (λ p. p.1) (stored r) ≡ Some n → number_in d (at eq (pairs s) key) ≡ n
   number-before eq s key d (Occupied o) of r same n e =

@@ -8,6 +8,9 @@ use std::alloc::{AllocError, Global};
 use std::mem;
 use std::sync::Arc;
 
+mod waits;
+mod word;
+
 /// A number below the bound that its lock is made for.
 #[derive(Drop)]
 struct Bounded {

@@ -137,7 +137,10 @@ impl<K: KeptKey + Drop, V: Kept + Drop, S: BuildHasher, A: KeptAction<K, V> + Dr
         ensures legal { IsRecorded ⟦<Self as Recorded>⟧.known result }
         ensures found { FoundBehind result }
     {
-        RecShardMut::of(self.row[shard].write(rt))
+        let held = RecShardMut::of(self.row[shard].write(rt));
+        // It says that the history is lawful.
+        let _ = held.number();
+        held
     }
 
     // As `held`, where nobody has the shard.
@@ -148,7 +151,11 @@ impl<K: KeptKey + Drop, V: Kept + Drop, S: BuildHasher, A: KeptAction<K, V> + Dr
         ensures found { IfSome result FoundBehind }
     {
         match self.row[shard].try_write() {
-            Some(guard) => Some(RecShardMut::of(guard)),
+            Some(guard) => {
+                let held = RecShardMut::of(guard);
+                let _ = held.number();
+                Some(held)
+            }
             None => None,
         }
     }

@@ -1,68 +1,126 @@
 //! The walk over a map that threads share, which holds one shard after the other and writes.
 ghost use Rattle.std.specs.Prelude.{◌≡◌, ◌+◌, ◌<◌, ◌↔◌, [], false, IsTrue, IsSome, Some, IfSome};
 ghost use Rattle.std.specs.Bool.{OnTrue, OnFalse};
-ghost use Rattle.std.specs.Option.{option_map};
 ghost use Rattle.std.specs.Iterator.{size};
 ghost use Rattle.std.specs.Borrow.{Lends, sem};
 ghost use Rattle.std.specs.Map.Iter.{deref_pair_mut};
 ghost use Rattle.dash_shard.specs.Hashing.{by};
 ghost use Rattle.dash_shard.specs.Lock.{FoundBehind, LeftBehind};
-ghost use Rattle.dash_shard.specs.inner.Loans.{MayLend};
 ghost use Rattle.dash_ref.specs.Multi.{lent_pair, lent_value};
+ghost use Rattle.dash_map.specs.Behind.{IsShardOf};
 ghost use Rattle.dash_map.specs.Walking.{IterState, IsDone, at_start, steps_left};
-ghost use Rattle.dash_map.specs.WalkingMut.{here, rewritten, LendsItem, StepsLending, StepsTo, StepsToEnd};
+ghost use Rattle.core.specs.contracts.option.Option.{the_row as option_row};
+ghost use Rattle.dash_map.specs.WalkingMut.{here, pair_at, valued_at, rewritten, LendsItem, StepsLending, StepsTo, StepsToEnd};
 ghost use Rattle.dash_map.specs.inner.Walking.{IsWalk};
-ghost use Rattle.dash_map.specs.inner.WalkingMut.{MayHold, GoesHere, joined_if};
+ghost use Rattle.dash_map.specs.inner.WalkingMut.{GoesHere};
 
 use crate::map::DashMap;
 use crate::t::Map;
 use dash_ref::mapref::multiple::RefMutMulti;
 use dash_shard::keyed::{Keyed, Lender};
-use dash_shard::lock::RwLockWriteGuard;
+use dash_shard::lock::RwLock;
 use dash_shard::shard::Shard;
-use dash_shard::shard::held::ShardMut;
-use dash_shard::shard::held::parts::Loan;
+use dash_shard::shard::held::holds::{Holds, Wakes, Writing};
+use dash_shard::shard::held::{HeldShard, ShardMut};
 use std::hash::{BuildHasher, Hash};
-use std::marker::{Model, PhantomData};
+use std::marker::Model;
 use std::mem;
 use std::rt::Clock;
 use std::sync::Wait;
+
+/// A hold that a walk takes of one shard of a map after the other.
+pub trait Enters: Holds {
+    ghost use Rattle.dash_map.specs.Map.{MapState};
+
+    /// How the walk has the map.
+    type Map: Drop;
+
+    /// A shard's lock.
+    type Lock: Wakes;
+
+    /// What a contract sees of it.
+    ghost base: { Self.Map → MapState Self.State };
+
+    /// How many shards there are.
+    fn shard_count(map: &Self::Map) -> usize
+        ensures { result ≡ (base map.now).amount };
+
+    /// Waits until nobody has the shard, and holds it.
+    fn enter<R: Wait + Clock>(
+        map: &Self::Map,
+        rt: &R,
+        shard: usize,
+    ) -> HeldShard<Self::Key, Self::Value, Self::State, Self, Self::Lock>
+        requires { shard < (base map.now).amount }
+        ensures tagged { IsShardOf (by Self.Key.Hash Self.State.BuildHasher Self.State.Hasher.Hasher) (base map.now) shard result }
+        ensures found { FoundBehind result };
+}
+
+impl<'a, K: Eq + Hash, V, S: BuildHasher> Enters for Writing<'a, K, V, S> {
+    type Map = &'a DashMap<K, V, S>;
+
+    type Lock = &'a RwLock<Shard<K, V, S>>;
+
+    ghost base = { λ map. map.now };
+
+    #[inline]
+    fn shard_count(map: &&'a DashMap<K, V, S>) -> usize {
+        map._shard_count()
+    }
+
+    #[inline]
+    fn enter<R: Wait + Clock>(
+        map: &&'a DashMap<K, V, S>,
+        rt: &R,
+        shard: usize,
+    ) -> ShardMut<'a, K, V, S> {
+        let map: &'a DashMap<K, V, S> = *map;
+        map._yield_write_shard(rt, shard)
+    }
+}
 
 /// A walk over the pairs of a map, by rising shard and in each by rising slot, their values to be written: the original's `IterMut`. It
 /// holds one shard for writing.
 ///
 /// A step that comes to the end of its shard waits until nobody has the next one, holds that, and gives up the old one. So between two
 /// steps others may change every shard but the one that is held. A walk at its end holds the last shard until it is dropped. No step
-/// takes memory, and none can be refused. The first loan of a value moves the shard's table to the walk, and the walk moves it back
-/// when it goes on to another shard or is dropped: some words each.
+/// takes memory, and none can be refused.
 ///
 /// A contract sees the map, how many shards were entered, the one that is held, and the position in it where the walk goes on.
-pub struct IterMut<'a, K: Eq + Hash, V, S: BuildHasher, R> {
-    rt: &'a R,
-    map: &'a DashMap<K, V, S>,
+pub struct HeldIter<
+    'r,
+    K: Eq + Hash,
+    V,
+    S: BuildHasher,
+    R,
+    H: Holds<Key = K, Value = V, State = S> + Enters,
+> {
+    rt: &'r R,
+    map: H::Map,
     shard_i: usize,
-    // The two parts of the shard that is held; before the first, none and a loan of nothing.
-    guard: Option<RwLockWriteGuard<'a, Shard<K, V, S>>>,
-    loan: Loan<K, V>,
+    // None before the first shard.
+    shard: Option<HeldShard<K, V, S, H, H::Lock>>,
     position: usize,
-    marker: PhantomData<&'a mut V>,
 }
 
-impl<'a, K: Eq + Hash, V, S: BuildHasher, R> Model for IterMut<'a, K, V, S, R> {
-    ghost use Rattle.std.specs.Option.{option_map};
+/// The original's `IterMut`.
+pub type IterMut<'a, 'r, K, V, S, R> = HeldIter<'r, K, V, S, R, Writing<'a, K, V, S>>;
+
+impl<'r, K: Eq + Hash, V, S: BuildHasher, R, H: Holds<Key = K, Value = V, State = S> + Enters> Model
+    for HeldIter<'r, K, V, S, R, H> {
     ghost use Rattle.dash_shard.specs.Hashing.{key_hash};
     ghost use Rattle.dash_map.specs.Walking.{IterState};
-    ghost use Rattle.dash_map.specs.inner.WalkingMut.{IsWalkMut, joined_if};
+    ghost use Rattle.dash_map.specs.inner.Walking.{IsWalk};
 
     ghost Value = { IterState K V S };
 
-    ghost view = { λ w. record { base = w.map.now; entered = w.shard_i; held = joined_if (option_map (λ g. g.value) w.guard) w.loan; position = w.position } };
+    ghost view = { λ w. record { base = H.base w.map; entered = w.shard_i; held = w.shard; position = w.position } };
 
-    ghost invariant = { λ w. IsWalkMut (key_hash K.eq K.hash_input S.BuildHasher S.Hasher.Hasher) (option_map (λ g. g.value) w.guard) w.loan
-        (record { base = w.map.now; entered = w.shard_i; held = joined_if (option_map (λ g. g.value) w.guard) w.loan; position = w.position }) };
+    ghost invariant = { λ w. IsWalk (key_hash K.eq K.hash_input S.BuildHasher S.Hasher.Hasher) (record { base = H.base w.map; entered = w.shard_i; held = w.shard; position = w.position }) };
 }
 
-impl<K: Eq + Hash, V, S: BuildHasher, R> Keyed for IterMut<'_, K, V, S, R> {
+impl<K: Eq + Hash, V, S: BuildHasher, R, H: Holds<Key = K, Value = V, State = S> + Enters> Keyed
+    for HeldIter<'_, K, V, S, R, H> {
     type Key = K;
 
     type State = S;
@@ -70,14 +128,16 @@ impl<K: Eq + Hash, V, S: BuildHasher, R> Keyed for IterMut<'_, K, V, S, R> {
     ghost by = { by K.Hash S.BuildHasher S.Hasher.Hasher };
 }
 
-impl<K: Eq + Hash, V, S: BuildHasher, R> Lender for IterMut<'_, K, V, S, R> {
+impl<K: Eq + Hash, V, S: BuildHasher, R, H: Holds<Key = K, Value = V, State = S> + Enters> Lender
+    for HeldIter<'_, K, V, S, R, H> {
     ghost use mir.Syntax.{named};
-    ghost use Rattle.dash_map.specs.contracts.iter.locked_mut.IterMut.{the_row};
+    ghost use Rattle.dash_map.specs.contracts.iter.locked_mut.HeldIter.{the_row};
 
-    ghost row = { the_row (record { mir = named 1; lft = [] }) K.row V.row S.row R.row S.Hasher.row (record {}) (record { eq = K.eq }) (record { hash_input = K.hash_input }) S.BuildHasher S.Hasher.Hasher };
+    ghost row = { the_row (record { mir = named 1; lft = [] }) K.row V.row S.row R.row H.row S.Hasher.row H.Map.row H.Lock.row (record { eq = K.eq }) (record { hash_input = K.hash_input }) S.BuildHasher S.Hasher.Hasher H.Holds (record { base = H.base }) };
 }
 
-impl<K: Eq + Hash, V, S: BuildHasher, R> Drop for IterMut<'_, K, V, S, R> {
+impl<K: Eq + Hash, V, S: BuildHasher, R, H: Holds<Key = K, Value = V, State = S> + Enters> Drop
+    for HeldIter<'_, K, V, S, R, H> {
     #[inline]
     fn drop(self)
         ensures left { IfSome self.entry.held LeftBehind }
@@ -86,44 +146,27 @@ impl<K: Eq + Hash, V, S: BuildHasher, R> Drop for IterMut<'_, K, V, S, R> {
             rt: _,
             map: _,
             shard_i: _,
-            guard,
-            loan,
+            shard,
             position: _,
-            marker: _,
         } = self;
-        give_up(guard, loan);
+        if let Some(shard) = shard {
+            drop(shard);
+        }
     }
 }
 
-// Gives up the hold of a shard, if one is held.
-fn give_up<K: Eq + Hash, V, S: BuildHasher>(
-    guard: Option<RwLockWriteGuard<'_, Shard<K, V, S>>>,
-    loan: Loan<K, V>,
-)
-    requires { MayHold ⟦<Shard<K, V, S> as Keyed>⟧.by (option_map (λ g. g.value) guard) loan }
-    ensures left { IfSome (joined_if (option_map (λ g. g.value) guard.entry) loan) LeftBehind }
-{
-    match guard {
-        Some(guard) => drop(ShardMut::of_parts(guard, loan)),
-        None => loan.end_blank(),
-    }
-}
-
-// Takes the table out from behind the lock that is held.
+// The pair of a taken slot of the shard that is held, its value to be written.
 #[inline]
-fn take_out<K: Eq + Hash, V, S: BuildHasher>(
-    guard: &mut Option<RwLockWriteGuard<'_, Shard<K, V, S>>>,
-    loan: &mut Loan<K, V>,
-)
-    requires held { IsSome guard.old }
-    requires parts { MayHold ⟦<Shard<K, V, S> as Keyed>⟧.by (option_map (λ g. g.value) guard.old) loan.old }
-    ensures held { IsSome guard.new }
-    ensures parts { MayHold ⟦<Shard<K, V, S> as Keyed>⟧.by (option_map (λ g. g.value) guard.new) loan.new }
-    ensures joined { joined_if (option_map (λ g. g.value) guard.new) loan.new ≡ joined_if (option_map (λ g. g.value) guard.old) loan.old }
-    ensures ready { MayLend loan.new }
+fn pair_in<K: Eq + Hash, V, S: BuildHasher, H: Holds<Key = K, Value = V, State = S>, L: Wakes>(
+    shard: &mut Option<HeldShard<K, V, S, H, L>>,
+    i: usize,
+) -> (&K, &mut V)
+    requires { IsSome (pair_at shard.old i) }
+    ensures* writes_back { sem 𝓛 (Lends (option_row ⟦<HeldShard<K, V, S, H, L> as Lender>⟧.row) V.row shard.entry result.1 (valued_at shard.old i)) }
+    ensures pair { pair_at shard.old i ≡ Some (deref_pair_mut result) }
 {
-    match guard {
-        Some(guard) => loan.take_out(guard),
+    match shard {
+        Some(shard) => shard.at_mut(i),
         None => unreachable!(),
     }
 }
@@ -132,22 +175,27 @@ impl<K: Eq + Hash, V, S: BuildHasher> DashMap<K, V, S> {
     /// A walk over the pairs, by rising shard, their values to be written. This call waits for nobody; the walk's steps do. None takes
     /// memory.
     #[inline]
-    pub fn iter_mut<'a, R>(&'a self, rt: &'a R) -> IterMut<'a, K, V, S, R>
+    pub fn iter_mut<'a, 'r, R>(&'a self, rt: &'r R) -> IterMut<'a, 'r, K, V, S, R>
         ensures { result ≡ at_start self.now }
     {
-        IterMut {
+        HeldIter {
             rt,
             map: self,
             shard_i: 0,
-            guard: None,
-            loan: Loan::new(self.row.allocator()),
+            shard: None,
             position: 0,
-            marker: PhantomData,
         }
     }
 }
 
-impl<'a, K: Eq + Hash, V, S: BuildHasher, R> IterMut<'a, K, V, S, R> {
+impl<K: Eq + Hash, V, S: BuildHasher, R, H: Holds<Key = K, Value = V, State = S> + Enters> HeldIter<
+    '_,
+    K,
+    V,
+    S,
+    R,
+    H,
+> {
     // Goes to the next pair of the shard that is held, if there is one.
     #[inline]
     fn goes_here(&mut self) -> bool
@@ -156,10 +204,10 @@ impl<'a, K: Eq + Hash, V, S: BuildHasher, R> IterMut<'a, K, V, S, R> {
         ensures left { IsDone self.old → result ≡ false }
         ensures nearer { OnTrue result (size (steps_left self.new) < size (steps_left self.old)) }
     {
-        let Some(guard) = &self.guard else {
+        let Some(shard) = &self.shard else {
             return false;
         };
-        match self.loan.next_taken(guard, self.position) {
+        match shard.next_taken(self.position) {
             Some(slot) => {
                 self.position = slot + 1;
                 true
@@ -174,7 +222,7 @@ impl<'a, K: Eq + Hash, V, S: BuildHasher, R> IterMut<'a, K, V, S, R> {
         ensures last { IsTrue result ↔ (self.now.entered ≡ self.now.base.amount) }
         ensures walk { IsWalk ⟦<Self as Keyed>⟧.by self.now }
     {
-        self.shard_i == self.map._shard_count()
+        self.shard_i == H::shard_count(&self.map)
     }
 
     // The pair on which the walk stands, its value to be written.
@@ -185,8 +233,7 @@ impl<'a, K: Eq + Hash, V, S: BuildHasher, R> IterMut<'a, K, V, S, R> {
         ensures pair { here self.old ≡ Some (deref_pair_mut result) }
     {
         let slot = self.position - 1;
-        take_out(&mut self.guard, &mut self.loan);
-        self.loan.pair_mut(slot)
+        pair_in(&mut self.shard, slot)
     }
 
     /// The pair on which the walk stands, its value to be written.
@@ -201,7 +248,13 @@ impl<'a, K: Eq + Hash, V, S: BuildHasher, R> IterMut<'a, K, V, S, R> {
     }
 }
 
-impl<'a, K: Eq + Hash, V, S: BuildHasher, R: Wait + Clock> IterMut<'a, K, V, S, R> {
+impl<
+    K: Eq + Hash,
+    V,
+    S: BuildHasher,
+    R: Wait + Clock,
+    H: Holds<Key = K, Value = V, State = S> + Enters,
+> HeldIter<'_, K, V, S, R, H> {
     // Holds the next shard, and gives up the one before.
     fn enter(&mut self)
         requires { self.old.entered < self.old.base.amount }
@@ -212,13 +265,13 @@ impl<'a, K: Eq + Hash, V, S: BuildHasher, R: Wait + Clock> IterMut<'a, K, V, S, 
         ensures found { IfSome self.new.held FoundBehind }
         ensures left { IfSome self.old.held LeftBehind }
     {
-        let shard = self.map._yield_write_shard(self.rt, self.shard_i);
-        let (guard, loan) = shard.into_parts();
-        let before = mem::replace(&mut self.guard, Some(guard));
-        let lent = mem::replace(&mut self.loan, loan);
+        let shard = H::enter(&self.map, self.rt, self.shard_i);
+        let before = mem::replace(&mut self.shard, Some(shard));
         self.shard_i += 1;
         self.position = 0;
-        give_up(before, lent);
+        if let Some(before) = before {
+            drop(before);
+        }
     }
 
     /// Goes to the next pair, and says whether there is one. At the end it stays where it is.

@@ -3,10 +3,8 @@ use Rattle.std.specs.Prelude.{ℕ, ◌≡◌, ◌<◌, None, refl}
 use Rattle.std.specs.Coded.{Coded, code_by, coded×}
 use Rattle.dash_shard.specs.Hashing.{KeyHash}
 use Rattle.dash_shard.specs.Contents.{at}
-use Rattle.dash_shard.specs.Shard.{ShardState, HasKey, Routes, pairs, shard_len}
+use Rattle.dash_shard.specs.Shard.{ShardState, Routes, pairs, shard_len}
 use Rattle.dash_shard.specs.inner.Codes.{shard_code}
-use Rattle.dash_shard.specs.inner.Loans.{joined, AreParts}
-use Rattle.dash_shard.specs.declared.shard.held.parts.Loan.{Loan}
 use Rattle.dash_ref.specs.RefMut.{RefMutState}
 use Rattle.dash_ref.specs.Entry.{OccupiedState, VacantState}
 use Rattle.dash_ref.specs.inner.RefMut.{ref_mut_code}
@@ -20,11 +18,6 @@ vacant_code {K} {V} {S} k v s =
     code_by (ShardState K V S × K) (coded× (shard_code k v s) k) (λ o. (o.shard, o.key)) (λ t. record { shard = t.0; key = t.1 }) (λ _. refl)
 
 module _ {K V S : Type 0} (h : KeyHash K S) where
-  -- the two parts are of one held shard, which has at the position a pair with an equal key
-  pub record IsOccupied (s : ShardState K V S) (l : Loan K V) (i : ℕ) (key : K) : Type 0 where
-    pub parts : AreParts h s l
-    pub equal : HasKey h.eq (joined s l) key i
-
   -- the key has this hash and goes to the shard, which has no equal one, and has room
   pub record IsVacant (s : ShardState K V S) (key : K) (hash : ℕ) : Type 0 where
     pub hashed : hash ≡ h.hash s.hasher key

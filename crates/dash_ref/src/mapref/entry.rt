@@ -23,16 +23,19 @@ pub use vacant::VacantEntry;
 mod occupied;
 mod vacant;
 
+/// What stands at a key: a pair with an equal key, or none.
+#[derive(Drop)]
+pub enum EntryCase<O, V> {
+    /// A pair with an equal key stands there.
+    Occupied(O),
+    /// There is none.
+    Vacant(V),
+}
+
 /// A key and a hold of its shard for writing, with the pair that stands there or with room for one, as the original's `Entry`.
 ///
 /// No call of it takes memory or waits, nor does the drop, which ends the hold.
-#[derive(Drop)]
-pub enum Entry<'a, K: Eq + Hash, V, S: BuildHasher> {
-    /// A pair with an equal key stands there.
-    Occupied(OccupiedEntry<'a, K, V, S>),
-    /// There is none.
-    Vacant(VacantEntry<'a, K, V, S>),
-}
+pub type Entry<'a, K, V, S> = EntryCase<OccupiedEntry<'a, K, V, S>, VacantEntry<'a, K, V, S>>;
 
 /// No room for the pair of a vacant key (2), which comes back. The pairs are as they were, and the hold is over.
 #[derive(Debug, Drop, Error)]

@@ -18,7 +18,7 @@ use std::hash::{BuildHasher, Hash};
 use std::marker::Model;
 use std::ops::Deref;
 use std::snapshot::Snapshot;
-pub use write::{MappedRefMut, RefMut};
+pub use write::{HeldRef, MappedRefMut, RefMut};
 
 mod mapped;
 mod projection;

@@ -1,7 +1,7 @@
 -- What a shared lock keeps, and what a hold on it owns.
 -- A lock is shared for a lifetime, and its value for rounds, each a lifetime of its own that lasts from one writer to the next.
--- The token of a round has 2 ^ 63 parts: each reader has one, and the word keeps the rest. A writer has the whole token, so it can end the round, change the value and begin another.
-use Rattle.std.specs.Prelude.{◌≡◌, ℕ, zero, suc, ◌+◌, ◌-◌, ◌^◌, ◌<◌, ◌≤◌, [], ◌∷◌}
+-- The token of a round has 2 ^ 63 parts: each reader has one, and the word keeps the rest. A writer's take gives it the whole token: it ends the round, has the value, and begins another round right before its release.
+use Rattle.std.specs.Prelude.{◌≡◌, ℕ, zero, suc, ◌+◌, ◌-◌, ◌/◌, ◌^◌, ◌<◌, ◌≤◌, ◌⊎◌, [], ◌∷◌}
 use base.Fraction.{full_share}
 use base.FractionLaws.{Counts}
 use base.Stored.{coded_ℕ}
@@ -16,22 +16,29 @@ use denote.Memory.{part_at, shared_of, lone}
 use denote.RawPtr.{Ptr, block_ptr, null_ptr}
 use denote.Sharing.{said, beside, some, ends, always, within, nothing}
 use Rattle.core.specs.Sync.RawAtomic.{word}
+use Rattle.dash_shard.specs.LockState.{most, Steps}
+use Rattle.dash_shard.specs.declared.lock.word.Mark.TheVariants.{Readers, Writers}
+use Rattle.dash_shard.specs.declared.lock.word.LockEvent.TheVariants.{TakeShared, TakeExclusive, SetMark, ClearWriters}
 
 -- how many holders a word says: up to `most` they are readers, and above it there is a writer
 abbrev pub count : ℕ → ℕ
-count w = w
-
--- the most readers
-abbrev pub most : ℕ
-most = 2 ^ 62 - 2
+count w = w / 4
 
 -- by what the word of one reader more is greater
 abbrev pub one_reader : ℕ
-one_reader = 1
+one_reader = 4
 
--- A take: one reader more, or the whole lock where nobody has it.
+-- a take to read, or to write
 abbrev pub IsTake : ℕ → ℕ → Type 0
-IsTake old new = (most < count new → count old ≡ 0) × (count new ≤ most → count new ≡ count old + 1)
+IsTake old new = Steps TakeShared old new ⊎ Steps TakeExclusive old new
+
+-- a mark more, or the writers' one less where nothing else stands
+abbrev pub IsMark : ℕ → ℕ → Type 0
+IsMark old new = Steps (SetMark Readers) old new ⊎ (Steps (SetMark Writers) old new ⊎ Steps ClearWriters old new)
+
+-- what a take makes of the holders
+abbrev pub IsCounted : ℕ → ℕ → Type 0
+IsCounted old new = (most < count new → count old ≡ 0) × (count new ≤ most → count new ≡ count old + 1)
 
 -- the right that a take of the word `new` gains: 1 to read, 2 to write
 abbrev pub Gains : ℕ → ℕ → Type 0
@@ -82,8 +89,12 @@ abbrev pub lock_owns : (R : RattleType) → (R.Denot → Type 0) → (ℕ → R.
 lock_owns R ok fields = fex (ℕ × R.Denot) (λ s. fsep (fields s.0 s.1) (fact (ok s.1)))
 
 module _ (R : RattleType) (ok : R.Denot → Type 0) (b o : ℕ) where
+  -- the value, which fits
+  abbrev pub fitting : R.Denot → ℕ → Fml
+  fitting x e = fsep (part_at R full_share x b e) (fact (ok x))
+
   abbrev pub at_home : GName → R.Denot → Fml
-  at_home ε x = fsep (part_at R full_share x b (o + offset R)) (fsep (fact (ok x)) (fauth ε (R.coded.code x)))
+  at_home ε x = fsep (fitting x (o + offset R)) (fauth ε (R.coded.code x))
 
   abbrev pub cell : GName → Fml
   cell ε = fex R.Denot (at_home ε)
@@ -116,12 +127,25 @@ module _ (R : RattleType) (ok : R.Denot → Type 0) (b o : ℕ) where
     abbrev pub reader : R.Denot → Fml
     reader x = fex ℕ (λ a. fsep (parts t.round a 1) (seen x (a ∷ t.life)))
 
-    -- what a writer has: the whole round
+    -- the whole round, as a writer's two steps take it out of the word and put it back
     abbrev pub begun : R.Denot → ℕ → Fml
     begun x a = fsep (flft (a ∷ []) full_share) (round_of a x)
 
+    abbrev pub whole_round : R.Denot → Fml
+    whole_round x = fsep (out t.lent) (fex ℕ (begun x))
+
+    -- what a take gains
+    abbrev pub gain_of : ℕ → R.Denot → Fml
+    gain_of zero x = ftrue
+    gain_of (suc zero) x = reader x
+    gain_of (suc (suc k)) x = whole_round x
+
+    -- what a writer has between the two: the value, to be changed and lent; no round runs
+    abbrev pub tracked : R.Denot → Fml
+    tracked x = fsep (fobs t.track (R.coded.code x)) (fbor t.life (cell t.track))
+
     abbrev pub writer : R.Denot → Fml
-    writer x = fsep (out t.lent) (fex ℕ (begun x))
+    writer x = fsep (out t.lent) (tracked x)
 
     abbrev pub right_to : ℕ → R.Denot → Fml
     right_to zero x = ftrue

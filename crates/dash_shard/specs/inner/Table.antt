@@ -136,10 +136,6 @@ module _ {K V S : Type 0} where
   abbrev pub with_table : ShardState K V S → Table K V → ShardState K V S
   with_table s t = record s { slots = pairs_in t; capacity = limit (slots_in t) }
 
-  -- a shard behind a lock, with its hold's table once that one was lent from
-  abbrev pub held_state : ShardState K V S → Table K V → Bool → ShardState K V S
-  held_state s t is_lent = record s { slots = if is_lent then pairs_in t else s.slots; capacity = if is_lent then limit (slots_in t) else s.capacity }
-
 -- a shard's table and state
 module _ {K V S : Type 0} (h : KeyHash K S) where
   pub record IsInside (t : Table K V) (s : ShardState K V S) : Type 0 where
@@ -147,18 +143,3 @@ module _ {K V S : Type 0} (h : KeyHash K S) where
     pub table : IsTable t
     pub hashed : IsHashed (λ k. h.hash s.hasher k) s.slots (hashes_in t)
     pub counted : t.len ≡ shard_len s
-
-  -- a lawful shard may have this table
-  abbrev pub MayHave : ShardState K V S → Table K V → Type 0
-  MayHave s t = IsShard h s → IsInside t (with_table s t)
-
-  -- a shard's table was exchanged for t, and was r
-  pub record SwapsTable (old new : ShardState K V S) (t r : Table K V) : Type 0 where
-    pub shard : new ≡ with_table old t
-    pub inside : IsInside r (with_table old r)
-    pub was : with_table old r ≡ old
-
-  -- a hold's table, beside the shard behind the lock: one of the two has the pairs, and the other no slots
-  abbrev pub IsHeld : ShardState K V S → Table K V → Bool → Type 0
-  IsHeld s t true = IsInside t (with_table s t) × (s.capacity ≡ 0)
-  IsHeld s t false = IsTable t × (slots_in t ≡ 0)

@@ -1,29 +1,27 @@
-//! A shard that is held for writing, changed in place behind its lock.
-ghost use Rattle.std.specs.Prelude.{◌≡◌, ◌<◌, ◌≤◌, ◌↔◌, IsTrue, IfSome};
+//! A shard that is held for writing, changed and lent from in place behind its lock.
+ghost use Rattle.std.specs.Prelude.{◌≡◌, ◌<◌, ◌≤◌, ◌↔◌, IsTrue, IsSome, IfSome};
 ghost use Rattle.std.specs.Option.{option_map};
 ghost use Rattle.std.specs.Map.Iter.{deref_pair};
 ghost use Rattle.dash_shard.specs.Hashing.{by};
 ghost use Rattle.dash_shard.specs.Contents.{at};
 ghost use Rattle.dash_shard.specs.Steps.{Get, Contains, Pair, Found, Remove, RemoveIf, RemoveIfMut, Alter, Done};
-ghost use Rattle.dash_shard.specs.Shard.{pairs, shard_len, Routes, IsShard, RepliesOn, TakesInPlace, TakesBy};
+ghost use Rattle.dash_shard.specs.Shard.{slot, with_value_in, pairs, shard_len, Routes, IsShard, RepliesOn, TakesInPlace, TakesBy};
 ghost use Rattle.dash_shard.specs.Closures.{MayAsk, Viewed, MayChange, ChangesOn, MayGive, Answered, Given};
 ghost use Rattle.dash_shard.specs.Held.{FitsTag, Inserts, Reserves, Loses};
 ghost use Rattle.dash_shard.specs.Lock.{LeftBehind};
-ghost use Rattle.dash_shard.specs.inner.Table.{IsInside, with_table};
 
 use crate::error::TryReserveError;
 use crate::keyed::Keyed;
-use crate::lock::{RwLockWriteGuard, Tagged};
-use crate::shard::table::Table;
+use crate::lock::{Lendable, RwLock, RwLockReadGuard, RwLockWriteGuard, Tagged};
 use crate::shard::{InsertRefused, Shard};
-use lent::move_table;
+use holds::{Holds, Wakes, Writing};
 use std::hash::{BuildHasher, Hash};
 use std::marker::{Model, PhantomData};
 use std::snapshot::Snapshot;
 
 mod all_pairs;
+pub mod holds;
 mod lent;
-pub mod parts;
 mod positions;
 
 /// What a shard's lock is made for: the shard's number, how many there are, and what its hasher means. The snapshot has no bytes.
@@ -56,35 +54,69 @@ impl<K: Eq + Hash, V, S: BuildHasher> Tagged for Shard<K, V, S> {
     ghost fits = { λ tag shard. FitsTag (by K.Hash S.BuildHasher S.Hasher.Hasher) tag shard };
 }
 
-/// A shard that is held for writing, as the original's write guard of one shard: the hold ends when it is dropped.
-///
-/// Calls are those of `Shard`, and change the shard in place; `get_mut` and `at_mut` first move its table to the hold, and lend from there.
-/// To take or to end a hold takes no memory, and to end one waits for nobody and can't fail. A contract sees it as the shard.
-#[must_use]
-pub struct ShardMut<'a, K: Eq + Hash, V, S: BuildHasher> {
-    guard: RwLockWriteGuard<'a, Shard<K, V, S>>,
-    // Empty, but from a loan of a value to the next change: then it is the shard's, and the one behind the lock is empty.
-    table: Table<K, V>,
-    is_lent: bool,
-    marker: PhantomData<&'a mut V>,
+/// The pairs at its taken slots.
+impl<K: Eq + Hash, V, S: BuildHasher> Lendable for Shard<K, V, S> {
+    type Key = K;
+
+    type Part = V;
+
+    ghost has = { λ shard i. IsSome (slot shard.slots i) };
+
+    ghost pair = { λ shard i. slot shard.slots i };
+
+    ghost with = { with_value_in };
+
+    #[inline]
+    fn pair_mut(&mut self, position: usize) -> (&K, &mut V) {
+        self.at_mut(position)
+    }
 }
 
-impl<'a, K: Eq + Hash, V, S: BuildHasher> Model for ShardMut<'a, K, V, S> {
+/// A shard that is held for writing, as the original's write guard of one shard: the hold ends when it is dropped.
+///
+/// Calls are those of `Shard`, and change the shard in place. To take or to end a hold takes no memory, and to end one waits for nobody
+/// and can't fail. A contract sees it as the shard.
+#[must_use]
+pub struct HeldShard<
+    K: Eq + Hash,
+    V,
+    S: BuildHasher,
+    H: Holds<Key = K, Value = V, State = S>,
+    L: Wakes,
+> {
+    hold: H,
+    lock: L,
+    marker: PhantomData<Shard<K, V, S>>,
+}
+
+/// A shard that is held for writing, behind its lock.
+pub type ShardMut<'a, K, V, S> = HeldShard<
+    K,
+    V,
+    S,
+    Writing<'a, K, V, S>,
+    &'a RwLock<Shard<K, V, S>>,
+>;
+
+impl<K: Eq + Hash, V, S: BuildHasher, H: Holds<Key = K, Value = V, State = S>, L: Wakes> Model
+    for HeldShard<K, V, S, H, L> {
+    ghost use Rattle.std.specs.Prelude.{◌≡◌};
+    ghost use Rattle.dash_shard.specs.Hashing.{key_hash};
+    ghost use Rattle.dash_shard.specs.Held.{FitsTag};
     ghost use Rattle.dash_shard.specs.Shard.{ShardState};
     ghost use Rattle.dash_shard.specs.inner.Codes.{shard_code};
-    ghost use Rattle.dash_shard.specs.inner.Table.{held_state, IsHeld};
-    ghost use Rattle.dash_shard.specs.Hashing.{key_hash};
 
     ghost Value = { ShardState K V S };
 
     ghost coded = { shard_code K.code V.code S.code };
 
-    ghost view = { λ s. held_state s.guard.value s.table s.is_lent };
+    ghost view = { λ s. H.value s.hold };
 
-    ghost invariant = { λ s. IsHeld (key_hash K.eq K.hash_input S.BuildHasher S.Hasher.Hasher) s.guard.value s.table s.is_lent };
+    ghost invariant = { λ s. (H.right s.hold ≡ 2) × FitsTag (key_hash K.eq K.hash_input S.BuildHasher S.Hasher.Hasher) (H.tag s.hold) (H.value s.hold) };
 }
 
-impl<K: Eq + Hash, V, S: BuildHasher> Keyed for ShardMut<'_, K, V, S> {
+impl<K: Eq + Hash, V, S: BuildHasher, H: Holds<Key = K, Value = V, State = S>, L: Wakes> Keyed
+    for HeldShard<K, V, S, H, L> {
     type Key = K;
 
     type State = S;
@@ -92,20 +124,18 @@ impl<K: Eq + Hash, V, S: BuildHasher> Keyed for ShardMut<'_, K, V, S> {
     ghost by = { by K.Hash S.BuildHasher S.Hasher.Hasher };
 }
 
-impl<K: Eq + Hash, V, S: BuildHasher> Drop for ShardMut<'_, K, V, S> {
+impl<K: Eq + Hash, V, S: BuildHasher, H: Holds<Key = K, Value = V, State = S>, L: Wakes> Drop
+    for HeldShard<K, V, S, H, L> {
     #[inline]
     fn drop(self)
-        ensures left { LeftBehind self.entry }
+        ensures left { LeftBehind self }
     {
         let Self {
-            mut guard,
-            mut table,
-            is_lent,
+            hold,
+            lock,
             marker: _,
         } = self;
-        move_table(&mut guard, &mut table, is_lent, false);
-        table.end_blank();
-        drop(guard);
+        lock.wake(hold.release());
     }
 }
 
@@ -116,28 +146,44 @@ impl<'a, K: Eq + Hash, V, S: BuildHasher> RwLockWriteGuard<'a, Shard<K, V, S>> {
         ensures value { result ≡ self.entry.value }
         ensures fits { FitsTag ⟦<Shard<K, V, S> as Keyed>⟧.by self.entry.tag result }
     {
-        let table = Table::new(self.table.allocator());
-        ShardMut {
-            guard: self,
-            table,
-            is_lent: false,
+        let (hold, lock) = self.into_parts();
+        HeldShard {
+            hold,
+            lock,
             marker: PhantomData,
         }
     }
 }
 
-impl<K: Eq + Hash, V, S: BuildHasher> ShardMut<'_, K, V, S> {
-    // The table that has the pairs.
+impl<'a, K: Eq + Hash, V, S: BuildHasher> ShardMut<'a, K, V, S> {
+    /// The right to read the shard, by one atomic step: no other writer comes between. Readers that wait are woken.
     #[inline]
-    fn table(&self) -> &Table<K, V>
-        ensures inside { IsInside ⟦<Self as Keyed>⟧.by result.now self.now }
-        ensures table { with_table self.now result.now ≡ self.now }
+    pub fn downgrade(self) -> RwLockReadGuard<'a, Shard<K, V, S>>
+        ensures value { result.value ≡ self.entry }
+        ensures left { LeftBehind self.entry }
     {
-        if self.is_lent {
-            &self.table
-        } else {
-            &self.guard.table
-        }
+        let Self {
+            hold,
+            lock,
+            marker: _,
+        } = self;
+        RwLockWriteGuard::of_parts(hold, lock).downgrade()
+    }
+}
+
+impl<K: Eq + Hash, V, S: BuildHasher, H: Holds<Key = K, Value = V, State = S>, L: Wakes> HeldShard<
+    K,
+    V,
+    S,
+    H,
+    L,
+> {
+    // The shard behind the lock.
+    #[inline(always)]
+    fn shard(&self) -> &Shard<K, V, S>
+        ensures { result.now ≡ self.now }
+    {
+        self.hold.get()
     }
 
     /// The shard's number among the map's shards.
@@ -146,7 +192,7 @@ impl<K: Eq + Hash, V, S: BuildHasher> ShardMut<'_, K, V, S> {
         ensures number { result ≡ self.now.number }
         ensures lawful { IsShard ⟦<Self as Keyed>⟧.by self.now }
     {
-        self.guard.number()
+        self.shard().number()
     }
 
     /// How many shards the map has.
@@ -155,7 +201,7 @@ impl<K: Eq + Hash, V, S: BuildHasher> ShardMut<'_, K, V, S> {
         ensures amount { result ≡ self.now.amount }
         ensures lawful { IsShard ⟦<Self as Keyed>⟧.by self.now }
     {
-        self.guard.amount()
+        self.shard().amount()
     }
 
     /// Whether the key goes to this shard, which the keyed calls ask.
@@ -163,209 +209,7 @@ impl<K: Eq + Hash, V, S: BuildHasher> ShardMut<'_, K, V, S> {
     pub fn routes(&self, key: &K) -> bool
         ensures { IsTrue result ↔ Routes ⟦<Self as Keyed>⟧.by self.now key.now }
     {
-        self.guard.routes(key)
-    }
-
-    /// Puts the pair, or where an equal key is there the value under the stored key, and answers the old value.
-    ///
-    /// Takes memory for a new key where the shard is full, and is refused (1) only then.
-    #[inline]
-    pub fn insert(&mut self, key: K, value: V) -> Result<Option<V>, InsertRefused<K, V>>
-    where
-        K: Drop,
-        V: Drop,
-        requires { Routes ⟦<Self as Keyed>⟧.by self.old key }
-        ensures inserts { Inserts K.eq self.old self.new key value result }
-        ensures lawful { IsShard ⟦<Self as Keyed>⟧.by self.new }
-    {
-        let hash = self.guard.hash_one(&key);
-        self.insert_hashed(hash, key, value)
-    }
-
-    /// As `insert`, for a caller who has the key's hash.
-    #[inline(always)]
-    pub fn insert_hashed(
-        &mut self,
-        hash: u64,
-        key: K,
-        value: V,
-    ) -> Result<Option<V>, InsertRefused<K, V>>
-    where
-        K: Drop,
-        V: Drop,
-        requires hash { hash ≡ ⟦<Self as Keyed>⟧.by.hash self.old.hasher key }
-        requires route { Routes ⟦<Self as Keyed>⟧.by self.old key }
-        ensures inserts { Inserts K.eq self.old self.new key value result }
-        ensures lawful { IsShard ⟦<Self as Keyed>⟧.by self.new }
-    {
-        move_table(&mut self.guard, &mut self.table, self.is_lent, false);
-        self.is_lent = false;
-        self.guard.change(
-            |shard: &mut Shard<K, V, S>| -> Result<Option<V>, InsertRefused<K, V>>
-                requires hash { hash ≡ (by K.Hash S.BuildHasher S.Hasher.Hasher).hash shard.old.hasher key }
-                requires route { Routes (by K.Hash S.BuildHasher S.Hasher.Hasher) shard.old key }
-                ensures inserts { Inserts K.eq shard.old shard.new key value result }
-                ensures lawful { IsShard (by K.Hash S.BuildHasher S.Hasher.Hasher) shard.new }
-            { shard.insert_hashed(hash, key, value) },
-        )
-    }
-
-    /// Takes the pair whose key equals `key` out, and answers it. It takes no memory, and can't be refused.
-    ///
-    /// The room stays, for pairs that come later.
-    #[inline]
-    pub fn remove(&mut self, key: &K) -> Option<(K, V)>
-        requires { Routes ⟦<Self as Keyed>⟧.by self.old key.now }
-        ensures removes { TakesInPlace K.eq self.old self.new (Remove key.now) (Pair result) }
-        ensures len { Loses self.old self.new result }
-        ensures lawful { IsShard ⟦<Self as Keyed>⟧.by self.new }
-    {
-        let hash = self.guard.hash_one(key);
-        self.remove_hashed(hash, key)
-    }
-
-    /// As `remove`, for a caller who has the key's hash.
-    #[inline(always)]
-    pub fn remove_hashed(&mut self, hash: u64, key: &K) -> Option<(K, V)>
-        requires hash { hash ≡ ⟦<Self as Keyed>⟧.by.hash self.old.hasher key.now }
-        requires route { Routes ⟦<Self as Keyed>⟧.by self.old key.now }
-        ensures removes { TakesInPlace K.eq self.old self.new (Remove key.now) (Pair result) }
-        ensures len { Loses self.old self.new result }
-        ensures lawful { IsShard ⟦<Self as Keyed>⟧.by self.new }
-    {
-        move_table(&mut self.guard, &mut self.table, self.is_lent, false);
-        self.is_lent = false;
-        self.guard.change(
-            |shard: &mut Shard<K, V, S>| -> Option<(K, V)>
-                requires hash { hash ≡ (by K.Hash S.BuildHasher S.Hasher.Hasher).hash shard.old.hasher key.now }
-                requires route { Routes (by K.Hash S.BuildHasher S.Hasher.Hasher) shard.old key.now }
-                ensures removes { TakesInPlace K.eq shard.old shard.new (Remove key.entry.now) (Pair result) }
-                ensures len { Loses shard.old shard.new result }
-                ensures lawful { IsShard (by K.Hash S.BuildHasher S.Hasher.Hasher) shard.new }
-            { shard.remove_hashed(hash, key) },
-        )
-    }
-
-    /// Takes the pair whose key equals `key` out if `f` answers yes on it, and answers it. It takes no memory, and can't be refused.
-    #[inline]
-    pub fn remove_if<F: FnOnce(&K, &V) -> bool>(&mut self, key: &K, f: F) -> Option<(K, V)>
-        requires route { Routes ⟦<Self as Keyed>⟧.by self.old key.now }
-        requires callable { IfSome (at K.eq (pairs self.old) key.now) (MayAsk F.FnOnce f) }
-        ensures removes { TakesBy K.eq self.old self.new RemoveIf key.now (Pair result) (Answered F.FnOnce f) }
-        ensures len { Loses self.old self.new result }
-        ensures lawful { IsShard ⟦<Self as Keyed>⟧.by self.new }
-    {
-        let hash = self.guard.hash_one(key);
-        self.remove_if_hashed(hash, key, f)
-    }
-
-    /// As `remove_if`, for a caller who has the key's hash.
-    #[inline]
-    pub fn remove_if_hashed<F: FnOnce(&K, &V) -> bool>(
-        &mut self,
-        hash: u64,
-        key: &K,
-        f: F,
-    ) -> Option<(K, V)>
-        requires hash { hash ≡ ⟦<Self as Keyed>⟧.by.hash self.old.hasher key.now }
-        requires route { Routes ⟦<Self as Keyed>⟧.by self.old key.now }
-        requires callable { IfSome (at K.eq (pairs self.old) key.now) (MayAsk F.FnOnce f) }
-        ensures removes { TakesBy K.eq self.old self.new RemoveIf key.now (Pair result) (Answered F.FnOnce f) }
-        ensures len { Loses self.old self.new result }
-        ensures lawful { IsShard ⟦<Self as Keyed>⟧.by self.new }
-    {
-        move_table(&mut self.guard, &mut self.table, self.is_lent, false);
-        self.is_lent = false;
-        self.guard.change(
-            |shard: &mut Shard<K, V, S>| -> Option<(K, V)>
-                requires hash { hash ≡ (by K.Hash S.BuildHasher S.Hasher.Hasher).hash shard.old.hasher key.now }
-                requires route { Routes (by K.Hash S.BuildHasher S.Hasher.Hasher) shard.old key.now }
-                requires callable { IfSome (at K.eq (pairs shard.old) key.now) (MayAsk F.FnOnce f) }
-                ensures removes { TakesBy K.eq shard.old shard.new RemoveIf key.entry.now (Pair result) (Answered F.FnOnce f) }
-                ensures len { Loses shard.old shard.new result }
-                ensures lawful { IsShard (by K.Hash S.BuildHasher S.Hasher.Hasher) shard.new }
-            { shard.remove_if_hashed(hash, key, f) },
-        )
-    }
-
-    /// As `remove_if`, where `f` may write the value. On yes the pair is answered as `f` left it, and on no it stays so.
-    #[inline]
-    pub fn remove_if_mut<F: FnOnce(&K, &mut V) -> bool>(&mut self, key: &K, f: F) -> Option<(K, V)>
-        requires route { Routes ⟦<Self as Keyed>⟧.by self.old key.now }
-        requires callable { IfSome (at K.eq (pairs self.old) key.now) (MayChange F.FnOnce f) }
-        ensures removes { TakesBy K.eq self.old self.new RemoveIfMut key.now (Pair result) (ChangesOn F.FnOnce f) }
-        ensures len { Loses self.old self.new result }
-        ensures lawful { IsShard ⟦<Self as Keyed>⟧.by self.new }
-    {
-        let hash = self.guard.hash_one(key);
-        self.remove_if_mut_hashed(hash, key, f)
-    }
-
-    /// As `remove_if_mut`, for a caller who has the key's hash.
-    #[inline]
-    pub fn remove_if_mut_hashed<F: FnOnce(&K, &mut V) -> bool>(
-        &mut self,
-        hash: u64,
-        key: &K,
-        f: F,
-    ) -> Option<(K, V)>
-        requires hash { hash ≡ ⟦<Self as Keyed>⟧.by.hash self.old.hasher key.now }
-        requires route { Routes ⟦<Self as Keyed>⟧.by self.old key.now }
-        requires callable { IfSome (at K.eq (pairs self.old) key.now) (MayChange F.FnOnce f) }
-        ensures removes { TakesBy K.eq self.old self.new RemoveIfMut key.now (Pair result) (ChangesOn F.FnOnce f) }
-        ensures len { Loses self.old self.new result }
-        ensures lawful { IsShard ⟦<Self as Keyed>⟧.by self.new }
-    {
-        move_table(&mut self.guard, &mut self.table, self.is_lent, false);
-        self.is_lent = false;
-        self.guard.change(
-            |shard: &mut Shard<K, V, S>| -> Option<(K, V)>
-                requires hash { hash ≡ (by K.Hash S.BuildHasher S.Hasher.Hasher).hash shard.old.hasher key.now }
-                requires route { Routes (by K.Hash S.BuildHasher S.Hasher.Hasher) shard.old key.now }
-                requires callable { IfSome (at K.eq (pairs shard.old) key.now) (MayChange F.FnOnce f) }
-                ensures removes { TakesBy K.eq shard.old shard.new RemoveIfMut key.entry.now (Pair result) (ChangesOn F.FnOnce f) }
-                ensures len { Loses shard.old shard.new result }
-                ensures lawful { IsShard (by K.Hash S.BuildHasher S.Hasher.Hasher) shard.new }
-            { shard.remove_if_mut_hashed(hash, key, f) },
-        )
-    }
-
-    /// Gives the pair whose key equals `key` the value that `f` makes of its own, in its place; without such a pair it does nothing. It takes
-    /// no memory, and can't be refused.
-    #[inline]
-    pub fn alter<F: FnOnce(&K, V) -> V>(&mut self, key: &K, f: F)
-        requires route { Routes ⟦<Self as Keyed>⟧.by self.old key.now }
-        requires callable { IfSome (at K.eq (pairs self.old) key.now) (MayGive F.FnOnce f) }
-        ensures alters { TakesBy K.eq self.old self.new Alter key.now Done (Given F.FnOnce f) }
-        ensures len { shard_len self.new ≡ shard_len self.old }
-        ensures lawful { IsShard ⟦<Self as Keyed>⟧.by self.new }
-    {
-        let hash = self.guard.hash_one(key);
-        self.alter_hashed(hash, key, f);
-    }
-
-    /// As `alter`, for a caller who has the key's hash.
-    #[inline]
-    pub fn alter_hashed<F: FnOnce(&K, V) -> V>(&mut self, hash: u64, key: &K, f: F)
-        requires hash { hash ≡ ⟦<Self as Keyed>⟧.by.hash self.old.hasher key.now }
-        requires route { Routes ⟦<Self as Keyed>⟧.by self.old key.now }
-        requires callable { IfSome (at K.eq (pairs self.old) key.now) (MayGive F.FnOnce f) }
-        ensures alters { TakesBy K.eq self.old self.new Alter key.now Done (Given F.FnOnce f) }
-        ensures len { shard_len self.new ≡ shard_len self.old }
-        ensures lawful { IsShard ⟦<Self as Keyed>⟧.by self.new }
-    {
-        move_table(&mut self.guard, &mut self.table, self.is_lent, false);
-        self.is_lent = false;
-        self.guard.change(
-            |shard: &mut Shard<K, V, S>|
-                requires hash { hash ≡ (by K.Hash S.BuildHasher S.Hasher.Hasher).hash shard.old.hasher key.now }
-                requires route { Routes (by K.Hash S.BuildHasher S.Hasher.Hasher) shard.old key.now }
-                requires callable { IfSome (at K.eq (pairs shard.old) key.now) (MayGive F.FnOnce f) }
-                ensures alters { TakesBy K.eq shard.old shard.new Alter key.entry.now Done (Given F.FnOnce f) }
-                ensures len { shard_len shard.new ≡ shard_len shard.old }
-                ensures lawful { IsShard (by K.Hash S.BuildHasher S.Hasher.Hasher) shard.new }
-            { shard.alter_hashed(hash, key, f) },
-        );
+        self.shard().routes(key)
     }
 
     /// The pair whose key equals `key`.
@@ -406,7 +250,7 @@ impl<K: Eq + Hash, V, S: BuildHasher> ShardMut<'_, K, V, S> {
         ensures within { result ≤ self.now.capacity }
         ensures lawful { IsShard ⟦<Self as Keyed>⟧.by self.now }
     {
-        self.table().len()
+        self.shard().len()
     }
 
     /// How many pairs there may be before the shard takes memory.
@@ -414,7 +258,187 @@ impl<K: Eq + Hash, V, S: BuildHasher> ShardMut<'_, K, V, S> {
     pub fn capacity(&self) -> usize
         ensures { result ≡ self.now.capacity }
     {
-        self.table().capacity()
+        self.shard().capacity()
+    }
+}
+
+impl<K: Eq + Hash, V, S: BuildHasher> ShardMut<'_, K, V, S> {
+    /// Puts the pair, or where an equal key is there the value under the stored key, and answers the old value.
+    ///
+    /// Takes memory for a new key where the shard is full, and is refused (1) only then.
+    #[inline]
+    pub fn insert(&mut self, key: K, value: V) -> Result<Option<V>, InsertRefused<K, V>>
+    where
+        K: Drop,
+        V: Drop,
+        requires { Routes ⟦<Self as Keyed>⟧.by self.old key }
+        ensures inserts { Inserts K.eq self.old self.new key value result }
+        ensures lawful { IsShard ⟦<Self as Keyed>⟧.by self.new }
+    {
+        let hash = self.shard().hash_one(&key);
+        self.insert_hashed(hash, key, value)
+    }
+
+    /// As `insert`, for a caller who has the key's hash.
+    #[inline(always)]
+    pub fn insert_hashed(
+        &mut self,
+        hash: u64,
+        key: K,
+        value: V,
+    ) -> Result<Option<V>, InsertRefused<K, V>>
+    where
+        K: Drop,
+        V: Drop,
+        requires hash { hash ≡ ⟦<Self as Keyed>⟧.by.hash self.old.hasher key }
+        requires route { Routes ⟦<Self as Keyed>⟧.by self.old key }
+        ensures inserts { Inserts K.eq self.old self.new key value result }
+        ensures lawful { IsShard ⟦<Self as Keyed>⟧.by self.new }
+    {
+        self.hold
+            .change(|shard| shard.insert_hashed(hash, key, value))
+    }
+
+    /// Takes the pair whose key equals `key` out, and answers it. It takes no memory, and can't be refused.
+    ///
+    /// The room stays, for pairs that come later.
+    #[inline]
+    pub fn remove(&mut self, key: &K) -> Option<(K, V)>
+        requires { Routes ⟦<Self as Keyed>⟧.by self.old key.now }
+        ensures removes { TakesInPlace K.eq self.old self.new (Remove key.now) (Pair result) }
+        ensures len { Loses self.old self.new result }
+        ensures lawful { IsShard ⟦<Self as Keyed>⟧.by self.new }
+    {
+        let hash = self.shard().hash_one(key);
+        self.remove_hashed(hash, key)
+    }
+
+    /// As `remove`, for a caller who has the key's hash.
+    #[inline(always)]
+    pub fn remove_hashed(&mut self, hash: u64, key: &K) -> Option<(K, V)>
+        requires hash { hash ≡ ⟦<Self as Keyed>⟧.by.hash self.old.hasher key.now }
+        requires route { Routes ⟦<Self as Keyed>⟧.by self.old key.now }
+        ensures removes { TakesInPlace K.eq self.old self.new (Remove key.now) (Pair result) }
+        ensures len { Loses self.old self.new result }
+        ensures lawful { IsShard ⟦<Self as Keyed>⟧.by self.new }
+    {
+        self.hold.change(|shard| shard.remove_hashed(hash, key))
+    }
+
+    /// Takes the pair whose key equals `key` out if `f` answers yes on it, and answers it. It takes no memory, and can't be refused.
+    #[inline]
+    pub fn remove_if<F: FnOnce(&K, &V) -> bool>(&mut self, key: &K, f: F) -> Option<(K, V)>
+        requires route { Routes ⟦<Self as Keyed>⟧.by self.old key.now }
+        requires callable { IfSome (at K.eq (pairs self.old) key.now) (MayAsk F.FnOnce f) }
+        ensures removes { TakesBy K.eq self.old self.new RemoveIf key.now (Pair result) (Answered F.FnOnce f) }
+        ensures len { Loses self.old self.new result }
+        ensures lawful { IsShard ⟦<Self as Keyed>⟧.by self.new }
+    {
+        let hash = self.shard().hash_one(key);
+        self.remove_if_hashed(hash, key, f)
+    }
+
+    /// As `remove_if`, for a caller who has the key's hash.
+    #[inline]
+    pub fn remove_if_hashed<F: FnOnce(&K, &V) -> bool>(
+        &mut self,
+        hash: u64,
+        key: &K,
+        f: F,
+    ) -> Option<(K, V)>
+        requires hash { hash ≡ ⟦<Self as Keyed>⟧.by.hash self.old.hasher key.now }
+        requires route { Routes ⟦<Self as Keyed>⟧.by self.old key.now }
+        requires callable { IfSome (at K.eq (pairs self.old) key.now) (MayAsk F.FnOnce f) }
+        ensures removes { TakesBy K.eq self.old self.new RemoveIf key.now (Pair result) (Answered F.FnOnce f) }
+        ensures len { Loses self.old self.new result }
+        ensures lawful { IsShard ⟦<Self as Keyed>⟧.by self.new }
+    {
+        self.hold.change(
+            |shard: &mut Shard<K, V, S>| -> Option<(K, V)>
+                requires hash { hash ≡ (by K.Hash S.BuildHasher S.Hasher.Hasher).hash shard.old.hasher key.now }
+                requires route { Routes (by K.Hash S.BuildHasher S.Hasher.Hasher) shard.old key.now }
+                requires callable { IfSome (at K.eq (pairs shard.old) key.now) (MayAsk F.FnOnce f) }
+                ensures removes { TakesBy K.eq shard.old shard.new RemoveIf key.entry.now (Pair result) (Answered F.FnOnce f) }
+                ensures len { Loses shard.old shard.new result }
+                ensures lawful { IsShard (by K.Hash S.BuildHasher S.Hasher.Hasher) shard.new }
+            { shard.remove_if_hashed(hash, key, f) },
+        )
+    }
+
+    /// As `remove_if`, where `f` may write the value. On yes the pair is answered as `f` left it, and on no it stays so.
+    #[inline]
+    pub fn remove_if_mut<F: FnOnce(&K, &mut V) -> bool>(&mut self, key: &K, f: F) -> Option<(K, V)>
+        requires route { Routes ⟦<Self as Keyed>⟧.by self.old key.now }
+        requires callable { IfSome (at K.eq (pairs self.old) key.now) (MayChange F.FnOnce f) }
+        ensures removes { TakesBy K.eq self.old self.new RemoveIfMut key.now (Pair result) (ChangesOn F.FnOnce f) }
+        ensures len { Loses self.old self.new result }
+        ensures lawful { IsShard ⟦<Self as Keyed>⟧.by self.new }
+    {
+        let hash = self.shard().hash_one(key);
+        self.remove_if_mut_hashed(hash, key, f)
+    }
+
+    /// As `remove_if_mut`, for a caller who has the key's hash.
+    #[inline]
+    pub fn remove_if_mut_hashed<F: FnOnce(&K, &mut V) -> bool>(
+        &mut self,
+        hash: u64,
+        key: &K,
+        f: F,
+    ) -> Option<(K, V)>
+        requires hash { hash ≡ ⟦<Self as Keyed>⟧.by.hash self.old.hasher key.now }
+        requires route { Routes ⟦<Self as Keyed>⟧.by self.old key.now }
+        requires callable { IfSome (at K.eq (pairs self.old) key.now) (MayChange F.FnOnce f) }
+        ensures removes { TakesBy K.eq self.old self.new RemoveIfMut key.now (Pair result) (ChangesOn F.FnOnce f) }
+        ensures len { Loses self.old self.new result }
+        ensures lawful { IsShard ⟦<Self as Keyed>⟧.by self.new }
+    {
+        self.hold.change(
+            |shard: &mut Shard<K, V, S>| -> Option<(K, V)>
+                requires hash { hash ≡ (by K.Hash S.BuildHasher S.Hasher.Hasher).hash shard.old.hasher key.now }
+                requires route { Routes (by K.Hash S.BuildHasher S.Hasher.Hasher) shard.old key.now }
+                requires callable { IfSome (at K.eq (pairs shard.old) key.now) (MayChange F.FnOnce f) }
+                ensures removes { TakesBy K.eq shard.old shard.new RemoveIfMut key.entry.now (Pair result) (ChangesOn F.FnOnce f) }
+                ensures len { Loses shard.old shard.new result }
+                ensures lawful { IsShard (by K.Hash S.BuildHasher S.Hasher.Hasher) shard.new }
+            { shard.remove_if_mut_hashed(hash, key, f) },
+        )
+    }
+
+    /// Gives the pair whose key equals `key` the value that `f` makes of its own, in its place; without such a pair it does nothing. It takes
+    /// no memory, and can't be refused.
+    #[inline]
+    pub fn alter<F: FnOnce(&K, V) -> V>(&mut self, key: &K, f: F)
+        requires route { Routes ⟦<Self as Keyed>⟧.by self.old key.now }
+        requires callable { IfSome (at K.eq (pairs self.old) key.now) (MayGive F.FnOnce f) }
+        ensures alters { TakesBy K.eq self.old self.new Alter key.now Done (Given F.FnOnce f) }
+        ensures len { shard_len self.new ≡ shard_len self.old }
+        ensures lawful { IsShard ⟦<Self as Keyed>⟧.by self.new }
+    {
+        let hash = self.shard().hash_one(key);
+        self.alter_hashed(hash, key, f);
+    }
+
+    /// As `alter`, for a caller who has the key's hash.
+    #[inline]
+    pub fn alter_hashed<F: FnOnce(&K, V) -> V>(&mut self, hash: u64, key: &K, f: F)
+        requires hash { hash ≡ ⟦<Self as Keyed>⟧.by.hash self.old.hasher key.now }
+        requires route { Routes ⟦<Self as Keyed>⟧.by self.old key.now }
+        requires callable { IfSome (at K.eq (pairs self.old) key.now) (MayGive F.FnOnce f) }
+        ensures alters { TakesBy K.eq self.old self.new Alter key.now Done (Given F.FnOnce f) }
+        ensures len { shard_len self.new ≡ shard_len self.old }
+        ensures lawful { IsShard ⟦<Self as Keyed>⟧.by self.new }
+    {
+        self.hold.change(
+            |shard: &mut Shard<K, V, S>|
+                requires hash { hash ≡ (by K.Hash S.BuildHasher S.Hasher.Hasher).hash shard.old.hasher key.now }
+                requires route { Routes (by K.Hash S.BuildHasher S.Hasher.Hasher) shard.old key.now }
+                requires callable { IfSome (at K.eq (pairs shard.old) key.now) (MayGive F.FnOnce f) }
+                ensures alters { TakesBy K.eq shard.old shard.new Alter key.entry.now Done (Given F.FnOnce f) }
+                ensures len { shard_len shard.new ≡ shard_len shard.old }
+                ensures lawful { IsShard (by K.Hash S.BuildHasher S.Hasher.Hasher) shard.new }
+            { shard.alter_hashed(hash, key, f) },
+        );
     }
 
     /// Makes room for so many pairs more, where there is less. It is refused (11) only where there is no memory for it. The pairs stay;
@@ -423,13 +447,6 @@ impl<K: Eq + Hash, V, S: BuildHasher> ShardMut<'_, K, V, S> {
         ensures reserves { Reserves K.eq additional self.old self.new result }
         ensures lawful { IsShard ⟦<Self as Keyed>⟧.by self.new }
     {
-        move_table(&mut self.guard, &mut self.table, self.is_lent, false);
-        self.is_lent = false;
-        self.guard.change(
-            |shard: &mut Shard<K, V, S>| -> Result<(), TryReserveError>
-                ensures reserves { Reserves K.eq additional shard.old shard.new result }
-                ensures lawful { IsShard (by K.Hash S.BuildHasher S.Hasher.Hasher) shard.new }
-            { shard.try_reserve(additional) },
-        )
+        self.hold.change(|shard| shard.try_reserve(additional))
     }
 }

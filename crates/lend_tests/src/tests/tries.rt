@@ -6,6 +6,7 @@ use dash_ref::mapref::entry::Entry;
 use dash_ref::try_result::TryResult;
 use dash_ref::util::SharedValue;
 use dash_shard::hash::FixedState;
+use std::mem;
 
 #[test]
 fn try_get(rt: HostRuntime) {
@@ -39,6 +40,33 @@ fn try_get_mut(rt: HostRuntime) {
     assert!(rt; map.try_get_mut(&"Johnny").is_locked());
     drop(held);
     assert!(rt; map.try_get_mut(&"Sam").is_absent());
+}
+
+#[test]
+fn a_reference_goes_on_as_one_that_reads(rt: HostRuntime) {
+    let map: Places = map_of(&rt, rt.alloc(), [(1, 10)]);
+    let mut found = map.get_mut(&rt, &1).expect(&rt, "no pair");
+    *found = 11;
+    let found = found.downgrade();
+    is(&rt, found.pair(), (&1, &11));
+    let second = map.get(&rt, &1).expect(&rt, "no pair");
+    is(&rt, *second, 11);
+    assert!(rt; map.try_get_mut(&1).is_locked());
+    drop(found);
+    drop(second);
+    assert!(rt; map.try_get_mut(&1).is_present());
+}
+
+#[test]
+fn a_leaked_reference_leaves_the_pairs(rt: HostRuntime) {
+    let map: Places = map_of(&rt, rt.alloc(), [(1, 10), (5, 50)]);
+    let mut found = map.get_mut(&rt, &1).expect(&rt, "no pair");
+    *found = 11;
+    mem::forget(found);
+    assert!(rt; map.try_get(&5).is_locked());
+    let alone = map.alone();
+    is(&rt, alone.get(&1), Some((&1, &11)));
+    is(&rt, alone.get(&5), Some((&5, &50)));
 }
 
 // A shard without pairs has no memory of its own.

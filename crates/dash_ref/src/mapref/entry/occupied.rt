@@ -10,102 +10,83 @@ ghost use Rattle.dash_shard.specs.Steps.{Remove, Pair};
 ghost use Rattle.dash_ref.specs.RefMut.{stored};
 ghost use Rattle.dash_ref.specs.Entry.{MayModify, Modified, revalued};
 
-use crate::mapref::one::RefMut;
+use crate::mapref::one::{HeldRef, RefMut};
 use dash_shard::keyed::Lender;
-use dash_shard::lock::RwLockWriteGuard;
+use dash_shard::lock::RwLock;
 use dash_shard::shard::Shard;
 use dash_shard::shard::held::ShardMut;
-use dash_shard::shard::held::parts::Loan;
+use dash_shard::shard::held::holds::{Holds, Wakes, Writing};
 use std::hash::{BuildHasher, Hash};
-use std::marker::{Model, PhantomData};
+use std::marker::Model;
+use std::mem;
 
 /// A key, the pair with an equal key, and a hold of its shard for writing: the original's `OccupiedEntry`.
-pub struct OccupiedEntry<'a, K: Eq + Hash, V, S: BuildHasher> {
-    guard: RwLockWriteGuard<'a, Shard<K, V, S>>,
-    loan: Loan<K, V>,
-    position: usize,
+pub struct HeldEntry<
+    K: Eq + Hash,
+    V,
+    S: BuildHasher,
+    H: Holds<Key = K, Value = V, State = S>,
+    L: Wakes,
+> {
+    pair: HeldRef<K, V, S, H, L>,
     key: K,
-    marker: PhantomData<&'a mut V>,
 }
 
-impl<'a, K: Eq + Hash, V, S: BuildHasher> Model for OccupiedEntry<'a, K, V, S> {
-    ghost use Rattle.dash_shard.specs.Hashing.{key_hash};
-    ghost use Rattle.dash_shard.specs.inner.Loans.{joined};
+/// The original's `OccupiedEntry`.
+pub type OccupiedEntry<'a, K, V, S> = HeldEntry<
+    K,
+    V,
+    S,
+    Writing<'a, K, V, S>,
+    &'a RwLock<Shard<K, V, S>>,
+>;
+
+impl<K: Eq + Hash, V, S: BuildHasher, H: Holds<Key = K, Value = V, State = S>, L: Wakes> Model
+    for HeldEntry<K, V, S, H, L> {
+    ghost use Rattle.dash_shard.specs.Shard.{HasKey};
     ghost use Rattle.dash_ref.specs.Entry.{OccupiedState};
-    ghost use Rattle.dash_ref.specs.inner.Entries.{occupied_code, IsOccupied};
+    ghost use Rattle.dash_ref.specs.inner.Entries.{occupied_code};
 
     ghost Value = { OccupiedState K V S };
 
     ghost coded = { occupied_code K.code V.code S.code };
 
-    ghost view = { λ e. record { pair = record { shard = joined e.guard.value e.loan; position = e.position }; key = e.key } };
+    ghost view = { λ e. record { pair = e.pair; key = e.key } };
 
-    ghost invariant = { λ e. IsOccupied (key_hash K.eq K.hash_input S.BuildHasher S.Hasher.Hasher) e.guard.value e.loan e.position e.key };
+    ghost invariant = { λ e. HasKey K.eq e.pair.shard e.key e.pair.position };
 }
 
-impl<K: Eq + Hash, V, S: BuildHasher> Lender for OccupiedEntry<'_, K, V, S> {
-    ghost use mir.Syntax.{named};
-    ghost use Rattle.dash_ref.specs.contracts.mapref.entry.occupied.OccupiedEntry.{the_row};
+impl<K: Eq + Hash, V, S: BuildHasher, H: Holds<Key = K, Value = V, State = S>, L: Wakes> Lender
+    for HeldEntry<K, V, S, H, L> {
+    ghost use Rattle.dash_ref.specs.contracts.mapref.entry.occupied.HeldEntry.{the_row};
 
-    ghost row = { the_row (record { mir = named 1; lft = [] }) K.row V.row S.row S.Hasher.row (record {}) (record { eq = K.eq }) (record { hash_input = K.hash_input }) S.BuildHasher S.Hasher.Hasher };
+    ghost row = { the_row K.row V.row S.row H.row L.row S.Hasher.row (record { eq = K.eq }) (record { hash_input = K.hash_input }) S.BuildHasher S.Hasher.Hasher H.Holds };
 }
 
-impl<K: Eq + Hash + Drop, V, S: BuildHasher> Drop for OccupiedEntry<'_, K, V, S> {
+impl<K: Eq + Hash + Drop, V, S: BuildHasher, H: Holds<Key = K, Value = V, State = S>, L: Wakes> Drop
+    for HeldEntry<K, V, S, H, L> {
     #[inline]
     fn drop(self)
-        ensures left { LeftBehind self.entry.pair.shard }
+        ensures left { LeftBehind self.pair.shard }
     {
-        let Self {
-            guard,
-            loan,
-            position: _,
-            key: _,
-            marker: _,
-        } = self;
-        drop(ShardMut::of_parts(guard, loan));
+        let Self { pair, key: _ } = self;
+        drop(pair);
     }
 }
 
-impl<'a, K: Eq + Hash + Drop, V: Drop, S: BuildHasher> OccupiedEntry<'a, K, V, S> {
-    /// The entry of a key, at the slot of the pair with an equal one. For the crates here alone.
-    #[inline]
-    pub fn new(shard: ShardMut<'a, K, V, S>, position: usize, key: K) -> OccupiedEntry<'a, K, V, S>
-        requires { HasKey K.eq shard key position }
-        ensures { result ≡ record { pair = record { shard = shard.entry; position = position }; key = key } }
-    {
-        let (guard, loan) = shard.into_parts();
-        OccupiedEntry {
-            guard,
-            loan,
-            position,
-            key,
-            marker: PhantomData,
-        }
-    }
-
-    // The reference to the stored pair, and the key that was handed in.
-    #[inline]
-    fn into_parts(self) -> (RefMut<'a, K, V, S>, K)
-        ensures pair { result.0 ≡ self.entry.pair }
-        ensures key { result.1 ≡ self.entry.key }
-        ensures equal { HasKey K.eq self.entry.pair.shard self.entry.key self.entry.pair.position }
-    {
-        let Self {
-            guard,
-            loan,
-            position,
-            key,
-            marker: _,
-        } = self;
-        (RefMut::new(ShardMut::of_parts(guard, loan), position), key)
-    }
-
+impl<K: Eq + Hash, V, S: BuildHasher, H: Holds<Key = K, Value = V, State = S>, L: Wakes> HeldEntry<
+    K,
+    V,
+    S,
+    H,
+    L,
+> {
     /// The stored value.
     #[inline]
     pub fn get(&self) -> &V
         ensures { option_map (λ p. p.1) (stored self.now.pair) ≡ Some result.now }
     {
-        self.loan.at(&self.guard, self.position).1
+        self.pair.value()
     }
 
     /// The stored value, to be written.
@@ -114,9 +95,7 @@ impl<'a, K: Eq + Hash + Drop, V: Drop, S: BuildHasher> OccupiedEntry<'a, K, V, S
         ensures* writes_back { sem 𝓛 (Lends ⟦<Self as Lender>⟧.row V.row self.entry result (revalued self.old)) }
         ensures value { option_map (λ p. p.1) (stored self.old.pair) ≡ Some result.now }
     {
-        let position = self.position;
-        self.loan.take_out(&mut self.guard);
-        self.loan.pair_mut(position).1
+        self.pair.value_mut()
     }
 
     // Changes the stored value by `f`.
@@ -134,8 +113,29 @@ impl<'a, K: Eq + Hash + Drop, V: Drop, S: BuildHasher> OccupiedEntry<'a, K, V, S
         ensures old { option_map (λ p. p.1) (stored self.old.pair) ≡ Some result }
         ensures new { self.new ≡ revalued self.old value }
     {
-        let position = self.position;
-        self.loan.set_at(&mut self.guard, position, value)
+        mem::replace(self.get_mut(), value)
+    }
+
+    /// The stored key, which equals the one that was handed in.
+    #[inline]
+    pub fn key(&self) -> &K
+        ensures { option_map (λ p. p.0) (stored self.now.pair) ≡ Some result.now }
+    {
+        self.pair.key()
+    }
+}
+
+impl<'a, K: Eq + Hash + Drop, V: Drop, S: BuildHasher> OccupiedEntry<'a, K, V, S> {
+    /// The entry of a key, at the slot of the pair with an equal one. For the crates here alone.
+    #[inline]
+    pub fn new(shard: ShardMut<'a, K, V, S>, position: usize, key: K) -> OccupiedEntry<'a, K, V, S>
+        requires { HasKey K.eq shard key position }
+        ensures { result ≡ record { pair = record { shard = shard.entry; position = position }; key = key } }
+    {
+        HeldEntry {
+            pair: RefMut::new(shard, position),
+            key,
+        }
     }
 
     /// The stored pair, for as long as the shard is held.
@@ -143,7 +143,8 @@ impl<'a, K: Eq + Hash + Drop, V: Drop, S: BuildHasher> OccupiedEntry<'a, K, V, S
     pub fn into_ref(self) -> RefMut<'a, K, V, S>
         ensures { result ≡ self.entry.pair }
     {
-        self.into_parts().0
+        let Self { pair, key: _ } = self;
+        pair
     }
 
     /// The key that was handed in.
@@ -152,15 +153,8 @@ impl<'a, K: Eq + Hash + Drop, V: Drop, S: BuildHasher> OccupiedEntry<'a, K, V, S
         ensures key { result ≡ self.entry.key }
         ensures left { LeftBehind self.entry.pair.shard }
     {
-        self.into_parts().1
-    }
-
-    /// The stored key, which equals the one that was handed in.
-    #[inline]
-    pub fn key(&self) -> &K
-        ensures { option_map (λ p. p.0) (stored self.now.pair) ≡ Some result.now }
-    {
-        self.loan.at(&self.guard, self.position).0
+        let Self { pair: _, key } = self;
+        key
     }
 
     /// Takes the stored pair out, and answers its value.
@@ -188,8 +182,7 @@ impl<'a, K: Eq + Hash + Drop, V: Drop, S: BuildHasher> OccupiedEntry<'a, K, V, S
         ensures pair { stored self.entry.pair ≡ Some result.0 }
         ensures removes { TakesAt K.eq self.entry.pair.shard result.1 self.entry.pair.position Remove (Pair (Some result.0)) }
     {
-        let position = self.position;
-        let mut shard = self.into_ref().into_shard();
+        let (mut shard, position) = self.into_ref().into_place();
         (shard.remove_at(position), shard)
     }
 
@@ -206,9 +199,8 @@ impl<'a, K: Eq + Hash + Drop, V: Drop, S: BuildHasher> OccupiedEntry<'a, K, V, S
     pub fn replace_held(self, value: V) -> ((K, V), ShardMut<'a, K, V, S>)
         ensures { Replaces K.eq self.entry.pair.shard result.1 self.entry.pair.position self.entry.key value result.0 }
     {
-        let position = self.position;
-        let (pair, key) = self.into_parts();
-        let mut shard = pair.into_shard();
+        let Self { pair, key } = self;
+        let (mut shard, position) = pair.into_place();
         (shard.replace_at(position, key, value), shard)
     }
 }

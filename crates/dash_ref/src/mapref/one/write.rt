@@ -7,17 +7,19 @@ ghost use Rattle.dash_shard.specs.Hashing.{by};
 ghost use Rattle.dash_shard.specs.Contents.{at};
 ghost use Rattle.dash_shard.specs.Lock.{LeftBehind};
 ghost use Rattle.dash_shard.specs.Shard.{slot, pairs, HasKey};
+ghost use Rattle.dash_ref.specs.Ref.{Stands};
 ghost use Rattle.dash_ref.specs.RefMut.{stored, rewritten, GetsMut};
 
+use super::Ref;
 use dash_shard::keyed::{Keyed, Lender};
-use dash_shard::lock::RwLockWriteGuard;
+use dash_shard::lock::RwLock;
 use dash_shard::shard::Shard;
-use dash_shard::shard::held::ShardMut;
-use dash_shard::shard::held::parts::Loan;
+use dash_shard::shard::held::holds::{Holds, Wakes, Writing};
+use dash_shard::shard::held::{HeldShard, ShardMut};
 pub use mapped::MappedRefMut;
 use std::fmt;
 use std::hash::{BuildHasher, Hash};
-use std::marker::{Model, PhantomData};
+use std::marker::Model;
 use std::ops::{Deref, DerefMut};
 
 mod mapped;
@@ -25,32 +27,41 @@ mod mapped;
 /// A pair of a map, and a hold of its shard's lock for writing, as the original's `RefMut`: the hold ends when this is dropped, and till
 /// then the pair changes by this reference's own calls alone.
 ///
-/// The original points to key and value. This has the pair's position in the held shard, and reaches the pair there without a look-up.
-/// The first loan of the value moves the shard's table to this reference, and the drop moves it back: some words each. No call takes
-/// memory or waits, nor does the drop. Meanwhile whoever wants the shard waits. A contract sees it as the held shard and the position.
-pub struct RefMut<'a, K: Eq + Hash, V, S: BuildHasher> {
-    guard: RwLockWriteGuard<'a, Shard<K, V, S>>,
-    loan: Loan<K, V>,
+/// The original points to key and value. This has the pair's position in the held shard, and reaches the pair there without a look-up. No
+/// call takes memory or waits, nor does the drop. Meanwhile whoever wants the shard waits. A contract sees it as the held shard and the
+/// position.
+pub struct HeldRef<
+    K: Eq + Hash,
+    V,
+    S: BuildHasher,
+    H: Holds<Key = K, Value = V, State = S>,
+    L: Wakes,
+> {
+    shard: HeldShard<K, V, S, H, L>,
     position: usize,
-    marker: PhantomData<&'a mut V>,
 }
 
-impl<'a, K: Eq + Hash, V, S: BuildHasher> Model for RefMut<'a, K, V, S> {
-    ghost use Rattle.dash_shard.specs.Hashing.{key_hash};
-    ghost use Rattle.dash_shard.specs.inner.Loans.{joined};
+/// The original's `RefMut`.
+pub type RefMut<'a, K, V, S> = HeldRef<K, V, S, Writing<'a, K, V, S>, &'a RwLock<Shard<K, V, S>>>;
+
+impl<K: Eq + Hash, V, S: BuildHasher, H: Holds<Key = K, Value = V, State = S>, L: Wakes> Model
+    for HeldRef<K, V, S, H, L> {
+    ghost use Rattle.std.specs.Prelude.{IsSome};
+    ghost use Rattle.dash_shard.specs.Shard.{slot};
     ghost use Rattle.dash_ref.specs.RefMut.{RefMutState};
-    ghost use Rattle.dash_ref.specs.inner.RefMut.{ref_mut_code, IsLendable};
+    ghost use Rattle.dash_ref.specs.inner.RefMut.{ref_mut_code};
 
     ghost Value = { RefMutState K V S };
 
     ghost coded = { ref_mut_code K.code V.code S.code };
 
-    ghost view = { λ r. record { shard = joined r.guard.value r.loan; position = r.position } };
+    ghost view = { λ r. record { shard = r.shard; position = r.position } };
 
-    ghost invariant = { λ r. IsLendable (key_hash K.eq K.hash_input S.BuildHasher S.Hasher.Hasher) r.guard.value r.loan r.position };
+    ghost invariant = { λ r. IsSome (slot r.shard.slots r.position) };
 }
 
-impl<K: Eq + Hash, V, S: BuildHasher> Keyed for RefMut<'_, K, V, S> {
+impl<K: Eq + Hash, V, S: BuildHasher, H: Holds<Key = K, Value = V, State = S>, L: Wakes> Keyed
+    for HeldRef<K, V, S, H, L> {
     type Key = K;
 
     type State = S;
@@ -58,25 +69,21 @@ impl<K: Eq + Hash, V, S: BuildHasher> Keyed for RefMut<'_, K, V, S> {
     ghost by = { by K.Hash S.BuildHasher S.Hasher.Hasher };
 }
 
-impl<K: Eq + Hash, V, S: BuildHasher> Lender for RefMut<'_, K, V, S> {
-    ghost use mir.Syntax.{named};
-    ghost use Rattle.dash_ref.specs.contracts.mapref.one.write.RefMut.{the_row};
+impl<K: Eq + Hash, V, S: BuildHasher, H: Holds<Key = K, Value = V, State = S>, L: Wakes> Lender
+    for HeldRef<K, V, S, H, L> {
+    ghost use Rattle.dash_ref.specs.contracts.mapref.one.write.HeldRef.{the_row};
 
-    ghost row = { the_row (record { mir = named 1; lft = [] }) K.row V.row S.row S.Hasher.row (record {}) (record { eq = K.eq }) (record { hash_input = K.hash_input }) S.BuildHasher S.Hasher.Hasher };
+    ghost row = { the_row K.row V.row S.row H.row L.row S.Hasher.row (record { eq = K.eq }) (record { hash_input = K.hash_input }) S.BuildHasher S.Hasher.Hasher H.Holds };
 }
 
-impl<K: Eq + Hash, V, S: BuildHasher> Drop for RefMut<'_, K, V, S> {
+impl<K: Eq + Hash, V, S: BuildHasher, H: Holds<Key = K, Value = V, State = S>, L: Wakes> Drop
+    for HeldRef<K, V, S, H, L> {
     #[inline]
     fn drop(self)
-        ensures left { LeftBehind self.entry.shard }
+        ensures left { LeftBehind self.shard }
     {
-        let Self {
-            guard,
-            loan,
-            position: _,
-            marker: _,
-        } = self;
-        drop(ShardMut::of_parts(guard, loan));
+        let Self { shard, position: _ } = self;
+        drop(shard);
     }
 }
 
@@ -87,13 +94,7 @@ impl<'a, K: Eq + Hash, V, S: BuildHasher> RefMut<'a, K, V, S> {
         requires { IsSome (slot shard.slots position) }
         ensures { result ≡ record { shard = shard.entry; position = position } }
     {
-        let (guard, loan) = shard.into_parts();
-        RefMut {
-            guard,
-            loan,
-            position,
-            marker: PhantomData,
-        }
+        HeldRef { shard, position }
     }
 
     /// The pair whose key equals `key`, in the held shard, for a caller who has the key's hash. Where there is no such pair, the hold ends.
@@ -115,15 +116,40 @@ impl<'a, K: Eq + Hash, V, S: BuildHasher> RefMut<'a, K, V, S> {
     pub fn into_shard(self) -> ShardMut<'a, K, V, S>
         ensures { result ≡ self.entry.shard }
     {
-        let Self {
-            guard,
-            loan,
-            position: _,
-            marker: _,
-        } = self;
-        ShardMut::of_parts(guard, loan)
+        self.into_place().0
     }
 
+    /// The same, with the pair's position.
+    #[inline]
+    pub(crate) fn into_place(self) -> (ShardMut<'a, K, V, S>, usize)
+        ensures shard { result.0 ≡ self.entry.shard }
+        ensures position { result.1 ≡ self.entry.position }
+    {
+        let Self { shard, position } = self;
+        (shard, position)
+    }
+
+    /// The pair as this leaves it, to be read, as the original's `downgrade`, by one atomic step: no other writer comes between. Readers
+    /// that wait for the shard are woken.
+    #[inline]
+    pub fn downgrade(self) -> Ref<'a, K, V, S>
+        ensures shard { result.shard ≡ self.entry.shard }
+        ensures position { result.position ≡ self.entry.position }
+        ensures stands { Stands result }
+        ensures left { LeftBehind self.entry.shard }
+    {
+        let Self { shard, position } = self;
+        Ref::new(shard.downgrade(), position)
+    }
+}
+
+impl<K: Eq + Hash, V, S: BuildHasher, H: Holds<Key = K, Value = V, State = S>, L: Wakes> HeldRef<
+    K,
+    V,
+    S,
+    H,
+    L,
+> {
     /// The key that is stored.
     #[inline]
     pub fn key(&self) -> &K
@@ -154,7 +180,7 @@ impl<'a, K: Eq + Hash, V, S: BuildHasher> RefMut<'a, K, V, S> {
     pub fn pair(&self) -> (&K, &V)
         ensures { stored self.now ≡ Some (deref_pair result) }
     {
-        self.loan.at(&self.guard, self.position)
+        self.shard.at(self.position)
     }
 
     /// Key and value, the value to be written.
@@ -163,13 +189,12 @@ impl<'a, K: Eq + Hash, V, S: BuildHasher> RefMut<'a, K, V, S> {
         ensures* writes_back { sem 𝓛 (Lends ⟦<Self as Lender>⟧.row V.row self.entry result.1 (rewritten self.old)) }
         ensures pair { stored self.old ≡ Some (deref_pair_mut result) }
     {
-        let position = self.position;
-        self.loan.take_out(&mut self.guard);
-        self.loan.pair_mut(position)
+        self.shard.at_mut(self.position)
     }
 }
 
-impl<K: Eq + Hash, V, S: BuildHasher> Deref for RefMut<'_, K, V, S> {
+impl<K: Eq + Hash, V, S: BuildHasher, H: Holds<Key = K, Value = V, State = S>, L: Wakes> Deref
+    for HeldRef<K, V, S, H, L> {
     type Target = V;
 
     ghost deref_gives = { λ r value. option_map (λ p. p.1) (stored r) ≡ Some value };
@@ -180,7 +205,8 @@ impl<K: Eq + Hash, V, S: BuildHasher> Deref for RefMut<'_, K, V, S> {
     }
 }
 
-impl<K: Eq + Hash, V, S: BuildHasher> DerefMut for RefMut<'_, K, V, S> {
+impl<K: Eq + Hash, V, S: BuildHasher, H: Holds<Key = K, Value = V, State = S>, L: Wakes> DerefMut
+    for HeldRef<K, V, S, H, L> {
     ghost use Rattle.std.specs.Prelude.{◌≡◌, Some};
     ghost use Rattle.std.specs.Option.{option_map};
     ghost use Rattle.dash_ref.specs.RefMut.{stored};
@@ -197,7 +223,13 @@ impl<K: Eq + Hash, V, S: BuildHasher> DerefMut for RefMut<'_, K, V, S> {
 }
 
 /// `RefMut { k: 1, v: 2 }`.
-impl<K: Eq + Hash + fmt::Debug, V: fmt::Debug, S: BuildHasher> fmt::Debug for RefMut<'_, K, V, S> {
+impl<
+    K: Eq + Hash + fmt::Debug,
+    V: fmt::Debug,
+    S: BuildHasher,
+    H: Holds<Key = K, Value = V, State = S>,
+    L: Wakes,
+> fmt::Debug for HeldRef<K, V, S, H, L> {
     fn fmt<W: fmt::Write>(&self, f: &mut fmt::Formatter<W>) -> fmt::Result {
         let (key, value) = self.pair();
         f.debug_struct("RefMut")

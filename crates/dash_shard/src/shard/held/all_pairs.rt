@@ -7,11 +7,28 @@ ghost use Rattle.dash_shard.specs.Each.{CalledOnPair, TakesOnPair, Clears, Shrin
 ghost use Rattle.dash_shard.specs.inner.Walks.{if_kept, altered, SweepsShard};
 ghost use Rattle.dash_shard.specs.Steps.{Retain, AlterAll};
 
-use super::ShardMut;
-use super::lent::move_table;
+use super::holds::{Holds, Wakes};
+use super::{HeldShard, ShardMut};
 use crate::keyed::Keyed;
 use crate::shard::{Iter, Shard};
 use std::hash::{BuildHasher, Hash};
+
+impl<K: Eq + Hash, V, S: BuildHasher, H: Holds<Key = K, Value = V, State = S>, L: Wakes> HeldShard<
+    K,
+    V,
+    S,
+    H,
+    L,
+> {
+    /// The pairs, in rising order of slots.
+    #[inline]
+    pub fn iter(&self) -> Iter<'_, K, V>
+        ensures pairs { result ≡ pairs self.now }
+        ensures lawful { IsShard ⟦<Self as Keyed>⟧.by self.now }
+    {
+        self.shard().iter()
+    }
+}
 
 impl<K: Eq + Hash, V, S: BuildHasher> ShardMut<'_, K, V, S> {
     /// Keeps the pairs on which `f` answers yes, each with the value that `f` leaves, and lets the others go.
@@ -27,9 +44,7 @@ impl<K: Eq + Hash, V, S: BuildHasher> ShardMut<'_, K, V, S> {
         ensures len { shard_len self.new ≤ shard_len self.old }
         ensures lawful { IsShard ⟦<Self as Keyed>⟧.by self.new }
     {
-        move_table(&mut self.guard, &mut self.table, self.is_lent, false);
-        self.is_lent = false;
-        self.guard.change(
+        self.hold.change(
             |shard: &mut Shard<K, V, S>|
                 requires { CallableOnEachPair (CalledAtPair F.FnMut) (TakesPair F.FnMut) f (pairs shard.old) }
                 ensures retains { SweepsBy (CalledAtPair F.FnMut) K.eq f shard.old shard.new (Retain shard.old.number) }
@@ -48,19 +63,11 @@ impl<K: Eq + Hash, V, S: BuildHasher> ShardMut<'_, K, V, S> {
         ensures sweeps { SweepsShard (CalledAtPair F.FnMut) if_kept f result self.old self.new }
         ensures lawful { IsShard ⟦<Self as Keyed>⟧.by self.new }
     {
-        move_table(&mut self.guard, &mut self.table, self.is_lent, false);
-        self.is_lent = false;
-        self.guard.change(
-            |shard: &mut Shard<K, V, S>| -> F
-                requires { CallableOnEachPair (CalledAtPair F.FnMut) (TakesPair F.FnMut) f (pairs shard.old) }
-                ensures sweeps { SweepsShard (CalledAtPair F.FnMut) if_kept f result shard.old shard.new }
-                ensures lawful { IsShard (by K.Hash S.BuildHasher S.Hasher.Hasher) shard.new }
-            {
-                let mut f = f;
-                shard.retain_by(&mut f);
-                f
-            },
-        )
+        self.hold.change(|shard| {
+            let mut f = f;
+            shard.retain_by(&mut f);
+            f
+        })
     }
 
     /// Puts what `f` makes of each value in its place.
@@ -72,9 +79,7 @@ impl<K: Eq + Hash, V, S: BuildHasher> ShardMut<'_, K, V, S> {
         ensures len { shard_len self.new ≡ shard_len self.old }
         ensures lawful { IsShard ⟦<Self as Keyed>⟧.by self.new }
     {
-        move_table(&mut self.guard, &mut self.table, self.is_lent, false);
-        self.is_lent = false;
-        self.guard.change(
+        self.hold.change(
             |shard: &mut Shard<K, V, S>|
                 requires { CallableOnEachPair (CalledOnPair F.FnMut) (TakesOnPair F.FnMut) f (pairs shard.old) }
                 ensures alters { SweepsBy (CalledOnPair F.FnMut) K.eq f shard.old shard.new (AlterAll shard.old.number) }
@@ -90,19 +95,11 @@ impl<K: Eq + Hash, V, S: BuildHasher> ShardMut<'_, K, V, S> {
         ensures sweeps { SweepsShard (CalledOnPair F.FnMut) altered f result self.old self.new }
         ensures lawful { IsShard ⟦<Self as Keyed>⟧.by self.new }
     {
-        move_table(&mut self.guard, &mut self.table, self.is_lent, false);
-        self.is_lent = false;
-        self.guard.change(
-            |shard: &mut Shard<K, V, S>| -> F
-                requires { CallableOnEachPair (CalledOnPair F.FnMut) (TakesOnPair F.FnMut) f (pairs shard.old) }
-                ensures sweeps { SweepsShard (CalledOnPair F.FnMut) altered f result shard.old shard.new }
-                ensures lawful { IsShard (by K.Hash S.BuildHasher S.Hasher.Hasher) shard.new }
-            {
-                let mut f = f;
-                shard.alter_all_by(&mut f);
-                f
-            },
-        )
+        self.hold.change(|shard| {
+            let mut f = f;
+            shard.alter_all_by(&mut f);
+            f
+        })
     }
 
     /// Lets all pairs go. The room stays, for pairs that come later.
@@ -113,14 +110,7 @@ impl<K: Eq + Hash, V, S: BuildHasher> ShardMut<'_, K, V, S> {
         ensures clears { Clears self.old self.new }
         ensures lawful { IsShard ⟦<Self as Keyed>⟧.by self.new }
     {
-        move_table(&mut self.guard, &mut self.table, self.is_lent, false);
-        self.is_lent = false;
-        self.guard.change(
-            |shard: &mut Shard<K, V, S>|
-                ensures clears { Clears shard.old shard.new }
-                ensures lawful { IsShard (by K.Hash S.BuildHasher S.Hasher.Hasher) shard.new }
-            { shard.clear() },
-        )
+        self.hold.change(|shard| shard.clear())
     }
 
     /// Moves the pairs to as few slots as a shard with room for them gets, which gives the rest of the memory back: none for no pairs.
@@ -133,22 +123,6 @@ impl<K: Eq + Hash, V, S: BuildHasher> ShardMut<'_, K, V, S> {
         ensures shrinks { Shrinks K.eq self.old self.new }
         ensures lawful { IsShard ⟦<Self as Keyed>⟧.by self.new }
     {
-        move_table(&mut self.guard, &mut self.table, self.is_lent, false);
-        self.is_lent = false;
-        self.guard.change(
-            |shard: &mut Shard<K, V, S>|
-                ensures shrinks { Shrinks K.eq shard.old shard.new }
-                ensures lawful { IsShard (by K.Hash S.BuildHasher S.Hasher.Hasher) shard.new }
-            { shard.shrink_to_fit() },
-        )
-    }
-
-    /// The pairs, in rising order of slots.
-    #[inline]
-    pub fn iter(&self) -> Iter<'_, K, V>
-        ensures pairs { result ≡ pairs self.now }
-        ensures lawful { IsShard ⟦<Self as Keyed>⟧.by self.now }
-    {
-        self.table().iter()
+        self.hold.change(|shard| shard.shrink_to_fit())
     }
 }

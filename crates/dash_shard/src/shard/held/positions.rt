@@ -7,20 +7,26 @@ ghost use Rattle.dash_shard.specs.Shard.{slot, pairs, shard_len, HasKey, IsNextT
 ghost use Rattle.dash_shard.specs.Held.{Finds, Replaces};
 ghost use Rattle.dash_shard.specs.Steps.{Insert, Remove, Old, Pair};
 
-use super::ShardMut;
-use super::lent::move_table;
+use super::holds::{Holds, Wakes};
+use super::{HeldShard, ShardMut};
 use crate::keyed::Keyed;
 use crate::shard::Shard;
 use std::hash::{BuildHasher, Hash};
 
-impl<K: Eq + Hash, V, S: BuildHasher> ShardMut<'_, K, V, S> {
+impl<K: Eq + Hash, V, S: BuildHasher, H: Holds<Key = K, Value = V, State = S>, L: Wakes> HeldShard<
+    K,
+    V,
+    S,
+    H,
+    L,
+> {
     /// The slot of the pair whose key equals `key`, for `at`. It is good while the shard isn't changed.
     #[inline]
     pub fn position_of(&self, key: &K) -> Option<usize>
         ensures finds { Finds K.eq self.now key.now result }
         ensures lawful { IsShard ⟦<Self as Keyed>⟧.by self.now }
     {
-        self.position_of_hashed(self.guard.hash_one(key), key)
+        self.position_of_hashed(self.shard().hash_one(key), key)
     }
 
     /// As `position_of`, for a caller who has the key's hash.
@@ -30,7 +36,7 @@ impl<K: Eq + Hash, V, S: BuildHasher> ShardMut<'_, K, V, S> {
         ensures finds { Finds K.eq self.now key.now result }
         ensures lawful { IsShard ⟦<Self as Keyed>⟧.by self.now }
     {
-        self.table().find(hash, key)
+        self.shard().position_of_hashed(hash, key)
     }
 
     /// The pair of a taken slot, without a look at any other.
@@ -40,9 +46,21 @@ impl<K: Eq + Hash, V, S: BuildHasher> ShardMut<'_, K, V, S> {
         ensures pair { slot self.now.slots position ≡ Some (deref_pair result) }
         ensures lawful { IsShard ⟦<Self as Keyed>⟧.by self.now }
     {
-        self.table().at(position)
+        self.shard().at(position)
     }
 
+    /// The lowest taken slot not below `position`, for `at`: a walk over the pairs goes on behind it. There is a number above it.
+    #[inline]
+    pub fn next_taken(&self, position: usize) -> Option<usize>
+        ensures next { IsNextTaken self.now.slots position result }
+        ensures below { IfSome result (λ i. i < 2 ^ 64 - 1) }
+        ensures lawful { IsShard ⟦<Self as Keyed>⟧.by self.now }
+    {
+        self.shard().next_taken(position)
+    }
+}
+
+impl<K: Eq + Hash, V, S: BuildHasher> ShardMut<'_, K, V, S> {
     /// Puts a pair whose key is new in room that is there, and answers its slot. It takes no memory, and can't be refused.
     #[inline]
     pub fn insert_new(&mut self, key: K, value: V) -> usize
@@ -57,7 +75,7 @@ impl<K: Eq + Hash, V, S: BuildHasher> ShardMut<'_, K, V, S> {
         ensures len { shard_len self.new ≡ shard_len self.old + 1 }
         ensures lawful { IsShard ⟦<Self as Keyed>⟧.by self.new }
     {
-        let hash = self.guard.hash_one(&key);
+        let hash = self.shard().hash_one(&key);
         self.insert_new_hashed(hash, key, value)
     }
 
@@ -76,20 +94,8 @@ impl<K: Eq + Hash, V, S: BuildHasher> ShardMut<'_, K, V, S> {
         ensures len { shard_len self.new ≡ shard_len self.old + 1 }
         ensures lawful { IsShard ⟦<Self as Keyed>⟧.by self.new }
     {
-        move_table(&mut self.guard, &mut self.table, self.is_lent, false);
-        self.is_lent = false;
-        self.guard.change(
-            |shard: &mut Shard<K, V, S>| -> usize
-                requires hash { hash ≡ (by K.Hash S.BuildHasher S.Hasher.Hasher).hash shard.old.hasher key }
-                requires route { Routes (by K.Hash S.BuildHasher S.Hasher.Hasher) shard.old key }
-                requires absent { at K.eq (pairs shard.old) key ≡ None }
-                requires room { shard_len shard.old < shard.old.capacity }
-                ensures inserts { TakesInPlace K.eq shard.old shard.new (Insert key value) (Old None) }
-                ensures slot { slot shard.new.slots result ≡ Some (key, value) }
-                ensures len { shard_len shard.new ≡ shard_len shard.old + 1 }
-                ensures lawful { IsShard (by K.Hash S.BuildHasher S.Hasher.Hasher) shard.new }
-            { shard.insert_new_hashed(hash, key, value) },
-        )
+        self.hold
+            .change(|shard| shard.insert_new_hashed(hash, key, value))
     }
 
     /// Puts a pair in the slot of the one with an equal key, and answers that one: the new key is stored too. It makes no look-up, takes
@@ -103,15 +109,8 @@ impl<K: Eq + Hash, V, S: BuildHasher> ShardMut<'_, K, V, S> {
         ensures replaces { Replaces K.eq self.old self.new position key value result }
         ensures lawful { IsShard ⟦<Self as Keyed>⟧.by self.new }
     {
-        move_table(&mut self.guard, &mut self.table, self.is_lent, false);
-        self.is_lent = false;
-        self.guard.change(
-            |shard: &mut Shard<K, V, S>| -> (K, V)
-                requires { HasKey K.eq shard.old key position }
-                ensures replaces { Replaces K.eq shard.old shard.new position key value result }
-                ensures lawful { IsShard (by K.Hash S.BuildHasher S.Hasher.Hasher) shard.new }
-            { shard.replace_at(position, key, value) },
-        )
+        self.hold
+            .change(|shard| shard.replace_at(position, key, value))
     }
 
     /// Takes the pair of a taken slot out, and answers it. It makes no look-up, takes no memory, and can't be refused.
@@ -127,27 +126,6 @@ impl<K: Eq + Hash, V, S: BuildHasher> ShardMut<'_, K, V, S> {
         ensures len { shard_len self.old ≡ shard_len self.new + 1 }
         ensures lawful { IsShard ⟦<Self as Keyed>⟧.by self.new }
     {
-        move_table(&mut self.guard, &mut self.table, self.is_lent, false);
-        self.is_lent = false;
-        self.guard.change(
-            |shard: &mut Shard<K, V, S>| -> (K, V)
-                requires { IsSome (slot shard.old.slots position) }
-                ensures removes { TakesAt K.eq shard.old shard.new position Remove (Pair (Some result)) }
-                ensures pair { slot shard.old.slots position ≡ Some result }
-                ensures stays { SameShard shard.old shard.new }
-                ensures len { shard_len shard.old ≡ shard_len shard.new + 1 }
-                ensures lawful { IsShard (by K.Hash S.BuildHasher S.Hasher.Hasher) shard.new }
-            { shard.remove_at(position) },
-        )
-    }
-
-    /// The lowest taken slot not below `position`, for `at`: a walk over the pairs goes on behind it. There is a number above it.
-    #[inline]
-    pub fn next_taken(&self, position: usize) -> Option<usize>
-        ensures next { IsNextTaken self.now.slots position result }
-        ensures below { IfSome result (λ i. i < 2 ^ 64 - 1) }
-        ensures lawful { IsShard ⟦<Self as Keyed>⟧.by self.now }
-    {
-        self.table().next_taken(position)
+        self.hold.change(|shard| shard.remove_at(position))
     }
 }

@@ -10,9 +10,9 @@ use std::rt::Clock;
 use std::sync::Wait;
 
 // Adds 1 to each of up to nine values. Says how many were lent.
-fn add_one<K: Eq + Hash, S: BuildHasher, R: Wait + Clock, M: Map<K, u64, S>>(
+fn add_one<'m, K: Eq + Hash + 'm, S: BuildHasher + 'm, R: Wait + Clock, M: Map<K, u64, S>>(
     rt: &R,
-    map: &M,
+    map: &'m M,
 ) -> u64 {
     let mut walk = map._iter_mut(rt);
     let mut lent = 0u64;

@@ -5,65 +5,91 @@ ghost use Rattle.std.specs.Borrow.{Lends, sem};
 ghost use Rattle.dash_shard.specs.Lock.{LeftBehind};
 ghost use Rattle.dash_ref.specs.RefMut.{stored, part_in, with_part};
 
-use super::RefMut;
+use super::{HeldRef, RefMut};
 use crate::mapref::one::projection::{Compose, Projection};
 use dash_shard::keyed::Lender;
-use dash_shard::lock::RwLockWriteGuard;
+use dash_shard::lock::RwLock;
 use dash_shard::shard::Shard;
 use dash_shard::shard::held::ShardMut;
-use dash_shard::shard::held::parts::Loan;
+use dash_shard::shard::held::holds::{Holds, Wakes, Writing};
 use std::fmt;
 use std::hash::{BuildHasher, Hash};
-use std::marker::{Model, PhantomData};
+use std::marker::Model;
 use std::ops::{Deref, DerefMut};
 
 /// A part of the value of a pair, and a hold of the pair's shard for writing, as the original's `MappedRefMut`.
 ///
 /// It is the reference that was mapped, which ends with it, and the projection, which takes the place of the original's type of the part.
-pub struct MappedRefMut<'a, K: Eq + Hash, V, S: BuildHasher, P: Projection<V>> {
-    guard: RwLockWriteGuard<'a, Shard<K, V, S>>,
-    loan: Loan<K, V>,
-    position: usize,
+pub struct HeldMappedRef<
+    K: Eq + Hash,
+    V,
+    S: BuildHasher,
+    P: Projection<V>,
+    H: Holds<Key = K, Value = V, State = S>,
+    L: Wakes,
+> {
+    guard: HeldRef<K, V, S, H, L>,
     by: P,
-    marker: PhantomData<&'a mut V>,
 }
 
-impl<'a, K: Eq + Hash, V, S: BuildHasher, P: Projection<V>> Model for MappedRefMut<'a, K, V, S, P> {
-    ghost use Rattle.dash_shard.specs.Hashing.{key_hash};
-    ghost use Rattle.dash_shard.specs.inner.Loans.{joined};
-    ghost use Rattle.dash_ref.specs.RefMut.{MappedRefMutState};
-    ghost use Rattle.dash_ref.specs.inner.RefMut.{mapped_mut_code, IsMappable};
+/// The original's `MappedRefMut`.
+pub type MappedRefMut<'a, K, V, S, P> = HeldMappedRef<
+    K,
+    V,
+    S,
+    P,
+    Writing<'a, K, V, S>,
+    &'a RwLock<Shard<K, V, S>>,
+>;
+
+impl<
+    K: Eq + Hash,
+    V,
+    S: BuildHasher,
+    P: Projection<V>,
+    H: Holds<Key = K, Value = V, State = S>,
+    L: Wakes,
+> Model for HeldMappedRef<K, V, S, P, H, L> {
+    ghost use Rattle.std.specs.Prelude.{IsSome};
+    ghost use Rattle.dash_ref.specs.RefMut.{MappedRefMutState, part_in};
+    ghost use Rattle.dash_ref.specs.inner.RefMut.{mapped_mut_code};
 
     ghost Value = { MappedRefMutState K V S P };
 
     ghost coded = { mapped_mut_code K.code V.code S.code P.code };
 
-    ghost view = { λ m. record { guard = record { shard = joined m.guard.value m.loan; position = m.position }; by = m.by } };
+    ghost view = { λ m. record { guard = m.guard; by = m.by } };
 
-    ghost invariant = { λ m. IsMappable (key_hash K.eq K.hash_input S.BuildHasher S.Hasher.Hasher) (P.part m.by) m.guard.value m.loan m.position };
+    ghost invariant = { λ m. IsSome (part_in (P.part m.by) m.guard) };
 }
 
-impl<K: Eq + Hash, V, S: BuildHasher, P: Projection<V>> Lender for MappedRefMut<'_, K, V, S, P> {
-    ghost use mir.Syntax.{named};
-    ghost use Rattle.dash_ref.specs.contracts.mapref.one.write.mapped.MappedRefMut.{the_row};
+impl<
+    K: Eq + Hash,
+    V,
+    S: BuildHasher,
+    P: Projection<V>,
+    H: Holds<Key = K, Value = V, State = S>,
+    L: Wakes,
+> Lender for HeldMappedRef<K, V, S, P, H, L> {
+    ghost use Rattle.dash_ref.specs.contracts.mapref.one.write.mapped.HeldMappedRef.{the_row};
 
-    ghost row = { the_row (record { mir = named 1; lft = [] }) K.row V.row S.row P.row S.Hasher.row P.Target.row (record {}) (record { eq = K.eq }) (record { hash_input = K.hash_input }) S.BuildHasher S.Hasher.Hasher P.Projection };
+    ghost row = { the_row K.row V.row S.row P.row H.row L.row S.Hasher.row P.Target.row (record { eq = K.eq }) (record { hash_input = K.hash_input }) S.BuildHasher S.Hasher.Hasher P.Projection H.Holds };
 }
 
-impl<K: Eq + Hash, V, S: BuildHasher, P: Projection<V> + Drop> Drop
-    for MappedRefMut<'_, K, V, S, P> {
+impl<
+    K: Eq + Hash,
+    V,
+    S: BuildHasher,
+    P: Projection<V> + Drop,
+    H: Holds<Key = K, Value = V, State = S>,
+    L: Wakes,
+> Drop for HeldMappedRef<K, V, S, P, H, L> {
     #[inline]
     fn drop(self)
-        ensures left { LeftBehind self.entry.guard.shard }
+        ensures left { LeftBehind self.guard.shard }
     {
-        let Self {
-            guard,
-            loan,
-            position: _,
-            by: _,
-            marker: _,
-        } = self;
-        drop(ShardMut::of_parts(guard, loan));
+        let Self { guard, by: _ } = self;
+        drop(guard);
     }
 }
 
@@ -74,19 +100,7 @@ impl<'a, K: Eq + Hash, V, S: BuildHasher> RefMut<'a, K, V, S> {
         requires { IsSome (part_in (P.part by) self) }
         ensures { result ≡ record { guard = self.entry; by = by } }
     {
-        let Self {
-            guard,
-            loan,
-            position,
-            marker: _,
-        } = self;
-        MappedRefMut {
-            guard,
-            loan,
-            position,
-            by,
-            marker: PhantomData,
-        }
+        HeldMappedRef { guard: self, by }
     }
 
     /// A reference to a part of the value, or this one again, where the value hasn't got it.
@@ -115,22 +129,55 @@ impl<'a, K: Eq + Hash, V, S: BuildHasher, P: Projection<V>> MappedRefMut<'a, K, 
         P: Drop,
         ensures { result ≡ self.entry.guard.shard }
     {
-        let Self {
-            guard,
-            loan,
-            position: _,
-            by: _,
-            marker: _,
-        } = self;
-        ShardMut::of_parts(guard, loan)
+        let Self { guard, by: _ } = self;
+        guard.into_shard()
     }
 
+    /// A reference to a part that the part has.
+    #[inline]
+    pub fn map<Q: Projection<P::Target>>(self, by: Q) -> MappedRefMut<'a, K, V, S, Compose<P, Q>>
+        requires { IsSome (option_and_then (Q.part by) (part_in (P.part self.by) self.guard)) }
+        ensures { result ≡ record { guard = self.entry.guard; by = record { outer = self.entry.by; inner = by } } }
+    {
+        let Self { guard, by: outer } = self;
+        HeldMappedRef {
+            guard,
+            by: Compose { outer, inner: by },
+        }
+    }
+
+    /// A reference to a part of the part, or this one again, where the part hasn't got it.
+    #[inline]
+    pub fn try_map<Q: Projection<P::Target> + Drop>(
+        self,
+        by: Q,
+    ) -> Result<MappedRefMut<'a, K, V, S, Compose<P, Q>>, Self>
+        ensures mapped { IfOk result (λ mapped. mapped ≡ record { guard = self.entry.guard; by = record { outer = self.entry.by; inner = by } }) }
+        ensures back { IfErr result (λ mapped. mapped ≡ self.entry) }
+        ensures exact { IsOk result ↔ IsSome (option_and_then (Q.part by) (part_in (P.part self.entry.by) self.entry.guard)) }
+    {
+        if by.holds(self.value()) {
+            Ok(self.map(by))
+        } else {
+            Err(self)
+        }
+    }
+}
+
+impl<
+    K: Eq + Hash,
+    V,
+    S: BuildHasher,
+    P: Projection<V>,
+    H: Holds<Key = K, Value = V, State = S>,
+    L: Wakes,
+> HeldMappedRef<K, V, S, P, H, L> {
     /// The key that is stored.
     #[inline]
     pub fn key(&self) -> &K
         ensures { option_map (λ p. p.0) (stored self.now.guard) ≡ Some result.now }
     {
-        self.loan.at(&self.guard, self.position).0
+        self.guard.key()
     }
 
     /// The part.
@@ -138,7 +185,7 @@ impl<'a, K: Eq + Hash, V, S: BuildHasher, P: Projection<V>> MappedRefMut<'a, K, 
     pub fn value(&self) -> &P::Target
         ensures { part_in (P.part self.now.by) self.now.guard ≡ Some result.now }
     {
-        self.by.get(self.loan.at(&self.guard, self.position).1)
+        self.by.get(self.guard.value())
     }
 
     /// The part, to be written. A write changes the value as the projection says, and no other pair.
@@ -168,53 +215,19 @@ impl<'a, K: Eq + Hash, V, S: BuildHasher, P: Projection<V>> MappedRefMut<'a, K, 
         ensures key { option_map (λ p. p.0) (stored self.old.guard) ≡ Some result.0.now }
         ensures value { part_in (P.part self.old.by) self.old.guard ≡ Some result.1.now }
     {
-        let position = self.position;
-        self.loan.take_out(&mut self.guard);
-        let (key, value) = self.loan.pair_mut(position);
+        let (key, value) = self.guard.pair_mut();
         (key, P::get_mut(value, &self.by))
-    }
-
-    /// A reference to a part that the part has.
-    #[inline]
-    pub fn map<Q: Projection<P::Target>>(self, by: Q) -> MappedRefMut<'a, K, V, S, Compose<P, Q>>
-        requires { IsSome (option_and_then (Q.part by) (part_in (P.part self.by) self.guard)) }
-        ensures { result ≡ record { guard = self.entry.guard; by = record { outer = self.entry.by; inner = by } } }
-    {
-        let Self {
-            guard,
-            loan,
-            position,
-            by: outer,
-            marker: _,
-        } = self;
-        MappedRefMut {
-            guard,
-            loan,
-            position,
-            by: Compose { outer, inner: by },
-            marker: PhantomData,
-        }
-    }
-
-    /// A reference to a part of the part, or this one again, where the part hasn't got it.
-    #[inline]
-    pub fn try_map<Q: Projection<P::Target> + Drop>(
-        self,
-        by: Q,
-    ) -> Result<MappedRefMut<'a, K, V, S, Compose<P, Q>>, Self>
-        ensures mapped { IfOk result (λ mapped. mapped ≡ record { guard = self.entry.guard; by = record { outer = self.entry.by; inner = by } }) }
-        ensures back { IfErr result (λ mapped. mapped ≡ self.entry) }
-        ensures exact { IsOk result ↔ IsSome (option_and_then (Q.part by) (part_in (P.part self.entry.by) self.entry.guard)) }
-    {
-        if by.holds(self.value()) {
-            Ok(self.map(by))
-        } else {
-            Err(self)
-        }
     }
 }
 
-impl<K: Eq + Hash, V, S: BuildHasher, P: Projection<V>> Deref for MappedRefMut<'_, K, V, S, P> {
+impl<
+    K: Eq + Hash,
+    V,
+    S: BuildHasher,
+    P: Projection<V>,
+    H: Holds<Key = K, Value = V, State = S>,
+    L: Wakes,
+> Deref for HeldMappedRef<K, V, S, P, H, L> {
     type Target = P::Target;
 
     ghost deref_gives = { λ m part. part_in (P.part m.by) m.guard ≡ Some part };
@@ -225,7 +238,14 @@ impl<K: Eq + Hash, V, S: BuildHasher, P: Projection<V>> Deref for MappedRefMut<'
     }
 }
 
-impl<K: Eq + Hash, V, S: BuildHasher, P: Projection<V>> DerefMut for MappedRefMut<'_, K, V, S, P> {
+impl<
+    K: Eq + Hash,
+    V,
+    S: BuildHasher,
+    P: Projection<V>,
+    H: Holds<Key = K, Value = V, State = S>,
+    L: Wakes,
+> DerefMut for HeldMappedRef<K, V, S, P, H, L> {
     ghost use Rattle.std.specs.Prelude.{◌≡◌, Some};
     ghost use Rattle.dash_ref.specs.RefMut.{part_in};
 
@@ -242,8 +262,14 @@ impl<K: Eq + Hash, V, S: BuildHasher, P: Projection<V>> DerefMut for MappedRefMu
 }
 
 /// `MappedRefMut { k: 1, v: 2 }`.
-impl<K: Eq + Hash + fmt::Debug, V, S: BuildHasher, P: Projection<V>> fmt::Debug
-    for MappedRefMut<'_, K, V, S, P>
+impl<
+    K: Eq + Hash + fmt::Debug,
+    V,
+    S: BuildHasher,
+    P: Projection<V>,
+    H: Holds<Key = K, Value = V, State = S>,
+    L: Wakes,
+> fmt::Debug for HeldMappedRef<K, V, S, P, H, L>
 where
     P::Target: fmt::Debug,
 {

@@ -1,12 +1,11 @@
 -- `change` ends the writer's round, lends the value that comes back for one call, and begins another round with what the call left.
-use Rattle.dash_shard.proofs.Walking.{[], ◌≡◌, ℕ, ◌+◌, List, ◌∷◌, sym, refl, ap, ◌∙◌, subst, dcons, dnil, a_type, named, Val, vptr, inst_fn, full_share, emp, SProp, ent, apply∗, Lft, Share, GName, ftrue, fsep, fex, flft, flent, fres, fbor, Incl-refl, Incl-trans, before, WpFn, Body, ‵, raw, ◌⊛◌, some, given, later, at_ret, ◌$◌, ◌∵◌, !, qed, by, move, keep, drop, split, split3, join, fsplit, fsplit3, fjoin, fjoin3, fpick, fpack, pick, learn, use0, use1, use2, group, await, rewrite, stop, fld, hop, addr, of_opd, no_more, and_then, first, blocks, exec, returns, enter, alloc_all, pass_all, free_all, look_at, get, through, sets, lands_last, env, sub, whole, look_in, bor_open, obor_close, name_agree, name_set, before_dup, tables, fact, fact_i, ◌⊑◌, meet_⊑_right, Lends-one, no, Is, shows, cell_at, part_at, mem, param, bounded, param_laws, RattleType, owns, Ptr, InBlock, block_ptr, block_of, count_of, at_block, mut_vals, mut_Tells, types_at, plain, named_lft, nothing, peeks, heard, opens, closes, calls_at_last, Stays, stay_dropped, stay_ref, walk_of, Goes-dropped, Goes-ref, tail, El, lawful, Good, one, FnOnceReturnsAtMut, FnOnceTakesAtMut, proved_at, leaves, fm}
+use Rattle.dash_shard.proofs.Walking.{[], ◌≡◌, ℕ, ◌+◌, List, ◌∷◌, sym, refl, ap, ◌∙◌, subst, dcons, dnil, a_type, named, Val, vptr, inst_fn, full_share, emp, SProp, ent, apply∗, Lft, Share, GName, ftrue, fsep, flft, flent, fres, Incl-trans, before, WpFn, Body, ‵, raw, ◌⊛◌, some, given, later, at_ret, ◌$◌, ◌∵◌, !, qed, by, move, keep, drop, split, split3, join, fsplit, fsplit3, fjoin, fjoin3, fpick, fpack, pick, learn, use0, use1, use2, group, await, rewrite, stop, fld, hop, addr, of_opd, no_more, and_then, first, blocks, exec, returns, enter, alloc_all, pass_all, free_all, look_at, get, through, sets, lands_last, env, sub, whole, look_in, bor_open, obor_close, name_agree, name_set, before_dup, tables, fact, fact_i, ◌⊑◌, meet_⊑_right, Lends-one, no, Is, shows, cell_at, part_at, mem, param, bounded, param_laws, RattleType, owns, Ptr, InBlock, block_ptr, block_of, count_of, at_block, mut_vals, mut_Tells, types_at, plain, named_lft, nothing, peeks, heard, opens, closes, calls_at_last, Stays, stay_dropped, stay_ref, walk_of, Goes-dropped, Goes-ref, tail, El, lawful, Good, one, FnOnceReturnsAtMut, FnOnceTakesAtMut, proved_at, leaves, fm}
 use denote.MutBor.{MutBor}
-use Rattle.dash_shard.specs.inner.Holding.{Fixed, offset, at_home, cell, begun, writer, kept, hold_owns}
+use Rattle.dash_shard.specs.inner.Holding.{Fixed, offset, at_home, writer, kept, hold_owns}
 use Rattle.dash_shard.specs.contracts.lock.hold.Hold as hold
 use Rattle.dash_shard.proofs.lock.hold.apply.Met as apply
 use Rattle.dash_shard.proofs.Changing as changing
 use Rattle.dash_shard.proofs.HoldFields.{lent, bits_of, told, owns_placed}
-use Rattle.dash_shard.proofs.Rounds.{fresh, ended as round_ended}
 use Rattle.dash_shard.specs.contracts.lock.hold.Hold.change.{ended, clauses}
 use Rattle.dash_shard.specs.contracts.lock.hold.Hold.change.Key.{name as #self}
 use Rattle.dash_shard.proofs.lock.hold.Hold.change.Statement.{statement}
@@ -22,7 +21,7 @@ change_spec 𝓤 𝓛 𝓜 𝓡 wired X Y Z W L _ LZ LW g d gf df dd _ meets_f m
     let App = changing.App 𝓛 X Z W gf df dd 𝓜.mem 𝓡.returns in let applies = apply.met 𝓤 𝓛 𝓜 𝓡 (code.calls-dash_shard::lock::hold::apply 𝓡.env wired) X Z W L LZ LW gf df dd meets_f meets_drop in
     proved_at 𝓛 En hs c 𝓜 𝓡 (Goes-ref 𝓛 6 0 tt row, (Goes-dropped 𝓛 6 item no (λ κs x f. refl), tt)) (#self inst) fn closed (λ z are.
     let κs = z.0.0 in let qs = z.0.1 in let a = z.0.3 in let ℓ = named_lft 6 1 tt κs in let Hr : RattleType = hold.the_row ℓ R G g in let h : Hr.Denot = a.0.now in let sb : ℕ = a.0.ref_ptr.0 in let so : ℕ = a.0.ref_ptr.1 in
-    let p : Ptr = h.lock in let b : ℕ = block_of p in let o : ℕ = count_of p in let κ : Lft = κs.0 in let β : Lft = κs.1.0 in let q : Share = qs.1.0 in let x : X.Denot = h.value in
+    let p : Ptr = h.cell in let b : ℕ = block_of p in let o : ℕ = count_of p in let κ : Lft = κs.0 in let β : Lft = κs.1.0 in let q : Share = qs.1.0 in let x : X.Denot = h.value in
     let ok = g.fits h.tag in let f : W.Denot = a.1.0 in let τ : Lft = κs.1.1.0 in let r : Share = qs.1.1.0 in let e : ℕ = o + offset R in
     let χ : Lft = κs.1.1.1.0 in let rχ : Share = qs.1.1.1.0 in let ρ : Lft = κs.1.1.1.1.0 in let rρ : Share = qs.1.1.1.1.0 in let φ : Lft = κs.1.1.1.1.1.0 in let rφ : Share = qs.1.1.1.1.1.0 in
     let got = one EW z.0.4.1.0 ((lawful EW 𝓛).typed f z.0.4.1.0 are.1.0) in let vf : Val = got.0 in let ff : Good EW vf = got.2 in let me : List Val = mut_vals a.0 in
@@ -43,11 +42,11 @@ change_spec 𝓤 𝓛 𝓜 𝓡 wired X Y Z W L _ LZ LW g d gf df dd _ meets_f m
     rewrite ! 0 (λ (z : Ptr × ℕ). ‵ (hold_owns β R ok z.0 z.1 x)) (λ i. (at i, asked i)) refl $
     let word : us ≡ bits_of (block_ptr b o) ∷ [] = told ℓ R G g p us is_self.0 ∙ ap (λ (r : Ptr). bits_of r ∷ []) at in rewrite ! 2 (λ (ws : List Val). ‵ (cell_at full_share Hr.mir ws sb so)) word refl $
     fpick ! (λ t. fsplit ! $ fsplit ! $ move ! (2 ∷ []) $
-    -- the round ends
-    fsplit ! $ move ! (1 ∷ []) $ fpick ! (λ u. fsplit ! $ move ! (1 ∷ []) $ fsplit3 ! $ move ! (3 ∷ 2 ∷ []) $ use2 𝓛 (later (‵ (fbor t.life (cell R ok b o t.track)))) (round_ended 𝓛 R ok b o t u) $ await ! tt $
+    -- the value's borrow
+    fsplit ! $ move ! (1 ∷ []) $ fsplit ! $ nothing ! $ move ! (2 ∷ 1 ∷ 0 ∷ []) $
     move ! (4 ∷ []) $ use1 𝓛 (‵ (before β t.life) ⊛ ‵ (before β t.life)) (before_dup 𝓛 β t.life) $ split ! $ move ! (0 ∷ 18 ∷ []) $
     use2 𝓛 (lent 𝓛 t.life β q) (Lends-one 𝓛 𝓜 𝓡 β t.life q) $ await ! tt $ pick ! (λ s. split ! $
-    move ! (3 ∷ 0 ∷ []) $ bor_open ! tt $ move ! (1 ∷ []) $ fpick ! (λ old. fsplit3 ! $ move ! (1 ∷ []) $ fpick ! (λ fit. drop ! $
+    move ! (3 ∷ 0 ∷ []) $ bor_open ! tt $ move ! (1 ∷ []) $ fpick ! (λ old. fsplit ! $ fsplit ! $ move ! (1 ∷ []) $ fpick ! (λ fit. drop ! $
     move ! (5 ∷ 1 ∷ []) $ name_agree ! R.coded (λ same.
     -- [the observation; its authority; the value; the open borrow; the way back; before; seen; out; the invariant; the fields; self's cell; three of self; self's first; f; ρ; φ; τ; χ]
     first ! $ blocks ! $ sets ! (addr ! (through ! refl (fld ! refl (hop ! (look_in ! 10 (sub ! 0 refl (whole !))) (fld ! refl (stop !)))))) refl (tt, tt) $
@@ -69,15 +68,13 @@ change_spec 𝓤 𝓛 𝓜 𝓡 wired X Y Z W L _ LZ LW g d gf df dd _ meets_f m
     move ! (4 ∷ 5 ∷ 6 ∷ 3 ∷ []) $ group ! 4 $ use1 𝓛 (later (‵ (part_at R full_share x' b e) ⊛ ‵ (flft τ r))) (changing.back 𝓛 R τ r b e u.0 j δ x') $ await ! tt $ split ! $
     -- [the value; τ; the result; ρ; φ; the observation; its authority; the open borrow; the way back; before; seen; out; the invariant; the fields; self's cell; three of self; self's first; χ]
     move ! (5 ∷ 6 ∷ []) $ name_set ! tt (R.coded.code x') $
-    -- the next round begins
     let ran' : Runs x res x' = subst (λ (i : X.Denot). Runs i res x') (sym same) ran in let fit' : ok x' = keeps x' res (subst ok (sym same) fit) ran' in
-    nothing ! $ fpack ! (ok x') (λ _. ftrue) fit' $ move ! (0 ∷ 2 ∷ []) $ fjoin ! $ move ! (2 ∷ 0 ∷ []) $ fjoin ! $
-    fpack ! X.Denot (at_home R ok b o t.track) x' $ move ! (6 ∷ 0 ∷ []) $ obor_close ! tt $ move ! (2 ∷ 0 ∷ 1 ∷ 3 ∷ []) $ group ! 4 $
-    use1 𝓛 (later (‵ (fex ℕ (begun R ok b o t x')) ⊛ ‵ (flft t.life s) ⊛ ‵ (flft τ r))) (fresh 𝓛 R ok b o t R.lives (LR.shares 𝓛) x' t.life s τ r (Incl-refl t.life) le) $ await ! tt $ split3 ! $
-    -- [the round; the lock's token; τ; the result; ρ; φ; the way back; before; seen; out; the invariant; the fields; self's cell; three of self; self's first; χ]
+    nothing ! $ fpack ! (ok x') (λ _. ftrue) fit' $ move ! (3 ∷ 0 ∷ []) $ fjoin ! $ move ! (0 ∷ 2 ∷ []) $ fjoin ! $
+    fpack ! X.Denot (at_home R ok b o t.track) x' $ move ! (6 ∷ 0 ∷ []) $ obor_close ! tt $ move ! (2 ∷ 0 ∷ []) $ fjoin ! $
+    -- [the value; the lock's token; τ; the result; ρ; φ; the way back; before; seen; out; the invariant; the fields; self's cell; three of self; self's first; χ]
     move ! (9 ∷ 0 ∷ []) $ fjoin ! $ move ! (1 ∷ 6 ∷ []) $ use2 𝓛 (later (‵ (flft β q))) (apply∗ 𝓤 (𝓛.A.lft t.life s) (H.⇛ (𝓛.A.lft β q))) $ await ! tt $
     move ! (6 ∷ 8 ∷ []) $ fjoin ! $ move ! (0 ∷ 2 ∷ []) $ fjoin ! $ fpack ! (Fixed R.Denot) (λ z. fsep (kept R ok b o z β) (writer R ok b o z x')) t $ rewrite ! 0 (λ (z : Ptr). ‵ (hold_owns β R ok z 2 x')) (sym at) refl $
-    let h' : Hr.Denot = record { lock = p; marker = record {}; tag = h.tag; right = 2; value = x' } in
+    let h' : Hr.Denot = record { cell = p; marker = record {}; tag = h.tag; right = 2; value = x' } in
     move ! (7 ∷ 0 ∷ []) $ fjoin ! $ rewrite ! 7 (λ (ws : List Val). ‵ (cell_at full_share Hr.mir ws sb so)) (sym word) refl $ move ! (7 ∷ 0 ∷ 8 ∷ 9 ∷ 10 ∷ []) $ closes ! tt Hr h' us sb so $
     -- [two parts of self; κ; β; τ; the result; ρ; φ; seen; self's first; χ]
     move ! (9 ∷ 0 ∷ 1 ∷ []) $ fjoin3 ! $ nothing ! $ nothing ! $ fjoin ! $ move ! (1 ∷ 0 ∷ []) $ fjoin ! $
@@ -86,4 +83,4 @@ change_spec 𝓤 𝓛 𝓜 𝓡 wired X Y Z W L _ LZ LW g d gf df dd _ meets_f m
     let Same : Type 0 = (h'.tag ≡ h.tag) × (h'.right ≡ 2) in use0 𝓛 (raw (fact 𝓤 (ok x'))) (fact_i 𝓤 (ok x') (emp 𝓤) fit') $ use0 𝓛 (raw (fact 𝓤 (Runs x res x'))) (fact_i 𝓤 (Runs x res x') (emp 𝓤) ran') $ join ! $
     use0 𝓛 (raw (fact 𝓤 Same)) (fact_i 𝓤 Same (emp 𝓤) (refl, refl)) $ join ! $
     -- [the facts; the tokens; self; the result; seen]
-    returns ! (look_at ! 0 refl) $ free_all ! refl $ keep ! (1 ∷ 2 ∷ 3 ∷ 0 ∷ []) $ by ! (leaves 𝓛 En hs c y vr res (h', (tt, tt)) (tt, (tt, tt))))))))))))))))))))))))))
+    returns ! (look_at ! 0 refl) $ free_all ! refl $ keep ! (1 ∷ 2 ∷ 3 ∷ 0 ∷ []) $ by ! (leaves 𝓛 En hs c y vr res (h', (tt, tt)) (tt, (tt, tt)))))))))))))))))))))))))
