@@ -14,6 +14,9 @@ use std::sync::Wait;
 /// A try form makes at most so many exchanges.
 const TRIES: u32 = 8;
 
+// How often a waiter spins before each look at the word, until it sleeps. Looks are seldom, so that who has the lock gets on.
+const SPINS: [u32; 8] = [2, 2, 2, 4, 16, 16, 16, 16];
+
 // What a raw lock guards.
 #[derive(Drop)]
 struct Nothing {}
@@ -273,14 +276,18 @@ impl<T: Tagged> RwLock<T> {
         ensures { IsHold T.fits self.now 1 result }
     {
         let backoff = Backoff::new();
-        for _ in rt.forever() {
+        for spins in SPINS {
+            for _ in 0..spins {
+                backoff.spin();
+            }
             if let Ok(hold) = self.try_lock_shared_fast(self.cell.word()) {
                 return hold;
             }
-            if backoff.is_completed() {
-                self.sleepers.park_reader(&self.cell, rt);
-            } else {
-                backoff.snooze();
+        }
+        for _ in rt.forever() {
+            self.sleepers.park_reader(&self.cell, rt);
+            if let Ok(hold) = self.try_lock_shared_fast(self.cell.word()) {
+                return hold;
             }
         }
         unreachable!()
@@ -292,14 +299,18 @@ impl<T: Tagged> RwLock<T> {
         ensures { IsHold T.fits self.now 2 result }
     {
         let backoff = Backoff::new();
-        for _ in rt.forever() {
+        for spins in SPINS {
+            for _ in 0..spins {
+                backoff.spin();
+            }
             if let Ok(hold) = self.try_lock_exclusive_fast(self.cell.word()) {
                 return hold;
             }
-            if backoff.is_completed() {
-                self.sleepers.park_writer(&self.cell, rt);
-            } else {
-                backoff.snooze();
+        }
+        for _ in rt.forever() {
+            self.sleepers.park_writer(&self.cell, rt);
+            if let Ok(hold) = self.try_lock_exclusive_fast(self.cell.word()) {
+                return hold;
             }
         }
         unreachable!()
