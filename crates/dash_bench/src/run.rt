@@ -53,7 +53,12 @@ pub fn measure<R: Threads + Wait + Clock + Files + AllocGlobal + Sync>(
         }
     }
     let mut workers = idle_workers(alloc, threads)?;
-    let one = |_: usize, worker: &mut Worker| worker.work(rt, &map, work);
+    // Each thread counts on its own stack: workers share cache lines.
+    let one = |_: usize, worker: &mut Worker| {
+        let mut own = *worker;
+        own.work(rt, &map, work);
+        *worker = own;
+    };
     let start = Instant::now(rt)?;
     thread::for_each_mut(rt, workers.as_mut_slice(), threads.max(1), &one);
     let nanoseconds = start.elapsed(rt)?.as_nanos();
