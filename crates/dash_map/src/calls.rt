@@ -1,5 +1,5 @@
 //! Calls of threads on a map that they share. A keyed call takes its shard's lock, `len` and its kin take all, one after the other, and
-//! `iter`, `iter_mut` and `try_reserve` take none.
+//! `iter` and `try_reserve` take none.
 ghost use Rattle.std.specs.Prelude.{◌≡◌, ◌<◌, ◌==◌, length, Option, IsTrue, IfSome, is_some};
 ghost use Rattle.std.specs.Option.{option_map};
 ghost use Rattle.std.specs.Map.Iter.{deref_pair};
