@@ -20,7 +20,7 @@ use dash_ref::mapref::multiple::RefMutMulti;
 use dash_shard::keyed::{Keyed, Lender};
 use dash_shard::lock::RwLock;
 use dash_shard::shard::Shard;
-use dash_shard::shard::held::holds::{Holds, Wakes, Writing};
+use dash_shard::shard::held::holds::{Holds, Writing};
 use dash_shard::shard::held::{HeldShard, ShardMut};
 use std::hash::{BuildHasher, Hash};
 use std::marker::Model;
@@ -35,9 +35,6 @@ pub trait Enters: Holds {
     /// How the walk has the map.
     type Map: Drop;
 
-    /// A shard's lock.
-    type Lock: Wakes;
-
     /// What a contract sees of it.
     ghost base: { Self.Map → MapState Self.State };
 
@@ -50,7 +47,7 @@ pub trait Enters: Holds {
         map: &Self::Map,
         rt: &R,
         shard: usize,
-    ) -> HeldShard<Self::Key, Self::Value, Self::State, Self, Self::Lock>
+    ) -> HeldShard<Self::Key, Self::Value, Self::State, Self>
         requires { shard < (base map.now).amount }
         ensures tagged { IsShardOf (by Self.Key.Hash Self.State.BuildHasher Self.State.Hasher.Hasher) (base map.now) shard result }
         ensures found { FoundBehind result };
@@ -58,8 +55,6 @@ pub trait Enters: Holds {
 
 impl<'a, K: Eq + Hash, V, S: BuildHasher> Enters for Writing<'a, K, V, S> {
     type Map = &'a DashMap<K, V, S>;
-
-    type Lock = &'a RwLock<Shard<K, V, S>>;
 
     ghost base = { λ map. map.now };
 
@@ -99,7 +94,7 @@ pub struct HeldIter<
     map: H::Map,
     shard_i: usize,
     // None before the first shard.
-    shard: Option<HeldShard<K, V, S, H, H::Lock>>,
+    shard: Option<HeldShard<K, V, S, H>>,
     position: usize,
 }
 
@@ -133,7 +128,7 @@ impl<K: Eq + Hash, V, S: BuildHasher, R, H: Holds<Key = K, Value = V, State = S>
     ghost use mir.Syntax.{named};
     ghost use Rattle.dash_map.specs.contracts.iter.locked_mut.HeldIter.{the_row};
 
-    ghost row = { the_row (record { mir = named 1; lft = [] }) K.row V.row S.row R.row H.row S.Hasher.row H.Map.row H.Lock.row (record { eq = K.eq }) (record { hash_input = K.hash_input }) S.BuildHasher S.Hasher.Hasher H.Holds (record { base = H.base }) };
+    ghost row = { the_row (record { mir = named 1; lft = [] }) K.row V.row S.row R.row H.row S.Hasher.row H.Lock.row H.Map.row (record { eq = K.eq }) (record { hash_input = K.hash_input }) S.BuildHasher S.Hasher.Hasher H.Holds (record { base = H.base }) };
 }
 
 impl<K: Eq + Hash, V, S: BuildHasher, R, H: Holds<Key = K, Value = V, State = S> + Enters> Drop
@@ -157,12 +152,12 @@ impl<K: Eq + Hash, V, S: BuildHasher, R, H: Holds<Key = K, Value = V, State = S>
 
 // The pair of a taken slot of the shard that is held, its value to be written.
 #[inline]
-fn pair_in<K: Eq + Hash, V, S: BuildHasher, H: Holds<Key = K, Value = V, State = S>, L: Wakes>(
-    shard: &mut Option<HeldShard<K, V, S, H, L>>,
+fn pair_in<K: Eq + Hash, V, S: BuildHasher, H: Holds<Key = K, Value = V, State = S>>(
+    shard: &mut Option<HeldShard<K, V, S, H>>,
     i: usize,
 ) -> (&K, &mut V)
     requires { IsSome (pair_at shard.old i) }
-    ensures* writes_back { sem 𝓛 (Lends (option_row ⟦<HeldShard<K, V, S, H, L> as Lender>⟧.row) V.row shard.entry result.1 (valued_at shard.old i)) }
+    ensures* writes_back { sem 𝓛 (Lends (option_row ⟦<HeldShard<K, V, S, H> as Lender>⟧.row) V.row shard.entry result.1 (valued_at shard.old i)) }
     ensures pair { pair_at shard.old i ≡ Some (deref_pair_mut result) }
 {
     match shard {

@@ -82,24 +82,17 @@ pub struct HeldShard<
     V,
     S: BuildHasher,
     H: Holds<Key = K, Value = V, State = S>,
-    L: Wakes,
 > {
     hold: H,
-    lock: L,
+    lock: H::Lock,
     marker: PhantomData<Shard<K, V, S>>,
 }
 
 /// A shard that is held for writing, behind its lock.
-pub type ShardMut<'a, K, V, S> = HeldShard<
-    K,
-    V,
-    S,
-    Writing<'a, K, V, S>,
-    &'a RwLock<Shard<K, V, S>>,
->;
+pub type ShardMut<'a, K, V, S> = HeldShard<K, V, S, Writing<'a, K, V, S>>;
 
-impl<K: Eq + Hash, V, S: BuildHasher, H: Holds<Key = K, Value = V, State = S>, L: Wakes> Model
-    for HeldShard<K, V, S, H, L> {
+impl<K: Eq + Hash, V, S: BuildHasher, H: Holds<Key = K, Value = V, State = S>> Model
+    for HeldShard<K, V, S, H> {
     ghost use Rattle.std.specs.Prelude.{◌≡◌};
     ghost use Rattle.dash_shard.specs.Hashing.{key_hash};
     ghost use Rattle.dash_shard.specs.Held.{FitsTag};
@@ -115,8 +108,8 @@ impl<K: Eq + Hash, V, S: BuildHasher, H: Holds<Key = K, Value = V, State = S>, L
     ghost invariant = { λ s. (H.right s.hold ≡ 2) × FitsTag (key_hash K.eq K.hash_input S.BuildHasher S.Hasher.Hasher) (H.tag s.hold) (H.value s.hold) };
 }
 
-impl<K: Eq + Hash, V, S: BuildHasher, H: Holds<Key = K, Value = V, State = S>, L: Wakes> Keyed
-    for HeldShard<K, V, S, H, L> {
+impl<K: Eq + Hash, V, S: BuildHasher, H: Holds<Key = K, Value = V, State = S>> Keyed
+    for HeldShard<K, V, S, H> {
     type Key = K;
 
     type State = S;
@@ -124,8 +117,8 @@ impl<K: Eq + Hash, V, S: BuildHasher, H: Holds<Key = K, Value = V, State = S>, L
     ghost by = { by K.Hash S.BuildHasher S.Hasher.Hasher };
 }
 
-impl<K: Eq + Hash, V, S: BuildHasher, H: Holds<Key = K, Value = V, State = S>, L: Wakes> Drop
-    for HeldShard<K, V, S, H, L> {
+impl<K: Eq + Hash, V, S: BuildHasher, H: Holds<Key = K, Value = V, State = S>> Drop
+    for HeldShard<K, V, S, H> {
     #[inline]
     fn drop(self)
         ensures left { LeftBehind self }
@@ -171,12 +164,11 @@ impl<'a, K: Eq + Hash, V, S: BuildHasher> ShardMut<'a, K, V, S> {
     }
 }
 
-impl<K: Eq + Hash, V, S: BuildHasher, H: Holds<Key = K, Value = V, State = S>, L: Wakes> HeldShard<
+impl<K: Eq + Hash, V, S: BuildHasher, H: Holds<Key = K, Value = V, State = S>> HeldShard<
     K,
     V,
     S,
     H,
-    L,
 > {
     // The shard behind the lock.
     #[inline(always)]

@@ -15,7 +15,7 @@ use dash_shard::keyed::Lender;
 use dash_shard::lock::RwLock;
 use dash_shard::shard::Shard;
 use dash_shard::shard::held::ShardMut;
-use dash_shard::shard::held::holds::{Holds, Wakes, Writing};
+use dash_shard::shard::held::holds::{Holds, Writing};
 use std::hash::{BuildHasher, Hash};
 use std::marker::Model;
 use std::mem;
@@ -26,9 +26,8 @@ pub struct HeldEntry<
     V,
     S: BuildHasher,
     H: Holds<Key = K, Value = V, State = S>,
-    L: Wakes,
 > {
-    pair: HeldRef<K, V, S, H, L>,
+    pair: HeldRef<K, V, S, H>,
     key: K,
 }
 
@@ -38,11 +37,10 @@ pub type OccupiedEntry<'a, K, V, S> = HeldEntry<
     V,
     S,
     Writing<'a, K, V, S>,
-    &'a RwLock<Shard<K, V, S>>,
 >;
 
-impl<K: Eq + Hash, V, S: BuildHasher, H: Holds<Key = K, Value = V, State = S>, L: Wakes> Model
-    for HeldEntry<K, V, S, H, L> {
+impl<K: Eq + Hash, V, S: BuildHasher, H: Holds<Key = K, Value = V, State = S>> Model
+    for HeldEntry<K, V, S, H> {
     ghost use Rattle.dash_shard.specs.Shard.{HasKey};
     ghost use Rattle.dash_ref.specs.Entry.{OccupiedState};
     ghost use Rattle.dash_ref.specs.inner.Entries.{occupied_code};
@@ -56,15 +54,15 @@ impl<K: Eq + Hash, V, S: BuildHasher, H: Holds<Key = K, Value = V, State = S>, L
     ghost invariant = { λ e. HasKey K.eq e.pair.shard e.key e.pair.position };
 }
 
-impl<K: Eq + Hash, V, S: BuildHasher, H: Holds<Key = K, Value = V, State = S>, L: Wakes> Lender
-    for HeldEntry<K, V, S, H, L> {
+impl<K: Eq + Hash, V, S: BuildHasher, H: Holds<Key = K, Value = V, State = S>> Lender
+    for HeldEntry<K, V, S, H> {
     ghost use Rattle.dash_ref.specs.contracts.mapref.entry.occupied.HeldEntry.{the_row};
 
-    ghost row = { the_row K.row V.row S.row H.row L.row S.Hasher.row (record { eq = K.eq }) (record { hash_input = K.hash_input }) S.BuildHasher S.Hasher.Hasher H.Holds };
+    ghost row = { the_row K.row V.row S.row H.row S.Hasher.row H.Lock.row (record { eq = K.eq }) (record { hash_input = K.hash_input }) S.BuildHasher S.Hasher.Hasher H.Holds };
 }
 
-impl<K: Eq + Hash + Drop, V, S: BuildHasher, H: Holds<Key = K, Value = V, State = S>, L: Wakes> Drop
-    for HeldEntry<K, V, S, H, L> {
+impl<K: Eq + Hash + Drop, V, S: BuildHasher, H: Holds<Key = K, Value = V, State = S>> Drop
+    for HeldEntry<K, V, S, H> {
     #[inline]
     fn drop(self)
         ensures left { LeftBehind self.pair.shard }
@@ -74,12 +72,11 @@ impl<K: Eq + Hash + Drop, V, S: BuildHasher, H: Holds<Key = K, Value = V, State 
     }
 }
 
-impl<K: Eq + Hash, V, S: BuildHasher, H: Holds<Key = K, Value = V, State = S>, L: Wakes> HeldEntry<
+impl<K: Eq + Hash, V, S: BuildHasher, H: Holds<Key = K, Value = V, State = S>> HeldEntry<
     K,
     V,
     S,
     H,
-    L,
 > {
     /// The stored value.
     #[inline]

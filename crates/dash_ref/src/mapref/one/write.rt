@@ -14,7 +14,7 @@ use super::Ref;
 use dash_shard::keyed::{Keyed, Lender};
 use dash_shard::lock::RwLock;
 use dash_shard::shard::Shard;
-use dash_shard::shard::held::holds::{Holds, Wakes, Writing};
+use dash_shard::shard::held::holds::{Holds, Writing};
 use dash_shard::shard::held::{HeldShard, ShardMut};
 pub use mapped::MappedRefMut;
 use std::fmt;
@@ -35,17 +35,16 @@ pub struct HeldRef<
     V,
     S: BuildHasher,
     H: Holds<Key = K, Value = V, State = S>,
-    L: Wakes,
 > {
-    shard: HeldShard<K, V, S, H, L>,
+    shard: HeldShard<K, V, S, H>,
     position: usize,
 }
 
 /// The original's `RefMut`.
-pub type RefMut<'a, K, V, S> = HeldRef<K, V, S, Writing<'a, K, V, S>, &'a RwLock<Shard<K, V, S>>>;
+pub type RefMut<'a, K, V, S> = HeldRef<K, V, S, Writing<'a, K, V, S>>;
 
-impl<K: Eq + Hash, V, S: BuildHasher, H: Holds<Key = K, Value = V, State = S>, L: Wakes> Model
-    for HeldRef<K, V, S, H, L> {
+impl<K: Eq + Hash, V, S: BuildHasher, H: Holds<Key = K, Value = V, State = S>> Model
+    for HeldRef<K, V, S, H> {
     ghost use Rattle.std.specs.Prelude.{IsSome};
     ghost use Rattle.dash_shard.specs.Shard.{slot};
     ghost use Rattle.dash_ref.specs.RefMut.{RefMutState};
@@ -60,8 +59,8 @@ impl<K: Eq + Hash, V, S: BuildHasher, H: Holds<Key = K, Value = V, State = S>, L
     ghost invariant = { λ r. IsSome (slot r.shard.slots r.position) };
 }
 
-impl<K: Eq + Hash, V, S: BuildHasher, H: Holds<Key = K, Value = V, State = S>, L: Wakes> Keyed
-    for HeldRef<K, V, S, H, L> {
+impl<K: Eq + Hash, V, S: BuildHasher, H: Holds<Key = K, Value = V, State = S>> Keyed
+    for HeldRef<K, V, S, H> {
     type Key = K;
 
     type State = S;
@@ -69,15 +68,15 @@ impl<K: Eq + Hash, V, S: BuildHasher, H: Holds<Key = K, Value = V, State = S>, L
     ghost by = { by K.Hash S.BuildHasher S.Hasher.Hasher };
 }
 
-impl<K: Eq + Hash, V, S: BuildHasher, H: Holds<Key = K, Value = V, State = S>, L: Wakes> Lender
-    for HeldRef<K, V, S, H, L> {
+impl<K: Eq + Hash, V, S: BuildHasher, H: Holds<Key = K, Value = V, State = S>> Lender
+    for HeldRef<K, V, S, H> {
     ghost use Rattle.dash_ref.specs.contracts.mapref.one.write.HeldRef.{the_row};
 
-    ghost row = { the_row K.row V.row S.row H.row L.row S.Hasher.row (record { eq = K.eq }) (record { hash_input = K.hash_input }) S.BuildHasher S.Hasher.Hasher H.Holds };
+    ghost row = { the_row K.row V.row S.row H.row S.Hasher.row H.Lock.row (record { eq = K.eq }) (record { hash_input = K.hash_input }) S.BuildHasher S.Hasher.Hasher H.Holds };
 }
 
-impl<K: Eq + Hash, V, S: BuildHasher, H: Holds<Key = K, Value = V, State = S>, L: Wakes> Drop
-    for HeldRef<K, V, S, H, L> {
+impl<K: Eq + Hash, V, S: BuildHasher, H: Holds<Key = K, Value = V, State = S>> Drop
+    for HeldRef<K, V, S, H> {
     #[inline]
     fn drop(self)
         ensures left { LeftBehind self.shard }
@@ -143,12 +142,11 @@ impl<'a, K: Eq + Hash, V, S: BuildHasher> RefMut<'a, K, V, S> {
     }
 }
 
-impl<K: Eq + Hash, V, S: BuildHasher, H: Holds<Key = K, Value = V, State = S>, L: Wakes> HeldRef<
+impl<K: Eq + Hash, V, S: BuildHasher, H: Holds<Key = K, Value = V, State = S>> HeldRef<
     K,
     V,
     S,
     H,
-    L,
 > {
     /// The key that is stored.
     #[inline]
@@ -193,8 +191,8 @@ impl<K: Eq + Hash, V, S: BuildHasher, H: Holds<Key = K, Value = V, State = S>, L
     }
 }
 
-impl<K: Eq + Hash, V, S: BuildHasher, H: Holds<Key = K, Value = V, State = S>, L: Wakes> Deref
-    for HeldRef<K, V, S, H, L> {
+impl<K: Eq + Hash, V, S: BuildHasher, H: Holds<Key = K, Value = V, State = S>> Deref
+    for HeldRef<K, V, S, H> {
     type Target = V;
 
     ghost deref_gives = { λ r value. option_map (λ p. p.1) (stored r) ≡ Some value };
@@ -205,8 +203,8 @@ impl<K: Eq + Hash, V, S: BuildHasher, H: Holds<Key = K, Value = V, State = S>, L
     }
 }
 
-impl<K: Eq + Hash, V, S: BuildHasher, H: Holds<Key = K, Value = V, State = S>, L: Wakes> DerefMut
-    for HeldRef<K, V, S, H, L> {
+impl<K: Eq + Hash, V, S: BuildHasher, H: Holds<Key = K, Value = V, State = S>> DerefMut
+    for HeldRef<K, V, S, H> {
     ghost use Rattle.std.specs.Prelude.{◌≡◌, Some};
     ghost use Rattle.std.specs.Option.{option_map};
     ghost use Rattle.dash_ref.specs.RefMut.{stored};
@@ -228,8 +226,7 @@ impl<
     V: fmt::Debug,
     S: BuildHasher,
     H: Holds<Key = K, Value = V, State = S>,
-    L: Wakes,
-> fmt::Debug for HeldRef<K, V, S, H, L> {
+> fmt::Debug for HeldRef<K, V, S, H> {
     fn fmt<W: fmt::Write>(&self, f: &mut fmt::Formatter<W>) -> fmt::Result {
         let (key, value) = self.pair();
         f.debug_struct("RefMut")

@@ -7,18 +7,17 @@ ghost use Rattle.dash_shard.specs.Each.{CalledOnPair, TakesOnPair, Clears, Shrin
 ghost use Rattle.dash_shard.specs.inner.Walks.{if_kept, altered, SweepsShard};
 ghost use Rattle.dash_shard.specs.Steps.{Retain, AlterAll};
 
-use super::holds::{Holds, Wakes};
+use super::holds::Holds;
 use super::{HeldShard, ShardMut};
 use crate::keyed::Keyed;
 use crate::shard::{Iter, Shard};
 use std::hash::{BuildHasher, Hash};
 
-impl<K: Eq + Hash, V, S: BuildHasher, H: Holds<Key = K, Value = V, State = S>, L: Wakes> HeldShard<
+impl<K: Eq + Hash, V, S: BuildHasher, H: Holds<Key = K, Value = V, State = S>> HeldShard<
     K,
     V,
     S,
     H,
-    L,
 > {
     /// The pairs, in rising order of slots.
     #[inline]

@@ -22,6 +22,8 @@ pub trait Holds {
 
     type State: BuildHasher;
 
+    type Lock: Wakes;
+
     ghost use Rattle.dash_shard.specs.Shard.{ShardState};
     ghost use Rattle.dash_shard.specs.declared.shard.held.ShardTag.{ShardTag};
 
@@ -34,8 +36,8 @@ pub trait Holds {
     /// The shard behind the lock.
     ghost value: { Self → ShardState Self.Key Self.Value Self.State };
 
-    /// The hold with another shard.
-    ghost with: { Self → ShardState Self.Key Self.Value Self.State → Self };
+    /// The hold where the value at a slot is another one.
+    ghost with: { Self → ℕ → Self.Value → Self };
 
     /// The shard, which stays while the hold is borrowed.
     fn get(&self) -> &Shard<Self::Key, Self::Value, Self::State>
@@ -46,7 +48,7 @@ pub trait Holds {
     fn lend(&mut self, position: usize) -> (&Self::Key, &mut Self::Value)
         requires right { right self.old ≡ 2 }
         requires taken { IsSome (slot (value self.old).slots position) }
-        ensures* writes_back { sem 𝓛 (Lends Self.row Self.Value.row self.entry result.1 (λ w. with self.old (with_value_in (value self.old) position w))) }
+        ensures* writes_back { sem 𝓛 (Lends Self.row Self.Value.row self.entry result.1 (with self.old position)) }
         ensures pair { slot (value self.old).slots position ≡ Some (deref_pair_mut result) }
         ensures keeps { (w : Self.Value) → FitsTag (by Self.Key.Hash Self.State.BuildHasher Self.State.Hasher.Hasher) (tag self.old) (with_value_in (value self.old) position w) };
 
@@ -55,19 +57,21 @@ pub trait Holds {
         requires { right self ≡ 2 }
         ensures left { LeftBehind (value self) };
 
-    ghost with_right: { (h : Self) (x : ShardState Self.Key Self.Value Self.State) → right (with h x) ≡ right h };
+    ghost with_right: { (h : Self) (i : ℕ) (w : Self.Value) → right (with h i w) ≡ right h };
 
-    ghost with_tag: { (h : Self) (x : ShardState Self.Key Self.Value Self.State) → tag (with h x) ≡ tag h };
+    ghost with_tag: { (h : Self) (i : ℕ) (w : Self.Value) → tag (with h i w) ≡ tag h };
 
-    ghost with_value: { (h : Self) (x : ShardState Self.Key Self.Value Self.State) → value (with h x) ≡ x };
+    ghost with_value: { (h : Self) (i : ℕ) (w : Self.Value) → value (with h i w) ≡ with_value_in (value h) i w };
 }
 
-impl<K: Eq + Hash, V, S: BuildHasher> Holds for Hold<'_, Shard<K, V, S>> {
+impl<'a, K: Eq + Hash, V, S: BuildHasher> Holds for Hold<'a, Shard<K, V, S>> {
     type Key = K;
 
     type Value = V;
 
     type State = S;
+
+    type Lock = &'a RwLock<Shard<K, V, S>>;
 
     ghost use Rattle.dash_shard.specs.inner.Lending.{with_held};
 
@@ -77,13 +81,13 @@ impl<K: Eq + Hash, V, S: BuildHasher> Holds for Hold<'_, Shard<K, V, S>> {
 
     ghost value = { λ h. h.value };
 
-    ghost with = { with_held };
+    ghost with = { λ h i w. with_held h (with_value_in h.value i w) };
 
-    ghost with_right = { λ _ _. refl };
+    ghost with_right = { λ _ _ _. refl };
 
-    ghost with_tag = { λ _ _. refl };
+    ghost with_tag = { λ _ _ _. refl };
 
-    ghost with_value = { λ _ _. refl };
+    ghost with_value = { λ _ _ _. refl };
 
     #[inline]
     fn get(&self) -> &Shard<K, V, S> {

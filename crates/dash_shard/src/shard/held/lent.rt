@@ -7,24 +7,23 @@ ghost use Rattle.dash_shard.specs.Contents.{at};
 ghost use Rattle.dash_shard.specs.Shard.{slot, pairs, IsShard, with_value_in, with_value_of};
 
 use super::HeldShard;
-use super::holds::{Holds, Wakes};
+use super::holds::Holds;
 use crate::keyed::{Keyed, Lender};
 use crate::shard::Shard;
 use std::hash::{BuildHasher, Hash};
 
-impl<K: Eq + Hash, V, S: BuildHasher, H: Holds<Key = K, Value = V, State = S>, L: Wakes> Lender
-    for HeldShard<K, V, S, H, L> {
+impl<K: Eq + Hash, V, S: BuildHasher, H: Holds<Key = K, Value = V, State = S>> Lender
+    for HeldShard<K, V, S, H> {
     ghost use Rattle.dash_shard.specs.contracts.shard.held.HeldShard.{the_row};
 
-    ghost row = { the_row K.row V.row S.row H.row L.row S.Hasher.row (record { eq = K.eq }) (record { hash_input = K.hash_input }) S.BuildHasher S.Hasher.Hasher H.Holds };
+    ghost row = { the_row K.row V.row S.row H.row S.Hasher.row H.Lock.row (record { eq = K.eq }) (record { hash_input = K.hash_input }) S.BuildHasher S.Hasher.Hasher H.Holds };
 }
 
-impl<K: Eq + Hash, V, S: BuildHasher, H: Holds<Key = K, Value = V, State = S>, L: Wakes> HeldShard<
+impl<K: Eq + Hash, V, S: BuildHasher, H: Holds<Key = K, Value = V, State = S>> HeldShard<
     K,
     V,
     S,
     H,
-    L,
 > {
     /// The value of the pair whose key equals `key`, to be written. For the stored key beside it there are `position_of` and `at_mut`.
     #[inline]

@@ -7,18 +7,17 @@ ghost use Rattle.dash_shard.specs.Shard.{slot, pairs, shard_len, HasKey, IsNextT
 ghost use Rattle.dash_shard.specs.Held.{Finds, Replaces};
 ghost use Rattle.dash_shard.specs.Steps.{Insert, Remove, Old, Pair};
 
-use super::holds::{Holds, Wakes};
+use super::holds::Holds;
 use super::{HeldShard, ShardMut};
 use crate::keyed::Keyed;
 use crate::shard::Shard;
 use std::hash::{BuildHasher, Hash};
 
-impl<K: Eq + Hash, V, S: BuildHasher, H: Holds<Key = K, Value = V, State = S>, L: Wakes> HeldShard<
+impl<K: Eq + Hash, V, S: BuildHasher, H: Holds<Key = K, Value = V, State = S>> HeldShard<
     K,
     V,
     S,
     H,
-    L,
 > {
     /// The slot of the pair whose key equals `key`, for `at`. It is good while the shard isn't changed.
     #[inline]

@@ -11,7 +11,7 @@ use dash_shard::keyed::Lender;
 use dash_shard::lock::RwLock;
 use dash_shard::shard::Shard;
 use dash_shard::shard::held::ShardMut;
-use dash_shard::shard::held::holds::{Holds, Wakes, Writing};
+use dash_shard::shard::held::holds::{Holds, Writing};
 use std::fmt;
 use std::hash::{BuildHasher, Hash};
 use std::marker::Model;
@@ -26,9 +26,8 @@ pub struct HeldMappedRef<
     S: BuildHasher,
     P: Projection<V>,
     H: Holds<Key = K, Value = V, State = S>,
-    L: Wakes,
 > {
-    guard: HeldRef<K, V, S, H, L>,
+    guard: HeldRef<K, V, S, H>,
     by: P,
 }
 
@@ -39,7 +38,6 @@ pub type MappedRefMut<'a, K, V, S, P> = HeldMappedRef<
     S,
     P,
     Writing<'a, K, V, S>,
-    &'a RwLock<Shard<K, V, S>>,
 >;
 
 impl<
@@ -48,8 +46,7 @@ impl<
     S: BuildHasher,
     P: Projection<V>,
     H: Holds<Key = K, Value = V, State = S>,
-    L: Wakes,
-> Model for HeldMappedRef<K, V, S, P, H, L> {
+> Model for HeldMappedRef<K, V, S, P, H> {
     ghost use Rattle.std.specs.Prelude.{IsSome};
     ghost use Rattle.dash_ref.specs.RefMut.{MappedRefMutState, part_in};
     ghost use Rattle.dash_ref.specs.inner.RefMut.{mapped_mut_code};
@@ -69,11 +66,10 @@ impl<
     S: BuildHasher,
     P: Projection<V>,
     H: Holds<Key = K, Value = V, State = S>,
-    L: Wakes,
-> Lender for HeldMappedRef<K, V, S, P, H, L> {
+> Lender for HeldMappedRef<K, V, S, P, H> {
     ghost use Rattle.dash_ref.specs.contracts.mapref.one.write.mapped.HeldMappedRef.{the_row};
 
-    ghost row = { the_row K.row V.row S.row P.row H.row L.row S.Hasher.row P.Target.row (record { eq = K.eq }) (record { hash_input = K.hash_input }) S.BuildHasher S.Hasher.Hasher P.Projection H.Holds };
+    ghost row = { the_row K.row V.row S.row P.row H.row S.Hasher.row P.Target.row H.Lock.row (record { eq = K.eq }) (record { hash_input = K.hash_input }) S.BuildHasher S.Hasher.Hasher P.Projection H.Holds };
 }
 
 impl<
@@ -82,8 +78,7 @@ impl<
     S: BuildHasher,
     P: Projection<V> + Drop,
     H: Holds<Key = K, Value = V, State = S>,
-    L: Wakes,
-> Drop for HeldMappedRef<K, V, S, P, H, L> {
+> Drop for HeldMappedRef<K, V, S, P, H> {
     #[inline]
     fn drop(self)
         ensures left { LeftBehind self.guard.shard }
@@ -170,8 +165,7 @@ impl<
     S: BuildHasher,
     P: Projection<V>,
     H: Holds<Key = K, Value = V, State = S>,
-    L: Wakes,
-> HeldMappedRef<K, V, S, P, H, L> {
+> HeldMappedRef<K, V, S, P, H> {
     /// The key that is stored.
     #[inline]
     pub fn key(&self) -> &K
@@ -226,8 +220,7 @@ impl<
     S: BuildHasher,
     P: Projection<V>,
     H: Holds<Key = K, Value = V, State = S>,
-    L: Wakes,
-> Deref for HeldMappedRef<K, V, S, P, H, L> {
+> Deref for HeldMappedRef<K, V, S, P, H> {
     type Target = P::Target;
 
     ghost deref_gives = { λ m part. part_in (P.part m.by) m.guard ≡ Some part };
@@ -244,8 +237,7 @@ impl<
     S: BuildHasher,
     P: Projection<V>,
     H: Holds<Key = K, Value = V, State = S>,
-    L: Wakes,
-> DerefMut for HeldMappedRef<K, V, S, P, H, L> {
+> DerefMut for HeldMappedRef<K, V, S, P, H> {
     ghost use Rattle.std.specs.Prelude.{◌≡◌, Some};
     ghost use Rattle.dash_ref.specs.RefMut.{part_in};
 
@@ -268,8 +260,7 @@ impl<
     S: BuildHasher,
     P: Projection<V>,
     H: Holds<Key = K, Value = V, State = S>,
-    L: Wakes,
-> fmt::Debug for HeldMappedRef<K, V, S, P, H, L>
+> fmt::Debug for HeldMappedRef<K, V, S, P, H>
 where
     P::Target: fmt::Debug,
 {
