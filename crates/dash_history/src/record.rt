@@ -285,7 +285,7 @@ impl<K: KeptKey + Drop, V: Kept + Drop, S: BuildHasher, A: KeptAction<K, V> + Dr
         }
         let alloc = *self.history.allocator();
         let found = find(&self.shard, hash, &step);
-        let Ok((reply, change)) = prepare(alloc, &self.shard, found, &step) else {
+        let Ok((reply, change)) = prepare(alloc, &self.shard, found.ok(), &step) else {
             return Err(step);
         };
         let number = self.shard.number();

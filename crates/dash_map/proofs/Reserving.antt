@@ -44,7 +44,7 @@ module _ {K V S : Type 0} (h : KeyHash K S) where
     turned : {E : Type 0} (answer : Result (Unit {0}) E) → Reserves h.eq additional s t answer → Turning h (Keeps h additional) (i + 1) old (record { hasher = base; row = slice_set row i t })
     turned answer x = had-turn h (Keeps h additional) i old base row r.turning within s t read x.stays new (keeps-reserved additional s t answer x)
 
-    pub reserved : {E : Type 0} → Reserves h.eq additional s t {E = E} (Ok tt) → Reserving additional (i + 1) old (record { hasher = base; row = slice_set row i t })
+    pub reserved : {E : Type 0} → Reserves h.eq additional s t {R = Unit {0}} {E = E} (Ok tt) → Reserving additional (i + 1) old (record { hasher = base; row = slice_set row i t })
     reserved x = record {
       room = λ j y below e. elim (cases_eq j i) as (λ _. shard_len y + additional ≤ y.capacity) [
         | inl this ↦
@@ -56,14 +56,14 @@ module _ {K V S : Type 0} (h : KeyHash K S) where
     }
 
     -- the shard was refused, for want of room
-    pub refused : IsEquivalence h.eq → IsAlone h old → {E : Type 0} (e : E) → Reserves h.eq additional s t (Err e) → {F : Type 0} (answer : Result (Unit {0}) F) → IsErr answer
+    pub refused : IsEquivalence h.eq → IsAlone h old → {E : Type 0} (e : E) → Reserves h.eq additional s t {R = Unit {0}} (Err e) → {F : Type 0} (answer : Result (Unit {0}) F) → IsErr answer
         → ReservesAlone h.eq additional old (record { hasher = base; row = slice_set row i t }) answer
     refused laws lawful e x (Ok _) failed = cc
     refused laws lawful e x (Err f) failed =
         let stood = r.turning.rest i s (omega arith) here in
         keeps-alone h laws additional (i + 1) old (record { hasher = base; row = slice_set row i t }) lawful (turned (Err e) x) (Err f) tt (i, subst (λ o. IsSomeAnd o (λ y. y.capacity < shard_len y + additional)) (sym stood) x.full)
 
-    pub refused-lawful : {E : Type 0} (e : E) → Reserves h.eq additional s t (Err e) → IsAlone h (record { hasher = base; row = slice_set row i t })
+    pub refused-lawful : {E : Type 0} (e : E) → Reserves h.eq additional s t {R = Unit {0}} (Err e) → IsAlone h (record { hasher = base; row = slice_set row i t })
     refused-lawful e x = (turned (Err e) x).lawful
 
   -- all shards had theirs

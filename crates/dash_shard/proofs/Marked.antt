@@ -1,12 +1,12 @@
 -- The marks of a table's slots, after each change of a slot.
-use Rattle.std.proofs.Common.{◌≡◌, ◌≢◌, ℕ, zero, suc, ◌+◌, ◌*◌, ◌/◌, ◌%◌, ◌<◌, ◌≤◌, List, [], ◌∷◌, length, set, Option, Some, None, refl, sym, ap, subst, ◌∙◌, inl, inr, arith, slice_index, get_or-set_same, get_or-set_other, eq-eqb, ◌==◌, cond}
-use Rattle.std.proofs.lemmas.Bool.{cases_eq, cases_lt, ne_eqb}
+use Rattle.std.proofs.Common.{◌≡◌, ◌≢◌, ℕ, zero, suc, ◌+◌, ◌*◌, ◌/◌, ◌%◌, ◌<◌, ◌≤◌, List, [], ◌∷◌, length, set, Option, Some, None, IsSome, refl, sym, ap, subst, ◌∙◌, inl, inr, arith, slice_index, get_or-set_same, get_or-set_other, eq-eqb, ◌==◌, cond}
+use Rattle.std.proofs.lemmas.Bool.{cases_eq, cases_lt, ne_eqb, true≢false}
 use Rattle.std.proofs.lemmas.List.{get_or_past}
 use Rattle.std.proofs.lemmas.Option.{none-some}
 use Rattle.std.proofs.Math.ListN.{length-set}
 use Rattle.dash_shard.specs.Shard.{slot}
 use Rattle.dash_shard.specs.Search.{class_of}
-use Rattle.dash_shard.specs.inner.Marks.{tag_of, round, step_to, goes_past, lane, IsFull, IsClean, IsAllTaken, KeepsTags, tally, stands_past, IsMarked, IsPlace, count_of, IsCount, IsRaised, IsLowered, CountsPast, UncountsPast}
+use Rattle.dash_shard.specs.inner.Marks.{tag_of, round, step_to, goes_past, lane, IsFull, IsClean, IsAllTaken, KeepsTags, tally, stands_past, IsMarked, HasNoFree, IsPlace, count_of, IsCount, IsRaised, IsLowered, CountsPast, UncountsPast}
 use Rattle.dash_shard.proofs.Fours.{class-small, count-word, count-zero}
 use Rattle.dash_shard.proofs.Counts.{count-raised, count-lowered, count-some, raised-some, lowered-some}
 use Rattle.dash_shard.proofs.Ways.{mod_below, round_below, round_step, step_round, step_below, past_yes, past_no}
@@ -139,6 +139,21 @@ module _ {A : Type 0} where
         from None e = refl
         from (Some p) e = absurd (omega (arith, high, m.low i p e))
 
+    -- a group of low tags has no free slot, and the other way round
+    pub low-taken : (g : ℕ) → g < n → IsAllTaken tags g → HasNoFree xs g
+    low-taken g lt all j within = from (slot xs (16 * g + j)) refl
+      where
+        from : (o : Option A) → slot xs (16 * g + j) ≡ o → IsSome o
+        from None e = absurd (let high = m.free (16 * g + j) (omega (arith, lt, within)) e in let low = all j within in omega (arith, high, low))
+        from (Some p) e = refl
+
+    pub taken-low : (g : ℕ) → HasNoFree xs g → IsAllTaken tags g
+    taken-low g all j within = from (slot xs (16 * g + j)) refl (all j within)
+      where
+        from : (o : Option A) → slot xs (16 * g + j) ≡ o → IsSome o → lane tags g j < 128
+        from None e some = absurd (true≢false (sym some))
+        from (Some p) e some = m.low (16 * g + j) p e
+
     -- another pair of the same hash in a taken slot
     pub marked-rewrite : (i : ℕ) (p q : A) → slot xs i ≡ Some p → IsMarked n tags counts (set xs i (Some q)) hs
     marked-rewrite i p q here =
@@ -168,7 +183,7 @@ module _ {A : Type 0} where
         }
 
     -- a pair of the hash h on a place for it
-    module _ (h i : ℕ) (p : A) (place : IsPlace n h tags xs i) (now : List ℕ) (low : tag_of h < 128)
+    module _ (h i : ℕ) (p : A) (place : IsPlace n h xs i) (now : List ℕ) (low : tag_of h < 128)
         (long : length now ≡ length counts) (counts-now : CountsPast n (h % n) (step_to n (h % n) (i / 16)) (class_of h) counts now) where
       t : ℕ
       t = tag_of h
@@ -233,7 +248,7 @@ module _ {A : Type 0} where
                   let raise = subst (λ d. IsRaised (count_of (slice_index counts g) d) (goes_past n (h % n) (step_to n (h % n) (i / 16)) g) (count_of (slice_index now g) d)) own (counts-now.own g lt) in
                   let one = raised-some _ _ _ raise some none in
                   let step = past-before n (h % n) (step_to n (h % n) (i / 16)) g (omega (arith, one, past-most n (h % n) (step_to n (h % n) (i / 16)) g)) in
-                  let all = subst (IsAllTaken tags) (round_step n (h % n) g below lt) (place.before (step_to n (h % n) g) step) in
+                  let all = taken-low g (subst (HasNoFree xs) (round_step n (h % n) g below lt) (place.before (step_to n (h % n) g) step)) in
                   λ e. omega (arith, all j within, e)
               | inr other ↦ absurd (let same = counts-now.others g lt c class (λ e. other (sym e)) in omega (arith, same, none, some))
             ]

@@ -11,8 +11,8 @@ use Rattle.dash_shard.specs.Shard.{slot, taken}
 use Rattle.dash_shard.specs.declared.shard.table.Table.{Table}
 use Rattle.dash_shard.specs.inner.Marks.{round, tag_of, count_of, group_at, step_to, lane, IsFull, IsAllTaken}
 use Rattle.dash_shard.specs.inner.Table.{IsTable, IsSpot, IsAbsent, MissesLanes, PassesFirst, EndsWays, MayEnd, limit, slots_in, groups_in, pairs_in, hashes_in}
-use Rattle.dash_shard.proofs.Marked.{marked-passed, marked-reached, marked-empty}
-use Rattle.dash_shard.proofs.Ways.{mod_below, step-low, round-low, round_step, step_round, step_below}
+use Rattle.dash_shard.proofs.Marked.{marked-passed, marked-reached, marked-empty, low-taken}
+use Rattle.dash_shard.proofs.Ways.{mod_below, step-low, round-low, round_below, round_step, step_round, step_below}
 
 -- a mask that is not 0 has a bit, and 0 has none
 some-bit : (m : ℕ) → 0 < m → m < 2 ^ 16 → (j : ℕ) × (j < 16) × (bit_at m j ≡ 1)
@@ -248,7 +248,7 @@ module _ {K V : Type 0} where
           record {
             within = let slots = table.marked.slots_len in let b = at.below in omega (arith, slots, b, is, lt);
             empty = marked-empty table.marked i tag;
-            before = λ u less. p.none refl u (omega (arith, less, mine));
+            before = λ u less. low-taken table.marked (group_at n hash u) (round_below n (hash % n) u home (omega (arith, less, mine, within))) (p.none refl u (omega (arith, less, mine)));
           }
 
       pub placing-more : IsTable t → step < groups_in t → (free now : Option ℕ) → FirstFree free now row group → Placing t hash free step → Placing t hash now (step + 1)

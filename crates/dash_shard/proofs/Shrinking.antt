@@ -95,7 +95,7 @@ module _ {K V S : Type 0} (h : KeyHash K S)
 module _ {K V S : Type 0} (h : KeyHash K S)
     (law : IsLawful h) (s : S) (number amount : ℕ)
     (t new : Table K V) (inside : Inside h law s number amount t) where
-  pub reserved : (z : ShardState K V S) → state h law s number amount t ≡ z → {E : Type 0} → (additional : ℕ) (r : Result (Unit {0}) E) → IsMoved t new → OnOk r (new.len + additional ≤ limit (slots_in new))
+  pub reserved : (z : ShardState K V S) → state h law s number amount t ≡ z → {R E : Type 0} → (additional : ℕ) (r : Result R E) → IsMoved t new → OnOk r (new.len + additional ≤ limit (slots_in new))
       → (t.len + additional ≤ limit (slots_in t) → new ≡ t) → OnErr r ((new ≡ t) × (limit (slots_in t) < t.len + additional)) → Reserves h.eq additional z (state h law s number amount new) r
   reserved z view additional r moved ok kept err = subst (λ x. Reserves h.eq additional x (state h law s number amount new) r) view (record {
     room = on-ok r ok;
@@ -107,14 +107,14 @@ module _ {K V S : Type 0} (h : KeyHash K S)
     full = on-full r err;
   })
     where
-      on-ok : {E : Type 0} (q : Result (Unit {0}) E) → OnOk q (new.len + additional ≤ limit (slots_in new)) → OnOk q (length (taken (pairs_in new)) + additional ≤ limit (slots_in new))
+      on-ok : {R E : Type 0} (q : Result R E) → OnOk q (new.len + additional ≤ limit (slots_in new)) → OnOk q (length (taken (pairs_in new)) + additional ≤ limit (slots_in new))
       on-ok (Ok x) fits = omega (arith, fits, moved.table.counted)
       on-ok (Err e) fits = tt
 
-      on-full : {E : Type 0} (q : Result (Unit {0}) E) → OnErr q ((new ≡ t) × (limit (slots_in t) < t.len + additional)) → OnErr q (limit (slots_in t) < length (taken (pairs_in t)) + additional)
+      on-full : {R E : Type 0} (q : Result R E) → OnErr q ((new ≡ t) × (limit (slots_in t) < t.len + additional)) → OnErr q (limit (slots_in t) < length (taken (pairs_in t)) + additional)
       on-full (Ok x) full = tt
       on-full (Err e) full = let lt = full.1 in omega (arith, lt, inside.counted)
 
-      on-err : {E : Type 0} (q : Result (Unit {0}) E) → OnErr q ((new ≡ t) × (limit (slots_in t) < t.len + additional)) → OnErr q (state h law s number amount new ≡ state h law s number amount t)
+      on-err : {R E : Type 0} (q : Result R E) → OnErr q ((new ≡ t) × (limit (slots_in t) < t.len + additional)) → OnErr q (state h law s number amount new ≡ state h law s number amount t)
       on-err (Ok x) same = tt
       on-err (Err e) same = ap (state h law s number amount) same.0

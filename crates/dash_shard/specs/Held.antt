@@ -37,7 +37,7 @@ abbrev pub Loses : {K V S : Type 0} → ShardState K V S → ShardState K V S �
 Loses old new result = shard_len old ≡ shard_len new + (if is_some result then 1 else 0)
 
 -- all that making room for so many pairs more promises: the pairs stay, and so do their slots where there was room
-pub record Reserves {K V S : Type 0} (eq : K → K → Bool) (additional : ℕ) (old new : ShardState K V S) {E : Type 0} (result : Result (Unit {0}) E) : Type 0 where
+pub record Reserves {K V S : Type 0} (eq : K → K → Bool) (additional : ℕ) (old new : ShardState K V S) {R E : Type 0} (result : Result R E) : Type 0 where
   pub room : OnOk result (shard_len new + additional ≤ new.capacity)
   pub pairs : EachOnce eq (pairs old) (pairs new)
   pub len : shard_len new ≡ shard_len old

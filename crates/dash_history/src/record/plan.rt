@@ -5,8 +5,10 @@ ghost use Rattle.std.specs.Map.Iter.{deref_pair};
 ghost use Rattle.dash_shard.specs.Shard.{Routes, SameShard};
 ghost use Rattle.dash_history.specs.History.{GoesTo};
 ghost use Rattle.dash_steps.specs.inner.Hashed.{HasHash};
-ghost use Rattle.dash_steps.specs.inner.Plan.{MayAnswer, Decides, Makes, StaysLawful, Leaves, IsFound, IsTakenSlot, pair_in, MakesAt};
+ghost use Rattle.dash_steps.specs.inner.Plan.{MayAnswer, Decides, Makes, StaysLawful, Leaves, IsFound, HasPlace, IsTakenSlot, pair_in, MakesAt};
 ghost use Rattle.dash_shard.specs.Held.{Finds};
+ghost use Rattle.dash_shard.specs.inner.Table.{MayTake};
+ghost use Rattle.core.specs.Result.{result_ok};
 
 use crate::known::Recorded;
 use crate::record::RecShard;
@@ -20,18 +22,19 @@ use dash_steps::sweep::{ask_each, copy_pairs, put_each};
 use std::alloc::{AllocError, Global};
 use std::hash::BuildHasher;
 
-/// The slot of the pair at the step's key, if it has a key and there is such a pair.
+/// The slot of the pair at the step's key, or else the free slot for one, if the step has a key, and there is room.
 pub(super) fn find<K: KeptKey, V: Kept, S: BuildHasher, A: KeptAction<K, V>>(
     shard: &Shard<K, V, S>,
     hash: u64,
     step: &ShardStep<K, V, A>,
-) -> Option<usize>
+) -> Result<usize, usize>
     requires { HasHash ⟦<RecShard<K, V, S, A> as Recorded>⟧.known shard.now step.now hash }
-    ensures { IsFound ⟦<RecShard<K, V, S, A> as Recorded>⟧.known shard.now step.now result }
+    ensures found { IsFound ⟦<RecShard<K, V, S, A> as Recorded>⟧.known shard.now step.now (result_ok result) }
+    ensures free { IfErr result (HasPlace ⟦<RecShard<K, V, S, A> as Recorded>⟧.known shard.now step.now hash) }
 {
     match step.key() {
-        Ok(key) => shard.position_of_hashed(hash, key),
-        Err(_) => None,
+        Ok(key) => shard.find_or_place(hash, key),
+        Err(_) => Err(0),
     }
 }
 
@@ -95,45 +98,47 @@ pub(super) fn prepare<
     }
 }
 
-// Puts the pair in the slot that was found, under the stored key, or in room that is made for it.
+// Puts the pair in the slot that was found, under the stored key, or in the free one, or in room that is made for it.
 fn put<K: KeptKey + Drop, V: Kept + Drop, S: BuildHasher>(
     shard: &mut Shard<K, V, S>,
     hash: u64,
-    found: Option<usize>,
+    found: Result<usize, usize>,
     key: K,
     value: V,
 ) -> Result<(), InsertRefused<K, V>>
     requires hash { hash ≡ ⟦<Shard<K, V, S> as Keyed>⟧.by.hash shard.old.hasher key }
     requires route { Routes ⟦<Shard<K, V, S> as Keyed>⟧.by shard.old key }
-    requires found { Finds K.eq shard.old key found }
+    requires found { Finds K.eq shard.old key (result_ok found) }
+    requires free { IfErr found (MayTake shard.old hash) }
     ensures puts { OnOk result (Makes ⟦<Shard<K, V, S> as Keyed>⟧.by shard.old shard.new key (Change.Becomes value)) }
     ensures refused { IfErr result (λ e. (e.key ≡ key) × (e.value ≡ value) × (shard.new ≡ shard.old)) }
     ensures stays { SameShard shard.old shard.new }
     ensures lawful { StaysLawful ⟦<Shard<K, V, S> as Keyed>⟧.by shard.old shard.new }
 {
-    if let Some(slot) = found {
-        drop(shard.set_at(slot, value));
-        return Ok(());
+    match found {
+        Ok(slot) => drop(shard.set_at(slot, value)),
+        Err(free) => {
+            let Ok(free) = shard.make_place(hash, free) else {
+                return Err(InsertRefused { key, value });
+            };
+            shard.insert_new_at(free, hash, key, value);
+        }
     }
-    let Ok(()) = shard.try_reserve(1) else {
-        return Err(InsertRefused { key, value });
-    };
-    shard.insert_new_hashed(hash, key, value);
     Ok(())
 }
 
 // Makes of the pair in the slot that was found what was decided.
 fn make_change<K: KeptKey + Drop, V: Kept + Drop, S: BuildHasher>(
     shard: &mut Shard<K, V, S>,
-    found: Option<usize>,
+    found: Result<usize, usize>,
     change: Change<V>,
 )
-    requires { IsTakenSlot shard.old found }
-    ensures becomes { MakesAt ⟦<Shard<K, V, S> as Keyed>⟧.by shard.old shard.new found change }
+    requires { IsTakenSlot shard.old (result_ok found) }
+    ensures becomes { MakesAt ⟦<Shard<K, V, S> as Keyed>⟧.by shard.old shard.new (result_ok found) change }
     ensures stays { SameShard shard.old shard.new }
     ensures lawful { StaysLawful ⟦<Shard<K, V, S> as Keyed>⟧.by shard.old shard.new }
 {
-    let Some(slot) = found else {
+    let Ok(slot) = found else {
         drop(change);
         return;
     };
@@ -153,13 +158,14 @@ pub(super) fn carry_out<
 >(
     shard: &mut Shard<K, V, S>,
     hash: u64,
-    found: Option<usize>,
+    found: Result<usize, usize>,
     step: ShardStep<K, V, A>,
     decided: Change<V>,
 ) -> Result<(), ShardStep<K, V, A>>
     requires goes { GoesTo ⟦<RecShard<K, V, S, A> as Recorded>⟧.known shard.old step }
     requires hash { HasHash ⟦<RecShard<K, V, S, A> as Recorded>⟧.known shard.old step hash }
-    requires found { IsFound ⟦<RecShard<K, V, S, A> as Recorded>⟧.known shard.old step found }
+    requires found { IsFound ⟦<RecShard<K, V, S, A> as Recorded>⟧.known shard.old step (result_ok found) }
+    requires free { IfErr found (HasPlace ⟦<RecShard<K, V, S, A> as Recorded>⟧.known shard.old step hash) }
     requires decides { Decides ⟦<RecShard<K, V, S, A> as Recorded>⟧.known shard.old step decided }
     ensures ok { OnOk result (Leaves ⟦<RecShard<K, V, S, A> as Recorded>⟧.known shard.old step shard.new) }
     ensures stays { SameShard shard.old shard.new }

@@ -103,12 +103,12 @@ impl<'a, K: Eq + Hash + Drop, V: Drop, S: BuildHasher> Entry<'a, K, V, S> {
         ensures routes { IfOk result (λ e. Routes ⟦<Self as Keyed>⟧.by (entry_shard e) key) }
         ensures lawful { IfOk result (λ e. IsShard ⟦<Self as Keyed>⟧.by (entry_shard e)) }
     {
-        if let Some(position) = shard.position_of_hashed(hash, &key) {
-            return Ok(Entry::Occupied(OccupiedEntry::new(shard, position, key)));
-        }
-        match shard.try_reserve(1) {
-            Ok(()) => Ok(Entry::Vacant(VacantEntry::new(shard, hash, key))),
-            Err(_) => Err(EntryRefused { key }),
+        match shard.find_or_place(hash, &key) {
+            Ok(position) => Ok(Entry::Occupied(OccupiedEntry::new(shard, position, key))),
+            Err(free) => match shard.make_place(hash, free) {
+                Ok(free) => Ok(Entry::Vacant(VacantEntry::new(shard, hash, free, key))),
+                Err(_) => Err(EntryRefused { key }),
+            },
         }
     }
 

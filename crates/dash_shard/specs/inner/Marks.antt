@@ -1,6 +1,6 @@
 -- The marks of an open table: a tag for each slot, in groups of sixteen, and for each group how many pairs of each class stand past it. The tag 128 marks
 -- an empty slot, 129 one whose pair was removed, and a lower one is the top seven bits of a stored pair's hash.
-use Rattle.std.specs.Prelude.{◌≡◌, ◌≢◌, ◌⊎◌, ℕ, suc, ◌+◌, ◌-◌, ◌*◌, ◌/◌, ◌%◌, ◌^◌, ◌<◌, ◌≤◌, List, [], ◌∷◌, length, Option, Some, None, slice_index, nat_lt, ◌==◌, if◌then◌else◌}
+use Rattle.std.specs.Prelude.{◌≡◌, ◌≢◌, ◌⊎◌, ℕ, suc, ◌+◌, ◌-◌, ◌*◌, ◌/◌, ◌%◌, ◌^◌, ◌<◌, ◌≤◌, List, [], ◌∷◌, length, Option, Some, None, IsSome, slice_index, nat_lt, ◌==◌, if◌then◌else◌}
 use Rattle.dash_shard.specs.Shard.{slot}
 use Rattle.dash_shard.specs.Search.{class_of}
 
@@ -96,8 +96,12 @@ module _ {A : Type 0} where
     pub full : (g c : ℕ) → g < n → c < 16 → 0 < count_of (slice_index counts g) c → IsFull tags g
     pub clean : (g : ℕ) → g < n → slice_index counts g ≡ 0 → IsClean tags g
 
-  -- a pair of this hash may be put on the slot i: it is the first on the hash's way, but for slots of its own group
-  pub record IsPlace (n hash : ℕ) (tags : List ℕ) (slots : List (Option A)) (i : ℕ) : Type 0 where
+  -- no slot of the group g is free
+  abbrev pub HasNoFree : List (Option A) → ℕ → Type 0
+  HasNoFree slots g = (j : ℕ) → j < 16 → IsSome (slot slots (16 * g + j))
+
+  -- a pair of this hash may be put on the slot i: it is the first free one on the hash's way, but for slots of its own group
+  pub record IsPlace (n hash : ℕ) (slots : List (Option A)) (i : ℕ) : Type 0 where
     pub within : i < length slots
     pub empty : slot slots i ≡ None
-    pub before : (s : ℕ) → s < step_to n (hash % n) (i / 16) → IsAllTaken tags (group_at n hash s)
+    pub before : (s : ℕ) → s < step_to n (hash % n) (i / 16) → HasNoFree slots (group_at n hash s)

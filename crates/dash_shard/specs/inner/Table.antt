@@ -11,7 +11,7 @@ use Rattle.dash_slots.specs.inner.Slots.{SlotsState}
 use Rattle.dash_shard.specs.Hashing.{KeyHash, hash_of}
 use Rattle.dash_shard.specs.Contents.{Keys, Distinct, EachOnce}
 use Rattle.dash_shard.specs.Shard.{ShardState, IsShard, shard_len, slot, taken}
-use Rattle.dash_shard.specs.Search.{class_of}
+use Rattle.dash_shard.specs.Search.{class_of, groups}
 use Rattle.dash_shard.specs.inner.Marks.{step_to, group_at, IsFull, IsMarked, IsPlace}
 use Rattle.dash_shard.specs.declared.shard.table.Table.{Table}
 
@@ -55,7 +55,7 @@ module _ {K V : Type 0} where
 
   -- a pair of this hash may be put on the slot i
   abbrev pub IsSpot : Table K V → ℕ → ℕ → Type 0
-  IsSpot t hash i = IsPlace (groups_in t) hash t.tags.items (pairs_in t) i
+  IsSpot t hash i = IsPlace (groups_in t) hash (pairs_in t) i
 
   -- how many groups after the first of the hash's way the slot i stands
   abbrev pub steps_in : Table K V → ℕ → ℕ → ℕ
@@ -135,6 +135,14 @@ module _ {K V S : Type 0} where
   -- the shard with this table
   abbrev pub with_table : ShardState K V S → Table K V → ShardState K V S
   with_table s t = record s { slots = pairs_in t; capacity = limit (slots_in t) }
+
+  -- a pair of this hash may be put on the free slot i
+  abbrev pub IsPlaceFor : ShardState K V S → ℕ → ℕ → Type 0
+  IsPlaceFor s hash i = IsPlace (groups s) hash s.slots i
+
+  -- the same where there is room
+  abbrev pub MayTake : ShardState K V S → ℕ → ℕ → Type 0
+  MayTake s hash i = shard_len s < s.capacity → IsPlaceFor s hash i
 
 -- a shard's table and state
 module _ {K V S : Type 0} (h : KeyHash K S) where

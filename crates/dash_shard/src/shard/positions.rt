@@ -1,15 +1,18 @@
 //! A shard's calls by slot: a look-up's answer for calls that make no other.
-ghost use Rattle.std.specs.Prelude.{◌≡◌, ◌+◌, ◌-◌, ◌^◌, ◌<◌, IsSome, Some, None, ℕ, ◌↔◌, IfSome, IsNone};
+ghost use Rattle.std.specs.Prelude.{◌≡◌, ◌+◌, ◌-◌, ◌^◌, ◌<◌, IsSome, Some, None, ℕ, ◌↔◌, IfSome, IsNone, IfOk, IfErr};
 ghost use Rattle.std.specs.Option.{option_map};
+ghost use Rattle.core.specs.Result.{result_ok};
 ghost use Rattle.std.specs.Map.Iter.{deref_pair, deref_pair_mut};
 ghost use Rattle.std.specs.Borrow.{Lends, sem};
 ghost use Rattle.dash_shard.specs.Contents.{at};
 ghost use Rattle.dash_shard.specs.Shard.{slot, pairs, shard_len, HasKey, IsNextTaken, Routes, IsShard, TakesInPlace, with_value_in, SameShard, TakesAt};
-ghost use Rattle.dash_shard.specs.Held.{Finds, Replaces};
+ghost use Rattle.dash_shard.specs.Held.{Finds, Replaces, Reserves};
+ghost use Rattle.dash_shard.specs.inner.Table.{IsPlaceFor, MayTake};
 ghost use Rattle.dash_shard.specs.Search.{groups, Searches};
 ghost use Rattle.dash_shard.specs.Steps.{Insert, Remove, Old, Pair};
 
 use super::{Search, Shard};
+use crate::error::TryReserveError;
 use crate::keyed::{Keyed, Lender};
 use std::hash::{BuildHasher, Hash};
 
@@ -31,6 +34,18 @@ impl<K: Eq + Hash, V, S: BuildHasher> Shard<K, V, S> {
         ensures lawful { IsShard ⟦<Self as Keyed>⟧.by self.now }
     {
         self.table.find(hash, key)
+    }
+
+    /// As `position_of_hashed`, or else the free slot for a pair of this key, where there is room. For the crates here alone.
+    #[inline(always)]
+    pub fn find_or_place(&self, hash: u64, key: &K) -> Result<usize, usize>
+        requires { hash ≡ ⟦<Self as Keyed>⟧.by.hash self.now.hasher key.now }
+        ensures finds { Finds K.eq self.now key.now (result_ok result) }
+        ensures place { IfErr result (MayTake self.now hash) }
+        ensures lawful { IsShard ⟦<Self as Keyed>⟧.by self.now }
+    {
+        let place = self.table.find_or_place(hash, key);
+        place.position.ok_or(place.free)
     }
 
     /// How many groups of sixteen slots there are.
@@ -87,12 +102,33 @@ impl<K: Eq + Hash, V, S: BuildHasher> Shard<K, V, S> {
         ensures lawful { IsShard ⟦<Self as Keyed>⟧.by self.new }
     {
         let hash = self.hash_one(&key);
-        self.insert_new_hashed(hash, key, value)
+        let (free, _) = self.table.place_for(hash);
+        self.insert_new_at(free, hash, key, value);
+        free
     }
 
-    /// As `insert_new`, for a caller who has the key's hash.
+    /// The free slot that a search found for a new key, or another in room that is made, where there was none. For the crates here alone.
+    ///
+    /// Takes memory where the shard is full, and is refused (11) only then.
     #[inline]
-    pub fn insert_new_hashed(&mut self, hash: u64, key: K, value: V) -> usize
+    pub fn make_place(&mut self, hash: u64, free: usize) -> Result<usize, TryReserveError>
+        requires { MayTake self.old hash free }
+        ensures reserves { Reserves K.eq 1 self.old self.new result }
+        ensures place { IfOk result (IsPlaceFor self.new hash) }
+        ensures lawful { IsShard ⟦<Self as Keyed>⟧.by self.new }
+    {
+        if self.table.len() < self.table.capacity() {
+            return Ok(free);
+        }
+        let Ok(()) = self.table.grow(&self.hasher) else {
+            return Err(TryReserveError {});
+        };
+        Ok(self.table.place_for(hash).0)
+    }
+
+    /// As `insert_new`, for a caller who has the key's hash and a free slot for it. For the crates here alone.
+    #[inline]
+    pub fn insert_new_at(&mut self, free: usize, hash: u64, key: K, value: V)
     where
         K: Drop,
         V: Drop,
@@ -100,12 +136,13 @@ impl<K: Eq + Hash, V, S: BuildHasher> Shard<K, V, S> {
         requires route { Routes ⟦<Self as Keyed>⟧.by self.old key }
         requires absent { at K.eq (pairs self.old) key ≡ None }
         requires room { shard_len self.old < self.old.capacity }
+        requires place { IsPlaceFor self.old hash free }
         ensures inserts { TakesInPlace K.eq self.old self.new (Insert key value) (Old None) }
-        ensures slot { slot self.new.slots result ≡ Some (key, value) }
+        ensures slot { slot self.new.slots free ≡ Some (key, value) }
         ensures len { shard_len self.new ≡ shard_len self.old + 1 }
         ensures lawful { IsShard ⟦<Self as Keyed>⟧.by self.new }
     {
-        self.table.push(hash, key, value)
+        self.table.put(free, hash, key, value);
     }
 
     /// Puts a value in the pair of a taken slot, and answers the old one. It makes no look-up, takes no memory, and can't be refused.

@@ -17,6 +17,7 @@ use Rattle.dash_steps.specs.inner.Copied.{AlikeAt}
 use Rattle.dash_steps.specs.inner.Kinds.{kinds_of}
 use Rattle.dash_steps.specs.inner.Sweep.{keeping, GivesEach, SweptTo}
 use Rattle.dash_shard.specs.Held.{Finds}
+use Rattle.dash_shard.specs.inner.Table.{MayTake}
 use Rattle.dash_steps.specs.declared.step.ShardStep.{ShardStep}
 use Rattle.dash_steps.specs.declared.step.ShardStep.TheVariants.{Remove, RemoveIf, RemoveIfMut, Alter, AlterAll, Retain}
 use Rattle.dash_steps.specs.declared.step.Reply.{Reply}
@@ -97,6 +98,10 @@ module _ {K V A S : Type 0} (w : Known K V A S) (s : ShardState K V S) where
   -- a look-up of the step's key found this slot, or the step has no key, and there is no slot
   abbrev pub IsFound : ShardStep K V A → Option ℕ → Type 0
   IsFound step found = OfKey (line (step_of w.acts step)) (λ k. Finds w.keys.eq s k found) (found ≡ None)
+
+  -- the slot is free for a pair of the step's key and this hash, if the step has a key, and there is room
+  abbrev pub HasPlace : ShardStep K V A → ℕ → ℕ → Type 0
+  HasPlace step hash free = OfKey (line (step_of w.acts step)) (λ _. MayTake s hash free) ⊤
 
   -- the change is what the step makes of the pair at its key, or its action of each pair of its shard
   abbrev pub Decides : ShardStep K V A → Change V → Type 0

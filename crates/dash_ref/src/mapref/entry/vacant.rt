@@ -4,6 +4,7 @@ ghost use Rattle.dash_shard.specs.Hashing.{by};
 ghost use Rattle.dash_shard.specs.Lock.{LeftBehind};
 ghost use Rattle.dash_shard.specs.Contents.{at};
 ghost use Rattle.dash_shard.specs.Shard.{pairs, shard_len, Routes};
+ghost use Rattle.dash_shard.specs.inner.Table.{IsPlaceFor};
 ghost use Rattle.dash_ref.specs.Entry.{Puts, PutsCopy};
 
 use super::{InsertEntryRefused, OccupiedEntry};
@@ -20,6 +21,8 @@ pub struct VacantEntry<'a, K: Eq + Hash, V, S: BuildHasher> {
     key: K,
     // That of the key.
     hash: u64,
+    // The slot for its pair.
+    free: usize,
 }
 
 impl<'a, K: Eq + Hash, V, S: BuildHasher> Model for VacantEntry<'a, K, V, S> {
@@ -33,7 +36,7 @@ impl<'a, K: Eq + Hash, V, S: BuildHasher> Model for VacantEntry<'a, K, V, S> {
 
     ghost view = { λ e. record { shard = e.shard; key = e.key } };
 
-    ghost invariant = { λ e. IsVacant (key_hash K.eq K.hash_input S.BuildHasher S.Hasher.Hasher) e.shard e.key e.hash };
+    ghost invariant = { λ e. IsVacant (key_hash K.eq K.hash_input S.BuildHasher S.Hasher.Hasher) e.shard e.key e.hash e.free };
 }
 
 impl<K: Eq + Hash, V, S: BuildHasher> Keyed for VacantEntry<'_, K, V, S> {
@@ -53,23 +56,35 @@ impl<K: Eq + Hash + Drop, V, S: BuildHasher> Drop for VacantEntry<'_, K, V, S> {
             shard,
             key: _,
             hash: _,
+            free: _,
         } = self;
         drop(shard);
     }
 }
 
 impl<'a, K: Eq + Hash + Drop, V: Drop, S: BuildHasher> VacantEntry<'a, K, V, S> {
-    /// The entry of a key that goes to the held shard, which has no equal one, and room, for a caller who has the key's hash.
-    /// For the crates here alone.
+    /// The entry of a key that goes to the held shard, which has no equal one, and room, for a caller who has the key's hash and a free slot
+    /// for it. For the crates here alone.
     #[inline]
-    pub fn new(shard: ShardMut<'a, K, V, S>, hash: u64, key: K) -> VacantEntry<'a, K, V, S>
+    pub fn new(
+        shard: ShardMut<'a, K, V, S>,
+        hash: u64,
+        free: usize,
+        key: K,
+    ) -> VacantEntry<'a, K, V, S>
         requires hash { hash ≡ ⟦<Self as Keyed>⟧.by.hash shard.hasher key }
         requires routes { Routes ⟦<Self as Keyed>⟧.by shard key }
         requires absent { at K.eq (pairs shard) key ≡ None }
         requires room { shard_len shard < shard.capacity }
+        requires place { IsPlaceFor shard hash free }
         ensures { result ≡ record { shard = shard.entry; key = key } }
     {
-        VacantEntry { shard, key, hash }
+        VacantEntry {
+            shard,
+            key,
+            hash,
+            free,
+        }
     }
 
     /// Puts the pair of the key and the value. It can't be refused, since the room is there.
@@ -81,9 +96,10 @@ impl<'a, K: Eq + Hash + Drop, V: Drop, S: BuildHasher> VacantEntry<'a, K, V, S> 
             mut shard,
             key,
             hash,
+            free,
         } = self;
-        let position = shard.insert_new_hashed(hash, key, value);
-        RefMut::new(shard, position)
+        shard.insert_new_at(free, hash, key, value);
+        RefMut::new(shard, free)
     }
 
     /// Puts the pair of a copy of the key and the value, and answers its entry, which keeps the key that was handed in.
@@ -106,9 +122,10 @@ impl<'a, K: Eq + Hash + Drop, V: Drop, S: BuildHasher> VacantEntry<'a, K, V, S> 
             mut shard,
             key,
             hash,
+            free,
         } = self;
-        let position = shard.insert_new_hashed(hash, copy, value);
-        Ok(OccupiedEntry::new(shard, position, key))
+        shard.insert_new_at(free, hash, copy, value);
+        Ok(OccupiedEntry::new(shard, free, key))
     }
 
     /// The key that was handed in.
@@ -121,6 +138,7 @@ impl<'a, K: Eq + Hash + Drop, V: Drop, S: BuildHasher> VacantEntry<'a, K, V, S> 
             shard: _,
             key,
             hash: _,
+            free: _,
         } = self;
         key
     }

@@ -1,14 +1,17 @@
 //! A held shard's calls by slot.
-ghost use Rattle.std.specs.Prelude.{◌≡◌, ◌+◌, ◌-◌, ◌^◌, ◌<◌, IsSome, IfSome, Some, None};
+ghost use Rattle.std.specs.Prelude.{◌≡◌, ◌+◌, ◌-◌, ◌^◌, ◌<◌, IsSome, IfSome, IfOk, IfErr, Some, None};
 ghost use Rattle.std.specs.Map.Iter.{deref_pair};
+ghost use Rattle.core.specs.Result.{result_ok};
 ghost use Rattle.dash_shard.specs.Hashing.{by};
 ghost use Rattle.dash_shard.specs.Contents.{at};
 ghost use Rattle.dash_shard.specs.Shard.{slot, pairs, shard_len, HasKey, IsNextTaken, Routes, IsShard, SameShard, TakesInPlace, TakesAt};
-ghost use Rattle.dash_shard.specs.Held.{Finds, Replaces};
+ghost use Rattle.dash_shard.specs.Held.{Finds, Replaces, Reserves};
+ghost use Rattle.dash_shard.specs.inner.Table.{IsPlaceFor, MayTake};
 ghost use Rattle.dash_shard.specs.Steps.{Insert, Remove, Old, Pair};
 
 use super::holds::Holds;
 use super::{HeldShard, ShardMut};
+use crate::error::TryReserveError;
 use crate::keyed::Keyed;
 use crate::shard::Shard;
 use std::hash::{BuildHasher, Hash};
@@ -36,6 +39,17 @@ impl<K: Eq + Hash, V, S: BuildHasher, H: Holds<Key = K, Value = V, State = S>> H
         ensures lawful { IsShard ⟦<Self as Keyed>⟧.by self.now }
     {
         self.shard().position_of_hashed(hash, key)
+    }
+
+    /// As `position_of_hashed`, or else the free slot for a pair of this key, where there is room. For the crates here alone.
+    #[inline]
+    pub fn find_or_place(&self, hash: u64, key: &K) -> Result<usize, usize>
+        requires { hash ≡ ⟦<Self as Keyed>⟧.by.hash self.now.hasher key.now }
+        ensures finds { Finds K.eq self.now key.now (result_ok result) }
+        ensures place { IfErr result (MayTake self.now hash) }
+        ensures lawful { IsShard ⟦<Self as Keyed>⟧.by self.now }
+    {
+        self.shard().find_or_place(hash, key)
     }
 
     /// The pair of a taken slot, without a look at any other.
@@ -74,13 +88,25 @@ impl<K: Eq + Hash, V, S: BuildHasher> ShardMut<'_, K, V, S> {
         ensures len { shard_len self.new ≡ shard_len self.old + 1 }
         ensures lawful { IsShard ⟦<Self as Keyed>⟧.by self.new }
     {
-        let hash = self.shard().hash_one(&key);
-        self.insert_new_hashed(hash, key, value)
+        self.hold.change(|shard| shard.insert_new(key, value))
     }
 
-    /// As `insert_new`, for a caller who has the key's hash.
+    /// The free slot that a search found for a new key, or another in room that is made, where there was none. For the crates here alone.
+    ///
+    /// Takes memory where the shard is full, and is refused (11) only then.
     #[inline]
-    pub fn insert_new_hashed(&mut self, hash: u64, key: K, value: V) -> usize
+    pub fn make_place(&mut self, hash: u64, free: usize) -> Result<usize, TryReserveError>
+        requires { MayTake self.old hash free }
+        ensures reserves { Reserves K.eq 1 self.old self.new result }
+        ensures place { IfOk result (IsPlaceFor self.new hash) }
+        ensures lawful { IsShard ⟦<Self as Keyed>⟧.by self.new }
+    {
+        self.hold.change(|shard| shard.make_place(hash, free))
+    }
+
+    /// As `insert_new`, for a caller who has the key's hash and a free slot for it. For the crates here alone.
+    #[inline]
+    pub fn insert_new_at(&mut self, free: usize, hash: u64, key: K, value: V)
     where
         K: Drop,
         V: Drop,
@@ -88,13 +114,14 @@ impl<K: Eq + Hash, V, S: BuildHasher> ShardMut<'_, K, V, S> {
         requires route { Routes ⟦<Self as Keyed>⟧.by self.old key }
         requires absent { at K.eq (pairs self.old) key ≡ None }
         requires room { shard_len self.old < self.old.capacity }
+        requires place { IsPlaceFor self.old hash free }
         ensures inserts { TakesInPlace K.eq self.old self.new (Insert key value) (Old None) }
-        ensures slot { slot self.new.slots result ≡ Some (key, value) }
+        ensures slot { slot self.new.slots free ≡ Some (key, value) }
         ensures len { shard_len self.new ≡ shard_len self.old + 1 }
         ensures lawful { IsShard ⟦<Self as Keyed>⟧.by self.new }
     {
         self.hold
-            .change(|shard| shard.insert_new_hashed(hash, key, value))
+            .change(|shard| shard.insert_new_at(free, hash, key, value));
     }
 
     /// Puts a pair in the slot of the one with an equal key, and answers that one: the new key is stored too. It makes no look-up, takes

@@ -140,9 +140,9 @@ impl<K, V> Table<K, V> {
         Err(free.unwrap_or(0))
     }
 
-    // The first place on a hash's way where a pair of it may be put, and how many groups after the first it stands.
+    /// The first place on a hash's way where a pair of it may be put, and how many groups after the first it stands.
     #[inline(always)]
-    fn place_for(&self, hash: u64) -> (usize, usize)
+    pub fn place_for(&self, hash: u64) -> (usize, usize)
         requires table { IsTable self.now }
         requires room { self.now.len < limit (slots_in self.now) }
         ensures spot { IsSpot self.now hash result.0 }
@@ -195,6 +195,23 @@ impl<K, V> Table<K, V> {
         self.tags[position] = tag(hash);
         self.slots.put(position, hash, (key, value));
         self.len += 1;
+    }
+
+    /// Puts a pair on a place where it may be put.
+    #[inline]
+    pub fn put(&mut self, position: usize, hash: u64, key: K, value: V)
+        requires table { IsTable self.old }
+        requires room { self.old.len < limit (slots_in self.old) }
+        requires spot { IsSpot self.old hash position }
+        ensures pairs { pairs_in self.new ≡ slice_set (pairs_in self.old) position (Some (key, value)) }
+        ensures hashes { hashes_in self.new ≡ slice_set (hashes_in self.old) position hash }
+        ensures len { self.new.len ≡ self.old.len + 1 }
+        ensures slots { slots_in self.new ≡ slots_in self.old }
+        ensures table { IsTable self.new }
+    {
+        let count = self.counts.len();
+        let steps = steps_to(home(hash, count), position / 16, count);
+        self.fill(position, steps, hash, key, value);
     }
 
     /// Puts a pair on the first place of its way, and answers the slot.

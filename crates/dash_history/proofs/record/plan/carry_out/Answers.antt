@@ -1,4 +1,5 @@
 use Rattle.std.proofs.Common.{⊎_elim, true, false, sym, subst}
+use Rattle.core.specs.Result.{result_ok}
 use Rattle.dash_shard.specs.Contents.{at}
 use Rattle.dash_shard.specs.Steps.{Act, Step, AlterAll, Retain}
 use Rattle.dash_shard.specs.Shard.{pairs}
@@ -15,25 +16,25 @@ use Rattle.dash_shard.proofs.Lawful.{lawful-of}
 use Rattle.dash_shard.specs.inner.Steps.{after}
 
 pub make_change-requires : goal.make_change-requires
-make_change-requires g c = found-taken (key_hash g.K.PartialEq.eq g.K.Hash.hash_input g.S.BuildHasher g.S.Hasher.Hasher) c.args.shard.now _ c.args.found c.requires.found
+make_change-requires g c = found-taken (key_hash g.K.PartialEq.eq g.K.Hash.hash_input g.S.BuildHasher g.S.Hasher.Hasher) c.args.shard.now _ (result_ok c.args.found) c.requires.found
 
 pub make_change-requires-in-RemoveIf : goal.make_change-requires-in-RemoveIf
-make_change-requires-in-RemoveIf g c = found-taken (key_hash g.K.PartialEq.eq g.K.Hash.hash_input g.S.BuildHasher g.S.Hasher.Hasher) c.args.shard.now _ c.args.found c.requires.found
+make_change-requires-in-RemoveIf g c = found-taken (key_hash g.K.PartialEq.eq g.K.Hash.hash_input g.S.BuildHasher g.S.Hasher.Hasher) c.args.shard.now _ (result_ok c.args.found) c.requires.found
 
 pub returns-in-Remove-clause-ok : goal.returns-in-Remove-clause-ok
 returns-in-Remove-clause-ok g c j =
     let s = c.args.shard.now in
     let laws = lawful-by _ (lawful-of g.S.BuildHasher g.S.Hasher.Hasher g.met.K.Eq.laws g.met.K.Hash.respects_eq) _ _ g.met.K.Kept.alike_laws g.met.V.Kept.alike_laws g.met.K.KeptKey.alike_equal s.hasher s.amount in
     let is = c.in-Remove.is in
-    rw is (decided-at (key_hash g.K.PartialEq.eq g.K.Hash.hash_input g.S.BuildHasher g.S.Hasher.Hasher) s c.make_change.new.shard _ _ laws _ _ c.args.found c.args.decided (rw is at c.requires.decides) (rw is at c.requires.found) c.make_change.ensures.becomes j)
+    rw is (decided-at (key_hash g.K.PartialEq.eq g.K.Hash.hash_input g.S.BuildHasher g.S.Hasher.Hasher) s c.make_change.new.shard _ _ laws _ _ (result_ok c.args.found) c.args.decided (rw is at c.requires.decides) (rw is at c.requires.found) c.make_change.ensures.becomes j)
 
 pub returns-in-RemoveIf-clause-ok : goal.returns-in-RemoveIf-clause-ok
 returns-in-RemoveIf-clause-ok g c j =
     let s = c.args.shard.now in
     let laws = lawful-by _ (lawful-of g.S.BuildHasher g.S.Hasher.Hasher g.met.K.Eq.laws g.met.K.Hash.respects_eq) _ _ g.met.K.Kept.alike_laws g.met.V.Kept.alike_laws g.met.K.KeptKey.alike_equal s.hasher s.amount in
-    ⊎_elim (λ is. rw is (decided-at (key_hash g.K.PartialEq.eq g.K.Hash.hash_input g.S.BuildHasher g.S.Hasher.Hasher) s c.make_change-in-RemoveIf.new.shard _ _ laws _ _ c.args.found c.args.decided (rw is at c.requires.decides) (rw is at c.requires.found) c.make_change-in-RemoveIf.ensures.becomes j))
-    (⊎_elim (λ is. rw is (decided-at (key_hash g.K.PartialEq.eq g.K.Hash.hash_input g.S.BuildHasher g.S.Hasher.Hasher) s c.make_change-in-RemoveIf.new.shard _ _ laws _ _ c.args.found c.args.decided (rw is at c.requires.decides) (rw is at c.requires.found) c.make_change-in-RemoveIf.ensures.becomes j))
-    (λ is. rw is (decided-at (key_hash g.K.PartialEq.eq g.K.Hash.hash_input g.S.BuildHasher g.S.Hasher.Hasher) s c.make_change-in-RemoveIf.new.shard _ _ laws _ _ c.args.found c.args.decided (rw is at c.requires.decides) (rw is at c.requires.found) c.make_change-in-RemoveIf.ensures.becomes j))) c.in-RemoveIf.is
+    ⊎_elim (λ is. rw is (decided-at (key_hash g.K.PartialEq.eq g.K.Hash.hash_input g.S.BuildHasher g.S.Hasher.Hasher) s c.make_change-in-RemoveIf.new.shard _ _ laws _ _ (result_ok c.args.found) c.args.decided (rw is at c.requires.decides) (rw is at c.requires.found) c.make_change-in-RemoveIf.ensures.becomes j))
+    (⊎_elim (λ is. rw is (decided-at (key_hash g.K.PartialEq.eq g.K.Hash.hash_input g.S.BuildHasher g.S.Hasher.Hasher) s c.make_change-in-RemoveIf.new.shard _ _ laws _ _ (result_ok c.args.found) c.args.decided (rw is at c.requires.decides) (rw is at c.requires.found) c.make_change-in-RemoveIf.ensures.becomes j))
+    (λ is. rw is (decided-at (key_hash g.K.PartialEq.eq g.K.Hash.hash_input g.S.BuildHasher g.S.Hasher.Hasher) s c.make_change-in-RemoveIf.new.shard _ _ laws _ _ (result_ok c.args.found) c.args.decided (rw is at c.requires.decides) (rw is at c.requires.found) c.make_change-in-RemoveIf.ensures.becomes j))) c.in-RemoveIf.is
 
 pub returns-clause-ok : goal.returns-clause-ok
 returns-clause-ok g c j =
