@@ -136,7 +136,7 @@ impl<K: Eq + Hash, V, S: BuildHasher> DashMap<K, V, S> {
     /// The pair whose key equals `key`, with a hold of its shard for writing. Waits until nobody has the shard.
     ///
     /// Till the reference is dropped, whoever wants the shard waits; in the same thread that is a deadlock. It takes no memory.
-    #[inline]
+    #[inline(always)]
     pub fn get_mut<R: Wait + Clock>(&self, rt: &R, key: &K) -> Option<RefMut<'_, K, V, S>>
         ensures { IsGotMut ⟦<Self as Keyed>⟧.by self.now key.now result }
     {
