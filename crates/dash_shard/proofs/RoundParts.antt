@@ -1,5 +1,5 @@
 -- The parts of a round: cut, glued and compared. Assumes `Logic`.
-use Rattle.dash_shard.proofs.Walking.{[], ◌≡◌, ℕ, ◌+◌, ◌-◌, ◌^◌, ◌<◌, ◌≤◌, ◌∷◌, refl, arith, ◌∈◌, Ura, full_share, Counts, counts_some, Counts-op, Counts-all, not-OpDef-full_share, coded_ℕ, coded, SetCoded-set, SProp, guard, upd, guard_i, GName, Share, Fml, fex, flft, Logic, ‵, ◌⊛◌, given, ◌$◌, ◌∵◌, !, qed, by, move, keep, split, fsplit, fjoin, fpick, fpack, learn, check, use1, use2, done, own_glued, own_sum, own_join, own_step}
+use Rattle.dash_shard.proofs.Walking.{[], ◌≡◌, ℕ, ◌+◌, ◌-◌, ◌^◌, ◌<◌, ◌≤◌, ◌∷◌, refl, arith, ◌∈◌, Ura, full_share, Counts, counts_some, Counts-op, Counts-all, not-OpDef-full_share, coded_ℕ, coded, SetCoded-set, SProp, guard, upd, guard_i, GName, Share, fex, flft, Logic, ‵, ◌⊛◌, given, ◌$◌, ◌∵◌, !, qed, by, move, keep, split, fsplit, fjoin, fpick, fpack, learn, check, use1, use2, done, own_glued, own_sum, own_join, own_step}
 use Rattle.dash_shard.proofs.Words.{words}
 use seplogic.Ra.Constructions.Prod
 use seplogic.Ra.Instances.Ag

@@ -77,12 +77,7 @@ impl<K: Eq + Hash, V, S: BuildHasher> Lendable for Shard<K, V, S> {
 /// Calls are those of `Shard`, and change the shard in place. To take or to end a hold takes no memory, and to end one waits for nobody
 /// and can't fail. A contract sees it as the shard.
 #[must_use]
-pub struct HeldShard<
-    K: Eq + Hash,
-    V,
-    S: BuildHasher,
-    H: Holds<Key = K, Value = V, State = S>,
-> {
+pub struct HeldShard<K: Eq + Hash, V, S: BuildHasher, H: Holds<Key = K, Value = V, State = S>> {
     hold: H,
     lock: H::Lock,
     marker: PhantomData<Shard<K, V, S>>,

@@ -21,23 +21,13 @@ use std::marker::Model;
 use std::mem;
 
 /// A key, the pair with an equal key, and a hold of its shard for writing: the original's `OccupiedEntry`.
-pub struct HeldEntry<
-    K: Eq + Hash,
-    V,
-    S: BuildHasher,
-    H: Holds<Key = K, Value = V, State = S>,
-> {
+pub struct HeldEntry<K: Eq + Hash, V, S: BuildHasher, H: Holds<Key = K, Value = V, State = S>> {
     pair: HeldRef<K, V, S, H>,
     key: K,
 }
 
 /// The original's `OccupiedEntry`.
-pub type OccupiedEntry<'a, K, V, S> = HeldEntry<
-    K,
-    V,
-    S,
-    Writing<'a, K, V, S>,
->;
+pub type OccupiedEntry<'a, K, V, S> = HeldEntry<K, V, S, Writing<'a, K, V, S>>;
 
 impl<K: Eq + Hash, V, S: BuildHasher, H: Holds<Key = K, Value = V, State = S>> Model
     for HeldEntry<K, V, S, H> {

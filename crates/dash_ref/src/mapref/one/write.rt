@@ -30,12 +30,7 @@ mod mapped;
 /// The original points to key and value. This has the pair's position in the held shard, and reaches the pair there without a look-up. No
 /// call takes memory or waits, nor does the drop. Meanwhile whoever wants the shard waits. A contract sees it as the held shard and the
 /// position.
-pub struct HeldRef<
-    K: Eq + Hash,
-    V,
-    S: BuildHasher,
-    H: Holds<Key = K, Value = V, State = S>,
-> {
+pub struct HeldRef<K: Eq + Hash, V, S: BuildHasher, H: Holds<Key = K, Value = V, State = S>> {
     shard: HeldShard<K, V, S, H>,
     position: usize,
 }
@@ -142,12 +137,7 @@ impl<'a, K: Eq + Hash, V, S: BuildHasher> RefMut<'a, K, V, S> {
     }
 }
 
-impl<K: Eq + Hash, V, S: BuildHasher, H: Holds<Key = K, Value = V, State = S>> HeldRef<
-    K,
-    V,
-    S,
-    H,
-> {
+impl<K: Eq + Hash, V, S: BuildHasher, H: Holds<Key = K, Value = V, State = S>> HeldRef<K, V, S, H> {
     /// The key that is stored.
     #[inline]
     pub fn key(&self) -> &K

@@ -4,7 +4,7 @@ ghost use Rattle.std.specs.Prelude.{◌≡◌, ℕ, IsSome, Some, refl};
 ghost use Rattle.std.specs.Borrow.{Lends, sem};
 ghost use Rattle.std.specs.Map.Iter.{deref_pair_mut};
 ghost use Rattle.dash_shard.specs.Hashing.{by};
-ghost use Rattle.dash_shard.specs.Held.{FitsTag};
+ghost use Rattle.dash_shard.specs.Held.{KeepsTag};
 ghost use Rattle.dash_shard.specs.Lock.{LeftBehind};
 ghost use Rattle.dash_shard.specs.Shard.{slot, with_value_in};
 
@@ -50,7 +50,7 @@ pub trait Holds {
         requires taken { IsSome (slot (value self.old).slots position) }
         ensures* writes_back { sem 𝓛 (Lends Self.row Self.Value.row self.entry result.1 (with self.old position)) }
         ensures pair { slot (value self.old).slots position ≡ Some (deref_pair_mut result) }
-        ensures keeps { (w : Self.Value) → FitsTag (by Self.Key.Hash Self.State.BuildHasher Self.State.Hasher.Hasher) (tag self.old) (with_value_in (value self.old) position w) };
+        ensures keeps { KeepsTag (by Self.Key.Hash Self.State.BuildHasher Self.State.Hasher.Hasher) (tag self.old) (value self.old) position };
 
     /// Ends the hold: the lock is free. Answers its word as it was.
     fn release(self) -> u64

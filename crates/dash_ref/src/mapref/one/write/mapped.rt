@@ -32,13 +32,7 @@ pub struct HeldMappedRef<
 }
 
 /// The original's `MappedRefMut`.
-pub type MappedRefMut<'a, K, V, S, P> = HeldMappedRef<
-    K,
-    V,
-    S,
-    P,
-    Writing<'a, K, V, S>,
->;
+pub type MappedRefMut<'a, K, V, S, P> = HeldMappedRef<K, V, S, P, Writing<'a, K, V, S>>;
 
 impl<
     K: Eq + Hash,

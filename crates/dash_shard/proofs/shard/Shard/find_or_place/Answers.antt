@@ -1,5 +1,4 @@
 use Rattle.std.proofs.Common.{subst}
-use Rattle.dash_shard.specs.Hashing.{key_hash}
 use Rattle.dash_shard.specs.Held.{Finds}
 use Rattle.dash_shard.proofs.Positions.{located}
 use Rattle.dash_shard.proofs.Shards.{hash-same}
