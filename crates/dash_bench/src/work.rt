@@ -29,6 +29,8 @@ pub enum Work {
     Contend,
     /// The same by `get_mut`, each hold for about a microsecond.
     Hold,
+    /// The first thread holds a shard for a second, and the others wait for it.
+    Wait,
     /// A mix: mostly look-ups.
     Read,
     /// A mix: mostly inserts and removals, as many of each.
@@ -55,6 +57,7 @@ impl Work {
             "entry" => Work::Entry,
             "contend" => Work::Contend,
             "hold" => Work::Hold,
+            "wait" => Work::Wait,
             "read" => Work::Read,
             "exchange" => Work::Exchange,
             "grow" => Work::Grow,
@@ -67,7 +70,7 @@ impl Work {
     pub fn room(self) -> usize {
         match self {
             Work::Insert0 | Work::Grow | Work::Memory => 0,
-            Work::SmallHit | Work::SmallUpdate | Work::Contend | Work::Hold => SMALL,
+            Work::SmallHit | Work::SmallUpdate | Work::Contend | Work::Hold | Work::Wait => SMALL,
             Work::Entry => 2 * PAIRS,
             _ => PAIRS,
         }
@@ -77,7 +80,7 @@ impl Work {
     pub fn filled(self) -> usize {
         match self {
             Work::Insert | Work::Insert0 | Work::Grow | Work::Memory => 0,
-            Work::SmallHit | Work::SmallUpdate | Work::Contend | Work::Hold => SMALL,
+            Work::SmallHit | Work::SmallUpdate | Work::Contend | Work::Hold | Work::Wait => SMALL,
             Work::Exchange => PAIRS / 2,
             _ => PAIRS,
         }

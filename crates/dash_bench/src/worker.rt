@@ -9,6 +9,8 @@ use dashmap::error::{EntryRefused, InsertRefused};
 use std::alloc::AllocError;
 use std::rt::Clock;
 use std::sync::Wait;
+use std::thread;
+use std::time::Duration;
 
 pub type Map = DashMap<u64, u64>;
 
@@ -95,6 +97,7 @@ impl Worker {
             Work::Entry => self.add_by_entry(rt, map),
             Work::Contend => self.contend(rt, map),
             Work::Hold => self.hold(rt, map),
+            Work::Wait => self.wait(rt, map),
             Work::Read => self.mix(rt, map, &READ),
             Work::Exchange => self.mix(rt, map, &EXCHANGE),
             Work::Grow => self.mix(rt, map, &GROW),
@@ -226,6 +229,20 @@ impl Worker {
                 *found = value;
                 self.count(1);
             }
+        }
+        Ok(())
+    }
+
+    fn wait<R: Wait + Clock>(&mut self, rt: &R, map: &Map) -> Result<(), NoMemory> {
+        let holds = self.index == 0;
+        if !holds {
+            thread::sleep(rt, Duration::from_millis(10));
+        }
+        if let Some(found) = map.get_mut(rt, &key(0)) {
+            if holds {
+                thread::sleep(rt, Duration::from_secs(1));
+            }
+            self.count(*found);
         }
         Ok(())
     }
