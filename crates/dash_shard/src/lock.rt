@@ -122,7 +122,10 @@ impl<T: Tagged> RwLock<T> {
         ensures fits { T.fits self.now result.value }
         ensures found { FoundBehind result.value }
     {
-        let hold = self.lock_shared(rt);
+        let hold = match self.try_lock_shared_fast(self.cell.word()) {
+            Ok(hold) => hold,
+            Err(_) => self.lock_shared_slow(rt),
+        };
         RwLockReadGuard { hold, lock: self }
     }
 
@@ -133,7 +136,10 @@ impl<T: Tagged> RwLock<T> {
         ensures fits { T.fits self.now result.value }
         ensures found { FoundBehind result.value }
     {
-        let hold = self.lock_exclusive(rt);
+        let hold = match self.try_lock_exclusive_fast(0) {
+            Ok(hold) => hold,
+            Err(_) => self.lock_exclusive_slow(rt),
+        };
         RwLockWriteGuard { hold, lock: self }
     }
 
@@ -191,6 +197,18 @@ impl<'a, T: Tagged> Deref for RwLockReadGuard<'a, T> {
     #[inline]
     fn deref(&self) -> &T {
         self.hold.get()
+    }
+}
+
+impl<'a, T: Tagged> RwLockReadGuard<'a, T> {
+    // The guard's hold.
+    #[inline]
+    fn into_hold(self) -> Hold<'a, T>
+        ensures right { result.right ≡ 1 }
+        ensures tag { result.tag ≡ self.entry.tag }
+    {
+        let Self { hold, lock: _ } = self;
+        hold
     }
 }
 

@@ -92,7 +92,7 @@ impl RawRwLock {
         ensures { result ≡ self.now }
     {
         SharedHold {
-            hold: self.lock.lock_shared(rt),
+            hold: self.lock.read(rt).into_hold(),
         }
     }
 
@@ -120,7 +120,7 @@ impl RawRwLock {
         ensures { result ≡ self.now }
     {
         ExclusiveHold {
-            hold: self.lock.lock_exclusive(rt),
+            hold: self.lock.write(rt).into_parts().0,
         }
     }
 
@@ -158,26 +158,6 @@ impl RawRwLock {
 // The same of each lock, for its guards, with the slow ways.
 impl<T: Tagged> RwLock<T> {
     #[inline]
-    pub(super) fn lock_shared<R: Wait + Clock>(&self, rt: &R) -> Hold<'_, T>
-        ensures { IsHold T.fits self.now 1 result }
-    {
-        match self.try_lock_shared_fast(self.cell.word()) {
-            Ok(hold) => hold,
-            Err(_) => self.lock_shared_slow(rt),
-        }
-    }
-
-    #[inline]
-    pub(super) fn lock_exclusive<R: Wait + Clock>(&self, rt: &R) -> Hold<'_, T>
-        ensures { IsHold T.fits self.now 2 result }
-    {
-        match self.try_lock_exclusive_fast(0) {
-            Ok(hold) => hold,
-            Err(_) => self.lock_exclusive_slow(rt),
-        }
-    }
-
-    #[inline]
     pub(super) fn try_lock_shared(&self) -> Option<Hold<'_, T>>
         ensures { IfSome result (IsHold T.fits self.now 1) }
     {
@@ -199,7 +179,7 @@ impl<T: Tagged> RwLock<T> {
 
     // One exchange at most, if the word is still `seen`. Else the word as it was found.
     #[inline]
-    fn try_lock_shared_fast(&self, seen: u64) -> Result<Hold<'_, T>, u64>
+    pub(super) fn try_lock_shared_fast(&self, seen: u64) -> Result<Hold<'_, T>, u64>
         ensures { IfOk result (IsHold T.fits self.now 1) }
     {
         if seen / ONE_READER >= MOST_READERS {
@@ -216,7 +196,7 @@ impl<T: Tagged> RwLock<T> {
     }
 
     #[inline]
-    fn try_lock_exclusive_fast(&self, seen: u64) -> Result<Hold<'_, T>, u64>
+    pub(super) fn try_lock_exclusive_fast(&self, seen: u64) -> Result<Hold<'_, T>, u64>
         ensures { IfOk result (IsHold T.fits self.now 2) }
     {
         if seen >= ONE_READER {
@@ -272,7 +252,7 @@ impl<T: Tagged> RwLock<T> {
     // Spins, and then sleeps, until it has the lock.
     #[cold]
     #[inline(never)]
-    fn lock_shared_slow<R: Wait + Clock>(&self, rt: &R) -> Hold<'_, T>
+    pub(super) fn lock_shared_slow<R: Wait + Clock>(&self, rt: &R) -> Hold<'_, T>
         ensures { IsHold T.fits self.now 1 result }
     {
         let backoff = Backoff::new();
@@ -295,7 +275,7 @@ impl<T: Tagged> RwLock<T> {
 
     #[cold]
     #[inline(never)]
-    fn lock_exclusive_slow<R: Wait + Clock>(&self, rt: &R) -> Hold<'_, T>
+    pub(super) fn lock_exclusive_slow<R: Wait + Clock>(&self, rt: &R) -> Hold<'_, T>
         ensures { IsHold T.fits self.now 2 result }
     {
         let backoff = Backoff::new();
