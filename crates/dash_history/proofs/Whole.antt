@@ -16,7 +16,7 @@ use Rattle.dash_history.specs.declared.gather.At.{At}
 use Rattle.dash_history.proofs.Alones.{kinds-same}
 use Rattle.dash_history.proofs.Alongs.{Tidy, along-has, caller-along, keeps-shard}
 use Rattle.dash_steps.proofs.Copies.{Lawful}
-use Rattle.dash_history.proofs.Frames.{Spread, at_shard, runs-union}
+use Rattle.dash_steps.proofs.Frames.{Spread, at_shard, runs-union}
 use Rattle.dash_history.proofs.Members.{Has, has-get, get-within, mapped-get}
 
 pub all-has : {X : Type 0} (P : X → Type 0) (xs : List X) (x : X) → All P xs → Has xs x → P x

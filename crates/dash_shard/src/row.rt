@@ -1,8 +1,8 @@
 //! A row of items that can turn into a row of another kind, and back, without memory.
 //! For the crates here alone.
 ghost use Rattle.std.specs.Prelude.{◌≡◌, ℕ, ◌<◌, IfOk, IfErr, Some, slice_get, slice_set, slice_index_or, length};
-ghost use Rattle.std.specs.Borrow.{Lends, sem};
-ghost use Rattle.dash_shard.specs.inner.Rows.{Moved};
+ghost use Rattle.std.specs.Borrow.{Lends, Array, sem};
+ghost use Rattle.dash_shard.specs.inner.Rows.{Moved, with_items};
 
 use crate::keyed::Lender;
 use std::alloc::{AllocError, Global};
@@ -80,6 +80,15 @@ impl<A, B> Row<A, B> {
         ensures { result.now ≡ self.now }
     {
         self.items.as_slice()
+    }
+
+    /// The items, to be changed.
+    #[inline]
+    pub fn items_mut(&mut self) -> &mut [A]
+        ensures* writes_back { sem 𝓛 (Lends ⟦<Self as Lender>⟧.row (Array A.row 0) self.entry result (with_items self.old)) }
+        ensures value { result.now ≡ self.old }
+    {
+        self.items.as_mut_slice()
     }
 
     /// The allocator of the items.

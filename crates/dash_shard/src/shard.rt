@@ -165,6 +165,12 @@ impl<K: Eq + Hash, V, S: BuildHasher> Shard<K, V, S> {
         &self.hasher
     }
 
+    /// The allocator of the slots. For the crates here alone.
+    #[inline]
+    pub fn allocator(&self) -> Global {
+        self.table.allocator()
+    }
+
     // The hash of a key, by the shard's hasher.
     #[inline(always)]
     fn hash_one(&self, key: &K) -> u64
@@ -354,7 +360,18 @@ impl<K: Eq + Hash, V, S: BuildHasher> Shard<K, V, S> {
         ensures pair { RepliesOn K.eq self.now (Get key.now) (Pair (option_map deref_pair result)) }
         ensures lawful { IsShard ⟦<Self as Keyed>⟧.by self.now }
     {
-        let position = self.position_of(key)?;
+        let hash = self.hash_one(key);
+        self.get_hashed(hash, key)
+    }
+
+    /// As `get`, for a caller who has the key's hash.
+    #[inline(always)]
+    pub fn get_hashed(&self, hash: u64, key: &K) -> Option<(&K, &V)>
+        requires { hash ≡ ⟦<Self as Keyed>⟧.by.hash self.now.hasher key.now }
+        ensures pair { RepliesOn K.eq self.now (Get key.now) (Pair (option_map deref_pair result)) }
+        ensures lawful { IsShard ⟦<Self as Keyed>⟧.by self.now }
+    {
+        let position = self.position_of_hashed(hash, key)?;
         Some(self.at(position))
     }
 

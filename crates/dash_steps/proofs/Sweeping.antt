@@ -43,6 +43,12 @@ module _ {K V : Type 0} (m : Rules K V) (laws : Lawful m) (f g : Act K V) where
     | inr other ↦ rw other (made-at ps j agree.2)
   ]
 
+-- what a sweep left at a key
+swept-at : {F K V S : Type 0} (eq : K → K → Bool) (T : F → K → V → Bool → V → F → Type 0) (f : F) (old new : ShardState K V S) (r : SweepsBy T eq f old new (Retain old.number)) (j : K)
+    → at eq (pairs new) j ≡ option_and_then (λ p. if_yes r.act p (changed r.act p)) (at eq (pairs old) j)
+swept-at eq T f old new r j =
+    r.does.taken.table.becomes j ∙ ap (λ b. cond b (option_and_then (λ p. if_yes r.act p (changed r.act p)) (at eq (pairs old) j)) (at eq (pairs old) j)) (eq-eqb old.number old.number refl)
+
 module _ {K V : Type 0} (m : Rules K V) where
   -- on a shard that all pairs go to, the step leaves what the sweep leaves
   pub leaves : (i : ℕ) (f : Act K V) (P Q : List (K × V)) → ((k : K) → m.keys.route k ≢ i → at m.keys.eq P k ≡ None) → SweptTo m.keys.eq m.alike_key m.alike_value f P Q
@@ -56,8 +62,18 @@ module _ {K V : Type 0} (m : Rules K V) where
   module _ {F S : Type 0} (T : F → K → V → Bool → V → F → Type 0) (f : F) (old new : ShardState K V S) (r : SweepsBy T m.keys.eq f old new (Retain old.number)) (left : F → List (V × Bool)) where
     pub swept : (laws : Lawful m) (made : Act K V) (ds : List (V × Bool)) → left f ≡ ds → GivesEach m.alike_value made (pairs old) ds → PutsNextEach T left m.alike_value made r.act
         → SweptTo m.keys.eq m.alike_key m.alike_value made (pairs old) (pairs new)
-    swept laws made ds e gives next j =
-        let here : at m.keys.eq (pairs new) j ≡ option_and_then (λ p. if_yes r.act p (changed r.act p)) (at m.keys.eq (pairs old) j) =
-        r.does.taken.table.becomes j ∙ ap (λ b. cond b (option_and_then (λ p. if_yes r.act p (changed r.act p)) (at m.keys.eq (pairs old) j)) (at m.keys.eq (pairs old) j)) (eq-eqb old.number old.number refl) in
-        subst (λ o. AlikeAt m (option_and_then (λ p. if_yes made p (changed made p)) (at m.keys.eq (pairs old) j)) o) (sym here)
+    swept laws made ds e gives next j = subst (λ o. AlikeAt m (option_and_then (λ p. if_yes made p (changed made p)) (at m.keys.eq (pairs old) j)) o) (sym (swept-at m.keys.eq T f old new r j))
         (made-at m laws made r.act (pairs old) j (agree T left m.alike_value made r.act (pairs old) ds f r.last e gives r.called next))
+
+-- Calls that did alike what the action f makes of each pair leave alike what it leaves.
+module _ {F K V : Type 0} (m : Rules K V) (laws : Lawful m) (T : F → K → V → Bool → V → F → Type 0) (f : Act K V) (x : F)
+    (did : (k : K) (v : V) (yes : Bool) (new : V) (y : F) → T x k v yes new y → IsTrue (m.alike_value (f k v).0 new) × (yes ≡ (f k v).1) × (y ≡ x)) where
+  called-agree : (act : Act K V) (ps : List (K × V)) (last : F) → CalledAlong T act x ps last → Agree m.alike_value f act ps
+  called-agree act [] last called = tt
+  called-agree act (p ∷ ps) last called =
+      let here = did p.0 p.1 (act p.0 p.1).1 (act p.0 p.1).0 called.0 called.1 in
+      (here.0, here.1, called-agree act ps last (subst (λ y. CalledAlong T act y ps last) here.2 called.2))
+
+  pub called-alike : {S : Type 0} (old new : ShardState K V S) → SweepsBy T m.keys.eq x old new (Retain old.number) → SweptTo m.keys.eq m.alike_key m.alike_value f (pairs old) (pairs new)
+  called-alike old new r j = subst (λ o. AlikeAt m (option_and_then (λ p. if_yes f p (changed f p)) (at m.keys.eq (pairs old) j)) o) (sym (swept-at m.keys.eq T x old new r j))
+      (made-at m laws f r.act (pairs old) j (called-agree r.act (pairs old) r.last r.called))

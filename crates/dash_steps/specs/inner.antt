@@ -5,3 +5,4 @@ pub mod Hashed
 pub mod Kinds
 pub mod Plan
 pub mod Sweep
+pub mod Take

@@ -3,16 +3,20 @@
 ghost use Rattle.std.specs.Prelude.{◌≡◌, IsTrue, IsSome, IfOk, OnErr};
 ghost use Rattle.std.specs.Option.{option_map};
 ghost use Rattle.std.specs.Map.Iter.{deref_pair};
+ghost use Rattle.dash_shard.specs.Shard.{SameShard};
 ghost use Rattle.dash_shard.specs.Steps.{line};
 ghost use Rattle.dash_steps.specs.inner.Copied.{AlikeFound};
-ghost use Rattle.dash_steps.specs.inner.Plan.{Plans};
+ghost use Rattle.dash_steps.specs.inner.Plan.{Plans, IsTakenSlot, MakesAt, StaysLawful, pair_in};
 ghost use Rattle.dash_steps.specs.Steps.{step_of};
 ghost use Rattle.dash_steps.specs.inner.Hashed.{Asks};
 
 use crate::action::Action;
 use crate::kept::Kept;
 use crate::step::{Reply, ShardStep};
+use dash_shard::keyed::Keyed;
+use dash_shard::shard::Shard;
 use std::alloc::AllocError;
+use std::hash::{BuildHasher, Hash};
 
 /// What a step will do: nothing, a change of the pair at its key, if there is one, or a change of each pair of its shard.
 #[derive(Drop)]
@@ -22,6 +26,42 @@ pub enum Change<V> {
     Becomes(V),
     /// Each value becomes the next of these, and the pair stays where yes is beside it.
     Each(Vec<(V, bool)>),
+}
+
+/// The pair of the slot that was found, if one was.
+#[inline]
+pub fn look<K: Eq + Hash, V, S: BuildHasher>(
+    shard: &Shard<K, V, S>,
+    found: Option<usize>,
+) -> Option<(&K, &V)>
+    requires { IsTakenSlot shard.now found }
+    ensures { option_map deref_pair result ≡ pair_in shard.now found }
+{
+    let slot = found?;
+    Some(shard.at(slot))
+}
+
+/// Makes of the pair in the slot that was found, if one was, what was decided.
+pub fn make_change<K: Eq + Hash + Drop, V: Drop, S: BuildHasher>(
+    shard: &mut Shard<K, V, S>,
+    found: Option<usize>,
+    change: Change<V>,
+)
+    requires { IsTakenSlot shard.old found }
+    ensures becomes { MakesAt ⟦<Shard<K, V, S> as Keyed>⟧.by shard.old shard.new found change }
+    ensures stays { SameShard shard.old shard.new }
+    ensures room { shard.new.capacity ≡ shard.old.capacity }
+    ensures lawful { StaysLawful ⟦<Shard<K, V, S> as Keyed>⟧.by shard.old shard.new }
+{
+    let Some(slot) = found else {
+        drop(change);
+        return;
+    };
+    match change {
+        Change::Stays | Change::Each(_) => (),
+        Change::Goes => drop(shard.remove_at(slot)),
+        Change::Becomes(value) => drop(shard.set_at(slot, value)),
+    }
 }
 
 /// A copy of a pair that was found.

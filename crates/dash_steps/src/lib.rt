@@ -7,3 +7,4 @@ pub mod change;
 pub mod kept;
 pub mod step;
 pub mod sweep;
+pub mod take;

@@ -9,7 +9,7 @@ use Rattle.dash_steps.specs.inner.Copied.{AlikeAt}
 use Rattle.dash_steps.specs.inner.Kinds.{kinds_of}
 use Rattle.dash_steps.proofs.Copies.{lawful-by}
 use Rattle.dash_shard.specs.Hashing.{key_hash}
-use Rattle.dash_history.proofs.Finding.{found-taken, decided-at}
+use Rattle.dash_steps.proofs.Finding.{found-taken, decided-at}
 use Rattle.dash_steps.proofs.Sweeping.{leaves}
 use Rattle.dash_history.proofs.record.plan.carry_out.Goals as goal
 use Rattle.dash_shard.proofs.Lawful.{lawful-of}

@@ -1,6 +1,6 @@
 use Rattle.dash_shard.specs.Hashing.{key_hash}
 use Rattle.dash_shard.proofs.Lawful.{lawful-of}
-use Rattle.dash_history.proofs.Finding.{unmade}
+use Rattle.dash_steps.proofs.Finding.{unmade}
 use Rattle.dash_history.proofs.record.plan.make_change.Goals as goal
 
 pub returns-in_default-clause-becomes : goal.returns-in_default-clause-becomes

@@ -9,8 +9,8 @@ use Rattle.std.specs.Cmp.Lexicographic.{pointwise}
 use Rattle.dash_steps.specs.Alike.{alike_pair}
 use Rattle.dash_steps.specs.Steps.{step_of}
 use Rattle.dash_steps.proofs.AlikeLaws.{reply_equiv}
-use Rattle.dash_history.proofs.Finding.{found-pair, found-taken, planned-answers, planned-fits}
-use Rattle.dash_history.proofs.Preparing.{answers-all, mapped}
+use Rattle.dash_steps.proofs.Finding.{found-pair, found-taken, planned-answers, planned-fits}
+use Rattle.dash_steps.proofs.Preparing.{answers-all, mapped}
 use Rattle.dash_history.proofs.record.plan.prepare.Goals as goal
 
 pub look-pair-requires : goal.look-pair-requires

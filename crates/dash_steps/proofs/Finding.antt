@@ -1,5 +1,6 @@
 -- What a look-up of a step's key found, and the change that is made there.
 use Rattle.std.proofs.Common.{◌≡◌, ℕ, cond, Bool, Option, Some, None, is_some, IsSome, IsTrue, refl, sym, ap, subst, ◌∙◌}
+use Rattle.std.specs.Cmp.{IsEquivalence}
 use Rattle.std.specs.Option.{IsSomeAnd}
 use Rattle.std.proofs.lemmas.Bool.{true≢false}
 use Rattle.std.proofs.lemmas.Option.{none-some}
@@ -7,7 +8,7 @@ use Rattle.dash_shard.specs.Contents.{at}
 use Rattle.dash_shard.specs.Steps.{Line, at_key, on_shard, line, Step, Reply, LineReplies}
 use Rattle.dash_shard.specs.inner.Keys.{IsLawful, keys_of}
 use Rattle.dash_shard.specs.Hashing.{KeyHash}
-use Rattle.dash_shard.specs.Shard.{ShardState, slot, pairs}
+use Rattle.dash_shard.specs.Shard.{ShardState, slot, pairs, TakesAt}
 use Rattle.dash_shard.specs.Held.{Finds}
 use Rattle.dash_shard.proofs.BySlot.{unmoved}
 use Rattle.dash_steps.specs.declared.change.Change.{Change}
@@ -61,3 +62,7 @@ module _ {K V S : Type 0} (h : KeyHash K S) (s : ShardState K V S) where
       → Fits x y k b (at h.eq (pairs s) k) d → Finds h.eq s k found → MakesAt h s t found d
       → (j : K) → AlikeAt (rules x y (keys_of h s)) (cond (h.eq k j) (b (at h.eq (pairs s) j)) (at h.eq (pairs s) j)) (at h.eq (pairs t) j)
   decided-at t x y laws k b found d fits finds makes = decided (rules x y (keys_of h s)) laws (pairs s) (pairs t) k b d fits (makes k finds fits.there)
+
+-- what was done to the pair of a slot left the room
+pub same-room : {K V S : Type 0} (eq : K → K → Bool) → IsEquivalence eq → (s t : ShardState K V S) (i : ℕ) (p : K × V) (step : K → Step K V) (reply : Reply K V) → slot s.slots i ≡ Some p → TakesAt eq s t i step reply → t.capacity ≡ s.capacity
+same-room eq laws s t i p step reply here takes = (takes p.0 (subst (λ o. IsSomeAnd o (λ q. IsTrue (eq q.0 p.0))) (sym here) (laws.refl p.0))).room
