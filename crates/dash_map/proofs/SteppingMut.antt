@@ -1,12 +1,11 @@
 -- A step of a walk over a map's locks that writes.
 use Rattle.std.proofs.Common.{◌≡◌, ℕ, zero, suc, ◌+◌, ◌-◌, Option, Some, None, IsSome, inl, inr, refl, sym, ap, subst, ◌∙◌, arith, add-one}
 use Rattle.std.specs.Prelude.{IfSome}
-use Rattle.std.specs.Option.{option_map}
 use Rattle.std.proofs.lemmas.Bool.{false≢true}
 use Rattle.std.proofs.lemmas.Option.{same_Some}
 use Rattle.dash_shard.specs.Hashing.{KeyHash}
 use Rattle.dash_shard.specs.Lock.{LeftBehind}
-use Rattle.dash_shard.specs.Shard.{ShardState, IsNextTaken, IsTagged, slot, with_value_in}
+use Rattle.dash_shard.specs.Shard.{ShardState, IsNextTaken, IsTagged, slot}
 use Rattle.dash_ref.specs.Ref.{RefState}
 use Rattle.dash_map.specs.Walking.{IterState, GivesPair}
 use Rattle.dash_map.specs.Map.{MapState}

@@ -14,13 +14,6 @@ use Rattle.dash_steps.specs.inner.Copied.{AlikeAt}
 use Rattle.dash_steps.proofs.Copies.{Lawful, at_laws}
 
 module _ {K V : Type 0} (m : Rules K V) (laws : Lawful m) where
-  abbrev pub union : List (List (K × V)) → List (K × V)
-  union Ps = flat_map (λ P. P) Ps
-
-  -- the keys of each list go to its shard
-  abbrev pub Spread : List (List (K × V)) → Type 0
-  Spread Ps = OnShards m.keys (λ P. P) 0 Ps
-
   -- a line leaves what stands at the keys of other shards
   after-elsewhere : (l : Line K V) (j : K) (o : Option (K × V)) → m.keys.route j ≢ line_shard m.keys l → line_after m.keys l j o ≡ o
   after-elsewhere (at_key k b r) j o ne = elim (cases_Bool (m.keys.eq k j)) as (λ _. cond (m.keys.eq k j) (b o) o ≡ o) [
@@ -45,48 +38,53 @@ module _ {K V : Type 0} (m : Rules K V) (laws : Lawful m) where
     routed = λ k away. none-alike (at m.keys.eq Q k) (subst (λ o. AlikeAt m o (at m.keys.eq Q k)) (after-elsewhere (line step) k (at m.keys.eq P k) away ∙ on.routed k away) (t.each_key k));
   }
 
-  module _ (Ps : List (List (K × V))) (below : (k : K) → m.keys.route k < length Ps) (on : Spread Ps) (step : Step K V) (reply : Reply K V) (P Q : List (K × V))
-      (here : slice_get Ps (step_shard m.keys step) ≡ Some P) (t : Takes m P step reply Q) where
+  -- A row of shards, of which f gives the pairs.
+  module _ {X : Type 0} (f : X → List (K × V)) (xs : List X) (below : (k : K) → m.keys.route k < length xs) (on : OnShards m.keys f 0 xs) (step : Step K V) (reply : Reply K V) (x y : X)
+      (here : slice_get xs (step_shard m.keys step) ≡ Some x) (t : Takes m (f x) step reply (f y)) where
     abbrev s : ℕ
     s = step_shard m.keys step
 
-    pub spread-set : Spread (slice_set Ps s Q)
-    spread-set = λ j R e. elim (cases_eq j s) as (λ _. IsOnShard m.keys (0 + j) R) [
+    pub spread-set : OnShards m.keys f 0 (slice_set xs s y)
+    spread-set = λ j u e. elim (cases_eq j s) as (λ _. IsOnShard m.keys (0 + j) (f u)) [
       | inl same ↦
-          let is : Q ≡ R = same_Some Q R (sym (slice_get-set_same Ps s Q (slice_get_within Ps s P here)) ∙ ap (slice_get (slice_set Ps s Q)) (sym same) ∙ e) in
+          let is : y ≡ u = same_Some y u (sym (slice_get-set_same xs s y (slice_get_within xs s x here)) ∙ ap (slice_get (slice_set xs s y)) (sym same) ∙ e) in
           let one : 0 + s ≡ s = omega arith in
-          let all : IsOnShard m.keys s Q = on-after P Q step reply (subst (λ n. IsOnShard m.keys n P) one (on s P here)) t in
-          subst (IsOnShard m.keys (0 + j)) is (subst (λ n. IsOnShard m.keys n Q) (let two : s ≡ 0 + j = omega (arith, same) in two) all)
-      | inr other ↦ on j R (slice_get-set_other Ps s j Q R other e)
+          let all : IsOnShard m.keys s (f y) = on-after (f x) (f y) step reply (subst (λ n. IsOnShard m.keys n (f x)) one (on s x here)) t in
+          subst (λ z. IsOnShard m.keys (0 + j) (f z)) is (subst (λ n. IsOnShard m.keys n (f y)) (let two : s ≡ 0 + j = omega (arith, same) in two) all)
+      | inr other ↦ on j u (slice_get-set_other xs s j y u other e)
     ]
 
     -- THE FRAME
-    pub lift : Takes m (union Ps) step reply (union (slice_set Ps s Q))
+    pub lift : Takes m (flat_map f xs) step reply (flat_map f (slice_set xs s y))
     lift = record {
       in_range = t.in_range;
       answers = record {
         told = t.answers.told;
-        replies = replies-there (line step) P (union Ps) t.answers.told (λ k goes. sym (at-union m.keys (λ P. P) Ps k P on (ap (slice_get Ps) goes ∙ here))) t.answers.replies;
+        replies = replies-there (line step) (f x) (flat_map f xs) t.answers.told (λ k goes. sym (at-union m.keys f xs k x on (ap (slice_get xs) goes ∙ here))) t.answers.replies;
         alike = t.answers.alike;
       };
-      each_key = λ j. elim (cases_eq (m.keys.route j) s) as (λ _. AlikeAt m (after m.keys step j (at m.keys.eq (union Ps) j)) (at m.keys.eq (union (slice_set Ps s Q)) j)) [
+      each_key = λ j. elim (cases_eq (m.keys.route j) s) as (λ _. AlikeAt m (after m.keys step j (at m.keys.eq (flat_map f xs) j)) (at m.keys.eq (flat_map f (slice_set xs s y)) j)) [
         | inl goes ↦
-            let old : at m.keys.eq (union Ps) j ≡ at m.keys.eq P j = at-union m.keys (λ P. P) Ps j P on (ap (slice_get Ps) goes ∙ here) in
-            let new : at m.keys.eq (union (slice_set Ps s Q)) j ≡ at m.keys.eq Q j =
-            at-union m.keys (λ P. P) (slice_set Ps s Q) j Q spread-set (ap (slice_get (slice_set Ps s Q)) goes ∙ slice_get-set_same Ps s Q (slice_get_within Ps s P here)) in
+            let old : at m.keys.eq (flat_map f xs) j ≡ at m.keys.eq (f x) j = at-union m.keys f xs j x on (ap (slice_get xs) goes ∙ here) in
+            let new : at m.keys.eq (flat_map f (slice_set xs s y)) j ≡ at m.keys.eq (f y) j =
+            at-union m.keys f (slice_set xs s y) j y spread-set (ap (slice_get (slice_set xs s y)) goes ∙ slice_get-set_same xs s y (slice_get_within xs s x here)) in
             rw (old, new) (t.each_key j)
         | inr other ↦
-            let R = get_or Ps (m.keys.route j) [] in
-            let there : slice_get Ps (m.keys.route j) ≡ Some R = slice_get-get_or Ps (m.keys.route j) [] (below j) in
-            let U = get_or (slice_set Ps s Q) (m.keys.route j) [] in
-            let there' : slice_get (slice_set Ps s Q) (m.keys.route j) ≡ Some U = slice_get-get_or (slice_set Ps s Q) (m.keys.route j) [] (omega (arith, below j, length-set Ps s Q)) in
-            let same : U ≡ R = same_Some U R (sym (slice_get-set_other Ps s (m.keys.route j) Q U other there') ∙ there) in
-            let old : at m.keys.eq (union Ps) j ≡ at m.keys.eq R j = at-union m.keys (λ P. P) Ps j R on there in
-            let new : at m.keys.eq (union (slice_set Ps s Q)) j ≡ at m.keys.eq R j = at-union m.keys (λ P. P) (slice_set Ps s Q) j U spread-set there' ∙ ap (λ l. at m.keys.eq l j) same in
-            rw (old, new, after-elsewhere (line step) j (at m.keys.eq R j) other) ((at_laws m laws).refl (at m.keys.eq R j))
+            let u = get_or (slice_set xs s y) (m.keys.route j) x in
+            let there : slice_get (slice_set xs s y) (m.keys.route j) ≡ Some u = slice_get-get_or (slice_set xs s y) (m.keys.route j) x (omega (arith, below j, length-set xs s y)) in
+            let old : at m.keys.eq (flat_map f xs) j ≡ at m.keys.eq (f u) j = at-union m.keys f xs j u on (slice_get-set_other xs s (m.keys.route j) y u other there) in
+            let new : at m.keys.eq (flat_map f (slice_set xs s y)) j ≡ at m.keys.eq (f u) j = at-union m.keys f (slice_set xs s y) j u spread-set there in
+            rw (old, new, after-elsewhere (line step) j (at m.keys.eq (f u) j) other) ((at_laws m laws).refl (at m.keys.eq (f u) j))
       ];
-      distinct = distinct-union m.keys (λ P. P) laws.equal 0 (slice_set Ps s Q) spread-set;
+      distinct = distinct-union m.keys f laws.equal 0 (slice_set xs s y) spread-set;
     }
+
+  abbrev pub union : List (List (K × V)) → List (K × V)
+  union Ps = flat_map (λ P. P) Ps
+
+  -- the keys of each list go to its shard
+  abbrev pub Spread : List (List (K × V)) → Type 0
+  Spread Ps = OnShards m.keys (λ P. P) 0 Ps
 
   -- the steps on shard s, with their replies
   abbrev pub at_shard : ℕ → List (Step K V × Reply K V) → List (Step K V × Reply K V)
@@ -104,8 +102,8 @@ module _ {K V : Type 0} (m : Rules K V) (laws : Lawful m) where
       let here = slice_get-get_or Ps s [] within in
       let size : length (slice_set Ps s M) ≡ length Ps = length-set Ps s M in (
         union (slice_set Ps s M),
-        lift Ps below on d.0 d.1 (get_or Ps s []) M here first.1,
-        runs-union ds (slice_set Ps s M) Qs (long ∙ sym size) (λ k. omega (arith, below k, size)) (spread-set Ps below on d.0 d.1 (get_or Ps s []) M here first.1)
+        lift (λ P. P) Ps below on d.0 d.1 (get_or Ps s []) M here first.1,
+        runs-union ds (slice_set Ps s M) Qs (long ∙ sym size) (λ k. omega (arith, below k, size)) (spread-set (λ P. P) Ps below on d.0 d.1 (get_or Ps s []) M here first.1)
             (subst (λ n. All (λ d. step_shard m.keys d.0 < n) ds) (sym size) (All-tail (λ d. step_shard m.keys d.0 < length Ps) d ds in_range))
             (λ i lt. elim (cases_eq i s) as (λ _. Runs m (get_or (slice_set Ps s M) i []) (at_shard i ds) (get_or Qs i [])) [
               | inl same ↦ subst (λ i. Runs m (get_or (slice_set Ps s M) i []) (at_shard i ds) (get_or Qs i [])) (sym same) (subst (λ P. Runs m P (at_shard s ds) (get_or Qs s [])) (sym (get_or-set_same Ps s M [] within)) first.2)

@@ -1,6 +1,7 @@
 -- Steps that are taken on one shard.
-use Rattle.std.proofs.Common.{◌≡◌, ℕ, ◌<◌, ◌≤◌, ◌==◌, Bool, true, false, cond, Option, Some, None, List, IsTrue, refl, sym, ap, subst, arith}
+use Rattle.std.proofs.Common.{◌≡◌, ℕ, ◌<◌, ◌≤◌, ◌==◌, Bool, true, false, cond, Option, Some, None, refl, sym, subst, arith}
 use Rattle.std.specs.Cmp.{IsEquivalence}
+use Rattle.std.specs.Prelude.{Result, Ok, Err, IfOk, IfErr}
 use Rattle.std.specs.Option.{option_and_then}
 use Rattle.dash_shard.specs.Hashing.{KeyHash}
 use Rattle.dash_shard.specs.Contents.{at}
@@ -11,12 +12,12 @@ use Rattle.dash_shard.specs.inner.Keys.{IsLawful, keys_of}
 use Rattle.dash_shard.specs.inner.Steps.{Becomes, after, step_shard}
 use Rattle.dash_shard.proofs.Routing.{route_below}
 use Rattle.dash_steps.specs.Steps.{reply_of}
-use Rattle.dash_steps.specs.Takes.{Rules, rules, Answers, Takes}
+use Rattle.dash_steps.specs.Takes.{Rules, rules, Answers}
 use Rattle.dash_steps.specs.declared.step.Reply.{Reply}
 use Rattle.dash_steps.specs.declared.step.Reply.TheVariants.{Done}
 use Rattle.dash_steps.specs.inner.Copied.{AlikeAt}
 use Rattle.dash_steps.specs.inner.Sweep.{SweptTo, keeping}
-use Rattle.dash_steps.specs.inner.Take.{TakesLike}
+use Rattle.dash_steps.specs.inner.Take.{TakesOn}
 use Rattle.dash_steps.proofs.Copies.{Lawful, lawful-by, takes-exactly}
 use Rattle.dash_steps.proofs.Preparing.{answers-all}
 use Rattle.dash_steps.proofs.Sweeping.{leaves}
@@ -41,7 +42,7 @@ module _ {K V S : Type 0} (h : KeyHash K S) (law : IsLawful h) (k : K → K → 
 
   -- a step that got this reply, and made exactly this of the pairs
   pub exactly : (t : ShardState K V S) (step : Step K V) (reply : Reply K V) → step_shard m.keys step < s.amount → Answers m (pairs s) step (reply_of reply) → Becomes m.keys step (pairs s) (pairs t)
-      → SameShard s t → s.capacity ≤ t.capacity → IsShard h t → TakesLike h k v s step t reply
+      → SameShard s t → s.capacity ≤ t.capacity → IsShard h t → TakesOn h k v s step t reply
   exactly t step reply here answers becomes stays room lawful = record {
     takes = takes-exactly m laws-on (pairs s) (pairs t) step (reply_of reply) here answers becomes lawful.contents.distinct;
     stays = stays;
@@ -50,21 +51,21 @@ module _ {K V S : Type 0} (h : KeyHash K S) (law : IsLawful h) (k : K → K → 
   }
 
   -- a step that leaves the shard as it is
-  pub looks : (step : Step K V) (reply : Reply K V) → step_shard m.keys step < s.amount → Answers m (pairs s) step (reply_of reply) → Becomes m.keys step (pairs s) (pairs s) → TakesLike h k v s step s reply
+  pub looks : (step : Step K V) (reply : Reply K V) → step_shard m.keys step < s.amount → Answers m (pairs s) step (reply_of reply) → Becomes m.keys step (pairs s) (pairs s) → TakesOn h k v s step s reply
   looks step reply here answers becomes = exactly s step reply here answers becomes (record { number = refl; amount = refl; hasher = refl }) (omega arith) shard
 
   module _ (i : ℕ) (here : i ≡ s.number) where
     there : i < s.amount
     there = subst (λ n. n < s.amount) (sym here) shard.number
 
-    pub reads : (reply : Reply K V) → Answers m (pairs s) (Read i) (reply_of reply) → TakesLike h k v s (Read i) s reply
+    pub reads : (reply : Reply K V) → Answers m (pairs s) (Read i) (reply_of reply) → TakesOn h k v s (Read i) s reply
     reads reply answers = looks (Read i) reply there answers (λ j. shown (m.keys.route j == i) (at h.eq (pairs s) j))
 
-    pub counts : (reply : Reply K V) → Answers m (pairs s) (Count i) (reply_of reply) → TakesLike h k v s (Count i) s reply
+    pub counts : (reply : Reply K V) → Answers m (pairs s) (Count i) (reply_of reply) → TakesOn h k v s (Count i) s reply
     counts reply answers = looks (Count i) reply there answers (λ j. shown (m.keys.route j == i) (at h.eq (pairs s) j))
 
   module _ (t : ShardState K V S) (stays : SameShard s t) (room : s.capacity ≤ t.capacity) (lawful : IsShard h t) (f : Act K V) where
-    swept-by : (step : Step K V) → step_shard m.keys step ≡ s.number → Answers m (pairs s) step table.Done → ((j : K) → AlikeAt m (after m.keys step j (at h.eq (pairs s) j)) (at h.eq (pairs t) j)) → TakesLike h k v s step t Done
+    swept-by : (step : Step K V) → step_shard m.keys step ≡ s.number → Answers m (pairs s) step table.Done → ((j : K) → AlikeAt m (after m.keys step j (at h.eq (pairs s) j)) (at h.eq (pairs t) j)) → TakesOn h k v s step t Done
     swept-by step is answers each = record {
       takes = record { in_range = subst (λ n. n < s.amount) (sym is) shard.number; answers = answers; each_key = each; distinct = lawful.contents.distinct };
       stays = stays;
@@ -72,10 +73,16 @@ module _ {K V S : Type 0} (h : KeyHash K S) (law : IsLawful h) (k : K → K → 
       lawful = lawful;
     }
 
-    pub retains : (i : ℕ) → i ≡ s.number → SweptTo h.eq k v f (pairs s) (pairs t) → TakesLike h k v s (Retain i f) t Done
-    retains i here swept = subst (λ n. TakesLike h k v s (Retain n f) t Done) (sym here)
+    pub retains : (i : ℕ) → i ≡ s.number → SweptTo h.eq k v f (pairs s) (pairs t) → TakesOn h k v s (Retain i f) t Done
+    retains i here swept = subst (λ n. TakesOn h k v s (Retain n f) t Done) (sym here)
         (swept-by (Retain s.number f) refl (answers-all h k v law.laws s shard (Retain s.number f) s.number _ _ refl refl table.Done table.Done refl refl) (leaves m s.number f (pairs s) (pairs t) shard.contents.routed swept))
 
-    pub alters : (i : ℕ) → i ≡ s.number → SweptTo h.eq k v (keeping true f) (pairs s) (pairs t) → TakesLike h k v s (AlterAll i f) t Done
-    alters i here swept = subst (λ n. TakesLike h k v s (AlterAll n f) t Done) (sym here)
+    pub alters : (i : ℕ) → i ≡ s.number → SweptTo h.eq k v (keeping true f) (pairs s) (pairs t) → TakesOn h k v s (AlterAll i f) t Done
+    alters i here swept = subst (λ n. TakesOn h k v s (AlterAll n f) t Done) (sym here)
         (swept-by (AlterAll s.number f) refl (answers-all h k v law.laws s shard (AlterAll s.number f) s.number _ _ refl refl table.Done table.Done refl refl) (leaves m s.number (keeping true f) (pairs s) (pairs t) shard.contents.routed swept))
+
+-- taken or refused, the shard stays the one that it is, loses no room, and stays lawful
+module _ {K V S X : Type 0} (h : KeyHash K S) (k : K → K → Bool) (v : V → V → Bool) (s t : ShardState K V S) (step : Step K V) (back : X → Type 0) where
+  pub settled : (r : Result (Reply K V) X) → IfOk r (TakesOn h k v s step t) → IfErr r (λ x. back x × (t ≡ s)) → IsShard h s → SameShard s t × (s.capacity ≤ t.capacity) × IsShard h t
+  settled (Ok reply) took refused shard = (took.stays, took.room, took.lawful)
+  settled (Err x) took refused shard = subst (λ y. SameShard s y × (s.capacity ≤ y.capacity) × IsShard h y) (sym refused.1) (record { number = refl; amount = refl; hasher = refl }, omega arith, shard)

@@ -3,7 +3,7 @@ ghost use Rattle.std.specs.Prelude.{◌≡◌, true, IsTrue, IfOk, IfErr};
 ghost use Rattle.dash_shard.specs.Shard.{IsShard};
 ghost use Rattle.dash_steps.specs.Steps.{step_of};
 ghost use Rattle.dash_steps.specs.inner.Hashed.{Asks};
-ghost use Rattle.dash_steps.specs.inner.Take.{Goes, TakesLike};
+ghost use Rattle.dash_steps.specs.inner.Take.{Goes, TakesOn};
 
 use crate::action::Action;
 use crate::change::{copy_found, look, make_change, plan_asked};
@@ -23,7 +23,7 @@ fn take_asked<K: KeptKey + Drop, V: Kept + Drop, S: BuildHasher, A: Action<K, V>
     requires asked { Asks step }
     requires goes { Goes A.acts ⟦<Shard<K, V, S> as Keyed>⟧.by shard.old step hash }
     requires lawful { IsShard ⟦<Shard<K, V, S> as Keyed>⟧.by shard.old }
-    ensures taken { IfOk result (TakesLike ⟦<Shard<K, V, S> as Keyed>⟧.by K.alike V.alike shard.old (step_of A.acts step) shard.new) }
+    ensures taken { IfOk result (TakesOn ⟦<Shard<K, V, S> as Keyed>⟧.by K.alike V.alike shard.old (step_of A.acts step) shard.new) }
     ensures refused { IfErr result (λ back. (back ≡ step) × (shard.new ≡ shard.old)) }
 {
     let found = shard.position_of_hashed(hash, step.asked_key());
@@ -47,7 +47,7 @@ pub fn take<K: KeptKey + Drop, V: Kept + Drop, S: BuildHasher, A: Action<K, V> +
 ) -> Result<Reply<K, V>, ShardStep<K, V, A>>
     requires goes { Goes A.acts ⟦<Shard<K, V, S> as Keyed>⟧.by shard.old step hash }
     requires lawful { IsShard ⟦<Shard<K, V, S> as Keyed>⟧.by shard.old }
-    ensures taken { IfOk result (TakesLike ⟦<Shard<K, V, S> as Keyed>⟧.by K.alike V.alike shard.old (step_of A.acts step) shard.new) }
+    ensures taken { IfOk result (TakesOn ⟦<Shard<K, V, S> as Keyed>⟧.by K.alike V.alike shard.old (step_of A.acts step) shard.new) }
     ensures refused { IfErr result (λ back. (back ≡ step) × (shard.new ≡ shard.old)) }
 {
     match step {

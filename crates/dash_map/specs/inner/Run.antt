@@ -1,42 +1,19 @@
 -- What the parts of a run ask and promise.
-use Rattle.std.specs.Prelude.{ℕ, ◌≡◌, ◌≤◌, ◌↔◌, Bool, length, ⊤}
+use Rattle.std.specs.Prelude.{◌≡◌, ◌≤◌, ◌↔◌, Bool, length}
 use Rattle.dash_shard.specs.Steps as table
 use Rattle.dash_steps.specs.Steps.{step_of, reply_of}
 use Rattle.dash_steps.specs.Takes.{Rules, rules, Takes}
 use Rattle.dash_steps.specs.declared.step.ShardStep.{ShardStep}
-use Rattle.dash_steps.specs.declared.step.ShardStep.TheVariants.{Get, Contains, Insert, Remove, Read, Count, AlterAll, Retain}
 use Rattle.dash_steps.specs.declared.step.Reply.{Reply}
 use Rattle.dash_map.specs.Alone.{AloneState, contents, keys_in}
 use Rattle.dash_map.specs.declared.run.Fault.{Fault}
 use Rattle.dash_map.specs.declared.run.Fault.TheVariants.{NoSuchShard}
 use Rattle.dash_shard.specs.Hashing.{KeyHash}
 use Rattle.dash_shard.specs.inner.Steps.{step_shard}
-use Rattle.dash_steps.specs.inner.Sweep.{keeping}
 
 -- a step with its reply, in the words of the step table
 abbrev pub answered : {K V A : Type 0} → (A → table.Act K V) → ShardStep K V A × Reply K V → table.Step K V × table.Reply K V
 answered acts d = (step_of acts d.0, reply_of d.1)
-
-module _ {K V A : Type 0} where
-  -- the step is on the pair at its key, and has no action
-  abbrev pub IsBare : ShardStep K V A → Type 0
-  IsBare (Get k) = ⊤
-  IsBare (Contains k) = ⊤
-  IsBare (Insert k v) = ⊤
-  IsBare (Remove k) = ⊤
-  IsBare _ = ⊥
-
-  -- the step names its shard by its number
-  abbrev pub NamesShard : ShardStep K V A → Type 0
-  NamesShard (Read i) = ⊤
-  NamesShard (Count i) = ⊤
-  NamesShard (AlterAll i f) = ⊤
-  NamesShard (Retain i f) = ⊤
-  NamesShard _ = ⊥
-
--- the step that gives each pair of a shard its new value, and lets go those of which the action answers no, where not all stay
-abbrev pub swept : {K V : Type 0} → ℕ → Bool → table.Act K V → table.Step K V
-swept shard all act = table.Retain shard (keeping all act)
 
 -- what the map knows of its keys and values
 abbrev pub rules_in : {K V S : Type 0} → KeyHash K S → (K → K → Bool) → (V → V → Bool) → AloneState K V S → Rules K V

@@ -16,7 +16,7 @@ pub record Goes {K V A S : Type 0} (acts : A → table.Act K V) (h : KeyHash K S
   pub hashed : IsHashBy acts h s.hasher step hash
 
 -- from old the step may get this reply, and leaves new, up to alike: the same shard, which loses no room
-pub record TakesLike {K V S : Type 0} (h : KeyHash K S) (k : K → K → Bool) (v : V → V → Bool) (old : ShardState K V S) (step : table.Step K V) (new : ShardState K V S) (reply : Reply K V) : Type 0 where
+pub record TakesOn {K V S : Type 0} (h : KeyHash K S) (k : K → K → Bool) (v : V → V → Bool) (old : ShardState K V S) (step : table.Step K V) (new : ShardState K V S) (reply : Reply K V) : Type 0 where
   pub takes : Takes (rules k v (keys_of h old)) (pairs old) step (reply_of reply) (pairs new)
   pub stays : SameShard old new
   pub room : old.capacity ≤ new.capacity

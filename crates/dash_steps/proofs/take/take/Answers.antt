@@ -1,13 +1,12 @@
 use Rattle.std.proofs.Common.{true, IsTrue, refl, ap, subst, arith, is_some, ◌∙◌, rules}
 use Rattle.std.specs.Cmp.Lexicographic.{pointwise}
 use Rattle.std.specs.Map.Iter.{deref_pair}
-use Rattle.dash_shard.specs.Hashing.{KeyHash, key_hash}
+use Rattle.dash_shard.specs.Hashing.{key_hash}
 use Rattle.dash_shard.specs.Shard.{pairs}
 use Rattle.dash_shard.specs.Steps as table
 use Rattle.dash_shard.specs.inner.Keys.{keys_of}
 use Rattle.dash_shard.proofs.Lawful.{lawful-of}
 use Rattle.dash_steps.specs.Alike.{alike_pair}
-use Rattle.dash_steps.specs.Takes.{Rules, rules as rules_by}
 use Rattle.dash_steps.specs.declared.step.Reply.TheVariants.{Pair, Found, Old, Pairs, Number}
 use Rattle.dash_steps.specs.inner.Sweep.{keeping}
 use Rattle.dash_steps.proofs.AlikeLaws.{reply_equiv}
@@ -15,7 +14,6 @@ use Rattle.dash_steps.proofs.Planning.{answers-found, looked, same_found}
 use Rattle.dash_steps.proofs.Preparing.{answers-all, mapped}
 use Rattle.dash_steps.proofs.Sweeping.{called-alike}
 use Rattle.dash_steps.proofs.Taking.{exactly, looks, reads, counts, retains, alters, routed, laws-on}
-use Rattle.dash_steps.proofs.take.take.Given.{Over}
 use Rattle.dash_steps.proofs.take.take.Goals as goal
 
 pub returns-in-Ok-clause-taken : goal.returns-in-Ok-clause-taken

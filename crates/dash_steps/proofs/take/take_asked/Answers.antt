@@ -1,7 +1,5 @@
 use Rattle.std.proofs.Common.{subst, arith, ◌∙◌}
-use Rattle.dash_shard.specs.Contents.{at}
 use Rattle.dash_shard.specs.Hashing.{key_hash}
-use Rattle.dash_shard.specs.Shard.{pairs}
 use Rattle.dash_shard.specs.Steps.{line}
 use Rattle.dash_shard.proofs.Lawful.{lawful-of}
 use Rattle.dash_steps.specs.Steps.{step_of}

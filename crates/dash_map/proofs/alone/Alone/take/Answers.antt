@@ -1,45 +1,66 @@
-use Rattle.std.proofs.Common.{refl, ap, arith}
-use Rattle.dash_shard.specs.Steps.{Get, Contains, Insert, Remove, Pair, Found, Old}
-use Rattle.dash_shard.proofs.Routing.{route_below}
-use Rattle.dash_steps.proofs.Copies.{reply_laws}
-use Rattle.dash_steps.proofs.Planning.{looked, answers-found}
-use Rattle.dash_map.specs.Alone.{contents, keys_in}
-use Rattle.dash_map.specs.inner.Run.{rules_in}
-use Rattle.dash_map.proofs.Running.{not-missing, laws-in, takes-look, takes-alone}
-use Rattle.dash_map.proofs.alone.Alone.take.Goals as goal
-use Rattle.dash_shard.proofs.Lawful.{lawful-of}
+use Rattle.std.proofs.Common.{◌≡◌, ◌≤◌, Some, sym, ap, subst, ◌∙◌, arith, slice_get, slice_set, flat_map, length}
+use Rattle.std.proofs.lemmas.Option.{slice_get-get_or}
 use Rattle.dash_shard.specs.Hashing.{key_hash}
+use Rattle.dash_shard.specs.Shard.{SameShard, IsShard, pairs}
+use Rattle.dash_shard.proofs.Lawful.{lawful-of}
+use Rattle.dash_steps.specs.Steps.{step_of, reply_of}
+use Rattle.dash_steps.specs.Takes.{Takes}
+use Rattle.dash_steps.specs.inner.Hashed.{shard_by}
+use Rattle.dash_steps.proofs.Taking.{settled}
+use Rattle.dash_map.specs.Alone.{AloneState, IsAlone, KeepsRoom, contents}
+use Rattle.dash_map.specs.inner.Run.{rules_in}
+use Rattle.dash_map.proofs.Lifting.{alone-set}
+use Rattle.dash_map.proofs.Rooms.{keeps-set}
+use Rattle.dash_map.proofs.Running.{goes-on, takes-on}
+use Rattle.dash_map.proofs.alone.Alone.take.Given.{Over}
+use Rattle.dash_map.proofs.alone.Alone.take.Goals.{After-index_mut, After-take-taken, in-Ok, in-Err}
+use Rattle.dash_map.proofs.alone.Alone.take.Goals as goal
 
-pub returns-in-Ok-clause-taken : goal.returns-in-Ok-clause-taken
-returns-in-Ok-clause-taken g c =
-    let a = c.args.self.now in
-    let w = keys_in (key_hash g.K.PartialEq.eq g.K.Hash.hash_input g.S.BuildHasher g.S.Hasher.Hasher) a in
-    rw c.in-Get.is (takes-look _ _ _ (lawful-of g.S.BuildHasher g.S.Hasher.Hasher g.met.K.Eq.laws g.met.K.Hash.respects_eq) g.met.K.Kept.alike_laws g.met.V.Kept.alike_laws g.met.K.KeptKey.alike_equal a (Get c.in-Get.key) (Pair c.in-Ok.pair) (route_below _ _ (omega (arith, c.requires.amount.several))) c.requires
-    (answers-found (rules_in (key_hash g.K.PartialEq.eq g.K.Hash.hash_input g.S.BuildHasher g.S.Hasher.Hasher) g.K.Kept.alike g.V.Kept.alike a) (contents a) c.in-Get.key _ _ _ _ _ (ap Pair c.get.ensures.pair) refl c.in-Ok.ensures.copy) (looked w c.in-Get.key (contents a)))
+-- the shard that is lent
+lent : (g : Over) (c : After-index_mut g) → slice_get c.self.inside.row c.route-hash.result.1 ≡ Some c.index_mut.result.now
+lent g c = slice_get-get_or c.self.inside.row c.route-hash.result.1 c.index_mut.result.now (omega (arith, c.if-shard-amount.false, c.len-amount.ensures)) ∙ ap Some (sym c.index_mut.ensures.value)
 
-pub returns-in-Contains-clause-taken : goal.returns-in-Contains-clause-taken
-returns-in-Contains-clause-taken g c =
-    let a = c.args.self.now in
-    let w = keys_in (key_hash g.K.PartialEq.eq g.K.Hash.hash_input g.S.BuildHasher g.S.Hasher.Hasher) a in
-    rw c.in-Contains.is (takes-look _ _ _ (lawful-of g.S.BuildHasher g.S.Hasher.Hasher g.met.K.Eq.laws g.met.K.Hash.respects_eq) g.met.K.Kept.alike_laws g.met.V.Kept.alike_laws g.met.K.KeptKey.alike_equal a (Contains c.in-Contains.key) (Found c.contains_key.result) (route_below _ _ (omega (arith, c.requires.amount.several))) c.requires
-    (record { told = Found c.contains_key.result; replies = ap Found c.contains_key.ensures.found; alike = (reply_laws (rules_in (key_hash g.K.PartialEq.eq g.K.Hash.hash_input g.S.BuildHasher g.S.Hasher.Hasher) g.K.Kept.alike g.V.Kept.alike a) (laws-in _ _ _ (lawful-of g.S.BuildHasher g.S.Hasher.Hasher g.met.K.Eq.laws g.met.K.Hash.respects_eq) g.met.K.Kept.alike_laws g.met.V.Kept.alike_laws g.met.K.KeptKey.alike_equal a)).refl (Found c.contains_key.result) }) (looked w c.in-Contains.key (contents a)))
+here : (g : Over) (c : After-take-taken g) → slice_get c.self.inside.row c.route-hash.result.1 ≡ Some c.index_mut.result.now
+here g c = slice_get-get_or c.self.inside.row c.route-hash.result.1 c.index_mut.result.now (omega (arith, c.if-shard-amount.false, c.len-amount.ensures)) ∙ ap Some (sym c.index_mut.ensures.value)
 
-pub returns-in-Ok-insert-clause-taken : goal.returns-in-Ok-insert-clause-taken
-returns-in-Ok-insert-clause-taken g c =
-    let a = c.args.self.now in
-    let w = keys_in (key_hash g.K.PartialEq.eq g.K.Hash.hash_input g.S.BuildHasher g.S.Hasher.Hasher) a in
-    rw c.in-Insert.is (takes-alone _ _ _ (lawful-of g.S.BuildHasher g.S.Hasher.Hasher g.met.K.Eq.laws g.met.K.Hash.respects_eq) g.met.K.Kept.alike_laws g.met.V.Kept.alike_laws g.met.K.KeptKey.alike_equal a c.insert.new.self (Insert c.in-Insert.key c.in-Insert.value) (Old c.in-Ok-insert.old) (route_below _ _ (omega (arith, c.requires.amount.several))) c.in-Ok-insert.ensures.taken)
+pub take-taken-requires-clause-goes : goal.take-taken-requires-clause-goes
+take-taken-requires-clause-goes g c =
+    let i = c.route-hash.result.1 in
+    goes-on g.A.Action.acts (key_hash g.K.PartialEq.eq g.K.Hash.hash_input g.S.BuildHasher g.S.Hasher.Hasher) c.self.inside.hasher (length c.self.inside.row) i c.index_mut.result.now (c.self.invariant.tagged i c.index_mut.result.now (lent g c)) c.args.step c.route-hash.result.0 c.route-hash.ensures.hash
+    (c.route-hash.ensures.shard ∙ ap (λ n. shard_by g.A.Action.acts (key_hash g.K.PartialEq.eq g.K.Hash.hash_input g.S.BuildHasher g.S.Hasher.Hasher) c.self.inside.hasher n c.args.step) c.len-amount.ensures)
 
-pub returns-in-Remove-clause-taken : goal.returns-in-Remove-clause-taken
-returns-in-Remove-clause-taken g c =
-    let a = c.args.self.now in
-    let w = keys_in (key_hash g.K.PartialEq.eq g.K.Hash.hash_input g.S.BuildHasher g.S.Hasher.Hasher) a in
-    rw c.in-Remove.is (takes-alone _ _ _ (lawful-of g.S.BuildHasher g.S.Hasher.Hasher g.met.K.Eq.laws g.met.K.Hash.respects_eq) g.met.K.Kept.alike_laws g.met.V.Kept.alike_laws g.met.K.KeptKey.alike_equal a c.remove.new.self (Remove c.in-Remove.key) (Pair c.remove.result) (route_below _ _ (omega (arith, c.requires.amount.several))) c.remove.ensures)
+pub take-taken-requires-clause-lawful : goal.take-taken-requires-clause-lawful
+take-taken-requires-clause-lawful g c = (c.self.invariant.tagged c.route-hash.result.1 c.index_mut.result.now (lent g c)).shard
 
-pub returns-in-Err-clause-fault : goal.returns-in-Err-clause-fault
-returns-in-Err-clause-fault g c =
-    rw c.in-Get.is (not-missing _ _ (route_below _ _ (omega (arith, c.requires.amount.several))))
+after : (g : Over) (c : After-take-taken g) → SameShard c.index_mut.result.now c.take-taken.new.shard × (c.index_mut.result.now.capacity ≤ c.take-taken.new.shard.capacity) × IsShard (key_hash g.K.PartialEq.eq g.K.Hash.hash_input g.S.BuildHasher g.S.Hasher.Hasher) c.take-taken.new.shard
+after g c = settled _ _ _ _ _ _ _ c.take-taken.result c.take-taken.ensures.taken c.take-taken.ensures.refused (c.self.invariant.tagged c.route-hash.result.1 c.index_mut.result.now (here g c)).shard
 
-pub returns-in-Err-insert-clause-fault : goal.returns-in-Err-insert-clause-fault
-returns-in-Err-insert-clause-fault g c =
-    rw c.in-Insert.is (not-missing _ _ (route_below _ _ (omega (arith, c.requires.amount.several))))
+lawful : (g : Over) (c : After-take-taken g) → IsAlone (key_hash g.K.PartialEq.eq g.K.Hash.hash_input g.S.BuildHasher g.S.Hasher.Hasher) (record { hasher = c.self.inside.hasher; row = slice_set c.self.inside.row c.route-hash.result.1 c.take-taken.new.shard })
+lawful g c = let a = after g c in alone-set _ _ c.route-hash.result.1 c.self.inside.row c.index_mut.result.now c.take-taken.new.shard c.self.invariant (here g c) a.0 a.2
+
+pub invariant_of-self : goal.invariant_of-self
+invariant_of-self g c = lawful g (goal.at.invariant_of-self g c).After-take-taken
+
+pub returns-clause-lawful : goal.returns-clause-lawful
+returns-clause-lawful g c = lawful g (goal.at.returns-clause-lawful g c).After-take-taken
+
+pub returns-clause-stays : goal.returns-clause-stays
+returns-clause-stays g c =
+    let At : Type 0 = AloneState g.row.K.Denot g.row.V.Denot g.row.S.Denot in
+    let new : At = record { hasher = c.self.inside.hasher; row = slice_set c.self.inside.row c.route-hash.result.1 c.take-taken.new.shard } in
+    subst (λ (a : At). KeepsRoom a new) c.self.view_is
+    (keeps-set c.self.inside.hasher c.self.inside.row c.route-hash.result.1 c.index_mut.result.now c.take-taken.new.shard (here g (goal.at.returns-clause-stays g c).After-take-taken) (after g (goal.at.returns-clause-stays g c).After-take-taken).1)
+
+pub returns-clause-taken : goal.returns-clause-taken
+returns-clause-taken g c =
+    let At : Type 0 = AloneState g.row.K.Denot g.row.V.Denot g.row.S.Denot in
+    let h = key_hash g.K.PartialEq.eq g.K.Hash.hash_input g.S.BuildHasher g.S.Hasher.Hasher in
+    let i = c.route-hash.result.1 in
+    let row = c.self.inside.row in
+    elim c.match-taken.branch [
+      | in-Ok w ↦ rw w.result-is (subst (λ (a : At). Takes (rules_in h g.K.Kept.alike g.V.Kept.alike a) (contents a) (step_of g.A.Action.acts c.args.step) (reply_of w.in-Ok.reply) (flat_map pairs (slice_set row i c.take-taken.new.shard))) c.self.view_is
+          (takes-on h _ _ (lawful-of g.S.BuildHasher g.S.Hasher.Hasher g.met.K.Eq.laws g.met.K.Hash.respects_eq) g.met.K.Kept.alike_laws g.met.V.Kept.alike_laws g.met.K.KeptKey.alike_equal c.self.inside.hasher row c.self.invariant i
+          c.index_mut.result.now c.take-taken.new.shard (here g (goal.at.returns-clause-taken g c).After-take-taken) (step_of g.A.Action.acts c.args.step) w.in-Ok.reply
+          (c.route-hash.ensures.shard ∙ ap (λ n. shard_by g.A.Action.acts h c.self.inside.hasher n c.args.step) c.len-amount.ensures) w.in-Ok.ensures.taken))
+      | in-Err w ↦ rw w.result-is tt
+    ]
