@@ -90,12 +90,9 @@ pub(super) fn prepare<
             Change::Stays,
         )),
         ShardStep::Count(_) => Ok((Reply::Number(shard.len() as u64), Change::Stays)),
-        ShardStep::AlterAll(_, action) => {
-            let made = ask_each(alloc, shard.iter(), action, true)?;
-            Ok((Reply::Done, Change::Each(made)))
-        }
-        ShardStep::Retain(_, action) => {
-            let made = ask_each(alloc, shard.iter(), action, false)?;
+        ShardStep::AlterAll(_, action) | ShardStep::Retain(_, action) => {
+            let all = matches!(step, ShardStep::AlterAll(_, _));
+            let made = ask_each(alloc, shard.iter(), action, all)?;
             Ok((Reply::Done, Change::Each(made)))
         }
     }
