@@ -3,7 +3,7 @@ use Rattle.std.specs.Prelude.{◌≡◌, ℕ, ◌+◌, ◌<◌, ◌≤◌, ◌�
 use Rattle.dash_shard.specs.Hashing.{KeyHash}
 use Rattle.dash_shard.specs.Contents.{at, EachOnce}
 use Rattle.dash_shard.specs.Steps.{Insert, Old}
-use Rattle.dash_shard.specs.Shard.{ShardState, slot, pairs, shard_len, HasKey, SameShard, IsTagged, TakesStep, StaysPut, with_value_in}
+use Rattle.dash_shard.specs.Shard.{ShardState, slot, pairs, shard_len, HasKey, SameShard, IsTagged, TakesStep, StaysPut}
 use Rattle.dash_shard.specs.declared.shard.InsertRefused.{InsertRefused}
 use Rattle.dash_shard.specs.declared.shard.held.ShardTag.{ShardTag}
 
@@ -49,7 +49,3 @@ pub record Reserves {K V S : Type 0} (eq : K → K → Bool) (additional : ℕ) 
 -- the shard is the one that its lock was made for
 abbrev pub FitsTag : {K V S : Type 0} → KeyHash K S → ShardTag S → ShardState K V S → Type 0
 FitsTag h tag s = IsTagged h tag.hasher.value tag.amount tag.number s
-
--- so it is with any other value at a slot
-abbrev pub KeepsTag : {K V S : Type 0} → KeyHash K S → ShardTag S → ShardState K V S → ℕ → Type 0
-KeepsTag {V = V} h tag s i = (w : V) → FitsTag h tag (with_value_in s i w)

@@ -22,7 +22,7 @@ use dash_steps::sweep::{ask_each, copy_pairs, put_each};
 use std::alloc::{AllocError, Global};
 use std::hash::BuildHasher;
 
-/// The slot of the pair at the step's key, or else the free slot for one, if the step has a key, and there is room.
+/// The slot of the pair at the step's key, or else the free slot for one, if the step is an insert, and there is room.
 pub(super) fn find<K: KeptKey, V: Kept, S: BuildHasher, A: KeptAction<K, V>>(
     shard: &Shard<K, V, S>,
     hash: u64,
@@ -30,12 +30,15 @@ pub(super) fn find<K: KeptKey, V: Kept, S: BuildHasher, A: KeptAction<K, V>>(
 ) -> Result<usize, usize>
     requires { HasHash ⟦<RecShard<K, V, S, A> as Recorded>⟧.known shard.now step.now hash }
     ensures found { IsFound ⟦<RecShard<K, V, S, A> as Recorded>⟧.known shard.now step.now (result_ok result) }
-    ensures free { IfErr result (HasPlace ⟦<RecShard<K, V, S, A> as Recorded>⟧.known shard.now step.now hash) }
+    ensures free { IfErr result (HasPlace shard.now step.now hash) }
 {
-    match step.key() {
-        Ok(key) => shard.find_or_place(hash, key),
-        Err(_) => Err(0),
+    if let ShardStep::Insert(key, _) = step {
+        return shard.find_or_place(hash, key);
     }
+    let Ok(key) = step.key() else {
+        return Err(0);
+    };
+    shard.position_of_hashed(hash, key).ok_or(0)
 }
 
 // The pair of the slot that was found.
@@ -87,12 +90,9 @@ pub(super) fn prepare<
             Change::Stays,
         )),
         ShardStep::Count(_) => Ok((Reply::Number(shard.len() as u64), Change::Stays)),
-        ShardStep::AlterAll(_, action) => {
-            let made = ask_each(alloc, shard.iter(), action, true)?;
-            Ok((Reply::Done, Change::Each(made)))
-        }
-        ShardStep::Retain(_, action) => {
-            let made = ask_each(alloc, shard.iter(), action, false)?;
+        ShardStep::AlterAll(_, action) | ShardStep::Retain(_, action) => {
+            let all = matches!(step, ShardStep::AlterAll(_, _));
+            let made = ask_each(alloc, shard.iter(), action, all)?;
             Ok((Reply::Done, Change::Each(made)))
         }
     }
@@ -165,7 +165,7 @@ pub(super) fn carry_out<
     requires goes { GoesTo ⟦<RecShard<K, V, S, A> as Recorded>⟧.known shard.old step }
     requires hash { HasHash ⟦<RecShard<K, V, S, A> as Recorded>⟧.known shard.old step hash }
     requires found { IsFound ⟦<RecShard<K, V, S, A> as Recorded>⟧.known shard.old step (result_ok found) }
-    requires free { IfErr found (HasPlace ⟦<RecShard<K, V, S, A> as Recorded>⟧.known shard.old step hash) }
+    requires free { IfErr found (HasPlace shard.old step hash) }
     requires decides { Decides ⟦<RecShard<K, V, S, A> as Recorded>⟧.known shard.old step decided }
     ensures ok { OnOk result (Leaves ⟦<RecShard<K, V, S, A> as Recorded>⟧.known shard.old step shard.new) }
     ensures stays { SameShard shard.old shard.new }

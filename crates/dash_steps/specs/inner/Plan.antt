@@ -19,7 +19,7 @@ use Rattle.dash_steps.specs.inner.Sweep.{keeping, GivesEach, SweptTo}
 use Rattle.dash_shard.specs.Held.{Finds}
 use Rattle.dash_shard.specs.inner.Table.{MayTake}
 use Rattle.dash_steps.specs.declared.step.ShardStep.{ShardStep}
-use Rattle.dash_steps.specs.declared.step.ShardStep.TheVariants.{Remove, RemoveIf, RemoveIfMut, Alter, AlterAll, Retain}
+use Rattle.dash_steps.specs.declared.step.ShardStep.TheVariants.{Insert, Remove, RemoveIf, RemoveIfMut, Alter, AlterAll, Retain}
 use Rattle.dash_steps.specs.declared.step.Reply.{Reply}
 use Rattle.dash_steps.specs.declared.change.Change.{Change}
 use Rattle.dash_steps.specs.declared.change.Change.TheVariants.{Stays, Goes, Becomes, Each}
@@ -90,6 +90,11 @@ module _ {K V : Type 0} where
     FitsLine (at_key key becomes replies) o change = Fits key becomes o change
     FitsLine (on_shard i becomes replies) o change = ⊥
 
+-- the slot is free for a pair of the step's key and this hash, if the step is an insert, and there is room
+abbrev pub HasPlace : {K V A S : Type 0} → ShardState K V S → ShardStep K V A → ℕ → ℕ → Type 0
+HasPlace s (Insert k v) hash free = MayTake s hash free
+HasPlace s _ hash free = ⊤
+
 module _ {K V A S : Type 0} (w : Known K V A S) (s : ShardState K V S) where
   -- the change of the pair at a key is what the line makes of it
   abbrev pub FitsAt : K → Line K V → Change V → Type 0
@@ -98,10 +103,6 @@ module _ {K V A S : Type 0} (w : Known K V A S) (s : ShardState K V S) where
   -- a look-up of the step's key found this slot, or the step has no key, and there is no slot
   abbrev pub IsFound : ShardStep K V A → Option ℕ → Type 0
   IsFound step found = OfKey (line (step_of w.acts step)) (λ k. Finds w.keys.eq s k found) (found ≡ None)
-
-  -- the slot is free for a pair of the step's key and this hash, if the step has a key, and there is room
-  abbrev pub HasPlace : ShardStep K V A → ℕ → ℕ → Type 0
-  HasPlace step hash free = OfKey (line (step_of w.acts step)) (λ _. MayTake s hash free) ⊤
 
   -- the change is what the step makes of the pair at its key, or its action of each pair of its shard
   abbrev pub Decides : ShardStep K V A → Change V → Type 0

@@ -4,7 +4,7 @@ use dash_shard::lock::raw::RawRwLock;
 use dash_shard::lock::{RwLock, Tagged};
 use std::rt::Clock;
 use std::sync::Wait;
-use std::thread;
+use std::thread::{self, Threads};
 use std::time::Duration;
 
 /// A count.
@@ -58,44 +58,40 @@ fn each_write_of_four_threads_counts(rt: HostRuntime) {
     is(&rt, lock.into_inner().count, 1_000_000);
 }
 
+// What four threads read: the first holds the lock, to write or to read, and the others sleep behind it to do the other.
+fn sleep_behind<R: Threads + Wait + Clock + Sync>(
+    rt: &R,
+    lock: &RwLock<Counted>,
+    writes: bool,
+) -> [u64; 4] {
+    let mut counts = [0u64; 4];
+    let go = |number: usize, count: &mut u64| {
+        if number == 0 {
+            hold(rt, lock, writes);
+            return;
+        }
+        thread::sleep(rt, Duration::from_millis(5));
+        if writes {
+            *count = lock.read(rt).count;
+        } else {
+            add_one(rt, lock);
+        }
+    };
+    thread::for_each_mut(rt, counts.as_mut_slice(), 4, &go);
+    counts
+}
+
 #[test]
 fn writers_that_sleep_behind_a_reader_get_the_lock(rt: HostRuntime) {
     let lock = RwLock::new(Counted { count: 0 }, &());
-    let mut threads = [0u64, 1, 2, 3];
-    thread::for_each_mut(
-        &rt,
-        threads.as_mut_slice(),
-        4,
-        &|_, thread: &mut u64| {
-            if *thread == 0 {
-                hold(&rt, &lock, false);
-            } else {
-                thread::sleep(&rt, Duration::from_millis(5));
-                add_one(&rt, &lock);
-            }
-        },
-    );
+    sleep_behind(&rt, &lock, false);
     is(&rt, lock.into_inner().count, 3);
 }
 
 #[test]
 fn readers_that_sleep_behind_a_writer_all_get_the_lock(rt: HostRuntime) {
     let lock = RwLock::new(Counted { count: 7 }, &());
-    let mut threads = [0u64, 1, 2, 3];
-    thread::for_each_mut(
-        &rt,
-        threads.as_mut_slice(),
-        4,
-        &|_, thread: &mut u64| {
-            if *thread == 0 {
-                hold(&rt, &lock, true);
-            } else {
-                thread::sleep(&rt, Duration::from_millis(5));
-                *thread = lock.read(&rt).count;
-            }
-        },
-    );
-    is(&rt, threads, [0, 7, 7, 7]);
+    is(&rt, sleep_behind(&rt, &lock, true), [0, 7, 7, 7]);
 }
 
 #[test]

@@ -4,9 +4,9 @@ ghost use Rattle.std.specs.Prelude.{◌≡◌, ℕ, IsSome, Some, refl};
 ghost use Rattle.std.specs.Borrow.{Lends, sem};
 ghost use Rattle.std.specs.Map.Iter.{deref_pair_mut};
 ghost use Rattle.dash_shard.specs.Hashing.{by};
-ghost use Rattle.dash_shard.specs.Held.{KeepsTag};
 ghost use Rattle.dash_shard.specs.Lock.{LeftBehind};
 ghost use Rattle.dash_shard.specs.Shard.{slot, with_value_in};
+ghost use Rattle.dash_shard.specs.inner.Lending.{KeepsTag};
 
 use super::ShardTag;
 use crate::lock::hold::Hold;

@@ -1,4 +1,4 @@
-use Rattle.std.proofs.Common.{IsTrue, Some, None, refl, ap, subst, arith, is_some, ◌∙◌, ⊎_elim}
+use Rattle.std.proofs.Common.{◌≡◌, true, false, IsTrue, Some, None, refl, ap, subst, arith, is_some, ◌∙◌, ⊎_elim}
 use Rattle.std.proofs.lemmas.Result.{IfOk-weaker}
 use Rattle.std.specs.Map.Iter.{deref_pair}
 use Rattle.dash_shard.specs.Hashing.{key_hash}
@@ -12,6 +12,7 @@ use Rattle.dash_steps.proofs.AlikeLaws.{reply_equiv}
 use Rattle.dash_steps.proofs.Finding.{found-pair, found-taken, planned-answers, planned-fits}
 use Rattle.dash_steps.proofs.Preparing.{answers-all, mapped}
 use Rattle.dash_history.proofs.record.plan.prepare.Goals as goal
+use Rattle.dash_history.proofs.record.plan.prepare.Goals.{in-AlterAll-matches, in_default}
 
 pub look-pair-requires : goal.look-pair-requires
 look-pair-requires g c = found-taken (key_hash g.K.PartialEq.eq g.K.Hash.hash_input g.S.BuildHasher g.S.Hasher.Hasher) c.args.shard.now _ c.args.found c.requires.found
@@ -68,8 +69,16 @@ returns-in_ok-copy_pairs-in-Read-clause-answers g c =
 
 pub returns-in_ok-made-in-AlterAll-clause-answers : goal.returns-in_ok-made-in-AlterAll-clause-answers
 returns-in_ok-made-in-AlterAll-clause-answers g c =
-    rw c.in-AlterAll.is (answers-all _ _ _ g.met.K.Eq.laws c.args.shard.now c.iter-in-AlterAll.ensures.lawful _ _ _ _ refl (rw c.in-AlterAll.is at c.requires.goes) Done _ refl refl)
+    ⊎_elim (λ is. rw is.1 (answers-all _ _ _ g.met.K.Eq.laws c.args.shard.now c.iter-in-AlterAll.ensures.lawful _ _ _ _ refl (rw is.1 at c.requires.goes) Done _ refl refl))
+    (λ is. rw is.1 (answers-all _ _ _ g.met.K.Eq.laws c.args.shard.now c.iter-in-AlterAll.ensures.lawful _ _ _ _ refl (rw is.1 at c.requires.goes) Done _ refl refl)) c.in-AlterAll.is
 
-pub returns-in_ok-made-in-Retain-clause-answers : goal.returns-in_ok-made-in-Retain-clause-answers
-returns-in_ok-made-in-Retain-clause-answers g c =
-    rw c.in-Retain.is (answers-all _ _ _ g.met.K.Eq.laws c.args.shard.now c.iter-in-Retain.ensures.lawful _ _ _ _ refl (rw c.in-Retain.is at c.requires.goes) Done _ refl refl)
+pub returns-in_ok-made-in-AlterAll-clause-decides : goal.returns-in_ok-made-in-AlterAll-clause-decides
+returns-in_ok-made-in-AlterAll-clause-decides g c =
+    let made = rw c.iter-in-AlterAll.ensures.pairs at c.in_ok-made-in-AlterAll.ensures in
+    ⊎_elim (λ is. let all : c.match-matches.matches ≡ true = elim c.match-matches.branch [
+      | in-AlterAll-matches w ↦ w.matches-is
+      | in_default w ↦ absurd (w.in_default.not-AlterAll is.0 c.in-AlterAll.action is.1)
+    ] in rw is.1 (rw all at made)) (λ is. let some : c.match-matches.matches ≡ false = elim c.match-matches.branch [
+      | in-AlterAll-matches w ↦ cc (is.1, w.in-AlterAll-matches.is)
+      | in_default w ↦ w.matches-is
+    ] in rw is.1 (rw some at made)) c.in-AlterAll.is
