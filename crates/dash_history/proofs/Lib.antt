@@ -1,18 +1,15 @@
 mod Alones
 mod Faults
-mod Finding
 mod Growing
 mod Logging
 pub mod Telling
 mod Maps
 mod Recording
 mod Refusals
-mod Preparing
 mod Placing
 mod Members
 mod Merging
 mod Alongs
-mod Frames
 mod Whole
 mod Indexing
 mod Following

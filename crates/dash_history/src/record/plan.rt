@@ -1,11 +1,9 @@
 //! What a step will do to a shard: it is made first, since it takes memory, and carried out once all copies are there.
 ghost use Rattle.std.specs.Prelude.{◌≡◌, IfOk, IfErr, OnOk};
-ghost use Rattle.std.specs.Option.{option_map};
-ghost use Rattle.std.specs.Map.Iter.{deref_pair};
 ghost use Rattle.dash_shard.specs.Shard.{Routes, SameShard};
 ghost use Rattle.dash_history.specs.History.{GoesTo};
 ghost use Rattle.dash_steps.specs.inner.Hashed.{HasHash};
-ghost use Rattle.dash_steps.specs.inner.Plan.{MayAnswer, Decides, Makes, StaysLawful, Leaves, IsFound, HasPlace, IsTakenSlot, pair_in, MakesAt};
+ghost use Rattle.dash_steps.specs.inner.Plan.{MayAnswer, Decides, Makes, StaysLawful, Leaves, IsFound, HasPlace};
 ghost use Rattle.dash_shard.specs.Held.{Finds};
 ghost use Rattle.dash_shard.specs.inner.Table.{MayTake};
 ghost use Rattle.core.specs.Result.{result_ok};
@@ -15,7 +13,7 @@ use crate::record::RecShard;
 use dash_shard::keyed::Keyed;
 use dash_shard::shard::{InsertRefused, Shard};
 use dash_steps::action::KeptAction;
-use dash_steps::change::{Change, copy_found, plan_asked};
+use dash_steps::change::{Change, copy_found, look, make_change, plan_asked};
 use dash_steps::kept::{Kept, KeptKey};
 use dash_steps::step::{Reply, ShardStep};
 use dash_steps::sweep::{ask_each, copy_pairs, put_each};
@@ -39,19 +37,6 @@ pub(super) fn find<K: KeptKey, V: Kept, S: BuildHasher, A: KeptAction<K, V>>(
         return Err(0);
     };
     shard.position_of_hashed(hash, key).ok_or(0)
-}
-
-// The pair of the slot that was found.
-#[inline]
-fn look<K: KeptKey, V: Kept, S: BuildHasher>(
-    shard: &Shard<K, V, S>,
-    found: Option<usize>,
-) -> Option<(&K, &V)>
-    requires { IsTakenSlot shard.now found }
-    ensures { option_map deref_pair result ≡ pair_in shard.now found }
-{
-    let slot = found?;
-    Some(shard.at(slot))
 }
 
 /// What the step may reply now, and what it makes of the pair at its key, or its action of each pair. It takes memory for copies.
@@ -127,28 +112,6 @@ fn put<K: KeptKey + Drop, V: Kept + Drop, S: BuildHasher>(
     Ok(())
 }
 
-// Makes of the pair in the slot that was found what was decided.
-fn make_change<K: KeptKey + Drop, V: Kept + Drop, S: BuildHasher>(
-    shard: &mut Shard<K, V, S>,
-    found: Result<usize, usize>,
-    change: Change<V>,
-)
-    requires { IsTakenSlot shard.old (result_ok found) }
-    ensures becomes { MakesAt ⟦<Shard<K, V, S> as Keyed>⟧.by shard.old shard.new (result_ok found) change }
-    ensures stays { SameShard shard.old shard.new }
-    ensures lawful { StaysLawful ⟦<Shard<K, V, S> as Keyed>⟧.by shard.old shard.new }
-{
-    let Ok(slot) = found else {
-        drop(change);
-        return;
-    };
-    match change {
-        Change::Stays | Change::Each(_) => (),
-        Change::Goes => drop(shard.remove_at(slot)),
-        Change::Becomes(value) => drop(shard.set_at(slot, value)),
-    }
-}
-
 /// Does to the shard what the step says and what was decided, or hands the step back, where there is no memory for a new key.
 pub(super) fn carry_out<
     K: KeptKey + Drop,
@@ -179,13 +142,13 @@ pub(super) fn carry_out<
             Err(InsertRefused { key, value }) => Err(ShardStep::Insert(key, value)),
         },
         ShardStep::Remove(_key) => {
-            make_change(shard, found, decided);
+            make_change(shard, found.ok(), decided);
             Ok(())
         }
         ShardStep::RemoveIf(_key, _action)
         | ShardStep::RemoveIfMut(_key, _action)
         | ShardStep::Alter(_key, _action) => {
-            make_change(shard, found, decided);
+            make_change(shard, found.ok(), decided);
             Ok(())
         }
         ShardStep::Read(_) | ShardStep::Count(_) => Ok(()),
