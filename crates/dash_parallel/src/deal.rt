@@ -1,24 +1,16 @@
 //! A list of steps that is dealt to the lanes of its parts.
-ghost use Rattle.std.specs.Prelude.{◌≡◌, ℕ, ◌≤◌, ◌<◌, ◌+◌, ◌↔◌, [], All, IfOk, OnOk, IsTrue, length, map, reverse, vec_len, vec_capacity, get_or};
+ghost use Rattle.std.specs.Prelude.{◌≡◌, ℕ, ◌≤◌, ◌<◌, [], All, IfOk, OnOk, IsTrue, length, map, reverse, vec_len, vec_capacity, get_or};
 ghost use Rattle.dash_parallel.specs.inner.Lanes.{AreDealt, AreEmpty, AreReady, HasRoom};
 
 use crate::lane::Lane;
 use crate::part::Dealer;
 use std::alloc::{AllocError, Global};
 
-/// The lanes of a list of steps, and the number of each step's part, that of the last step first.
+/// The lanes of a list of steps, and the numbers of their parts, that of the last step first.
 #[derive(Drop)]
 pub struct Dealt<T, Y> {
     pub lanes: Vec<Lane<T, Y>>,
     pub places: Vec<usize>,
-}
-
-// A part's share of so many steps, and an eighth more.
-fn share(count: usize, parts: usize) -> usize
-    requires { 0 < parts }
-{
-    let even = count.div_ceil(parts);
-    even.saturating_add(even / 8)
 }
 
 // So many lanes, each with room for so many steps.
@@ -40,7 +32,7 @@ fn fresh_lanes<T: Drop, Y: Drop>(
     Ok(lanes)
 }
 
-// Deals each step to the lane of its part, the last first, and keeps the parts' numbers where they are wanted.
+// Deals each step to the lane of its part, the last first, and keeps the numbers of their parts where they are wanted.
 fn deal_each<T: Drop, Y: Drop, D: Dealer<T>>(
     dealer: &D,
     mut steps: Vec<T>,
@@ -54,7 +46,8 @@ fn deal_each<T: Drop, Y: Drop, D: Dealer<T>>(
     requires room { IsTrue keeps_places → vec_len steps ≤ vec_capacity places.old }
     ensures count { length lanes.new ≡ length lanes.old }
     ensures lanes { OnOk result (AreDealt (D.goes dealer.now) (D.marks dealer.now) [] steps.items lanes.new) }
-    ensures places { OnOk result (IsTrue keeps_places → reverse places.new.items ≡ map (D.goes dealer.now) steps.items) }
+    ensures places { OnOk result (IsTrue keeps_places
+        → reverse places.new.items ≡ map (D.goes dealer.now) steps.items) }
 {
     while let Some(step) = steps.pop() {
         let (mark, part) = dealer.deal(&step);
@@ -69,7 +62,8 @@ fn deal_each<T: Drop, Y: Drop, D: Dealer<T>>(
 // Makes room for the replies of each lane.
 fn make_room<T: Drop, Y: Drop>(alloc: Global, lanes: &mut [Lane<T, Y>]) -> Result<(), AllocError>
     ensures count { length lanes.new ≡ length lanes.old }
-    ensures same { (s : ℕ) (d : _) → s < length lanes.old → (get_or lanes.new s d).steps ≡ (get_or lanes.old s d).steps }
+    ensures same { (s : ℕ) (d : _) → s < length lanes.old
+        → (get_or lanes.new s d).steps ≡ (get_or lanes.old s d).steps }
     ensures room { OnOk result ((s : ℕ) (d : _) → s < length lanes.old → HasRoom (get_or lanes.new s d)) }
 {
     for lane in lanes {
@@ -78,7 +72,10 @@ fn make_room<T: Drop, Y: Drop>(alloc: Global, lanes: &mut [Lane<T, Y>]) -> Resul
     Ok(())
 }
 
-/// Deals the steps to so many lanes: each has the steps of its part, and room for their replies. Their parts' numbers are kept where they are wanted.
+/// Deals the steps to so many lanes: each gets the steps of its part, and room for their replies. The numbers of their parts are kept where
+/// they are wanted.
+///
+/// A lane starts with room for its share of the steps and an eighth more.
 pub fn deal<T: Drop, Y: Drop, D: Dealer<T>>(
     dealer: &D,
     count: usize,
@@ -87,13 +84,16 @@ pub fn deal<T: Drop, Y: Drop, D: Dealer<T>>(
 ) -> Result<Dealt<T, Y>, AllocError>
     requires some { 0 < count }
     requires within { All (λ t. D.goes dealer.now t < count) steps.items }
-    ensures lanes { IfOk result (λ dealt. AreReady (D.goes dealer.now) (D.marks dealer.now) count steps.items dealt.lanes.items) }
-    ensures places { IfOk result (λ dealt. IsTrue keeps_places → reverse dealt.places.items ≡ map (D.goes dealer.now) steps.items) }
+    ensures lanes { IfOk result (λ dealt.
+        AreReady (D.goes dealer.now) (D.marks dealer.now) count steps.items dealt.lanes.items) }
+    ensures places { IfOk result (λ dealt. IsTrue keeps_places
+        → reverse dealt.places.items ≡ map (D.goes dealer.now) steps.items) }
 {
     let alloc = *steps.allocator();
     let kept = if keeps_places { steps.len() } else { 0 };
     let mut places = Vec::with_capacity(alloc, kept)?;
-    let mut lanes = fresh_lanes(alloc, count, share(steps.len(), count))?;
+    let share = steps.len().div_ceil(count);
+    let mut lanes = fresh_lanes(alloc, count, share.saturating_add(share / 8))?;
     deal_each(
         dealer,
         steps,

@@ -1,6 +1,6 @@
 //! The steps of one part, and what they reply.
-ghost use Rattle.std.specs.Prelude.{◌≡◌, ◌≤◌, [], All, reverse, vec_len, vec_capacity};
-ghost use Rattle.dash_parallel.specs.inner.Lanes.{HasRoom, LaneRan, steps_in};
+ghost use Rattle.std.specs.Prelude.{◌≡◌, ◌≤◌, [], All, vec_len, vec_capacity};
+ghost use Rattle.dash_parallel.specs.inner.Lanes.{HasRun, IsReady, LaneRan, steps_in};
 
 use crate::part::Part;
 
@@ -32,11 +32,10 @@ fn take_steps<P: Part<T, Y>, T: Drop, Y: Drop>(
     false
 }
 
-/// Takes a lane's steps on its part in their order, up to the first that is refused. There is room for the replies.
+/// Takes a lane's steps on its part in their order, up to the first that is refused.
 pub fn run_lane<P: Part<T, Y>, T: Drop, Y: Drop>(part: &mut P, lane: &mut Lane<T, Y>)
-    requires fits { All (λ e. P.fits part.old e.1 e.0) lane.old.steps.items }
-    requires room { HasRoom lane.old }
-    ensures { LaneRan P.takes part.old (steps_in lane.old.steps.items) part.new (reverse lane.new.replies.items) lane.new.refused }
+    requires { IsReady P.fits part.old lane.old }
+    ensures { HasRun P.takes part.old lane.old part.new lane.new }
 {
     lane.refused = take_steps(part, &mut lane.steps, &mut lane.replies);
     lane.replies.reverse();

@@ -1,7 +1,7 @@
 //! Steps taken on a row of parts by several workers: each part's in their order, those of different parts at once.
-ghost use Rattle.std.specs.Prelude.{◌≡◌, ℕ, ◌≤◌, ◌<◌, ◌+◌, ◌++◌, [], All, OnOk, IsSome, None, false, length, map, replicate, reverse, vec_len, vec_capacity, get_or};
+ghost use Rattle.std.specs.Prelude.{◌≡◌, ℕ, ◌≤◌, ◌<◌, ◌+◌, ◌++◌, [], All, OnOk, IsSome, None, false, length, replicate, reverse, vec_len, vec_capacity};
 ghost use Rattle.dash_parallel.specs.Apart.{EachPart, FitsAll, ParRan, RanFront, RanWhole};
-ghost use Rattle.dash_parallel.specs.inner.Halves.{EachBeside};
+ghost use Rattle.dash_parallel.specs.inner.Halves.{AllBeside, EachBeside};
 ghost use Rattle.dash_parallel.specs.inner.Lanes.{HasRun, IsReady, handed, queues};
 
 use crate::deal::{Dealt, deal};
@@ -19,9 +19,9 @@ struct Runner<'a, G> {
 }
 
 impl<'a, P: Part<T, Y>, T: Drop, Y: Drop, G: Gate> Work<P, Lane<T, Y>> for Runner<'a, G> {
-    ghost can = { λ _ _ part lane. IsReady P.fits part lane };
+    ghost can = { λ _ _. IsReady P.fits };
 
-    ghost does = { λ _ _ part lane new_part new_lane. HasRun P.takes part lane new_part new_lane };
+    ghost does = { λ _ _. HasRun P.takes };
 
     fn work(&self, number: usize, part: &mut P, lane: &mut Lane<T, Y>) {
         if !lane.steps.is_empty() {
@@ -53,7 +53,7 @@ fn take_lanes<R: Threads + Sync, P: Part<T, Y> + Send, T: Send + Drop, Y: Send +
 ) -> Result<(), AllocError>
     requires some { 0 < length parts.old }
     requires count { length lanes.old ≡ length parts.old }
-    requires ready { (s : ℕ) (d : P) (e : _) → s < length parts.old → IsReady P.fits (get_or parts.old s d) (get_or lanes.old s e) }
+    requires ready { AllBeside (λ _. IsReady P.fits) 0 parts.old lanes.old }
     ensures ran { EachBeside (λ _. HasRun P.takes) 0 parts.old lanes.old parts.new lanes.new }
     ensures whole { OnOk result (All (λ lane. lane.refused ≡ false) lanes.new) }
 {
@@ -62,7 +62,7 @@ fn take_lanes<R: Threads + Sync, P: Part<T, Y> + Send, T: Send + Drop, Y: Send +
     outcome(lanes)
 }
 
-// Hands out the replies of the lanes: to each place, of which the last comes first, the next reply of its lane, or none where there is no more.
+// Hands out the replies of the lanes: to each place the next reply of its lane, or none where there is no more. The last place comes first.
 fn hand_out<T: Drop, Y: Drop>(
     mut places: Vec<usize>,
     lanes: &mut [Lane<T, Y>],
@@ -147,7 +147,8 @@ pub fn put_apart<R: Threads + Sync, P: Part<T, ()> + Send, T: Send + Drop, D: De
     requires fits { FitsAll P.fits (D.goes dealer.now) (D.marks dealer.now) parts.old }
     ensures len { length parts.new ≡ length parts.old }
     ensures each { EachPart (RanFront P.takes) (D.goes dealer.now) steps.items parts.old parts.new }
-    ensures whole { OnOk result (EachPart (RanWhole P.takes) (D.goes dealer.now) steps.items parts.old parts.new) }
+    ensures whole { OnOk result (
+        EachPart (RanWhole P.takes) (D.goes dealer.now) steps.items parts.old parts.new) }
 {
     let mut dealt = deal(dealer, parts.len(), steps, false)?;
     take_lanes(rt, gate, workers, parts, dealt.lanes.as_mut_slice())

@@ -6,7 +6,7 @@ abbrev pub AllBeside : {P L : Type 0} → (ℕ → P → L → Type 0) → ℕ �
 AllBeside {P} {L} C base ps ls = (k : ℕ) (d : P) (e : L) → k < length ps → C (base + k) (get_or ps k d) (get_or ls k e)
 
 -- R holds, for each number from base on, of the part and the lane before and of both after
-pub record EachBeside {P L : Type 0} (R : ℕ → P → L → P → L → Type 0) (base : ℕ) (ps : List P) (ls : List L) (ps' : List P) (ls' : List L) : Type 0 where
-  pub parts : length ps' ≡ length ps
-  pub lanes : length ls' ≡ length ls
-  pub each : (k : ℕ) (d : P) (e : L) → k < length ps → R (base + k) (get_or ps k d) (get_or ls k e) (get_or ps' k d) (get_or ls' k e)
+pub record EachBeside {P L : Type 0} (R : ℕ → P → L → P → L → Type 0) (base : ℕ) (ps : List P) (ls : List L) (qs : List P) (ms : List L) : Type 0 where
+  pub parts : length qs ≡ length ps
+  pub lanes : length ms ≡ length ls
+  pub each : (k : ℕ) (d : P) (e : L) → k < length ps → R (base + k) (get_or ps k d) (get_or ls k e) (get_or qs k d) (get_or ms k e)
