@@ -1,0 +1,48 @@
+-- Steps that are dealt from the last on, each to the lane of its part.
+use Rattle.std.proofs.Common.{◌≡◌, ◌≢◌, ℕ, ◌<◌, ◌==◌, cond, List, [], ◌∷◌, ◌++◌, All, map, length, get_or, set, sym, ap, subst, ◌∙◌, append_assoc, append-nil, Some, inl, inr, arith, eq-eqb, ne_eqb, length-set, get_or-set_same, get_or-set_other}
+use Rattle.std.specs.Prelude.{reverse}
+use Rattle.std.proofs.lemmas.List.{map-append, reverse-append, get_or_default}
+use Rattle.std.proofs.lemmas.List.Elements.{filter-append, All-pop, All-push}
+use Rattle.std.proofs.lemmas.Bool.{cases_eq}
+use Rattle.dash_parallel.specs.Apart.{steps_of}
+use Rattle.dash_parallel.specs.inner.Lanes.{IsDealt, AreDealt, steps_in}
+use Rattle.dash_parallel.specs.declared.lane.Lane.{Lane}
+use Rattle.dash_parallel.proofs.Running.{steps-push}
+
+module _ {T : Type 0} (goes : T → ℕ) where
+  steps-here : (s : ℕ) (rest : List T) (t : T) → goes t ≡ s → steps_of goes s (rest ++ t ∷ []) ≡ steps_of goes s rest ++ t ∷ []
+  steps-here s rest t is = filter-append (λ t. goes t == s) rest (t ∷ []) ∙ ap (λ b. steps_of goes s rest ++ cond b (t ∷ []) []) (eq-eqb (goes t) s is)
+
+  steps-away : (s : ℕ) (rest : List T) (t : T) → goes t ≢ s → steps_of goes s (rest ++ t ∷ []) ≡ steps_of goes s rest
+  steps-away s rest t other = filter-append (λ t. goes t == s) rest (t ∷ []) ∙ ap (λ b. steps_of goes s rest ++ cond b (t ∷ []) []) (ne_eqb (goes t) s other) ∙ append-nil (steps_of goes s rest)
+
+  pub places-more : (rest : List T) (t : T) (places : List ℕ) (p : ℕ) → p ≡ goes t → map goes rest ++ reverse (places ++ p ∷ []) ≡ map goes (rest ++ t ∷ []) ++ reverse places
+  places-more rest t places p is = rw is (simp (map-append, reverse-append, append_assoc))
+
+  module _ {Y : Type 0} (marks : T → ℕ → Type 0) (all : List T) where
+    -- the last step that was not dealt is put at the end of the lane of its part
+    dealt-more : (rest : List T) (t : T) (m p : ℕ) (lanes : List (Lane T Y)) (lane old : Lane T Y) → p ≡ goes t → marks t m → p < length lanes → lane.steps.items ≡ (get_or lanes p old).steps.items ++ (m, t) ∷ []
+        → AreDealt goes marks (rest ++ t ∷ []) all lanes → AreDealt goes marks rest all (set lanes p lane)
+    dealt-more rest t m p lanes lane old is mark within pushed dealt = λ s d lt.
+        let there : s < length lanes = omega (arith, lt, length-set lanes p lane) in
+        let was = dealt s old there in
+        let items = (get_or lanes s old).steps.items in
+        elim (cases_eq s p) as (λ _. IsDealt goes marks s rest all (get_or (set lanes p lane) s d)) [
+          | inl same ↦
+              let here : get_or (set lanes p lane) s d ≡ lane = ap (λ i. get_or (set lanes p lane) i d) same ∙ get_or-set_same lanes p lane d within in
+              let more : lane.steps.items ≡ items ++ (m, t) ∷ [] = pushed ∙ ap (λ i. (get_or lanes i old).steps.items ++ (m, t) ∷ []) (sym same) in
+              let to_s : goes t ≡ s = sym (same ∙ is) in
+              subst (IsDealt goes marks s rest all) (sym here) (record {
+                steps = ap (λ l. steps_of goes s rest ++ l) (ap steps_in more ∙ steps-push items (m, t)) ∙ sym (append_assoc (steps_of goes s rest) (t ∷ []) (steps_in items)) ∙ ap (λ l. l ++ steps_in items) (sym (steps-here s rest t to_s)) ∙ was.steps;
+                marked = subst (All (λ e. (goes e.1 ≡ s) × marks e.1 e.0)) (sym more) (All-push (λ e. (goes e.1 ≡ s) × marks e.1 e.0) items (m, t) was.marked (to_s, mark));
+              })
+          | inr other ↦ subst (IsDealt goes marks s rest all) (sym (get_or-set_other lanes p s lane d other ∙ get_or_default lanes s d old there))
+              (record { steps = ap (λ l. l ++ steps_in items) (sym (steps-away s rest t (λ e. other (sym e ∙ sym is)))) ∙ was.steps; marked = was.marked })
+        ]
+
+    -- one turn of dealing
+    pub next-dealt : (items rest : List T) (t : T) (m p : ℕ) (lanes : List (Lane T Y)) (n : ℕ) (lane old : Lane T Y) → items ≡ rest ++ t ∷ [] → p ≡ goes t → marks t m → length lanes ≡ n → lane.steps.items ≡ (get_or lanes p old).steps.items ++ (m, t) ∷ []
+        → All (λ t. goes t < n) items → AreDealt goes marks items all lanes → AreDealt goes marks rest all (set lanes p lane)
+    next-dealt items rest t m p lanes n lane old cut is mark count pushed within dealt =
+        let both : All (λ t. goes t < n) rest × (goes t < n) = All-pop (λ t. goes t < n) items rest (Some t) cut within in
+        dealt-more rest t m p lanes lane old is mark (omega (arith, both.1, is, count)) pushed (subst (λ l. AreDealt goes marks l all lanes) cut dealt)

@@ -1,0 +1,5 @@
+pub mod Halving
+pub mod Running
+pub mod Dealing
+pub mod Handing
+pub mod Taking

@@ -1,0 +1,3 @@
+-- What only private contracts and proofs use.
+pub mod Halves
+pub mod Lanes

@@ -1,0 +1,9 @@
+//! Steps taken on a row of parts by several workers, each part apart from the others.
+#![tactic(auto)]
+
+mod deal;
+pub mod gate;
+mod halves;
+mod lane;
+pub mod part;
+pub mod run;
