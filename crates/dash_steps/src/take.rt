@@ -1,15 +1,17 @@
-//! A step on one shard, which it changes in place. For the crates here alone.
+//! A step on one shard, which it changes in place: a shard is a part of its map. For the crates here alone.
 ghost use Rattle.std.specs.Prelude.{◌≡◌, true, IsTrue, IfOk, IfErr};
+ghost use Rattle.dash_shard.specs.Hashing.{by, key_hash};
 ghost use Rattle.dash_shard.specs.Shard.{IsShard};
 ghost use Rattle.dash_steps.specs.Steps.{step_of};
 ghost use Rattle.dash_steps.specs.inner.Hashed.{Asks};
-ghost use Rattle.dash_steps.specs.inner.Take.{Goes, TakesOn};
+ghost use Rattle.dash_steps.specs.inner.Take.{Goes, TakesOn, goes-after};
 
 use crate::action::Action;
 use crate::change::{copy_found, look, make_change, plan_asked};
 use crate::kept::{Kept, KeptKey};
 use crate::step::{Reply, ShardStep};
 use crate::sweep::copy_pairs;
+use dash_parallel::part::Part;
 use dash_shard::keyed::Keyed;
 use dash_shard::shard::Shard;
 use std::hash::BuildHasher;
@@ -90,5 +92,25 @@ pub fn take<K: KeptKey + Drop, V: Kept + Drop, S: BuildHasher, A: Action<K, V> +
             );
             Ok(Reply::Done)
         }
+    }
+}
+
+impl<K: KeptKey + Drop, V: Kept + Drop, S: BuildHasher, A: Action<K, V> + Drop>
+    Part<ShardStep<K, V, A>, Reply<K, V>> for Shard<K, V, S>
+{
+    ghost takes = { λ old step reply new. TakesOn (key_hash K.eq K.hash_input S.BuildHasher S.Hasher.Hasher) K.alike V.alike old (step_of A.acts step) new reply };
+
+    ghost fits = { λ shard step hash. Goes A.acts (key_hash K.eq K.hash_input S.BuildHasher S.Hasher.Hasher) shard step hash
+        × IsShard (key_hash K.eq K.hash_input S.BuildHasher S.Hasher.Hasher) shard };
+
+    ghost stays = { λ p q s t m y took fit.
+        (goes-after A.acts (key_hash K.eq K.hash_input S.BuildHasher S.Hasher.Hasher) p q t m took.stays fit.0, took.lawful) };
+
+    fn take(
+        &mut self,
+        step: ShardStep<K, V, A>,
+        hash: u64,
+    ) -> Result<Reply<K, V>, ShardStep<K, V, A>> {
+        take(self, hash, step)
     }
 }

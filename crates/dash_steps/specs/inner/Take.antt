@@ -1,5 +1,6 @@
 -- A step that is taken on one shard.
 use Rattle.std.specs.Prelude.{ℕ, ◌≡◌, ◌≤◌, Bool}
+use Rattle.std.proofs.Common.{ap₂, sym, subst, ◌∙◌}
 use Rattle.dash_shard.specs.Hashing.{KeyHash}
 use Rattle.dash_shard.specs.Shard.{ShardState, SameShard, IsShard, pairs}
 use Rattle.dash_shard.specs.Steps as table
@@ -21,3 +22,10 @@ pub record TakesOn {K V S : Type 0} (h : KeyHash K S) (k : K → K → Bool) (v 
   pub stays : SameShard old new
   pub room : old.capacity ≤ new.capacity
   pub lawful : IsShard h new
+
+-- a step goes to a shard as long as it stays the one that it is
+pub goes-after : {K V A S : Type 0} (acts : A → table.Act K V) (h : KeyHash K S) (s t : ShardState K V S) (step : ShardStep K V A) (hash : ℕ) → SameShard s t → Goes acts h s step hash → Goes acts h t step hash
+goes-after acts h s t step hash same goes = record {
+  here = ap₂ (λ x n. shard_by acts h x n step) same.hasher same.amount ∙ goes.here ∙ sym same.number;
+  hashed = subst (λ x. IsHashBy acts h x step hash) (sym same.hasher) goes.hashed;
+}
