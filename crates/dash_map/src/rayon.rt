@@ -1,0 +1,4 @@
+//! The parallel forms: what several workers do to the shards of a map, each worker to its own.
+
+mod deal;
+pub mod run;

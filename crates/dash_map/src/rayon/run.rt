@@ -1,0 +1,146 @@
+//! Parallel runs: lists of steps, of which each shard takes its own, apart from the others.
+ghost use Rattle.std.specs.Prelude.{◌≡◌, ◌<◌, ◌≤◌, ◌↔◌, [], All, IsTrue, OnOk, IsSome, length, vec_len, vec_capacity};
+ghost use Rattle.std.specs.List.{Any};
+ghost use Rattle.dash_parallel.specs.Apart.{ParRan};
+ghost use Rattle.dash_map.specs.Alone.{IsAlone, KeepsRoom};
+ghost use Rattle.dash_map.specs.ParRun.{goes_to, TakesThere, ParRuns, ParRunsBehind};
+
+use super::deal::ByRoute;
+use crate::alone::Alone;
+use crate::map::DashMap;
+use crate::run::Fault;
+use core::mem::replace_with;
+pub use dash_parallel::gate::{Gate, Open};
+use dash_parallel::run::{no_replies, run_apart};
+use dash_shard::keyed::Keyed;
+use dash_steps::action::Action;
+use dash_steps::kept::{Kept, KeptKey};
+use dash_steps::step::{Reply, ShardStep};
+use std::alloc::AllocError;
+use std::hash::BuildHasher;
+use std::thread::Threads;
+
+/// What a parallel run answers: at the place of each step in the list its reply, or none where it was not taken, and why some were not.
+#[derive(Debug, Drop)]
+pub struct ParOutcome<K, V> {
+    pub replies: Vec<Option<Reply<K, V>>>,
+    pub fault: Option<Fault>,
+}
+
+impl<K: KeptKey + Drop, V: Kept + Drop, S: BuildHasher> Alone<K, V, S> {
+    // Whether some step names a shard that the map doesn't have. No key is hashed for it.
+    fn any_missing<A: Action<K, V>>(&self, steps: &[ShardStep<K, V, A>]) -> bool
+        ensures { IsTrue result ↔ Any (λ t. length self.now.row ≤ goes_to ⟦<Self as Keyed>⟧.by A.acts self.now t) steps.now }
+    {
+        for step in steps {
+            if let Err(shard) = step.key() && shard >= self.row.len() {
+                return true;
+            }
+        }
+        false
+    }
+
+    // Takes the steps, each on its shard.
+    fn run_shards<R: Threads + Sync, A: Action<K, V> + Send + Drop, G: Gate>(
+        &mut self,
+        rt: &R,
+        gate: &G,
+        workers: usize,
+        steps: Vec<ShardStep<K, V, A>>,
+        replies: &mut Vec<Option<Reply<K, V>>>,
+    ) -> Result<(), AllocError>
+    where
+        K: Send,
+        V: Send,
+        S: Send,
+        S::Hasher: Send,
+        requires within { All (λ t. goes_to ⟦<Self as Keyed>⟧.by A.acts self.old t < length self.old.row) steps.items }
+        requires none { replies.old.items ≡ [] }
+        requires room { vec_len steps ≤ vec_capacity replies.old }
+        ensures ran { ParRan (TakesThere ⟦<Self as Keyed>⟧.by K.alike V.alike A.acts) (goes_to ⟦<Self as Keyed>⟧.by A.acts self.old)
+            self.old.row steps.items replies.new.items self.new.row }
+        ensures len { length replies.new.items ≡ length steps.items }
+        ensures whole { OnOk result (All IsSome replies.new.items) }
+        ensures stays { KeepsRoom self.old self.new }
+        ensures lawful { IsAlone ⟦<Self as Keyed>⟧.by self.new }
+    {
+        let dealer = ByRoute {
+            hasher: &self.hasher,
+            amount: self.row.len(),
+        };
+        run_apart(
+            rt,
+            gate,
+            &dealer,
+            workers,
+            steps,
+            self.row.items_mut(),
+            replies,
+        )
+    }
+
+    /// As `run`, where so many workers take the steps of different shards at once: 0 workers count as 1, more than there are shards as
+    /// so many. Each shard takes its own steps in their order, so that the replies are those that `run` gives.
+    ///
+    /// A step that names no shard of the map refuses the list before any step is taken (13). The memory for the replies, and for the
+    /// lists of the shards, is asked for before the first step too. Where a step finds no memory, its shard's later steps are not
+    /// taken, and those of the other shards are (14). A worker for which there is no thread is done by the caller. The original has no
+    /// such call.
+    pub fn par_run<R: Threads + Sync, A: Action<K, V> + Send + Drop>(
+        &mut self,
+        rt: &R,
+        steps: Vec<ShardStep<K, V, A>>,
+        workers: usize,
+    ) -> ParOutcome<K, V>
+    where
+        K: Send,
+        V: Send,
+        S: Send,
+        S::Hasher: Send,
+        ensures ran { ParRuns ⟦<Self as Keyed>⟧.by K.alike V.alike A.acts self.old self.new steps.items result }
+        ensures stays { KeepsRoom self.old self.new }
+        ensures lawful { IsAlone ⟦<Self as Keyed>⟧.by self.new }
+    {
+        self.par_run_gated(rt, steps, workers, &Open)
+    }
+
+    /// As `par_run`, where each worker passes the gate at a shard before its first step there. For tests: a gate holds a worker back.
+    pub fn par_run_gated<R: Threads + Sync, A: Action<K, V> + Send + Drop, G: Gate>(
+        &mut self,
+        rt: &R,
+        steps: Vec<ShardStep<K, V, A>>,
+        workers: usize,
+        gate: &G,
+    ) -> ParOutcome<K, V>
+    where
+        K: Send,
+        V: Send,
+        S: Send,
+        S::Hasher: Send,
+        ensures ran { ParRuns ⟦<Self as Keyed>⟧.by K.alike V.alike A.acts self.old self.new steps.items result }
+        ensures stays { KeepsRoom self.old self.new }
+        ensures lawful { IsAlone ⟦<Self as Keyed>⟧.by self.new }
+    {
+        let alloc = *steps.allocator();
+        let missing = self.any_missing(&steps);
+        let Ok(mut replies) = Vec::with_capacity(alloc, steps.len()) else {
+            let fault = if missing { Fault::NoSuchShard } else { Fault::Memory };
+            return ParOutcome {
+                replies: Vec::new(alloc),
+                fault: Some(fault),
+            };
+        };
+        if missing {
+            no_replies(steps.len(), &mut replies);
+            return ParOutcome {
+                replies,
+                fault: Some(Fault::NoSuchShard),
+            };
+        }
+        let fault = match self.run_shards(rt, gate, workers, steps, &mut replies) {
+            Ok(()) => None,
+            Err(_) => Some(Fault::Memory),
+        };
+        ParOutcome { replies, fault }
+    }
+}
