@@ -3,3 +3,4 @@ pub mod Running
 pub mod Dealing
 pub mod Handing
 pub mod Taking
+pub mod Weaving

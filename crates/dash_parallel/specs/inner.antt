@@ -1,3 +1,4 @@
 -- What only private contracts and proofs use.
 pub mod Halves
 pub mod Lanes
+pub mod Rows
