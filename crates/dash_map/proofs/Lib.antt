@@ -14,6 +14,7 @@ mod Refusals
 mod Reserving
 mod Rooms
 mod Running
+pub mod ParRunning
 mod Seeing
 mod Spots
 mod Sweeping

@@ -11,13 +11,13 @@ use Rattle.dash_shard.specs.Steps as table
 use Rattle.dash_shard.specs.Shard.{ShardState, IsTagged, pairs}
 use Rattle.dash_shard.specs.inner.Steps.{step_shard}
 use Rattle.dash_steps.specs.Steps.{step_of, reply_of}
-use Rattle.dash_steps.specs.Takes.{Rules, rules, Takes, Runs}
+use Rattle.dash_steps.specs.Takes.{Rules, rules, Takes, Runs, TakesOn}
 use Rattle.dash_steps.specs.declared.step.ShardStep.{ShardStep}
 use Rattle.dash_steps.specs.declared.step.Reply.{Reply}
 use Rattle.dash_steps.proofs.Copies.{Lawful, runs-more, lawful-by}
 use Rattle.dash_steps.proofs.Frames.{lift}
 use Rattle.dash_steps.specs.inner.Hashed.{OfKey, IsHashBy, shard_by}
-use Rattle.dash_steps.specs.inner.Take.{Goes, TakesOn}
+use Rattle.dash_steps.specs.inner.Take.{Goes}
 use Rattle.dash_map.specs.Alone.{AloneState, IsAlone}
 use Rattle.dash_map.specs.declared.run.Fault.{Fault}
 use Rattle.dash_map.specs.declared.run.Fault.TheVariants.{NoSuchShard, Memory}

@@ -2,6 +2,7 @@ pub mod Amounts
 pub mod Map
 pub mod Alone
 pub mod Run
+pub mod ParRun
 pub mod Behind
 pub mod Copies
 pub mod Pairs

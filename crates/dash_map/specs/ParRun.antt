@@ -6,10 +6,9 @@ use Rattle.dash_shard.specs.Shard.{ShardState}
 use Rattle.dash_shard.specs.Steps as table
 use Rattle.dash_parallel.specs.Apart.{ParRan, of_part}
 use Rattle.dash_steps.specs.Steps.{step_of, reply_of}
-use Rattle.dash_steps.specs.Takes.{rules, Runs}
+use Rattle.dash_steps.specs.Takes.{rules, Runs, TakesOn}
 use Rattle.dash_steps.specs.declared.step.ShardStep.{ShardStep}
 use Rattle.dash_steps.specs.declared.step.Reply.{Reply}
-use Rattle.dash_steps.specs.inner.Take.{TakesOn}
 use Rattle.dash_map.specs.Alone.{AloneState, contents, keys_in}
 use Rattle.dash_map.specs.Behind.{LeavesShards}
 use Rattle.dash_map.specs.Map.{MapState}

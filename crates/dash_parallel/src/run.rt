@@ -77,8 +77,8 @@ fn hand_out<T: Drop, Y: Drop>(
     }
 }
 
-// No reply to each of so many steps.
-fn hand_out_none<Y: Drop>(count: usize, replies: &mut Vec<Option<Y>>)
+/// No reply to each of so many steps.
+pub fn no_replies<Y: Drop>(count: usize, replies: &mut Vec<Option<Y>>)
     requires none { replies.old.items ≡ [] }
     requires room { count ≤ vec_capacity replies.old }
     ensures { replies.new.items ≡ replicate count None }
@@ -127,7 +127,7 @@ pub fn run_apart<
             result
         }
         Err(error) => {
-            hand_out_none(count, replies);
+            no_replies(count, replies);
             Err(error)
         }
     }

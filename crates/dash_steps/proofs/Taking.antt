@@ -12,12 +12,11 @@ use Rattle.dash_shard.specs.inner.Keys.{IsLawful, keys_of}
 use Rattle.dash_shard.specs.inner.Steps.{Becomes, after, step_shard}
 use Rattle.dash_shard.proofs.Routing.{route_below}
 use Rattle.dash_steps.specs.Steps.{reply_of}
-use Rattle.dash_steps.specs.Takes.{Rules, rules, Answers}
+use Rattle.dash_steps.specs.Takes.{Rules, rules, Answers, TakesOn}
 use Rattle.dash_steps.specs.declared.step.Reply.{Reply}
 use Rattle.dash_steps.specs.declared.step.Reply.TheVariants.{Done}
 use Rattle.dash_steps.specs.inner.Copied.{AlikeAt}
 use Rattle.dash_steps.specs.inner.Sweep.{SweptTo, keeping}
-use Rattle.dash_steps.specs.inner.Take.{TakesOn}
 use Rattle.dash_steps.proofs.Copies.{Lawful, lawful-by, takes-exactly}
 use Rattle.dash_steps.proofs.Preparing.{answers-all}
 use Rattle.dash_steps.proofs.Sweeping.{leaves}

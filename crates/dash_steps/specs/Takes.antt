@@ -1,5 +1,5 @@
 -- What a step does to the contents of a map, up to alike, and what a list of steps does.
-use Rattle.std.specs.Prelude.{ℕ, ◌≡◌, ◌<◌, Bool, List, [], ◌∷◌, IsTrue}
+use Rattle.std.specs.Prelude.{ℕ, ◌≡◌, ◌<◌, ◌≤◌, Bool, List, [], ◌∷◌, IsTrue}
 use Rattle.std.specs.Hash.{HashWrites}
 use Rattle.std.specs.declared.hash.Hasher as hasher
 use Rattle.std.specs.declared.hash.BuildHasher as builder
@@ -7,7 +7,10 @@ use Rattle.dash_shard.specs.Hashing.{KeyHash, key_hash, route_by}
 use Rattle.dash_shard.specs.Contents.{Keys, keys, at, Distinct}
 use Rattle.dash_shard.specs.Steps.{Step, Reply, Act, line, line_shard, line_after, LineReplies}
 use Rattle.std.specs.Option.{option_eq}
+use Rattle.dash_shard.specs.Shard.{ShardState, SameShard, IsShard, pairs}
 use Rattle.dash_steps.specs.Alike.{alike_pair, alike_reply}
+use Rattle.dash_steps.specs.Steps.{reply_of}
+use Rattle.dash_steps.specs.declared.step.Reply as program
 
 -- what a map knows of its keys and values
 pub record Rules (K V : Type 0) : Type 0 where
@@ -43,6 +46,13 @@ module _ {K V : Type 0} (m : Rules K V) where
   abbrev pub Runs : List (K × V) → List (Step K V × Reply K V) → List (K × V) → Type 0
   Runs P [] Q = P ≡ Q
   Runs P (d ∷ ds) Q = (M : List (K × V)) × Takes P d.0 d.1 M × Runs M ds Q
+
+-- the step is taken on a shard of a map, up to alike: it stays the shard that it is, loses no room, and stays lawful
+pub record TakesOn {K V S : Type 0} (h : KeyHash K S) (k : K → K → Bool) (v : V → V → Bool) (old : ShardState K V S) (step : Step K V) (new : ShardState K V S) (reply : program.Reply K V) : Type 0 where
+  pub takes : Takes (rules k v (keys h.eq (route_by h old.hasher old.amount) old.amount)) (pairs old) step (reply_of reply) (pairs new)
+  pub stays : SameShard old new
+  pub room : old.capacity ≤ new.capacity
+  pub lawful : IsShard h new
 
 -- what a recorded map knows of its keys, values and actions, whatever its hasher and amount
 pub record Known (K V A S : Type 0) : Type 0 where

@@ -4,7 +4,8 @@ ghost use Rattle.dash_shard.specs.Hashing.{by, key_hash};
 ghost use Rattle.dash_shard.specs.Shard.{IsShard};
 ghost use Rattle.dash_steps.specs.Steps.{step_of};
 ghost use Rattle.dash_steps.specs.inner.Hashed.{Asks};
-ghost use Rattle.dash_steps.specs.inner.Take.{Goes, TakesOn, goes-after};
+ghost use Rattle.dash_steps.specs.Takes.{TakesOn};
+ghost use Rattle.dash_steps.specs.inner.Take.{Goes, goes-after};
 
 use crate::action::Action;
 use crate::change::{copy_found, look, make_change, plan_asked};

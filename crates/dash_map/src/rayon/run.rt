@@ -1,6 +1,9 @@
 //! Parallel runs: lists of steps, of which each shard takes its own, apart from the others.
 ghost use Rattle.std.specs.Prelude.{◌≡◌, ◌<◌, ◌≤◌, ◌↔◌, [], All, IsTrue, OnOk, IsSome, length, vec_len, vec_capacity};
 ghost use Rattle.std.specs.List.{Any};
+ghost use Rattle.std.specs.Thread.{IsSync};
+ghost use denote.Param.Send.{IsSend};
+ghost use Rattle.dash_shard.specs.Hashing.{by};
 ghost use Rattle.dash_parallel.specs.Apart.{ParRan};
 ghost use Rattle.dash_map.specs.Alone.{IsAlone, KeepsRoom};
 ghost use Rattle.dash_map.specs.ParRun.{goes_to, TakesThere, ParRuns, ParRunsBehind};
@@ -28,18 +31,30 @@ pub struct ParOutcome<K, V> {
 }
 
 impl<K: KeptKey + Drop, V: Kept + Drop, S: BuildHasher> Alone<K, V, S> {
-    // Whether some step names a shard that the map doesn't have. No key is hashed for it.
-    fn any_missing<A: Action<K, V>>(&self, steps: &[ShardStep<K, V, A>]) -> bool
+    // Whether the step names a shard that the map doesn't have. No key is hashed for it.
+    fn misses<A: Action<K, V>>(&self, step: &ShardStep<K, V, A>) -> bool
+        ensures { IsTrue result ↔ (length self.now.row ≤ goes_to ⟦<Self as Keyed>⟧.by A.acts self.now step.now) }
+    {
+        match step.key() {
+            Ok(_) => false,
+            Err(shard) => shard >= self.row.len(),
+        }
+    }
+
+    // Whether some step does.
+    fn misses_any<A: Action<K, V>>(&self, steps: &[ShardStep<K, V, A>]) -> bool
         ensures { IsTrue result ↔ Any (λ t. length self.now.row ≤ goes_to ⟦<Self as Keyed>⟧.by A.acts self.now t) steps.now }
     {
         for step in steps {
-            if let Err(shard) = step.key() && shard >= self.row.len() {
+            if self.misses(step) {
                 return true;
             }
         }
         false
     }
+}
 
+impl<K: KeptKey + Send + Drop, V: Kept + Send + Drop, S: BuildHasher + Send> Alone<K, V, S> {
     // Takes the steps, each on its shard.
     fn run_shards<R: Threads + Sync, A: Action<K, V> + Send + Drop, G: Gate>(
         &mut self,
@@ -50,9 +65,6 @@ impl<K: KeptKey + Drop, V: Kept + Drop, S: BuildHasher> Alone<K, V, S> {
         replies: &mut Vec<Option<Reply<K, V>>>,
     ) -> Result<(), AllocError>
     where
-        K: Send,
-        V: Send,
-        S: Send,
         S::Hasher: Send,
         requires within { All (λ t. goes_to ⟦<Self as Keyed>⟧.by A.acts self.old t < length self.old.row) steps.items }
         requires none { replies.old.items ≡ [] }
@@ -93,9 +105,6 @@ impl<K: KeptKey + Drop, V: Kept + Drop, S: BuildHasher> Alone<K, V, S> {
         workers: usize,
     ) -> ParOutcome<K, V>
     where
-        K: Send,
-        V: Send,
-        S: Send,
         S::Hasher: Send,
         ensures ran { ParRuns ⟦<Self as Keyed>⟧.by K.alike V.alike A.acts self.old self.new steps.items result }
         ensures stays { KeepsRoom self.old self.new }
@@ -113,16 +122,15 @@ impl<K: KeptKey + Drop, V: Kept + Drop, S: BuildHasher> Alone<K, V, S> {
         gate: &G,
     ) -> ParOutcome<K, V>
     where
-        K: Send,
-        V: Send,
-        S: Send,
         S::Hasher: Send,
         ensures ran { ParRuns ⟦<Self as Keyed>⟧.by K.alike V.alike A.acts self.old self.new steps.items result }
         ensures stays { KeepsRoom self.old self.new }
         ensures lawful { IsAlone ⟦<Self as Keyed>⟧.by self.new }
     {
+        // Only a look at the map tells the prover its invariant, which a list that is refused needs too.
+        let _ = &self.hasher;
         let alloc = *steps.allocator();
-        let missing = self.any_missing(&steps);
+        let missing = self.misses_any(&steps);
         let Ok(mut replies) = Vec::with_capacity(alloc, steps.len()) else {
             let fault = if missing { Fault::NoSuchShard } else { Fault::Memory };
             return ParOutcome {
@@ -142,5 +150,67 @@ impl<K: KeptKey + Drop, V: Kept + Drop, S: BuildHasher> Alone<K, V, S> {
             Err(_) => Some(Fault::Memory),
         };
         ParOutcome { replies, fault }
+    }
+}
+
+impl<K: KeptKey + Send + Drop, V: Kept + Send + Drop, S: BuildHasher + Send> DashMap<K, V, S> {
+    /// As `Alone::par_run`, on this map, which nobody else has. It waits for nobody, even where a hold was leaked.
+    ///
+    /// The shards leave their locks for it and go back, which takes no memory.
+    pub fn par_run<R: Threads + Sync, A: Action<K, V> + Send + Drop>(
+        &mut self,
+        rt: &R,
+        steps: Vec<ShardStep<K, V, A>>,
+        workers: usize,
+    ) -> ParOutcome<K, V>
+    where
+        S::Hasher: Send,
+        ensures ran { ParRunsBehind ⟦<Self as Keyed>⟧.by K.alike V.alike A.acts self.old steps.items result }
+        ensures same { self.new ≡ self.old }
+    {
+        self.par_run_gated(rt, steps, workers, &Open)
+    }
+
+    /// As `Alone::par_run_gated`, on this map.
+    pub fn par_run_gated<R: Threads + Sync, A: Action<K, V> + Send + Drop, G: Gate>(
+        &mut self,
+        rt: &R,
+        steps: Vec<ShardStep<K, V, A>>,
+        workers: usize,
+        gate: &G,
+    ) -> ParOutcome<K, V>
+    where
+        S::Hasher: Send,
+        ensures ran { ParRunsBehind ⟦<Self as Keyed>⟧.by K.alike V.alike A.acts self.old steps.items result }
+        ensures same { self.new ≡ self.old }
+    {
+        replace_with(
+            self,
+            steps,
+            |map: Self, steps: Vec<ShardStep<K, V, A>>| -> (Self, ParOutcome<K, V>)
+                requires { IsSync R.row × IsSync G.row × IsSend A.row
+                    × IsSend K.row × IsSend V.row × IsSend S.row × IsSend S.Hasher.row }
+                ensures ran { ParRunsBehind (by K.Hash S.BuildHasher S.Hasher.Hasher) K.alike V.alike A.acts map steps.items result.1 }
+                ensures same { result.0 ≡ map }
+            { map.par_run_alone(rt, steps, workers, gate) },
+        )
+    }
+
+    // The run, and the map after it.
+    fn par_run_alone<R: Threads + Sync, A: Action<K, V> + Send + Drop, G: Gate>(
+        self,
+        rt: &R,
+        steps: Vec<ShardStep<K, V, A>>,
+        workers: usize,
+        gate: &G,
+    ) -> (Self, ParOutcome<K, V>)
+    where
+        S::Hasher: Send,
+        ensures ran { ParRunsBehind ⟦<Self as Keyed>⟧.by K.alike V.alike A.acts self steps.items result.1 }
+        ensures same { result.0 ≡ self }
+    {
+        let mut alone = self.alone();
+        let outcome = alone.par_run_gated(rt, steps, workers, gate);
+        (alone.end(), outcome)
     }
 }

@@ -1,27 +1,16 @@
 -- A step that is taken on one shard.
-use Rattle.std.specs.Prelude.{ℕ, ◌≡◌, ◌≤◌, Bool}
+use Rattle.std.specs.Prelude.{ℕ, ◌≡◌}
 use Rattle.std.proofs.Common.{ap₂, sym, subst, ◌∙◌}
 use Rattle.dash_shard.specs.Hashing.{KeyHash}
-use Rattle.dash_shard.specs.Shard.{ShardState, SameShard, IsShard, pairs}
+use Rattle.dash_shard.specs.Shard.{ShardState, SameShard}
 use Rattle.dash_shard.specs.Steps as table
-use Rattle.dash_shard.specs.inner.Keys.{keys_of}
-use Rattle.dash_steps.specs.Steps.{reply_of}
-use Rattle.dash_steps.specs.Takes.{rules, Takes}
 use Rattle.dash_steps.specs.declared.step.ShardStep.{ShardStep}
-use Rattle.dash_steps.specs.declared.step.Reply.{Reply}
 use Rattle.dash_steps.specs.inner.Hashed.{shard_by, IsHashBy}
 
 -- the step goes to the shard, and the number is the hash of its key, if it has one
 pub record Goes {K V A S : Type 0} (acts : A → table.Act K V) (h : KeyHash K S) (s : ShardState K V S) (step : ShardStep K V A) (hash : ℕ) : Type 0 where
   pub here : shard_by acts h s.hasher s.amount step ≡ s.number
   pub hashed : IsHashBy acts h s.hasher step hash
-
--- from old the step may get this reply, and leaves new, up to alike: the same shard, which loses no room
-pub record TakesOn {K V S : Type 0} (h : KeyHash K S) (k : K → K → Bool) (v : V → V → Bool) (old : ShardState K V S) (step : table.Step K V) (new : ShardState K V S) (reply : Reply K V) : Type 0 where
-  pub takes : Takes (rules k v (keys_of h old)) (pairs old) step (reply_of reply) (pairs new)
-  pub stays : SameShard old new
-  pub room : old.capacity ≤ new.capacity
-  pub lawful : IsShard h new
 
 -- a step goes to a shard as long as it stays the one that it is
 pub goes-after : {K V A S : Type 0} (acts : A → table.Act K V) (h : KeyHash K S) (s t : ShardState K V S) (step : ShardStep K V A) (hash : ℕ) → SameShard s t → Goes acts h s step hash → Goes acts h t step hash

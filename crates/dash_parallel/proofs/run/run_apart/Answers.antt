@@ -30,4 +30,4 @@ returns-in-Ok g c =
 
 pub returns-in-Err-clause-ran : goal.returns-in-Err-clause-ran
 returns-in-Err-clause-ran g c =
-    none-ran g.P.Part.takes (g.D.Dealer.goes c.args.dealer.now) c.args.parts.now c.args.steps.items c.hand_out_none.new.replies.items (c.hand_out_none.ensures ∙ ap (λ n. replicate n None) (c.len-count.ensures ∙ c.args.steps.ok.0))
+    none-ran g.P.Part.takes (g.D.Dealer.goes c.args.dealer.now) c.args.parts.now c.args.steps.items c.no_replies.new.replies.items (c.no_replies.ensures ∙ ap (λ n. replicate n None) (c.len-count.ensures ∙ c.args.steps.ok.0))

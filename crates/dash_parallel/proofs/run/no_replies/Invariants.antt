@@ -1,5 +1,5 @@
 use Rattle.std.proofs.Common.{◌≡◌, ◌≤◌, replicate, None, vec_len, vec_capacity}
-use Rattle.dash_parallel.proofs.run.hand_out_none.Given as goal
+use Rattle.dash_parallel.proofs.run.no_replies.Given as goal
 
 abbrev pub invariant-loop : goal.invariant-loop
 invariant-loop g l = record {
