@@ -29,7 +29,7 @@ use Rattle.dash_map.specs.Alone.{AloneState, IsAlone, KeepsRoom}
 use Rattle.dash_map.specs.ParRun.{goes_to, TakesThere, RunsAlone, RanWhole, ParRuns}
 use Rattle.dash_map.specs.declared.run.Fault.{Fault}
 use Rattle.dash_map.specs.declared.run.Fault.TheVariants.{NoSuchShard}
-use Rattle.dash_map.specs.declared.rayon.run.ParOutcome.{ParOutcome}
+use Rattle.dash_map.specs.declared.parallel.run.ParOutcome.{ParOutcome}
 use Rattle.dash_map.specs.inner.Run.{answered}
 use Rattle.dash_map.proofs.Lifting.{alone-set, tagged-moved}
 use Rattle.dash_map.proofs.Running.{goes-on, takes-on}

@@ -13,7 +13,7 @@ use Rattle.dash_map.specs.Alone.{AloneState, contents, keys_in}
 use Rattle.dash_map.specs.Behind.{LeavesShards}
 use Rattle.dash_map.specs.Map.{MapState}
 use Rattle.dash_map.specs.declared.run.Fault.TheVariants.{NoSuchShard}
-use Rattle.dash_map.specs.declared.rayon.run.ParOutcome.{ParOutcome}
+use Rattle.dash_map.specs.declared.parallel.run.ParOutcome.{ParOutcome}
 
 module _ {K V A S : Type 0} (h : KeyHash K S) where
   module _ (acts : A → table.Act K V) where
