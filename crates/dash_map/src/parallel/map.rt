@@ -98,7 +98,7 @@ where
     /// writer has it: others may change those that were left, and those that are still to come.
     ///
     /// It takes memory for a list of each shard's answers, and for the whole. Where there is none it is refused (4), and the answers are
-    /// dropped. A call of this map from `f` deadlocks where it wants to write the shard.
+    /// dropped. A call of this map from `f` that writes may deadlock: this thread or another holds the shard.
     pub fn map_collect<R: Threads + Wait + Clock + Sync, T: Send + Drop, F: Fn(&K, &V) -> T + Sync>(
         self,
         rt: &R,
@@ -153,7 +153,7 @@ where
     /// Calls `f` once at each pair. A thread holds the shard that it is in for writing, and waits until nobody has it: others may change
     /// those that were left, and those that are still to come. It takes no memory, and can't be refused.
     ///
-    /// A call of this map from `f` deadlocks where it wants the shard.
+    /// A call of this map from `f` may deadlock: this thread or another holds the shard that it wants.
     pub fn for_each<R: Threads + Wait + Clock + Sync, F: Fn(&K, &mut V) + Sync>(self, rt: &R, f: F)
         requires { (k : K) (v : V) → MayWrite F.Fn f k v }
         ensures { LeavesShards ⟦<Self as Keyed>⟧.by self.entry (AltersAllAlone K.eq (Writes F.Fn) f) }
