@@ -7,7 +7,7 @@ use Rattle.std.specs.Map.Iter.{TakesFirst}
 use Rattle.std.proofs.lemmas.List.{map-append}
 use Rattle.std.proofs.lemmas.List.Elements.{All-nil, All-cons, All-head, All-tail}
 use Rattle.std.specs.Cmp.{IsEquivalence}
-use Rattle.rayon.proofs.ListFacts.{AllZip-append, AllZip-weaken, All-parts}
+use Rattle.rayon.proofs.ListFacts.{AllZip-append, All-parts}
 use Rattle.rayon.proofs.ToStd.{nat_range-All}
 use Rattle.rayon.specs.Numbers.{nat_range}
 use Rattle.dash_shard.specs.Hashing.{KeyHash}
@@ -81,7 +81,7 @@ module _ {F G K V : Type 0} (T : G → K → V → Bool → V → G → Type 0) 
 module _ {K V S : Type 0} (h : KeyHash K S) (m : MapState S) where
   module _ {Y : Type 0} (P : ShardState K V S → Y → Type 0) where
     -- what was seen at k numbers from a on, behind what was seen below them
-    pub seen-along : (a k : ℕ) (had ys : List Y) → SeenSo h m a (λ row. AllZip P row had) → AllZip (λ i y. SawNumber h m i (λ s. P s y)) (range_with_len a k) ys
+    seen-along : (a k : ℕ) (had ys : List Y) → SeenSo h m a (λ row. AllZip P row had) → AllZip (λ i y. SawNumber h m i (λ s. P s y)) (range_with_len a k) ys
         → SeenSo h m (a + k) (λ row. AllZip P row (had ++ ys))
     seen-along a zero had [] so each =
         let number : a ≡ a + 0 = omega arith in
@@ -95,14 +95,16 @@ module _ {K V S : Type 0} (h : KeyHash K S) (m : MapState S) where
         subst (λ n. SeenSo h m n (λ row. AllZip P row (had ++ y ∷ ys))) number
         (subst (λ all. SeenSo h m (a + 1 + k) (λ row. AllZip P row all)) (append_assoc had (y ∷ []) ys) (seen-along (a + 1) k (had ++ y ∷ []) ys next each.1))
 
-    -- at all numbers
-    pub seen-of : {A : Type 0} {R : K × V → A → Type 0} {items : Y → List A} (ys : List Y) → IsWhole m m.amount → ((s : ShardState K V S) (y : Y) → P s y → AllZip R (pairs s) (items y))
-        → AllZip (λ i y. SawNumber h m i (λ s. P s y)) (range_with_len 0 m.amount) ys → SawShards h m (λ a. AllZip R (contents a) (flat_map items ys))
-    seen-of {R = R} {items = items} ys all shows each =
+  module _ {Y A : Type 0} (R : K × V → A → Type 0) (items : Y → List A) where
+    -- what is so at each number, of the pairs and of the items beside them, is so of all pairs and all items
+    pub all-seen-with : (ys : List Y) → IsWhole m m.amount → AllZip (λ i y. SawNumber h m i (λ s. AllZip R (pairs s) (items y))) (range_with_len 0 m.amount) ys
+        → SawShards h m (λ a. AllZip R (contents a) (flat_map items ys))
+    all-seen-with ys all each =
+        let P : ShardState K V S → Y → Type 0 = λ s y. AllZip R (pairs s) (items y) in
         let number : 0 + m.amount ≡ m.amount = omega arith in
-        let so = subst (λ n. SeenSo h m n (λ row. AllZip P row ys)) number (seen-along 0 m.amount [] ys (seen-none h m (λ row. AllZip P row []) tt) each) in
+        let so = subst (λ n. SeenSo h m n (λ row. AllZip P row ys)) number (seen-along P 0 m.amount [] ys (seen-none h m (λ row. AllZip P row []) tt) each) in
         let seen = seen-all h m (λ row. AllZip P row ys) m.amount so all in
-        (seen.0, seen.1, AllZip-flat_map R pairs items seen.0.row ys (AllZip-weaken P (λ s y. AllZip R (pairs s) (items y)) shows seen.0.row ys seen.2))
+        (seen.0, seen.1, AllZip-flat_map R pairs items seen.0.row ys seen.2)
 
   module _ {F : Type 0} (T : F → K → V → Bool → V → F → Type 0) (f : F) where
     -- a closure that stays as it is may be called as long as it is asked to

@@ -6,9 +6,10 @@ use Rattle.dash_shard.specs.Hashing.{IsAmount, key_hash}
 use Rattle.dash_shard.specs.Shard.{pairs}
 use Rattle.dash_map.specs.Alone.{contents}
 use Rattle.dash_map.specs.Behind.{SawShards}
-use Rattle.dash_map.specs.Parallel.{MayMap, MapsEach}
+use Rattle.dash_map.specs.Parallel.{MayMap, Maps, MapsEach}
 use Rattle.dash_map.specs.inner.Parallel.{SawNumber}
-use Rattle.dash_map.proofs.Workers.{at-numbers, numbers, AllZip-Ok, seen-of}
+use Rattle.dash_map.proofs.Seeing.{IsWhole}
+use Rattle.dash_map.proofs.Workers.{at-numbers, numbers, AllZip-Ok, all-seen-with}
 use Rattle.dash_map.proofs.parallel.map.Iter.map_collect.Goals as goal
 
 pub collect-requires-clause-ready : goal.collect-requires-clause-ready
@@ -34,7 +35,8 @@ returns g c =
     let each = subst (λ ns. AllZip (λ i answers. SawNumber h m i (λ s. MapsEach g.F.Fn c.args.f (pairs s) answers.items)) ns lists.items) (given.1.1 ∙ numbers _ _ _ start end)
     (subst (AllZip (λ i answers. SawNumber h m i (λ s. MapsEach g.F.Fn c.args.f (pairs s) answers.items)) given.1.0) (sym ok.2)
     (AllZip-Ok _ _ given.1.0 ok.0 (subst (λ rs. AllZip (λ i r. IfOk r (λ answers. SawNumber h m i (λ s. MapsEach g.F.Fn c.args.f (pairs s) answers.items))) given.1.0 rs) ok.1 said))) in
-    let saw = seen-of h m (λ s answers. MapsEach g.F.Fn c.args.f (pairs s) answers.items) lists.items (record { count = refl; amount = subst IsAmount (ap (λ m. m.amount) c.map.view_is) c.map.invariant.amount }) (λ s answers all. all) each in
+    let whole : IsWhole m m.amount = record { count = refl; amount = subst IsAmount (ap (λ m. m.amount) c.map.view_is) c.map.invariant.amount } in
+    let saw = all-seen-with h m (Maps g.F.Fn c.args.f) (λ list. list.items) lists.items whole each in
     IfOk-then c.joined.result _ _ c.joined.ensures (λ v all.
     subst (λ m. SawShards h m (λ a. MapsEach g.F.Fn c.args.f (contents a) v.items)) c.self.view_is
     (subst (λ l. SawShards h m (λ a. MapsEach g.F.Fn c.args.f (contents a) l)) (sym all) saw))
