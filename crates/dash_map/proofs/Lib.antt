@@ -1,4 +1,5 @@
 mod AloneWalks
+pub mod Answering
 mod Copying
 mod CopyingMaps
 mod Listing
@@ -22,5 +23,6 @@ mod Taken
 mod Turning
 mod Trying
 mod Walks
+mod Workers
 mod Stepping
 mod SteppingMut

@@ -16,4 +16,5 @@ pub mod Gets
 pub mod Walks
 pub mod Walking
 pub mod WalkingMut
+pub mod Parallel
 pub mod inner

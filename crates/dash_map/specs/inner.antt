@@ -2,6 +2,7 @@
 pub mod AloneWalk
 pub mod Amounts
 pub mod Copies
+pub mod Parallel
 pub mod Rooms
 pub mod Run
 pub mod Walking

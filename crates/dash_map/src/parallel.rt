@@ -1,4 +1,6 @@
 //! The parallel forms: what several workers do to the shards of a map, each worker to its own.
 
 mod deal;
+pub mod map;
+pub mod read_only;
 pub mod run;

@@ -32,8 +32,8 @@ mod iter;
 /// A contract sees its hasher and the row of its shards, as of a map of one owner.
 #[derive(Drop)]
 pub struct ReadOnlyView<K: Eq + Hash, V, S: BuildHasher> {
-    hasher: S,
-    shards: Vec<Shard<K, V, S>>,
+    pub(crate) hasher: S,
+    pub(crate) shards: Vec<Shard<K, V, S>>,
 }
 
 impl<K: Eq + Hash, V, S: BuildHasher> Model for ReadOnlyView<K, V, S> {
