@@ -8,6 +8,7 @@ pub mod extend;
 pub mod iter;
 pub mod map;
 mod pairs;
+pub mod rayon;
 pub mod read_only;
 pub mod run;
 mod shards;

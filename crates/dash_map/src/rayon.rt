@@ -1,0 +1,4 @@
+//! Calls that share their work among several workers.
+
+mod deal;
+pub mod extend;
