@@ -1,18 +1,24 @@
 //! Lists of pairs that several workers put into a map.
-ghost use Rattle.std.specs.Prelude.{◌≡◌};
+ghost use Rattle.std.specs.Prelude.{◌≡◌, ◌↔◌, ◌∷◌, [], IfOk, IfErr, IsErrOf, length};
 ghost use Rattle.std.specs.Thread.{IsSync};
 ghost use denote.Param.Send.{IsSend};
-ghost use Rattle.dash_shard.specs.Hashing.{by};
-ghost use Rattle.dash_map.specs.Extend.{ParExtends, ParExtendsBehind};
+ghost use Rattle.dash_shard.specs.Errors.{IsOneOf};
+ghost use Rattle.dash_shard.specs.Hashing.{by, HashAlike};
+ghost use Rattle.dash_shard.specs.declared.error.ConstructError.TheVariants.{Memory, Parallelism};
+ghost use Rattle.dash_map.specs.Alone.{IsAlone};
+ghost use Rattle.dash_map.specs.Amounts.{IsDefault, IsParallelism};
+ghost use Rattle.dash_map.specs.Behind.{LeftShards};
+ghost use Rattle.dash_map.specs.Extend.{MadeOf, ParExtends, ParExtendsBehind};
 
 use crate::alone::Alone;
-use crate::map::DashMap;
+use crate::map::{DashMap, default_shard_amount};
 use crate::rayon::deal::ByRoute;
 use core::mem::replace_with;
 use dash_parallel::gate::{Gate, Open};
 use dash_parallel::run::put_apart;
+use dash_shard::error::ConstructError;
 use dash_shard::keyed::Keyed;
-use std::alloc::AllocError;
+use std::alloc::{AllocError, Global};
 use std::hash::{BuildHasher, Hash};
 use std::thread::Threads;
 
@@ -50,6 +56,43 @@ impl<K: Eq + Hash + Send + Drop, V: Send + Drop, S: BuildHasher + Send> Alone<K,
     {
         let dealer = ByRoute::new(&self.hasher, self.row.len());
         put_apart(rt, gate, &dealer, workers, list, self.row.items_mut())
+    }
+}
+
+impl<
+    K: Eq + Hash + Send + Drop,
+    V: Send + Drop,
+    S: BuildHasher + Clone + Default + Send + Drop,
+> Alone<K, V, S> {
+    /// A map of one owner into which so many workers inserted the pairs of a list as `par_extend` does, of the default number of shards for so
+    /// many processors.
+    ///
+    /// Room is made first, by the list's length. It is refused where the parallelism is 0 or above 2^61 (6), then where there is no memory
+    /// for a map, for the workers' lists or for a pair (8); then nothing is made.
+    pub fn from_par_iter<R: Threads + Sync>(
+        rt: &R,
+        alloc: Global,
+        list: Vec<(K, V)>,
+        parallelism: usize,
+        workers: usize,
+    ) -> Result<Self, ConstructError>
+    where
+        S::Hasher: Send,
+        requires { (s t : S) → S.is_clone s t → HashAlike ⟦<Self as Keyed>⟧.by s t }
+        ensures made { IfOk result (MadeOf ⟦<Self as Keyed>⟧.by list.items) }
+        ensures hasher { IfOk result (λ a. S.is_default a.hasher) }
+        ensures amount { IfOk result (λ a. IsDefault parallelism (length a.row)) }
+        ensures lawful { IfOk result (IsAlone ⟦<Self as Keyed>⟧.by) }
+        ensures bad_parallelism { IsErrOf result Parallelism ↔ (IsParallelism parallelism → ⊥) }
+        ensures kinds { IfErr result (IsOneOf (Parallelism ∷ Memory ∷ [])) }
+    {
+        let amount = default_shard_amount(parallelism)?;
+        let mut alone = Alone::new(alloc, 0, S::default(), amount)?;
+        alone.reserve_share(list.len());
+        match alone.par_extend(rt, list, workers) {
+            Ok(()) => Ok(alone),
+            Err(_) => Err(ConstructError::Memory),
+        }
     }
 }
 
@@ -112,5 +155,31 @@ impl<K: Eq + Hash + Send + Drop, V: Send + Drop, S: BuildHasher + Send> DashMap<
         let mut alone = self.alone();
         let extended = alone.par_extend_gated(rt, list, workers, gate);
         (alone.end(), extended)
+    }
+}
+
+impl<
+    K: Eq + Hash + Send + Drop,
+    V: Send + Drop,
+    S: BuildHasher + Clone + Default + Send + Drop,
+> DashMap<K, V, S> {
+    /// As `Alone::from_par_iter`, behind locks.
+    pub fn from_par_iter<R: Threads + Sync>(
+        rt: &R,
+        alloc: Global,
+        list: Vec<(K, V)>,
+        parallelism: usize,
+        workers: usize,
+    ) -> Result<Self, ConstructError>
+    where
+        S::Hasher: Send,
+        requires { (s t : S) → S.is_clone s t → HashAlike ⟦<Self as Keyed>⟧.by s t }
+        ensures made { IfOk result (λ m. LeftShards ⟦<Self as Keyed>⟧.by m (MadeOf ⟦<Self as Keyed>⟧.by list.items)) }
+        ensures hasher { IfOk result (λ m. S.is_default m.hasher) }
+        ensures amount { IfOk result (λ m. IsDefault parallelism m.amount) }
+        ensures bad_parallelism { IsErrOf result Parallelism ↔ (IsParallelism parallelism → ⊥) }
+        ensures kinds { IfErr result (IsOneOf (Parallelism ∷ Memory ∷ [])) }
+    {
+        Ok(Alone::from_par_iter(rt, alloc, list, parallelism, workers)?.end())
     }
 }
