@@ -11,6 +11,7 @@ mod Leaving
 mod Lending
 mod Lifting
 mod Moves
+mod ParExtending
 mod Refusals
 mod Reserving
 mod Rooms

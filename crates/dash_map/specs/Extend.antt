@@ -1,14 +1,16 @@
 -- Pairs that come one after the other, and are inserted into a map of one owner.
-use Rattle.std.specs.Prelude.{◌≡◌, Bool, List, [], ◌∷◌, ◌++◌, reverse, option_map, option_and_then, Option, Some, None, Result, IfErr, IsSomeAnd, slice_get}
+use Rattle.std.specs.Prelude.{◌≡◌, Bool, List, [], ◌∷◌, ◌++◌, reverse, option_map, option_and_then, Option, Some, None, Result, IfErr, OnOk, IsSomeAnd, slice_get, ⊤}
 use Rattle.std.specs.Result.{result_err}
 use Rattle.std.specs.Iterator.{YieldsThen}
 use Rattle.dash_shard.specs.Hashing.{KeyHash}
 use Rattle.dash_shard.specs.Contents.{at}
 use Rattle.dash_shard.specs.Steps.{Insert, Old}
-use Rattle.dash_shard.specs.Shard.{shard_len}
+use Rattle.dash_shard.specs.Shard.{ShardState, shard_len}
+use Rattle.dash_shard.specs.Puts.{Puts}
 use Rattle.dash_shard.specs.Errors.{IsOneOf}
 use Rattle.dash_shard.specs.declared.error.ConstructError.TheVariants.{Parallelism, Memory}
-use Rattle.dash_map.specs.Alone.{AloneState, KeepsRoom, TakesAlone, contents, keys_in}
+use Rattle.dash_parallel.specs.Apart.{EachPart, RanFront}
+use Rattle.dash_map.specs.Alone.{AloneState, IsAlone, KeepsRoom, TakesAlone, contents, keys_in}
 use Rattle.dash_map.specs.Behind.{LeavesShards}
 use Rattle.dash_map.specs.Map.{MapState}
 use Rattle.dash_map.specs.declared.extend.ExtendRefused.{ExtendRefused}
@@ -71,3 +73,18 @@ module _ {K V S : Type 0} (h : KeyHash K S) where
     -- the same of shards that were found behind the locks of this map, and of those that were left there
     abbrev pub ExtendsBehind : MapState S → Result (Unit {0}) (ExtendRefused K V) → Type 0
     ExtendsBehind m result = LeavesShards h m (λ old new. Extends old new result)
+
+  -- the pairs that go to one shard were put into it one after the other, all or a front of them
+  abbrev pub PutsFront : List (K × V) → ShardState K V S → ShardState K V S → Type 0
+  PutsFront = RanFront (λ s p (_ : ⊤) t. Puts h s p t)
+
+  -- all that `par_extend` promises: the pairs were inserted, or where it is refused each shard stands after a front of its own
+  pub record ParExtends (ps : List (K × V)) (old new : AloneState K V S) {E : Type 0} (result : Result (Unit {0}) E) : Type 0 where
+    pub gains : OnOk result (Gains old ps new)
+    pub fronts : EachPart PutsFront (λ p. (keys_in h old).route p.0) ps old.row new.row
+    pub stays : KeepsRoom old new
+    pub lawful : IsAlone h new
+
+  -- the same of shards that were found behind the locks of this map, and of those that were left there
+  abbrev pub ParExtendsBehind : {E : Type 0} → MapState S → List (K × V) → Result (Unit {0}) E → Type 0
+  ParExtendsBehind m ps result = LeavesShards h m (λ old new. ParExtends ps old new result)

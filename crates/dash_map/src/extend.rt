@@ -90,7 +90,7 @@ impl<K: Eq + Hash + Drop, V: Drop, S: BuildHasher> Alone<K, V, S> {
 
     // Makes room in each shard for its share of so many pairs more, where there is memory. The number may be too high, so want of memory
     // is told by the pair that finds none.
-    fn reserve_share(&mut self, additional: usize)
+    pub(crate) fn reserve_share(&mut self, additional: usize)
         ensures same { EachOnce K.eq (contents self.old) (contents self.new) }
         ensures len { length (contents self.new) ≡ length (contents self.old) }
         ensures stays { KeepsRoom self.old self.new }

@@ -4,3 +4,4 @@ pub mod Dealing
 pub mod Handing
 pub mod Taking
 pub mod Weaving
+pub mod Holding

@@ -6,12 +6,13 @@ use Rattle.std.proofs.lemmas.List.{length-map, length-reverse, reverse-reverse, 
 use Rattle.std.proofs.lemmas.List.Elements.{All-cons, All-nil, All-head, All-tail, All-map}
 use Rattle.dash_parallel.specs.Apart.{EachPart, ParRan, RanFront, RanWhole, of_part, steps_of, replied, untaken}
 use Rattle.dash_parallel.specs.inner.Halves.{EachBeside}
-use Rattle.dash_parallel.specs.inner.Lanes.{AreReady, HasRun, LaneRan, handed, queues}
+use Rattle.dash_parallel.specs.Lanes.{HasRun, LaneRan}
+use Rattle.dash_parallel.specs.inner.Lanes.{AreReady, handed, queues}
 use Rattle.dash_parallel.specs.declared.lane.Lane.{Lane}
 use Rattle.dash_parallel.proofs.Handing.{length-handed, pair_up, pair-front, part-handed}
 
 -- an item of a list that has one
-some-item : {X : Type 0} (xs : List X) (i : ℕ) → i < length xs → X
+pub some-item : {X : Type 0} (xs : List X) (i : ℕ) → i < length xs → X
 some-item [] i h = absurd (omega arith)
 some-item (x ∷ xs) i h = x
 

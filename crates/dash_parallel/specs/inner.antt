@@ -1,4 +1,5 @@
 -- What only private contracts and proofs use.
 pub mod Halves
+pub mod Held
 pub mod Lanes
 pub mod Rows

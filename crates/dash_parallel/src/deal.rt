@@ -1,6 +1,7 @@
 //! A list of steps that is dealt to the lanes of its parts.
 ghost use Rattle.std.specs.Prelude.{◌≡◌, ℕ, ◌≤◌, ◌<◌, [], All, IfOk, OnOk, IsTrue, length, map, reverse, vec_len, vec_capacity, get_or};
-ghost use Rattle.dash_parallel.specs.inner.Lanes.{AreDealt, AreEmpty, AreReady, HasRoom};
+ghost use Rattle.dash_parallel.specs.Lanes.{HasRoom};
+ghost use Rattle.dash_parallel.specs.inner.Lanes.{AreDealt, AreEmpty, AreReady};
 
 use crate::lane::Lane;
 use crate::part::Dealer;

@@ -4,6 +4,7 @@
 mod deal;
 pub mod gate;
 mod halves;
-mod lane;
+pub mod held;
+pub mod lane;
 pub mod part;
 pub mod run;

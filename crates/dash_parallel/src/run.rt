@@ -2,7 +2,8 @@
 ghost use Rattle.std.specs.Prelude.{◌≡◌, ℕ, ◌≤◌, ◌<◌, ◌+◌, ◌++◌, [], All, OnOk, IsSome, None, false, length, replicate, reverse, vec_len, vec_capacity};
 ghost use Rattle.dash_parallel.specs.Apart.{EachPart, FitsAll, ParRan, RanFront, RanWhole};
 ghost use Rattle.dash_parallel.specs.inner.Halves.{AllBeside, EachBeside};
-ghost use Rattle.dash_parallel.specs.inner.Lanes.{HasRun, IsReady, handed, queues};
+ghost use Rattle.dash_parallel.specs.Lanes.{HasRun, IsReady};
+ghost use Rattle.dash_parallel.specs.inner.Lanes.{handed, queues};
 
 use crate::deal::{Dealt, deal};
 use crate::gate::Gate;
@@ -32,7 +33,7 @@ impl<'a, P: Part<T, Y>, T: Drop, Y: Drop, G: Gate> Work<P, Lane<T, Y>> for Runne
 }
 
 // Refuses where a lane's step was refused.
-fn outcome<T, Y>(lanes: &[Lane<T, Y>]) -> Result<(), AllocError>
+pub(crate) fn outcome<T, Y>(lanes: &[Lane<T, Y>]) -> Result<(), AllocError>
     ensures { OnOk result (All (λ lane. lane.refused ≡ false) lanes.now) }
 {
     for lane in lanes {

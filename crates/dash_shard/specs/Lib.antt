@@ -4,6 +4,7 @@ pub mod Steps
 pub mod Shard
 pub mod Search
 pub mod Held
+pub mod Puts
 pub mod Guarded
 pub mod Lock
 pub mod LockState

@@ -28,6 +28,7 @@ mod all_pairs;
 mod group;
 pub mod held;
 pub mod lanes;
+pub mod part;
 mod positions;
 mod table;
 

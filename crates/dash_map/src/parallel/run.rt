@@ -76,10 +76,7 @@ impl<K: KeptKey + Send + Drop, V: Kept + Send + Drop, S: BuildHasher + Send> Alo
         ensures stays { KeepsRoom self.old self.new }
         ensures lawful { IsAlone ⟦<Self as Keyed>⟧.by self.new }
     {
-        let dealer = ByRoute {
-            hasher: &self.hasher,
-            amount: self.row.len(),
-        };
+        let dealer = ByRoute::new(&self.hasher, self.row.len());
         run_apart(
             rt,
             gate,

@@ -1,4 +1,4 @@
-use Rattle.std.proofs.Common.{◌≡◌, ◌<◌, All, List, length, sym, subst, ◌∙◌}
+use Rattle.std.proofs.Common.{◌≡◌, ◌<◌, All, List, length, sym, ap, subst, ◌∙◌}
 use Rattle.dash_shard.specs.Hashing.{key_hash}
 use Rattle.dash_shard.specs.Shard.{ShardState, IsShard}
 use Rattle.dash_shard.specs.inner.Rows.{with_items}
@@ -6,11 +6,16 @@ use Rattle.dash_parallel.specs.Apart.{FitsAll, ParRan}
 use Rattle.dash_steps.specs.inner.Hashed.{shard_by, IsHashBy}
 use Rattle.dash_steps.specs.inner.Take.{Goes}
 use Rattle.dash_map.specs.Alone.{AloneState, IsAlone, KeepsRoom}
+use Rattle.dash_map.specs.Map.{MapState}
 use Rattle.dash_map.specs.ParRun.{goes_to, TakesThere}
 use Rattle.dash_map.proofs.ParRunning.{lent-row, fits-row, lawful-after, keeps-after}
 use Rattle.dash_map.proofs.alone.Alone.run_shards.Given.{Over}
-use Rattle.dash_map.proofs.alone.Alone.run_shards.Goals.{After-self-1}
+use Rattle.dash_map.proofs.alone.Alone.run_shards.Goals.{After-self-1, After-items_mut}
 use Rattle.dash_map.proofs.alone.Alone.run_shards.Goals as goal
+
+-- what the dealer goes by
+dealer : (g : Over) (c : After-items_mut g) → c.new-dealer.result ≡ record { hasher = c.self.inside.hasher; amount = length c.self.inside.row }
+dealer g c = c.new-dealer.ensures ∙ ap (λ n. record { hasher = c.self.inside.hasher; amount = n }) c.len.ensures
 
 pub run_apart-requires-clause-within : goal.run_apart-requires-clause-within
 run_apart-requires-clause-within g c κs long =
@@ -18,17 +23,17 @@ run_apart-requires-clause-within g c κs long =
     let h = key_hash g.K.PartialEq.eq g.K.Hash.hash_input g.S.BuildHasher g.S.Hasher.Hasher in
     let row = c.self.inside.row in
     let within = subst (λ (a : At). All (λ t. goes_to h g.A.Action.acts a t < length a.row) c.args.steps.items) (sym c.self.view_is) c.requires.within in
-    subst (λ (ps : List (ShardState g.row.K.Denot g.row.V.Denot g.row.S.Denot)). All (λ t. shard_by g.A.Action.acts h c.self.inside.hasher c.len.result t < length ps) c.args.steps.items) (sym c.items_mut.ensures.value)
-    (subst (λ n. All (λ t. shard_by g.A.Action.acts h c.self.inside.hasher n t < length row) c.args.steps.items) (sym c.len.ensures) within)
+    subst (λ (ps : List (ShardState g.row.K.Denot g.row.V.Denot g.row.S.Denot)). All (λ t. shard_by g.A.Action.acts h c.new-dealer.result.hasher c.new-dealer.result.amount t < length ps) c.args.steps.items) (sym c.items_mut.ensures.value)
+    (subst (λ (d : MapState g.row.S.Denot). All (λ t. shard_by g.A.Action.acts h d.hasher d.amount t < length row) c.args.steps.items) (sym (dealer g c)) within)
 
 pub run_apart-requires-clause-fits : goal.run_apart-requires-clause-fits
 run_apart-requires-clause-fits g c κs long =
     let h = key_hash g.K.PartialEq.eq g.K.Hash.hash_input g.S.BuildHasher g.S.Hasher.Hasher in
-    let base = c.self.inside.hasher in
     let row = c.self.inside.row in
-    subst (λ (ps : List (ShardState g.row.K.Denot g.row.V.Denot g.row.S.Denot)). FitsAll (λ s step hash. Goes g.A.Action.acts h s step hash × IsShard h s) (shard_by g.A.Action.acts h base c.len.result) (IsHashBy g.A.Action.acts h base) ps) (sym c.items_mut.ensures.value)
-    (subst (λ n. FitsAll (λ s step hash. Goes g.A.Action.acts h s step hash × IsShard h s) (shard_by g.A.Action.acts h base n) (IsHashBy g.A.Action.acts h base) row) (sym c.len.ensures)
-    (fits-row h g.A.Action.acts base row c.self.invariant))
+    let d = c.new-dealer.result in
+    subst (λ (ps : List (ShardState g.row.K.Denot g.row.V.Denot g.row.S.Denot)). FitsAll (λ s step hash. Goes g.A.Action.acts h s step hash × IsShard h s) (shard_by g.A.Action.acts h d.hasher d.amount) (IsHashBy g.A.Action.acts h d.hasher) ps) (sym c.items_mut.ensures.value)
+    (subst (λ (d : MapState g.row.S.Denot). FitsAll (λ s step hash. Goes g.A.Action.acts h s step hash × IsShard h s) (shard_by g.A.Action.acts h d.hasher d.amount) (IsHashBy g.A.Action.acts h d.hasher) row) (sym (dealer g c))
+    (fits-row h g.A.Action.acts c.self.inside.hasher row c.self.invariant))
 
 -- what the shards took of the row
 ran : (g : Over) (c : After-self-1 g) → ParRan (TakesThere (key_hash g.K.PartialEq.eq g.K.Hash.hash_input g.S.BuildHasher g.S.Hasher.Hasher) g.K.Kept.alike g.V.Kept.alike g.A.Action.acts)
@@ -39,9 +44,9 @@ ran g c =
     let base = c.self.inside.hasher in
     let row = c.self.inside.row in
     let Row : Type 0 = List (ShardState g.row.K.Denot g.row.V.Denot g.row.S.Denot) in
-    let own = subst (λ (ps : Row). ParRan takes (shard_by g.A.Action.acts h base c.len.result) ps c.args.steps.items c.run_apart.new.replies.items c.run_apart.new.parts) c.items_mut.ensures.value c.run_apart.ensures.ran in
+    let own = subst (λ (ps : Row). ParRan takes (shard_by g.A.Action.acts h c.new-dealer.result.hasher c.new-dealer.result.amount) ps c.args.steps.items c.run_apart.new.replies.items c.run_apart.new.parts) c.items_mut.ensures.value c.run_apart.ensures.ran in
     subst (λ (qs : Row). ParRan takes (shard_by g.A.Action.acts h base (length row)) row c.args.steps.items c.run_apart.new.replies.items qs) (sym (lent-row row c.run_apart.new.parts own.count))
-    (subst (λ n. ParRan takes (shard_by g.A.Action.acts h base n) row c.args.steps.items c.run_apart.new.replies.items c.run_apart.new.parts) c.len.ensures own)
+    (subst (λ (d : MapState g.row.S.Denot). ParRan takes (shard_by g.A.Action.acts h d.hasher d.amount) row c.args.steps.items c.run_apart.new.replies.items c.run_apart.new.parts) (c.new-dealer.ensures ∙ ap (λ n. record { hasher = base; amount = n }) c.len.ensures) own)
 
 lawful : (g : Over) (c : After-self-1 g) → IsAlone (key_hash g.K.PartialEq.eq g.K.Hash.hash_input g.S.BuildHasher g.S.Hasher.Hasher) (record { hasher = c.self.inside.hasher; row = with_items c.self.inside.row c.run_apart.new.parts })
 lawful g c = lawful-after _ _ _ _ c.self.inside.hasher _ c.self.inside.row _ _ _ c.self.invariant (ran g c)

@@ -1,0 +1,12 @@
+use Rattle.std.proofs.Common.{length, ap, ◌∙◌}
+use Rattle.dash_shard.specs.Hashing.{key_hash}
+use Rattle.dash_map.proofs.Copying.{none-of-length}
+use Rattle.dash_map.proofs.Extending.{made-of, none-in}
+use Rattle.dash_map.specs.Alone.{contents}
+use Rattle.dash_map.proofs.alone.Alone.from_par_iter.Goals as goal
+
+pub returns-in-Ok-clause-made : goal.returns-in-Ok-clause-made
+returns-in-Ok-clause-made g c =
+    made-of (key_hash g.K.PartialEq.eq g.K.Hash.hash_input g.S.BuildHasher g.S.Hasher.Hasher) c.reserve_share.new.self c.args.list.items c.par_extend.new.self
+    (none-of-length (contents c.reserve_share.new.self) (c.reserve_share.ensures.len ∙ ap length (none-in c.in_ok-alone.alone.row (λ i s e. (c.in_ok-alone.ensures.fresh i s e).0))))
+    c.in-Ok.ensures.gains.steps
