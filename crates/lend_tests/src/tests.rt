@@ -3,6 +3,7 @@ mod checks;
 mod entry;
 mod iter;
 mod maps;
+mod parallel;
 mod projection;
 mod tries;
 mod view;

@@ -5,5 +5,6 @@ mod checks;
 mod error;
 mod map;
 mod maps;
+mod parallel;
 mod run;
 mod t;

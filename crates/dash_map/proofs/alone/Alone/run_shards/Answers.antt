@@ -24,7 +24,7 @@ run_apart-requires-clause-within g c κs long =
     let row = c.self.inside.row in
     let within = subst (λ (a : At). All (λ t. goes_to h g.A.Action.acts a t < length a.row) c.args.steps.items) (sym c.self.view_is) c.requires.within in
     subst (λ (ps : List (ShardState g.row.K.Denot g.row.V.Denot g.row.S.Denot)). All (λ t. shard_by g.A.Action.acts h c.new-dealer.result.hasher c.new-dealer.result.amount t < length ps) c.args.steps.items) (sym c.items_mut.ensures.value)
-    (subst (λ (d : MapState g.row.S.Denot). All (λ t. shard_by g.A.Action.acts h d.hasher d.amount t < length row) c.args.steps.items) (sym (dealer g c)) within)
+    (subst (λ (d : MapState g.row.S.Denot). All (λ t. shard_by g.A.Action.acts h d.hasher d.amount t < length row) c.args.steps.items) (sym (dealer g (goal.at.run_apart-requires-clause-within g c).After-items_mut)) within)
 
 pub run_apart-requires-clause-fits : goal.run_apart-requires-clause-fits
 run_apart-requires-clause-fits g c κs long =
@@ -32,7 +32,7 @@ run_apart-requires-clause-fits g c κs long =
     let row = c.self.inside.row in
     let d = c.new-dealer.result in
     subst (λ (ps : List (ShardState g.row.K.Denot g.row.V.Denot g.row.S.Denot)). FitsAll (λ s step hash. Goes g.A.Action.acts h s step hash × IsShard h s) (shard_by g.A.Action.acts h d.hasher d.amount) (IsHashBy g.A.Action.acts h d.hasher) ps) (sym c.items_mut.ensures.value)
-    (subst (λ (d : MapState g.row.S.Denot). FitsAll (λ s step hash. Goes g.A.Action.acts h s step hash × IsShard h s) (shard_by g.A.Action.acts h d.hasher d.amount) (IsHashBy g.A.Action.acts h d.hasher) row) (sym (dealer g c))
+    (subst (λ (d : MapState g.row.S.Denot). FitsAll (λ s step hash. Goes g.A.Action.acts h s step hash × IsShard h s) (shard_by g.A.Action.acts h d.hasher d.amount) (IsHashBy g.A.Action.acts h d.hasher) row) (sym (dealer g (goal.at.run_apart-requires-clause-fits g c).After-items_mut))
     (fits-row h g.A.Action.acts c.self.inside.hasher row c.self.invariant))
 
 -- what the shards took of the row

@@ -1,0 +1,117 @@
+//! Runs and lists that several workers share, as worked by hand.
+use crate::tests::checks::{is, prints};
+use crate::tests::maps::{map_of_four, put};
+use dash_map::parallel::run::{Gate, ParOutcome};
+use dash_map::run::Fault;
+use dash_steps::step::ShardStep;
+use std::alloc::Global;
+use std::process::Abort;
+use std::sync::atomic::{AtomicBool, Ordering};
+use std::thread;
+
+#[test]
+fn equal_keys_of_a_list(rt: HostRuntime) {
+    for workers in [1, 2, 3] {
+        let mut alone = map_of_four(&rt, rt.alloc()).alone();
+        let list = vec![in rt.alloc(); (1, 10), (5, 50), (1, 11)].expect(&rt, "refused");
+        alone.par_extend(&rt, list, workers).expect(&rt, "refused");
+        is(&rt, alone.get(&1), Some((&1, &11)));
+        is(&rt, alone.get(&5), Some((&5, &50)));
+        is(&rt, alone.len(), 2);
+    }
+}
+
+#[test]
+fn counts_may_miss_every_pair(rt: HostRuntime) {
+    for workers in [0, 1, 2, 3, 4, 99] {
+        let mut map = map_of_four(&rt, rt.alloc());
+        put(&rt, &map, 3, 30);
+        let steps: Vec<ShardStep<u64, u64>> = vec![in rt.alloc();
+            ShardStep::Count(0),
+            ShardStep::Count(1),
+            ShardStep::Count(2),
+            ShardStep::Insert(0, 5),
+            ShardStep::Remove(3),
+            ShardStep::Count(3),
+        ]
+        .expect(&rt, "refused");
+        let outcome = map.par_run(&rt, steps, workers);
+        is(&rt, outcome.fault, None);
+        prints(
+            &rt,
+            rt.alloc(),
+            &outcome.replies,
+            "[Some(Number(0)), Some(Number(0)), Some(Number(0)), Some(Old(None)), Some(Pair(Some((3, 30)))), Some(Number(0))]",
+        );
+    }
+}
+
+#[test]
+fn a_shard_that_is_not_there(rt: HostRuntime) {
+    let mut alone = map_of_four(&rt, rt.alloc()).alone();
+    let steps: Vec<ShardStep<u64, u64>> = vec![in rt.alloc();
+        ShardStep::Insert(1, 10),
+        ShardStep::Count(4),
+        ShardStep::Insert(2, 20),
+    ]
+    .expect(&rt, "refused");
+    let outcome = alone.par_run(&rt, steps, 2);
+    is(&rt, outcome.fault, Some(Fault::NoSuchShard));
+    prints(&rt, rt.alloc(), &outcome.replies, "[None, None, None]");
+    assert!(rt; alone.is_empty());
+}
+
+// Holds the worker at the shard `first` back until another one passed, for so many turns at most.
+#[derive(Drop)]
+struct Holds<'a> {
+    first: usize,
+    passed: &'a AtomicBool,
+    missed: &'a AtomicBool,
+}
+
+impl Gate for Holds<'_> {
+    fn pass(&self, shard: usize) {
+        if shard != self.first {
+            self.passed.store(true, Ordering::SeqCst);
+            return;
+        }
+        for _ in 0..1_000_000u64 {
+            if self.passed.load(Ordering::SeqCst) {
+                return;
+            }
+            thread::yield_now();
+        }
+        self.missed.store(true, Ordering::SeqCst);
+    }
+}
+
+fn two_steps(rt: &impl Abort, alloc: Global) -> Vec<ShardStep<u64, u64>> {
+    vec![in alloc; ShardStep::Insert(0, 1), ShardStep::Insert(3, 1)].expect(rt, "refused")
+}
+
+#[test]
+fn two_workers_at_once(rt: HostRuntime) {
+    for first in [0, 3] {
+        let passed = AtomicBool::new(false);
+        let missed = AtomicBool::new(false);
+        let gate = Holds {
+            first,
+            passed: &passed,
+            missed: &missed,
+        };
+        let mut alone = map_of_four(&rt, rt.alloc()).alone();
+        let outcome: ParOutcome<u64, u64> =
+            alone.par_run_gated(&rt, two_steps(&rt, rt.alloc()), 2, &gate);
+        is(&rt, outcome.fault, None);
+        assert!(rt; !missed.load(Ordering::SeqCst));
+
+        passed.store(false, Ordering::SeqCst);
+        let mut alone = map_of_four(&rt, rt.alloc()).alone();
+        let list = vec![in rt.alloc(); (0u64, 1u64), (3, 1)].expect(&rt, "refused");
+        alone
+            .par_extend_gated(&rt, list, 2, &gate)
+            .expect(&rt, "refused");
+        is(&rt, alone.len(), 2);
+        assert!(rt; !missed.load(Ordering::SeqCst));
+    }
+}
