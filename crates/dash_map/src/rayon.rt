@@ -2,3 +2,4 @@
 
 mod deal;
 pub mod extend;
+mod shared;
