@@ -11,7 +11,7 @@ use Rattle.dash_shard.specs.Errors.{IsOneOf}
 use Rattle.dash_shard.specs.declared.error.ConstructError.TheVariants.{Parallelism, Memory}
 use Rattle.dash_parallel.specs.Apart.{EachPart, RanFront, RanWhole, steps_of}
 use Rattle.dash_map.specs.Alone.{AloneState, IsAlone, KeepsRoom, TakesAlone, contents, keys_in}
-use Rattle.dash_map.specs.Behind.{LeavesShard, LeavesShardOf, LeavesShards}
+use Rattle.dash_map.specs.Behind.{LeavesShard, LeavesShards}
 use Rattle.dash_map.specs.Map.{MapState}
 use Rattle.dash_map.specs.declared.extend.ExtendRefused.{ExtendRefused}
 use Rattle.dash_map.specs.declared.extend.FromRefused.{FromRefused}
@@ -93,10 +93,10 @@ module _ {K V S : Type 0} (h : KeyHash K S) where
   abbrev pub PutsAll : List (K × V) → ShardState K V S → ShardState K V S → Type 0
   PutsAll = RanWhole (λ s p (_ : ⊤) t. Puts h s p t)
 
-  -- the same of the shard of a number, found behind its lock and left there
+  -- the same of the shard of this number, which was found behind its lock and left there
   abbrev pub PutsBehind : MapState S → ℕ → List (K × V) → Type 0
-  PutsBehind m i ps = LeavesShardOf h m i (PutsAll ps)
+  PutsBehind m i ps = (key : K) → route_by h m.hasher m.amount key ≡ i → LeavesShard h m key (PutsAll ps)
 
-  -- all pairs of the list were put, those of each shard in one hold and in the list's order
+  -- all pairs of the list were put behind the locks of this map, those of each shard in one hold and in the list's order
   abbrev pub PutsEachBehind : MapState S → List (K × V) → Type 0
   PutsEachBehind m ps = (let goes : K × V → ℕ = λ p. route_by h m.hasher m.amount p.0 in All (λ p. LeavesShard h m p.0 (PutsAll (steps_of goes (goes p) ps))) ps)

@@ -53,7 +53,7 @@ impl<
         workers: usize,
     ) -> Result<(), AllocError>
     where
-        S::Hasher: Send + Sync,
+        S::Hasher: Send,
         ensures { OnOk result (PutsEachBehind ⟦<Self as Keyed>⟧.by self.now list.items) }
     {
         let count = self.row.len();
