@@ -12,6 +12,7 @@ mod Lending
 mod Lifting
 mod Moves
 mod ParExtending
+mod ParSharing
 mod Refusals
 mod Reserving
 mod Rooms

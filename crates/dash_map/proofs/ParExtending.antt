@@ -40,12 +40,12 @@ module _ {K V S : Type 0} (h : KeyHash K S) where
   PutsIn s p y t = Puts h s p t
 
   -- what a shard keeps as pairs are put into it
-  record Keeps (s t : ShardState K V S) : Type 0 where
+  pub record Keeps (s t : ShardState K V S) : Type 0 where
     pub stays : SameShard s t
     pub room : s.capacity ≤ t.capacity
     pub lawful : IsShard h t
 
-  keeps : (s : ShardState K V S) (ds : List ((K × V) × ⊤)) (t : ShardState K V S) → IsShard h s → TakenInTurn PutsIn s ds t → Keeps s t
+  pub keeps : (s : ShardState K V S) (ds : List ((K × V) × ⊤)) (t : ShardState K V S) → IsShard h s → TakenInTurn PutsIn s ds t → Keeps s t
   keeps s [] t lawful e = subst (Keeps s) e (record { stays = record { number = refl; amount = refl; hasher = refl }; room = omega arith; lawful = lawful })
   keeps s (d ∷ ds) t lawful (m, put, run) =
       let same = put.inserts.taken.stays in

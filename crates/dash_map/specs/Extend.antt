@@ -1,17 +1,17 @@
 -- Pairs that come one after the other, and are inserted into a map of one owner.
-use Rattle.std.specs.Prelude.{◌≡◌, Bool, List, [], ◌∷◌, ◌++◌, reverse, option_map, option_and_then, Option, Some, None, Result, IfErr, OnOk, IsSomeAnd, slice_get, ⊤}
+use Rattle.std.specs.Prelude.{◌≡◌, ℕ, All, Bool, List, [], ◌∷◌, ◌++◌, reverse, option_map, option_and_then, Option, Some, None, Result, IfErr, OnOk, IsSomeAnd, slice_get, ⊤}
 use Rattle.std.specs.Result.{result_err}
 use Rattle.std.specs.Iterator.{YieldsThen}
-use Rattle.dash_shard.specs.Hashing.{KeyHash}
+use Rattle.dash_shard.specs.Hashing.{KeyHash, route_by}
 use Rattle.dash_shard.specs.Contents.{at}
 use Rattle.dash_shard.specs.Steps.{Insert, Old}
 use Rattle.dash_shard.specs.Shard.{ShardState, shard_len}
 use Rattle.dash_shard.specs.Puts.{Puts}
 use Rattle.dash_shard.specs.Errors.{IsOneOf}
 use Rattle.dash_shard.specs.declared.error.ConstructError.TheVariants.{Parallelism, Memory}
-use Rattle.dash_parallel.specs.Apart.{EachPart, RanFront}
+use Rattle.dash_parallel.specs.Apart.{EachPart, RanFront, RanWhole, steps_of}
 use Rattle.dash_map.specs.Alone.{AloneState, IsAlone, KeepsRoom, TakesAlone, contents, keys_in}
-use Rattle.dash_map.specs.Behind.{LeavesShards}
+use Rattle.dash_map.specs.Behind.{LeavesShard, LeavesShards}
 use Rattle.dash_map.specs.Map.{MapState}
 use Rattle.dash_map.specs.declared.extend.ExtendRefused.{ExtendRefused}
 use Rattle.dash_map.specs.declared.extend.FromRefused.{FromRefused}
@@ -88,3 +88,15 @@ module _ {K V S : Type 0} (h : KeyHash K S) where
   -- the same of shards that were found behind the locks of this map, and of those that were left there
   abbrev pub ParExtendsBehind : {E : Type 0} → MapState S → List (K × V) → Result (Unit {0}) E → Type 0
   ParExtendsBehind m ps result = LeavesShards h m (λ old new. ParExtends ps old new result)
+
+  -- the pairs were all put into the shard, one after the other
+  abbrev pub PutsAll : List (K × V) → ShardState K V S → ShardState K V S → Type 0
+  PutsAll = RanWhole (λ s p (_ : ⊤) t. Puts h s p t)
+
+  -- the same of the shard of this number, which was found behind its lock and left there
+  abbrev pub PutsBehind : MapState S → ℕ → List (K × V) → Type 0
+  PutsBehind m i ps = (key : K) → route_by h m.hasher m.amount key ≡ i → LeavesShard h m key (PutsAll ps)
+
+  -- all pairs of the list were put behind the locks of this map, those of each shard in one hold and in the list's order
+  abbrev pub PutsEachBehind : MapState S → List (K × V) → Type 0
+  PutsEachBehind m ps = (let goes : K × V → ℕ = λ p. route_by h m.hasher m.amount p.0 in All (λ p. LeavesShard h m p.0 (PutsAll (steps_of goes (goes p) ps))) ps)

@@ -5,3 +5,4 @@ pub mod extend;
 pub mod map;
 pub mod read_only;
 pub mod run;
+mod shared;

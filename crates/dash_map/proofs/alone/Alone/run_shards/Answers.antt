@@ -10,7 +10,7 @@ use Rattle.dash_map.specs.Map.{MapState}
 use Rattle.dash_map.specs.ParRun.{goes_to, TakesThere}
 use Rattle.dash_map.proofs.ParRunning.{lent-row, fits-row, lawful-after, keeps-after}
 use Rattle.dash_map.proofs.alone.Alone.run_shards.Given.{Over}
-use Rattle.dash_map.proofs.alone.Alone.run_shards.Goals.{After-self-1, After-items_mut}
+use Rattle.dash_map.proofs.alone.Alone.run_shards.Goals.{After-run_apart, After-items_mut}
 use Rattle.dash_map.proofs.alone.Alone.run_shards.Goals as goal
 
 -- what the dealer goes by
@@ -36,7 +36,7 @@ run_apart-requires-clause-fits g c κs long =
     (fits-row h g.A.Action.acts c.self.inside.hasher row c.self.invariant))
 
 -- what the shards took of the row
-ran : (g : Over) (c : After-self-1 g) → ParRan (TakesThere (key_hash g.K.PartialEq.eq g.K.Hash.hash_input g.S.BuildHasher g.S.Hasher.Hasher) g.K.Kept.alike g.V.Kept.alike g.A.Action.acts)
+ran : (g : Over) (c : After-run_apart g) → ParRan (TakesThere (key_hash g.K.PartialEq.eq g.K.Hash.hash_input g.S.BuildHasher g.S.Hasher.Hasher) g.K.Kept.alike g.V.Kept.alike g.A.Action.acts)
     (shard_by g.A.Action.acts (key_hash g.K.PartialEq.eq g.K.Hash.hash_input g.S.BuildHasher g.S.Hasher.Hasher) c.self.inside.hasher (length c.self.inside.row)) c.self.inside.row c.args.steps.items c.run_apart.new.replies.items (with_items c.self.inside.row c.run_apart.new.parts)
 ran g c =
     let h = key_hash g.K.PartialEq.eq g.K.Hash.hash_input g.S.BuildHasher g.S.Hasher.Hasher in
@@ -48,23 +48,23 @@ ran g c =
     subst (λ (qs : Row). ParRan takes (shard_by g.A.Action.acts h base (length row)) row c.args.steps.items c.run_apart.new.replies.items qs) (sym (lent-row row c.run_apart.new.parts own.count))
     (subst (λ (d : MapState g.row.S.Denot). ParRan takes (shard_by g.A.Action.acts h d.hasher d.amount) row c.args.steps.items c.run_apart.new.replies.items c.run_apart.new.parts) (c.new-dealer.ensures ∙ ap (λ n. record { hasher = base; amount = n }) c.len.ensures) own)
 
-lawful : (g : Over) (c : After-self-1 g) → IsAlone (key_hash g.K.PartialEq.eq g.K.Hash.hash_input g.S.BuildHasher g.S.Hasher.Hasher) (record { hasher = c.self.inside.hasher; row = with_items c.self.inside.row c.run_apart.new.parts })
+lawful : (g : Over) (c : After-run_apart g) → IsAlone (key_hash g.K.PartialEq.eq g.K.Hash.hash_input g.S.BuildHasher g.S.Hasher.Hasher) (record { hasher = c.self.inside.hasher; row = with_items c.self.inside.row c.run_apart.new.parts })
 lawful g c = lawful-after _ _ _ _ c.self.inside.hasher _ c.self.inside.row _ _ _ c.self.invariant (ran g c)
 
 pub invariant_of-self : goal.invariant_of-self
-invariant_of-self g c = lawful g c
+invariant_of-self g c = lawful g (goal.at.invariant_of-self g c).After-run_apart
 
 pub returns-clause-lawful : goal.returns-clause-lawful
-returns-clause-lawful g c = lawful g c
+returns-clause-lawful g c = lawful g (goal.at.returns-clause-lawful g c).After-run_apart
 
 pub returns-clause-stays : goal.returns-clause-stays
 returns-clause-stays g c =
     let At : Type 0 = AloneState g.row.K.Denot g.row.V.Denot g.row.S.Denot in
     let new : At = record { hasher = c.self.inside.hasher; row = with_items c.self.inside.row c.run_apart.new.parts } in
-    subst (λ (a : At). KeepsRoom a new) c.self.view_is (keeps-after _ _ _ _ c.self.inside.hasher _ c.self.inside.row _ _ _ c.self.invariant (ran g c))
+    subst (λ (a : At). KeepsRoom a new) c.self.view_is (keeps-after _ _ _ _ c.self.inside.hasher _ c.self.inside.row _ _ _ c.self.invariant (ran g (goal.at.returns-clause-stays g c).After-run_apart))
 
 pub returns-clause-ran : goal.returns-clause-ran
 returns-clause-ran g c =
     let At : Type 0 = AloneState g.row.K.Denot g.row.V.Denot g.row.S.Denot in
     let h = key_hash g.K.PartialEq.eq g.K.Hash.hash_input g.S.BuildHasher g.S.Hasher.Hasher in
-    subst (λ (a : At). ParRan (TakesThere h g.K.Kept.alike g.V.Kept.alike g.A.Action.acts) (goes_to h g.A.Action.acts a) a.row c.args.steps.items c.run_apart.new.replies.items (with_items c.self.inside.row c.run_apart.new.parts)) c.self.view_is (ran g c)
+    subst (λ (a : At). ParRan (TakesThere h g.K.Kept.alike g.V.Kept.alike g.A.Action.acts) (goes_to h g.A.Action.acts a) a.row c.args.steps.items c.run_apart.new.replies.items (with_items c.self.inside.row c.run_apart.new.parts)) c.self.view_is (ran g (goal.at.returns-clause-ran g c).After-run_apart)
