@@ -82,6 +82,24 @@ pub mod mapref {
     }
 }
 
+/// The parallel forms, as the original has them behind its feature `rayon`. Their calls are methods of the map and of its view.
+pub mod parallel {
+    /// Walks over the pairs of a map.
+    pub mod map {
+        pub use dash_map::parallel::map::{Iter, IterMut, OwningIter};
+    }
+
+    /// A walk over the pairs of a view.
+    pub mod read_only {
+        pub use dash_map::parallel::read_only::Iter;
+    }
+
+    /// Parallel runs, and gates that tests hold workers back with.
+    pub mod run {
+        pub use dash_map::parallel::run::{Gate, Open, ParOutcome};
+    }
+}
+
 /// A view of a map that nobody writes any more.
 pub mod read_only {
     pub use dash_map::read_only::{Keys, ReadOnlyView, Values, ViewIter};

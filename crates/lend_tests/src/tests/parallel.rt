@@ -12,42 +12,60 @@ const NAMES: [(u64, &str); 4] = [
     (45, "forty five"),
 ];
 
-// Ends the test where these aren't the four pairs.
-fn are_four<R: Abort>(rt: &R, pairs: &[(u64, &str)]) {
-    is(rt, pairs.len(), 4);
-    for pair in &NAMES {
-        assert!(rt; pairs.contains(pair));
-    }
+// Whether this is one of the four pairs.
+fn is_one(key: u64, name: &str) -> bool {
+    NAMES.contains(&(key, name))
 }
 
 #[test]
 fn a_view_by_workers(rt: HostRuntime) {
-    let map = map_of(&rt, rt.alloc(), NAMES);
-    let view = map.into_read_only();
-    let copy = view.clone().expect(&rt, "refused");
-    let pairs = view
+    let map = map_of(&rt, rt.alloc(), []);
+    for (key, name) in NAMES {
+        put(
+            &rt,
+            &map,
+            key,
+            String::from_str(rt.alloc(), name).expect(&rt, "refused"),
+        );
+    }
+    let view = map.clone(&rt).expect(&rt, "refused").into_read_only();
+    let mut found = view
         .par_iter()
-        .map_collect(&rt, |key: &u64, name: &&str| (*key, *name))
+        .map_collect(&rt, |key: &u64, name: &String| {
+            (*key, is_one(*key, name.as_str()))
+        })
         .expect(&rt, "refused");
-    are_four(&rt, &pairs);
-    are_four(&rt, &copy.into_par_iter().collect(&rt).expect(&rt, "refused"));
+    found.sort_unstable();
+    is(
+        &rt,
+        found.as_slice(),
+        &[(1, true), (10, true), (27, true), (45, true)],
+    );
+    let pairs = view.into_par_iter().collect(&rt).expect(&rt, "refused");
+    is(&rt, pairs.len(), 4);
+    for (key, name) in &pairs {
+        assert!(rt; is_one(*key, name.as_str()));
+    }
 }
 
 #[test]
 fn a_map_by_workers(rt: HostRuntime) {
     let map: DashMap<u64, u64, PlaceState> = map_of(&rt, rt.alloc(), []);
-    for (key, value) in [(1, 10), (5, 50), (2, 20)] {
-        put(&rt, &map, key, value);
+    let list = vec![in rt.alloc(); (1, 10), (5, 50), (2, 20)].expect(&rt, "refused");
+    map.par_extend_shared(&rt, list, 2).expect(&rt, "refused");
+    for _ in 0..2 {
+        map.par_iter_mut()
+            .for_each(&rt, |_key: &u64, value: &mut u64| {
+                *value = value.wrapping_add(1);
+            });
     }
-    map.par_iter_mut()
-        .for_each(&rt, |_key: &u64, value: &mut u64| *value += 1);
-    let pairs = map
+    let mut pairs = map
         .par_iter()
         .map_collect(&rt, |key: &u64, value: &u64| (*key, *value))
         .expect(&rt, "refused");
-    is(&rt, pairs.len(), 3);
-    for pair in [(1, 11), (5, 51), (2, 21)] {
-        assert!(rt; pairs.contains(&pair));
-    }
-    is(&rt, map.into_par_iter().collect(&rt).expect(&rt, "refused").len(), 3);
+    pairs.sort_unstable();
+    is(&rt, pairs.as_slice(), &[(1, 12), (2, 22), (5, 52)]);
+    let mut pairs = map.into_par_iter().collect(&rt).expect(&rt, "refused");
+    pairs.sort_unstable();
+    is(&rt, pairs.as_slice(), &[(1, 12), (2, 22), (5, 52)]);
 }
