@@ -25,6 +25,7 @@ pub use dash_steps::kept::{Kept, KeptKey};
 pub use set::DashSet;
 
 pub mod iter_set;
+pub mod rayon;
 pub mod set;
 pub mod setref;
 
