@@ -10,7 +10,7 @@ use Rattle.dash_parallel.proofs.Weaving.{weave}
 use Rattle.dash_shard.specs.Hashing.{KeyHash, route_by, route_of_hash}
 use Rattle.dash_shard.specs.inner.Keys.{IsLawful}
 use Rattle.dash_shard.specs.inner.Rows.{with_items}
-use Rattle.dash_shard.specs.Puts.{Puts, RoutesAs}
+use Rattle.dash_shard.specs.Puts.{PutsPair, RoutesAs}
 use Rattle.dash_shard.specs.Shard.{ShardState, SameShard, IsShard}
 use Rattle.dash_shard.specs.Steps.{Insert, Old}
 use Rattle.dash_shard.proofs.Routing.{route_below}
@@ -37,7 +37,7 @@ module _ {A : Type 0} where
 
 module _ {K V S : Type 0} (h : KeyHash K S) where
   abbrev pub PutsIn : ShardState K V S → K × V → ⊤ → ShardState K V S → Type 0
-  PutsIn s p y t = Puts h s p t
+  PutsIn s p y t = PutsPair h s p t
 
   -- what a shard keeps as pairs are put into it
   pub record Keeps (s t : ShardState K V S) : Type 0 where

@@ -6,7 +6,7 @@ use Rattle.dash_shard.specs.Hashing.{KeyHash, route_by}
 use Rattle.dash_shard.specs.Contents.{at}
 use Rattle.dash_shard.specs.Steps.{Insert, Old}
 use Rattle.dash_shard.specs.Shard.{ShardState, shard_len}
-use Rattle.dash_shard.specs.Puts.{Puts}
+use Rattle.dash_shard.specs.Puts.{PutsPair}
 use Rattle.dash_shard.specs.Errors.{IsOneOf}
 use Rattle.dash_shard.specs.declared.error.ConstructError.TheVariants.{Parallelism, Memory}
 use Rattle.dash_parallel.specs.Apart.{EachPart, RanFront, RanWhole, steps_of}
@@ -76,7 +76,7 @@ module _ {K V S : Type 0} (h : KeyHash K S) where
 
   -- the pairs that go to one shard were put into it one after the other, all or a front of them
   abbrev pub PutsFront : List (K × V) → ShardState K V S → ShardState K V S → Type 0
-  PutsFront = RanFront (λ s p (_ : ⊤) t. Puts h s p t)
+  PutsFront = RanFront (λ s p (_ : ⊤) t. PutsPair h s p t)
 
   -- all that `par_extend` promises: the pairs were inserted, or where it is refused each shard stands after a front of its own
   pub record ParExtends (ps : List (K × V)) (old new : AloneState K V S) {E : Type 0} (result : Result (Unit {0}) E) : Type 0 where
@@ -91,7 +91,7 @@ module _ {K V S : Type 0} (h : KeyHash K S) where
 
   -- the pairs were all put into the shard, one after the other
   abbrev pub PutsAll : List (K × V) → ShardState K V S → ShardState K V S → Type 0
-  PutsAll = RanWhole (λ s p (_ : ⊤) t. Puts h s p t)
+  PutsAll = RanWhole (λ s p (_ : ⊤) t. PutsPair h s p t)
 
   -- the same of the shard of this number, which was found behind its lock and left there
   abbrev pub PutsBehind : MapState S → ℕ → List (K × V) → Type 0

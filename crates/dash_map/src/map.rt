@@ -50,8 +50,8 @@ impl<K: Eq + Hash, V, S: BuildHasher> Keyed for DashMap<K, V, S> {
     ghost by = { by K.Hash S.BuildHasher S.Hasher.Hasher };
 }
 
-/// The number of shards for so many processors: four for each, rounded up to a power of two.
-pub(crate) fn default_shard_amount(parallelism: usize) -> Result<usize, ConstructError>
+/// The number of shards for so many processors: four for each, rounded up to a power of two. For the crates here alone.
+pub fn default_shard_amount(parallelism: usize) -> Result<usize, ConstructError>
     ensures default { IfOk result (IsDefault parallelism) }
     ensures lawful { IfOk result IsAmount }
     ensures good { OnOk result (IsParallelism parallelism) }

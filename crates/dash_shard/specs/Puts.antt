@@ -12,7 +12,7 @@ module _ {K V S : Type 0} (h : KeyHash K S) where
     pub hash : m ≡ h.hash s.hasher key
 
   -- the pair was put into the shard, by an insert that was not refused
-  pub record Puts (old : ShardState K V S) (pair : K × V) (new : ShardState K V S) : Type 0 where
+  pub record PutsPair (old : ShardState K V S) (pair : K × V) (new : ShardState K V S) : Type 0 where
     pub value : Option V
     pub inserts : Inserts h.eq old new pair.0 pair.1 (Ok value)
     pub lawful : IsShard h new

@@ -25,6 +25,10 @@ module _ {K : Type 0} where
   abbrev pub of_members : {T : Type 0} → (T → Option K → T → Type 0) → T → Option (K × Unit {0}) → T → Type 0
   of_members gives s r t = gives s (option_map (λ p. p.0) r) t
 
+  -- keys, each with unit
+  abbrev pub members : List K → List (K × Unit {0})
+  members ks = map (λ k. (k, tt)) ks
+
   -- the keys of pairs
   abbrev pub keys_of : List (K × Unit {0}) → List K
   keys_of ps = map (λ p. p.0) ps

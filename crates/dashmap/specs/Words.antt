@@ -1,8 +1,10 @@
 -- The words of the contracts, for clauses of programs that use the maps.
+pub use Rattle.dash_parallel.specs.Apart.{EachPart, RanFront, RanWhole, TakenInTurn, steps_of}
 pub use Rattle.dash_shard.specs.Contents.{at}
 pub use Rattle.dash_shard.specs.Hashing.{IsAmount, HashAlike, route_by}
 pub use Rattle.dash_shard.specs.Held.{Inserts, Loses}
 pub use Rattle.dash_shard.specs.Lock.{FoundBehind, LeftBehind, Leaves}
+pub use Rattle.dash_shard.specs.Puts.{PutsPair}
 pub use Rattle.dash_shard.specs.Shard.{ShardState, slot, pairs, shard_len, HasKey, IsShard, IsTagged, RepliesOn, TakesInPlace}
 pub use Rattle.dash_shard.specs.Steps.{Step, Reply, Get, Contains, Insert, Remove, RemoveIf, RemoveIfMut, Alter, Read, Count, AlterAll, Retain, Pair, Found, Old, Number, Pairs, Done}
 pub use Rattle.dash_shard.specs.declared.error.ConstructError.{ConstructError}
@@ -21,6 +23,6 @@ pub use Rattle.dash_ref.specs.Multi.{lent_pair, lent_value, with_lent_value}
 pub use Rattle.dash_map.specs.AloneWalk.{walked, loan_of, passed, to_come, Passes, Passed, PassesAlong, LeavesEach}
 pub use Rattle.dash_map.specs.WalkingMut.{StepsTo, StepsToEnd}
 pub use Rattle.dash_map.specs.Copies.{CopiesShard, CopiesAlone}
-pub use Rattle.dash_map.specs.Extend.{Extends, ExtendsBehind, Gains, Gave, HasNoRoom, IsRefusedAmong, IsRefusedOf, InsertsEach, MadeOf, NotMade, Overfills, first_with_last}
+pub use Rattle.dash_map.specs.Extend.{Extends, ExtendsBehind, Gains, Gave, HasNoRoom, IsRefusedAmong, IsRefusedOf, InsertsEach, MadeOf, NotMade, Overfills, ParExtends, ParExtendsBehind, PutsAll, PutsEachBehind, PutsFront, first_with_last}
 pub use Rattle.dash_map.specs.Pairs.{CopiesPairs}
-pub use Rattle.dashmap.specs.Set.{stood, member, inserted, keys_of, of_members, CopiesKeys}
+pub use Rattle.dashmap.specs.Set.{stood, member, inserted, keys_of, members, of_members, CopiesKeys}

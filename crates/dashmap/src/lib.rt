@@ -25,6 +25,7 @@ pub use dash_steps::kept::{Kept, KeptKey};
 pub use set::DashSet;
 
 pub mod iter_set;
+pub mod parallel;
 pub mod set;
 pub mod setref;
 
@@ -79,24 +80,6 @@ pub mod mapref {
         pub use dash_ref::mapref::one::{
             Compose, MappedRef, MappedRefMut, Projection, Ref, RefMut,
         };
-    }
-}
-
-/// The parallel forms, as the original has them behind its feature `rayon`. Their calls are methods of the map and of its view.
-pub mod parallel {
-    /// Walks over the pairs of a map.
-    pub mod map {
-        pub use dash_map::parallel::map::{Iter, IterMut, OwningIter};
-    }
-
-    /// A walk over the pairs of a view.
-    pub mod read_only {
-        pub use dash_map::parallel::read_only::Iter;
-    }
-
-    /// Parallel runs, and gates that tests hold workers back with.
-    pub mod run {
-        pub use dash_map::parallel::run::{Gate, Open, ParOutcome};
     }
 }
 

@@ -1,7 +1,7 @@
 //! A shard as a part of a map, into which a list of pairs is put apart from the other shards.
 ghost use Rattle.std.specs.Prelude.{◌≡◌, IfOk, IfErr};
 ghost use Rattle.dash_shard.specs.Hashing.{by, key_hash};
-ghost use Rattle.dash_shard.specs.Puts.{Puts, RoutesAs, routes-stay};
+ghost use Rattle.dash_shard.specs.Puts.{PutsPair, RoutesAs, routes-stay};
 
 use super::Shard;
 use super::held::ShardMut;
@@ -9,7 +9,7 @@ use dash_parallel::part::Part;
 use std::hash::{BuildHasher, Hash};
 
 impl<K: Eq + Hash + Drop, V: Drop, S: BuildHasher> Part<(K, V), ()> for Shard<K, V, S> {
-    ghost takes = { λ old pair _ new. Puts (by K.Hash S.BuildHasher S.Hasher.Hasher) old pair new };
+    ghost takes = { λ old pair _ new. PutsPair (by K.Hash S.BuildHasher S.Hasher.Hasher) old pair new };
 
     ghost fits = { λ shard pair hash. RoutesAs (by K.Hash S.BuildHasher S.Hasher.Hasher) shard pair.0 hash };
 
@@ -27,7 +27,7 @@ impl<K: Eq + Hash + Drop, V: Drop, S: BuildHasher> Part<(K, V), ()> for Shard<K,
 
 /// As of a shard: the pairs are put into it in place, while it is held.
 impl<'a, K: Eq + Hash + Drop, V: Drop, S: BuildHasher> Part<(K, V), ()> for ShardMut<'a, K, V, S> {
-    ghost takes = { λ old pair _ new. Puts (by K.Hash S.BuildHasher S.Hasher.Hasher) old pair new };
+    ghost takes = { λ old pair _ new. PutsPair (by K.Hash S.BuildHasher S.Hasher.Hasher) old pair new };
 
     ghost fits = { λ shard pair hash. RoutesAs (by K.Hash S.BuildHasher S.Hasher.Hasher) shard pair.0 hash };
 
