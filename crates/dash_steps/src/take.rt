@@ -96,9 +96,10 @@ pub fn take<K: KeptKey + Drop, V: Kept + Drop, S: BuildHasher, A: Action<K, V> +
     }
 }
 
-impl<K: KeptKey + Drop, V: Kept + Drop, S: BuildHasher, A: Action<K, V> + Drop>
-    Part<ShardStep<K, V, A>, Reply<K, V>> for Shard<K, V, S>
-{
+impl<K: KeptKey + Drop, V: Kept + Drop, S: BuildHasher, A: Action<K, V> + Drop> Part<
+    ShardStep<K, V, A>,
+    Reply<K, V>,
+> for Shard<K, V, S> {
     ghost takes = { λ old step reply new. TakesOn (key_hash K.eq K.hash_input S.BuildHasher S.Hasher.Hasher) K.alike V.alike old (step_of A.acts step) new reply };
 
     ghost fits = { λ shard step hash. Goes A.acts (key_hash K.eq K.hash_input S.BuildHasher S.Hasher.Hasher) shard step hash

@@ -52,8 +52,7 @@ impl<'a, K: Eq + Hash, V, S: BuildHasher> Dealer<(K, V)> for ByRoute<'a, S> {
 }
 
 impl<'a, K: KeptKey, V: Kept, A: Action<K, V>, S: BuildHasher> Dealer<ShardStep<K, V, A>>
-    for ByRoute<'a, S>
-{
+    for ByRoute<'a, S> {
     ghost goes = { λ d. shard_by A.acts (by K.Hash S.BuildHasher S.Hasher.Hasher) d.hasher d.amount };
 
     ghost marks = { λ d. IsHashBy A.acts (by K.Hash S.BuildHasher S.Hasher.Hasher) d.hasher };

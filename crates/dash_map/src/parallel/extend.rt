@@ -10,9 +10,9 @@ ghost use Rattle.dash_map.specs.Amounts.{IsDefault, IsParallelism};
 ghost use Rattle.dash_map.specs.Behind.{LeftShards};
 ghost use Rattle.dash_map.specs.Extend.{MadeOf, ParExtends, ParExtendsBehind};
 
+use super::deal::ByRoute;
 use crate::alone::Alone;
 use crate::map::{DashMap, default_shard_amount};
-use super::deal::ByRoute;
 use core::mem::replace_with;
 use dash_parallel::gate::{Gate, Open};
 use dash_parallel::run::put_apart;

@@ -129,7 +129,11 @@ impl<K: KeptKey + Send + Drop, V: Kept + Send + Drop, S: BuildHasher + Send> Alo
         let alloc = *steps.allocator();
         let missing = self.misses_any(&steps);
         let Ok(mut replies) = Vec::with_capacity(alloc, steps.len()) else {
-            let fault = if missing { Fault::NoSuchShard } else { Fault::Memory };
+            let fault = if missing {
+                Fault::NoSuchShard
+            } else {
+                Fault::Memory
+            };
             return ParOutcome {
                 replies: Vec::new(alloc),
                 fault: Some(fault),

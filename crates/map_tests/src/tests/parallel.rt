@@ -100,8 +100,12 @@ fn two_workers_at_once(rt: HostRuntime) {
             missed: &missed,
         };
         let mut alone = map_of_four(&rt, rt.alloc()).alone();
-        let outcome: ParOutcome<u64, u64> =
-            alone.par_run_gated(&rt, two_steps(&rt, rt.alloc()), 2, &gate);
+        let outcome: ParOutcome<u64, u64> = alone.par_run_gated(
+            &rt,
+            two_steps(&rt, rt.alloc()),
+            2,
+            &gate,
+        );
         is(&rt, outcome.fault, None);
         assert!(rt; !missed.load(Ordering::SeqCst));
 
