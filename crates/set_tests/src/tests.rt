@@ -2,5 +2,6 @@
 mod checks;
 mod extend;
 mod names;
+mod rayon;
 mod set;
 mod words;

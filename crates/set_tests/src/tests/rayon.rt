@@ -1,0 +1,68 @@
+//! Lists that several workers put into a map or a set.
+use crate::tests::checks::is;
+use dashmap::rayon::Open;
+use dashmap::{DashMap, DashSet};
+use std::alloc::Global;
+use std::process::Abort;
+
+type Map = DashMap<u64, u64>;
+
+type Keys = DashSet<u64>;
+
+// Each of ten keys ten times, with rising values.
+fn pairs(rt: &impl Abort, alloc: Global) -> Vec<(u64, u64)> {
+    (0..100)
+        .map(|i| (i % 10, i))
+        .collect::<Vec<(u64, u64)>>(alloc)
+        .expect(rt, "refused")
+}
+
+fn keys(rt: &impl Abort, alloc: Global) -> Vec<u64> {
+    (0..100)
+        .map(|i| i % 10)
+        .collect::<Vec<u64>>(alloc)
+        .expect(rt, "refused")
+}
+
+#[test]
+fn a_map_of_one_owner(rt: HostRuntime) {
+    let mut map = Map::new(rt.alloc(), 1).expect(&rt, "refused");
+    map.insert(&rt, 3, 1_000).expect(&rt, "refused");
+    for workers in 0..4 {
+        map.par_extend(&rt, pairs(&rt, rt.alloc()), workers)
+            .expect(&rt, "refused");
+    }
+    map.par_extend_gated(&rt, pairs(&rt, rt.alloc()), 2, &Open)
+        .expect(&rt, "refused");
+    is(&rt, map.len(&rt), 10);
+    is(&rt, map.remove(&rt, &3), Some((3, 93)));
+    let made = Map::from_par_iter(&rt, rt.alloc(), pairs(&rt, rt.alloc()), 1, 3).expect(
+        &rt, "refused",
+    );
+    is(&rt, made.len(&rt), 10);
+    is(&rt, made.remove(&rt, &7), Some((7, 97)));
+}
+
+#[test]
+fn a_shared_map(rt: HostRuntime) {
+    let map = Map::new(rt.alloc(), 1).expect(&rt, "refused");
+    map.par_extend_shared(&rt, pairs(&rt, rt.alloc()), 3)
+        .expect(&rt, "refused");
+    is(&rt, map.len(&rt), 10);
+    is(&rt, map.remove(&rt, &4), Some((4, 94)));
+}
+
+#[test]
+fn a_set(rt: HostRuntime) {
+    let mut set = Keys::new(rt.alloc(), 1).expect(&rt, "refused");
+    set.par_extend(&rt, keys(&rt, rt.alloc()), 2)
+        .expect(&rt, "refused");
+    set.par_extend_shared(&rt, keys(&rt, rt.alloc()), 2)
+        .expect(&rt, "refused");
+    is(&rt, set.len(&rt), 10);
+    let made = Keys::from_par_iter(&rt, rt.alloc(), keys(&rt, rt.alloc()), 1, 2).expect(
+        &rt, "refused",
+    );
+    is(&rt, made.len(&rt), 10);
+    is(&rt, made.contains(&rt, &9), true);
+}
