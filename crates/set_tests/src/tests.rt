@@ -2,6 +2,6 @@
 mod checks;
 mod extend;
 mod names;
-mod rayon;
+mod parallel;
 mod set;
 mod words;

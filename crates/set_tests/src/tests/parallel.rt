@@ -1,6 +1,6 @@
 //! Lists that several workers put into a map or a set.
 use crate::tests::checks::is;
-use dashmap::rayon::Open;
+use dashmap::parallel::run::Open;
 use dashmap::{DashMap, DashSet};
 use std::alloc::Global;
 use std::process::Abort;
