@@ -1,6 +1,7 @@
 //! `rust_bench WORK THREADS`: what `dash_bench` does, over the Rust crate `dashmap`, with the same keys, hasher and shards.
 
 use dashmap::DashMap;
+use rayon::prelude::*;
 use std::hash::{BuildHasher, Hasher};
 use std::time::Instant;
 
@@ -256,9 +257,36 @@ fn resident() -> u64 {
     text.split_whitespace().nth(1).and_then(|it| it.parse::<u64>().ok()).unwrap_or(0) * 4096
 }
 
+// One call on a whole list or map, which starts its threads itself: nanoseconds, operations, checksum.
+fn call(work: &str, threads: usize) -> (u128, usize, u64) {
+    let room = if work.ends_with('0') { 0 } else { PAIRS };
+    let mut map = Map::with_capacity_and_hasher_and_shard_amount(room, FixedState, SHARDS);
+    let list: Vec<(u64, u64)> = (0..PAIRS as u64).map(|number| (key(number), number)).collect();
+    let pool = rayon::ThreadPoolBuilder::new().num_threads(threads).build().unwrap();
+    if work == "par-map-collect" {
+        map.extend(list);
+        let start = Instant::now();
+        let values: Vec<u64> = pool.install(|| map.par_iter().map(|pair| *pair.value()).collect());
+        let nanoseconds = start.elapsed().as_nanos();
+        let sum = values.iter().fold(0u64, |sum, value| sum.wrapping_add(*value));
+        return (nanoseconds, values.len(), sum);
+    }
+    let start = Instant::now();
+    match work {
+        "extend" | "extend0" => map.extend(list),
+        _ => pool.install(|| map.par_extend(list)),
+    }
+    (start.elapsed().as_nanos(), PAIRS, map.len() as u64)
+}
+
 fn main() {
     let words: Vec<String> = std::env::args().skip(1).collect();
     let (work, threads) = (words[0].as_str(), words[1].parse::<usize>().unwrap());
+    if matches!(work, "extend" | "extend0" | "par-extend" | "par-extend0" | "par-map-collect") {
+        let (nanoseconds, steps, sum) = call(work, threads);
+        println!("ns {nanoseconds} ops {steps} sum {sum} bytes 0");
+        return;
+    }
     let room = match work {
         "insert0" | "grow" | "memory" => 0,
         "small-hit" | "small-update" | "contend" | "hold" => SMALL,

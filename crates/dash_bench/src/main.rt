@@ -6,12 +6,14 @@
 
 mod churn;
 mod keys;
+mod lists;
 mod memory;
 mod run;
 mod work;
 mod worker;
 
 use dashmap::error::ConstructError;
+use lists::Call;
 use std::alloc::AllocError;
 use std::io::Eprint;
 use std::process::ExitCode;
@@ -59,11 +61,30 @@ fn main(rt: HostRuntime) -> io::Result<ExitCode> {
     if words.len() == 1 && words[0].as_str() == "churn" {
         return tell(&rt, churn::measure(&rt, rt.alloc()));
     }
-    let Some((work, threads)) = asked(words.as_slice()) else {
+    let Some((asked, threads)) = asked(words.as_slice()) else {
         eprintln!(rt; "{USAGE}")?;
         return Ok(ExitCode::from(2));
     };
-    tell(&rt, run::measure(&rt, rt.alloc(), work, threads))
+    match asked {
+        Asked::Work(work) => tell(&rt, run::measure(&rt, rt.alloc(), work, threads)),
+        Asked::Call(call) => tell(&rt, lists::measure(&rt, rt.alloc(), call, threads)),
+    }
+}
+
+// What a command line asks for: work of some threads on a map, or one call that starts them.
+#[derive(Clone, Copy, Debug)]
+enum Asked {
+    Work(Work),
+    Call(Call),
+}
+
+impl Asked {
+    fn of_name(name: &str) -> Option<Asked> {
+        match Call::of_name(name) {
+            Some(call) => Some(Asked::Call(call)),
+            None => Some(Asked::Work(Work::of_name(name)?)),
+        }
+    }
 }
 
 // Prints what was measured, or why nothing was.
@@ -83,15 +104,15 @@ fn tell<T: fmt::Display + Drop>(
     }
 }
 
-// The work and the number of threads that the words ask for.
-fn asked(words: &[String]) -> Option<(Work, usize)> {
+// What the words ask for, and for how many threads.
+fn asked(words: &[String]) -> Option<(Asked, usize)> {
     if words.len() != 2 {
         return None;
     }
-    let work = Work::of_name(words[0].as_str())?;
+    let asked = Asked::of_name(words[0].as_str())?;
     let threads = words[1].as_str().parse::<usize>().ok()?;
     if threads == 0 || threads > MOST_THREADS {
         return None;
     }
-    Some((work, threads))
+    Some((asked, threads))
 }

@@ -13,15 +13,15 @@ use std::thread::{self, Threads};
 use std::time::Instant;
 
 /// How many shards the map has.
-const SHARDS: usize = 16;
+pub const SHARDS: usize = 16;
 
 /// What was measured.
 #[derive(Clone, Copy, Debug)]
 pub struct Measured {
-    nanoseconds: u128,
-    steps: u64,
-    sum: u64,
-    bytes: u64,
+    pub nanoseconds: u128,
+    pub steps: u64,
+    pub sum: u64,
+    pub bytes: u64,
 }
 
 impl fmt::Display for Measured {

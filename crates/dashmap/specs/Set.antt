@@ -1,10 +1,11 @@
 -- A set is a map to unit: what its calls ask and answer, in the words of that map.
 use Rattle.std.specs.Prelude.{◌≡◌, Bool, List, Option, Some, None, Result, Ok, Err, map, true, if◌then◌else◌}
 use Rattle.std.specs.Option.{option_map}
-use Rattle.std.specs.Fn.{Once, Mut, FnOnceReturnsAt, CalledAt, TakesAt}
+use Rattle.std.specs.Fn.{Once, Mut, Shared, FnOnceReturnsAt, FnReturnsAt, CalledAt, TakesAt}
+use Rattle.std.specs.List.{AllZip}
 use denote.Ref.{Bor}
 use Rattle.dash_shard.specs.declared.shard.InsertRefused.{InsertRefused}
-use Rattle.dash_map.specs.Alone.{AloneState}
+use Rattle.dash_map.specs.Alone.{AloneState, contents}
 use Rattle.dash_map.specs.Copies.{CopiesAlone}
 
 -- the old value of a key that an `insert` said to be new, or not to be
@@ -53,3 +54,12 @@ module _ {F K : Type 0} where
   -- and such a call may answer b, and leave f'
   abbrev pub CalledAtKey : Mut F (Bor K × Unit {0}) Bool → F → K → Unit {0} → Bool → Unit {0} → F → Type 0
   CalledAtKey g f k v b w f' = CalledAt g f k b f'
+
+module _ {F K T : Type 0} (g : Shared F (Bor K × Unit {0}) T) (f : F) where
+  -- f may be called at the key, by several threads
+  abbrev pub MayMapKey : K → Type 0
+  MayMapKey k = (p : Bor K) → p.now ≡ k → g.pre f (p, tt)
+
+  -- an answer of f to each key of the set, once, in the order of its shards and slots
+  abbrev pub MapsKeys : {S : Type 0} → List T → AloneState K (Unit {0}) S → Type 0
+  MapsKeys answers a = AllZip (FnReturnsAt g f) (keys_of (contents a)) answers

@@ -25,7 +25,7 @@ pub use dash_steps::kept::{Kept, KeptKey};
 pub use set::DashSet;
 
 pub mod iter_set;
-pub mod parallel;
+pub mod rayon;
 pub mod set;
 pub mod setref;
 
@@ -88,8 +88,9 @@ pub mod read_only {
     pub use dash_map::read_only::{Keys, ReadOnlyView, Values, ViewIter};
 }
 
-/// Lists of steps, taken one after the other.
+/// Lists of steps, taken one after the other or by several workers, and gates that tests hold workers back with.
 pub mod run {
+    pub use dash_map::parallel::run::{Gate, Open, ParOutcome};
     pub use dash_map::run::{Fault, RunOutcome};
     pub use dash_steps::step::{Reply, ShardStep};
 }

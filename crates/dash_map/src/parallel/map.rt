@@ -1,5 +1,5 @@
 //! Parallel work on the pairs of a map. A thread takes shard after shard.
-ghost use Rattle.std.specs.Prelude.{◌≡◌, ◌<◌, All, IfOk, flat_map, true};
+ghost use Rattle.std.specs.Prelude.{◌≡◌, ◌<◌, All, IfOk, flat_map, map, true};
 ghost use Rattle.dash_shard.specs.Hashing.{by};
 ghost use Rattle.dash_shard.specs.Shard.{pairs};
 ghost use Rattle.dash_map.specs.Alone.{contents};
@@ -63,6 +63,27 @@ where
                 |shard: Shard<K, V, S>| -> IntoIter<K, V>
                     ensures { result ≡ pairs shard }
                 { shard.into_iter() },
+            )
+            .collect(rt, alloc)
+    }
+
+    /// The keys alone in a list, as `collect` takes the pairs. It is public for the sets of `dashmap`.
+    pub fn collect_keys<R: Threads + Sync>(self, rt: &R) -> Result<Vec<K>, AllocError>
+        ensures { IfOk result (λ list. list.items ≡ map (λ p. p.0) self) }
+    {
+        let alloc = *self.shards.allocator();
+        self.shards
+            .into_par_iter()
+            .with_min_len(1)
+            .flat_map_iter(
+                |shard: Shard<K, V, S>| -> IntoIter<K, V>
+                    ensures { result ≡ pairs shard }
+                { shard.into_iter() },
+            )
+            .map(
+                |pair: (K, V)| -> K
+                    ensures { result ≡ pair.0 }
+                { pair.0 },
             )
             .collect(rt, alloc)
     }
@@ -192,6 +213,16 @@ impl<K: Eq + Hash, V, S: BuildHasher> DashMap<K, V, S> {
     #[inline]
     pub fn par_iter_mut(&self) -> IterMut<'_, K, V, S>
         ensures { result ≡ self.now }
+    {
+        IterMut { map: self }
+    }
+
+    /// As `par_iter_mut`, of a map that nobody else has while the pairs are written.
+    ///
+    /// It is as the original's, which locks each shard all the same: a hold that was leaked keeps a thread waiting.
+    #[inline]
+    pub fn into_par_iter_mut(&mut self) -> IterMut<'_, K, V, S>
+        ensures { result ≡ self.old }
     {
         IterMut { map: self }
     }

@@ -50,15 +50,14 @@ fn a_view_by_workers(rt: HostRuntime) {
 
 #[test]
 fn a_map_by_workers(rt: HostRuntime) {
-    let map: DashMap<u64, u64, PlaceState> = map_of(&rt, rt.alloc(), []);
+    let mut map: DashMap<u64, u64, PlaceState> = map_of(&rt, rt.alloc(), []);
     let list = vec![in rt.alloc(); (1, 10), (5, 50), (2, 20)].expect(&rt, "refused");
     map.par_extend_shared(&rt, list, 2).expect(&rt, "refused");
-    for _ in 0..2 {
-        map.par_iter_mut()
-            .for_each(&rt, |_key: &u64, value: &mut u64| {
-                *value = value.wrapping_add(1);
-            });
-    }
+    let one_more = |_key: &u64, value: &mut u64| {
+        *value = value.wrapping_add(1);
+    };
+    map.par_iter_mut().for_each(&rt, one_more);
+    map.into_par_iter_mut().for_each(&rt, one_more);
     let mut pairs = map
         .par_iter()
         .map_collect(&rt, |key: &u64, value: &u64| (*key, *value))

@@ -1,6 +1,6 @@
 //! Lists that several workers put into a map or a set.
 use crate::tests::checks::is;
-use dashmap::parallel::run::Open;
+use dashmap::run::Open;
 use dashmap::{DashMap, DashSet};
 use std::alloc::Global;
 use std::process::Abort;
@@ -65,4 +65,21 @@ fn a_set(rt: HostRuntime) {
     );
     is(&rt, made.len(&rt), 10);
     is(&rt, made.contains(&rt, &9), true);
+}
+
+#[test]
+fn keys_by_workers(rt: HostRuntime) {
+    let one = |key: u64| vec![in rt.alloc(); key].expect(&rt, "refused");
+    let mut set = Keys::from_par_iter(&rt, rt.alloc(), one(7), 1, 2).expect(&rt, "refused");
+    set.par_extend(&rt, one(8), 2).expect(&rt, "refused");
+    set.par_extend_shared(&rt, one(9), 2).expect(&rt, "refused");
+    let mut keys = set
+        .par_iter()
+        .map_collect(&rt, |key: &u64| *key)
+        .expect(&rt, "refused");
+    keys.sort_unstable();
+    is(&rt, keys.as_slice(), &[7, 8, 9]);
+    let mut keys = set.into_par_iter().collect(&rt).expect(&rt, "refused");
+    keys.sort_unstable();
+    is(&rt, keys.as_slice(), &[7, 8, 9]);
 }

@@ -12,8 +12,3 @@ pub mod map {
 pub mod read_only {
     pub use dash_map::parallel::read_only::Iter;
 }
-
-/// Parallel runs, and gates that tests hold workers back with.
-pub mod run {
-    pub use dash_map::parallel::run::{Gate, Open, ParOutcome};
-}

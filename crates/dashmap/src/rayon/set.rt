@@ -1,24 +1,26 @@
-//! Lists of keys that several workers put into a set.
+//! Lists of keys that several workers put into a set, and parallel work on its keys.
 ghost use Rattle.std.specs.Prelude.{◌≡◌, ◌↔◌, ◌∷◌, [], IfOk, IfErr, IsErrOf, OnOk, length};
 ghost use Rattle.std.specs.Thread.{IsSync};
 ghost use denote.Param.Send.{IsSend};
 ghost use Rattle.dash_shard.specs.Errors.{IsOneOf};
 ghost use Rattle.dash_shard.specs.Hashing.{by, HashAlike};
 ghost use Rattle.dash_shard.specs.declared.error.ConstructError.TheVariants.{Memory, Parallelism};
-ghost use Rattle.dash_map.specs.Alone.{IsAlone};
 ghost use Rattle.dash_map.specs.Amounts.{IsDefault, IsParallelism};
-ghost use Rattle.dash_map.specs.Behind.{LeftShards};
+ghost use Rattle.dash_map.specs.Alone.{IsAlone, contents};
+ghost use Rattle.dash_map.specs.Behind.{LeftShards, SawShards};
 ghost use Rattle.dash_map.specs.Extend.{MadeOf, ParExtends, ParExtendsBehind, PutsEachBehind};
-ghost use Rattle.dashmap.specs.Set.{members};
+ghost use Rattle.dashmap.specs.Set.{MapsKeys, MayMapKey, keys_of, members};
 
 use crate::set::{AloneSet, DashSet};
 use core::mem::replace_with;
 use dash_map::alone::Alone;
 use dash_map::map::default_shard_amount;
+use dash_map::parallel::map;
 use dash_shard::error::ConstructError;
 use dash_shard::keyed::Keyed;
 use std::alloc::{AllocError, Global};
 use std::hash::{BuildHasher, Hash};
+use std::marker::Model;
 use std::rt::Clock;
 use std::sync::Wait;
 use std::thread::Threads;
@@ -171,5 +173,104 @@ impl<K: Eq + Hash + Send + Sync + Drop, S: BuildHasher + Send + Sync> DashSet<K,
     {
         let pairs = with_units(list)?;
         self.inner.par_extend_shared(rt, pairs, workers)
+    }
+}
+
+/// The keys of a set that ended, by rising shard and in each by rising slot. A contract sees it as their list.
+#[derive(Drop)]
+pub struct OwningIter<K: Eq + Hash, S: BuildHasher> {
+    inner: map::OwningIter<K, (), S>,
+}
+
+impl<K: Eq + Hash, S: BuildHasher> Model for OwningIter<K, S> {
+    ghost use Rattle.std.specs.Prelude.{List};
+    ghost use Rattle.dashmap.specs.Set.{keys_of};
+
+    ghost Value = { List K };
+
+    ghost view = { λ it. keys_of it.inner };
+}
+
+impl<K: Eq + Hash + Send + Drop, S: BuildHasher + Send + Drop> OwningIter<K, S>
+where
+    S::Hasher: Send,
+{
+    /// The keys in a list. Threads take the shards, and wait for nobody.
+    ///
+    /// It takes memory as the map's `collect` does. Where there is none it is refused (4), and all keys are dropped.
+    pub fn collect<R: Threads + Sync>(self, rt: &R) -> Result<Vec<K>, AllocError>
+        ensures { IfOk result (λ list. list.items ≡ self) }
+    {
+        self.inner.collect_keys(rt)
+    }
+}
+
+/// The keys of a set that threads share, by rising shard and in each by rising slot. A contract sees the set.
+#[derive(Drop)]
+pub struct Iter<'a, K: Eq + Hash, S: BuildHasher> {
+    inner: map::Iter<'a, K, (), S>,
+}
+
+impl<'a, K: Eq + Hash, S: BuildHasher> Model for Iter<'a, K, S> {
+    ghost use Rattle.dash_map.specs.Map.{MapState};
+
+    ghost Value = { MapState S };
+
+    ghost view = { λ it. it.inner };
+}
+
+impl<K: Eq + Hash, S: BuildHasher> Keyed for Iter<'_, K, S> {
+    type Key = K;
+
+    type State = S;
+
+    ghost by = { by K.Hash S.BuildHasher S.Hasher.Hasher };
+}
+
+impl<K: Eq + Hash + Send + Sync, S: BuildHasher + Send + Sync> Iter<'_, K, S>
+where
+    S::Hasher: Send + Sync,
+{
+    /// What `f` answers to each key, in the order of the keys. It waits, takes memory and is refused (4) as the map's `map_collect`.
+    ///
+    /// A call of this set from `f` that writes may deadlock: this thread or another holds the shard.
+    pub fn map_collect<R: Threads + Wait + Clock + Sync, T: Send + Drop, F: Fn(&K) -> T + Sync>(
+        self,
+        rt: &R,
+        f: F,
+    ) -> Result<Vec<T>, AllocError>
+        requires { (k : K) → MayMapKey F.Fn f k }
+        ensures { IfOk result (λ list. SawShards ⟦<Self as Keyed>⟧.by self.entry (MapsKeys F.Fn f list.items)) }
+    {
+        self.inner.map_collect(
+            rt,
+            |key: &K, _: &()| -> T
+                requires { F.pre f key }
+                ensures { F.post f key.entry result }
+            { f(key) },
+        )
+    }
+}
+
+impl<K: Eq + Hash, S: BuildHasher> DashSet<K, S> {
+    /// The keys, moved out. It takes no memory, and waits for nobody, even where a hold was leaked.
+    pub fn into_par_iter(self) -> OwningIter<K, S>
+    where
+        S: Drop,
+        ensures { SawShards ⟦<Self as Keyed>⟧.by self (λ a. result ≡ keys_of (contents a)) }
+    {
+        OwningIter {
+            inner: self.inner.into_par_iter(),
+        }
+    }
+
+    /// The keys, to be read by several threads. This call waits for nobody and takes no memory.
+    #[inline]
+    pub fn par_iter(&self) -> Iter<'_, K, S>
+        ensures { result ≡ self.now }
+    {
+        Iter {
+            inner: self.inner.par_iter(),
+        }
     }
 }
