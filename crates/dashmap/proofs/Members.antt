@@ -2,7 +2,7 @@
 use Rattle.std.proofs.Common.{◌≡◌, Bool, true, false, List, [], ◌∷◌, Option, Some, None, Result, Ok, Err, refl, sym, ap, subst}
 use Rattle.std.specs.Prelude.{not, is_some, IfSome, IfErr, IsErrAnd}
 use Rattle.std.specs.Iterator.{Yields, YieldsThen}
-use Rattle.std.specs.List.{FoldsTo}
+use Rattle.std.specs.List.{AllZip, FoldsTo}
 use Rattle.std.specs.Map.Calls.{CallableOnEachPair, SomeCallAtPair}
 use Rattle.dash_shard.specs.Each.{CalledAlong}
 use Rattle.dash_shard.specs.Steps.{Act}
@@ -12,7 +12,7 @@ use Rattle.dash_map.specs.Extend.{Gave, NotMade}
 use Rattle.dash_map.specs.declared.extend.ExtendRefused.{ExtendRefused}
 use Rattle.dash_map.specs.declared.extend.FromRefused.{FromRefused}
 use Rattle.dash_map.specs.declared.extend.FromRefused.TheVariants.{Construct, Pair}
-use Rattle.dashmap.specs.Set.{stood}
+use Rattle.dashmap.specs.Set.{keys_of, stood}
 
 -- the old value of a key that is new exactly where there was none
 pub stood-none : (o : Option (Unit {0})) (new : Bool) → is_some o ≡ not new → stood new ≡ o
@@ -25,6 +25,14 @@ stood-none (Some u) false e = refl
 pub if-inside : {A : Type 0} (P Q : A → Type 0) (o : Option A) → IfSome o P → ((x : A) → P x → Q x) → IfSome o Q
 if-inside P Q None h each = tt
 if-inside P Q (Some x) h each = each x h
+
+-- what is so of each answer to a pair, by what is so of it otherwise
+pub maps-inside : {K T : Type 0} (R : K × Unit {0} → T → Type 0) (R' : K → T → Type 0) → ((p : K × Unit {0}) (t : T) → R p t → R' p.0 t)
+    → (ps : List (K × Unit {0})) (ts : List T) → AllZip R ps ts → AllZip R' (keys_of ps) ts
+maps-inside R R' each [] [] h = tt
+maps-inside R R' each [] (t ∷ ts) h = h
+maps-inside R R' each (p ∷ ps) [] h = h
+maps-inside R R' each (p ∷ ps) (t ∷ ts) h = (each p t h.0, maps-inside R R' each ps ts h.1)
 
 -- some action does this on the pair that is there, as it does that
 pub by-inside : {K V : Type 0} (R R' : Act K V → K × V → Type 0) (there : Option (K × V)) (P : Act K V → Type 0) → (act : Act K V) × P act × IfSome there (R act) → ((act : Act K V) (p : K × V) → R act p → R' act p)
