@@ -10,7 +10,8 @@ top=$(CDPATH='' cd -- "$(dirname -- "$0")/.." && pwd)
 registry=/usr/share/cargo/registry
 rounds=${ROUNDS:-5}
 works=("$@")
-[ "$#" -gt 0 ] || works=(hit miss small-hit insert insert0 remove iterate get-mut small-update alter entry read exchange grow contend hold memory)
+[ "$#" -gt 0 ] || works=(hit miss small-hit insert insert0 remove iterate get-mut small-update alter entry read exchange grow contend hold
+    extend extend0 par-extend par-extend0 par-map-collect memory)
 
 [ -d "$registry" ] || { echo "run.sh: install librust-dashmap-dev first" >&2; exit 2; }
 (cd "$top/bench/rust" && cargo build --release --offline --quiet \
@@ -38,7 +39,7 @@ echo '|---|---|---|---|---|'
 status=0
 for work in "${works[@]}"; do
     threads_of="1 2 4"
-    case $work in memory | iterate | small-hit) threads_of=1 ;; contend | hold) threads_of=4 ;; esac
+    case $work in memory | iterate | small-hit | extend | extend0) threads_of=1 ;; contend | hold | par-map-collect) threads_of=4 ;; esac
     for threads in $threads_of; do
         found=$(best "$work" "$threads")
         if [ "$found" = DIFFER ]; then

@@ -61,7 +61,7 @@ fn main(rt: HostRuntime) -> io::Result<ExitCode> {
     if words.len() == 1 && words[0].as_str() == "churn" {
         return tell(&rt, churn::measure(&rt, rt.alloc()));
     }
-    let Some((asked, threads)) = asked(words.as_slice()) else {
+    let Some((asked, threads)) = parse(words.as_slice()) else {
         eprintln!(rt; "{USAGE}")?;
         return Ok(ExitCode::from(2));
     };
@@ -105,7 +105,7 @@ fn tell<T: fmt::Display + Drop>(
 }
 
 // What the words ask for, and for how many threads.
-fn asked(words: &[String]) -> Option<(Asked, usize)> {
+fn parse(words: &[String]) -> Option<(Asked, usize)> {
     if words.len() != 2 {
         return None;
     }
