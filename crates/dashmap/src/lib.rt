@@ -22,15 +22,18 @@ pub use dash_ref::mapref::entry::{Entry, OccupiedEntry, VacantEntry};
 pub use dash_ref::util::SharedValue;
 pub use dash_shard::error::TryReserveError;
 pub use dash_steps::kept::{Kept, KeptKey};
+pub use memo::Memo;
 pub use set::DashSet;
 
 pub mod iter_set;
+pub mod memo;
 pub mod rayon;
 pub mod set;
 pub mod setref;
 
 /// What calls are refused for.
 pub mod error {
+    pub use crate::memo::MemoRefused;
     pub use dash_map::extend::{ExtendRefused, FromRefused};
     pub use dash_map::read_only::ViewRefused;
     pub use dash_map::run::Fault;
