@@ -2,8 +2,7 @@
 use Rattle.std.proofs.Common.{◌≡◌, ℕ, ◌<◌, ◌^◌, List, [], ◌∷◌, length, get_or, map, refl, ap, sym, subst, ◌∙◌, arith}
 use Rattle.std.specs.Fmt.{decimal}
 use Rattle.std.proofs.lemmas.Fmt.{decimal_injective}
-use Rattle.dashcheck.specs.Threads.{IsThreads}
-use Rattle.dashcheck.specs.inner.Command.{threads}
+use Rattle.dashcheck.specs.Threads.{IsSized}
 
 module _ {A B : Type 0} (f : A → B) where
   -- its words are the first
@@ -21,19 +20,18 @@ module _ {A B : Type 0} (f : A → B) where
   three (x ∷ y ∷ z ∷ t ∷ words) u v w many a b c = absurd (omega (arith, many))
 
 -- words say one size
-pub same-size : (words : List (List ℕ)) (t : List ℕ) (c n d m : ℕ) → c < 2 ^ 64 → n < 2 ^ 64 → words ≡ t ∷ decimal c ∷ decimal n ∷ [] → IsThreads words d m → (c ≡ d) × (n ≡ m)
-same-size words t c n d m small few is other =
-    let same : t ∷ decimal c ∷ decimal n ∷ [] ≡ threads ∷ decimal d ∷ decimal m ∷ [] = sym is ∙ other.0 in (
+pub same-size : (words : List (List ℕ)) (name t : List ℕ) (c n d m : ℕ) → c < 2 ^ 64 → n < 2 ^ 64 → words ≡ t ∷ decimal c ∷ decimal n ∷ [] → IsSized name words d m → (c ≡ d) × (n ≡ m)
+same-size words name t c n d m small few is other =
+    let same : t ∷ decimal c ∷ decimal n ∷ [] ≡ name ∷ decimal d ∷ decimal m ∷ [] = sym is ∙ other.0 in (
       decimal_injective c d small (omega (arith, other.1.few)) (ap (λ ws. get_or ws 1 []) same),
       decimal_injective n m few (omega (arith, other.1.short)) (ap (λ ws. get_or ws 2 []) same),
     )
 
-pub same-threads : (words : List (List ℕ)) (c n d m : ℕ) → IsThreads words c n → IsThreads words d m → (c ≡ d) × (n ≡ m)
-same-threads words c n d m one other = same-size words threads c n d m (omega (arith, one.1.few)) (omega (arith, one.1.short)) one.0 other
-
 -- what is said of one size is said of the other
-pub at-size : (P : ℕ → ℕ → Type 0) (words : List (List ℕ)) (c n d m : ℕ) → IsThreads words c n → IsThreads words d m → P c n → P d m
-at-size P words c n d m one other h = let same = same-threads words c n d m one other in subst (P d) same.1 (subst (λ k. P k n) same.0 h)
+pub at-size : (P : ℕ → ℕ → Type 0) (words : List (List ℕ)) (t : List ℕ) (c n d m : ℕ) → IsSized t words c n → IsSized t words d m → P c n → P d m
+at-size P words t c n d m one other h =
+    let same = same-size words t t c n d m (omega (arith, one.1.few)) (omega (arith, one.1.short)) one.0 other in
+    subst (P d) same.1 (subst (λ k. P k n) same.0 h)
 
 pub first-word : {B : Type 0} {v w : B} → v ∷ [] ≡ w ∷ [] → v ≡ w
 first-word {B} {v} {w} same = ap (λ ws. get_or ws 0 v) same

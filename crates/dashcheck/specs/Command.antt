@@ -1,5 +1,6 @@
 -- The command line.
 use Rattle.std.specs.Prelude.{◌≡◌, ◌⊎◌, ℕ, List, [], ◌∷◌, codes, map, String, string_bytes}
+use Rattle.dashcheck.specs.Memo.{IsMemo}
 use Rattle.dashcheck.specs.Threads.{IsThreads}
 use Rattle.dashcheck.specs.declared.command.Status.{Status}
 use Rattle.dashcheck.specs.declared.command.Status.TheVariants.{Good, Refused, BadCommandLine}
@@ -8,9 +9,9 @@ use Rattle.dashcheck.specs.declared.command.Status.TheVariants.{Good, Refused, B
 abbrev pub IsScript : List (List ℕ) → Type 0
 IsScript words = words ≡ codes "script" ∷ []
 
--- the words are one of the two commands
+-- the words are one of the three commands
 abbrev pub IsCommand : List (List ℕ) → Type 0
-IsCommand words = IsScript words ⊎ (c : ℕ) × (n : ℕ) × IsThreads words c n
+IsCommand words = IsScript words ⊎ ((c : ℕ) × (n : ℕ) × (IsThreads words c n ⊎ IsMemo words c n))
 
 -- the words as bytes
 abbrev pub in_bytes : {Z : Type 0} → List (String Z) → List (List ℕ)
@@ -20,9 +21,13 @@ in_bytes words = map string_bytes words
 abbrev pub ForThreads : List (List ℕ) → (ℕ → ℕ → Type 0) → Type 0
 ForThreads words P = (c n : ℕ) → IsThreads words c n → P c n
 
+-- P is so of c and n where the words are `memo C N`
+abbrev pub ForMemo : List (List ℕ) → (ℕ → ℕ → Type 0) → Type 0
+ForMemo words P = (c n : ℕ) → IsMemo words c n → P c n
+
 -- what a bad command line is told
 abbrev pub usage : List ℕ
-usage = codes "usage: dashcheck script | dashcheck threads C N"
+usage = codes "usage: dashcheck script | dashcheck threads C N | dashcheck memo C N"
 
 -- the exit status
 abbrev pub code_of : Status → ℕ

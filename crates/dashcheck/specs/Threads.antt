@@ -23,9 +23,13 @@ pub record IsSize (callers steps : ℕ) : Type 0 where
   pub few : callers ≤ 64
   pub short : steps ≤ 10000
 
+-- the words are this one and such numbers
+abbrev pub IsSized : List ℕ → List (List ℕ) → ℕ → ℕ → Type 0
+IsSized name words c n = (words ≡ name ∷ decimal c ∷ decimal n ∷ []) × IsSize c n
+
 -- the words are `threads C N`, with such numbers
 abbrev pub IsThreads : List (List ℕ) → ℕ → ℕ → Type 0
-IsThreads words c n = (words ≡ codes "threads" ∷ decimal c ∷ decimal n ∷ []) × IsSize c n
+IsThreads words c n = IsSized (codes "threads") words c n
 
 -- the step m of thread j
 abbrev pub thread_step : ℕ → ℕ → ShardStep ℕ ℕ (Unit {0})

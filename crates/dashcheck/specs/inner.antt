@@ -3,6 +3,7 @@ pub mod AlikeChange
 pub mod Changes
 pub mod Command
 pub mod Lines
+pub mod Memo
 pub mod Replay
 pub mod Threads
 pub mod Words

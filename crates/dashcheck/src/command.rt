@@ -1,11 +1,13 @@
 //! The command line.
 ghost use Rattle.std.specs.Prelude.{◌≡◌, ◌↔◌, ℕ, ◌*◌, ◌++◌, ◌∷◌, [], ◌⊎◌, IsTrue, IfSome, IfNone, IfOk, OnOk, OnErr, true, false};
 ghost use Rattle.std.specs.Io.KnownBytes.{Appends};
-ghost use Rattle.dashcheck.specs.Command.{ForThreads, IsScript, IsCommand, code_of, in_bytes, usage};
+ghost use Rattle.dashcheck.specs.Command.{ForMemo, ForThreads, IsScript, IsCommand, code_of, in_bytes, usage};
 ghost use Rattle.dashcheck.specs.inner.Command.{Asks};
+ghost use Rattle.dashcheck.specs.Memo.{SaysAllRight, SaysRefusal as SaysMemoRefusal};
 ghost use Rattle.dashcheck.specs.Script.{TakesAll, Refuses, stop_text};
-ghost use Rattle.dashcheck.specs.Threads.{IsThreads, IsJudged, SaysRefusal, verdict_lines};
+ghost use Rattle.dashcheck.specs.Threads.{IsSized, IsJudged, SaysRefusal, verdict_lines};
 
+use crate::memo;
 use crate::script::{self, Stop};
 use crate::step::number;
 use crate::threads;
@@ -18,7 +20,7 @@ use std::rt::Clock;
 use std::sync::Wait;
 use std::thread::Threads;
 
-const USAGE: &str = "usage: dashcheck script | dashcheck threads C N";
+const USAGE: &str = "usage: dashcheck script | dashcheck threads C N | dashcheck memo C N";
 
 /// How the program ended.
 #[derive(Clone, Copy, Debug, PartialEq, Eq)]
@@ -33,13 +35,14 @@ pub enum Status {
 enum Command {
     Script,
     Threads { callers: u32, steps: u64 },
+    Memo { callers: u32, keys: u64 },
 }
 
 /// Runs the words after the program's name.
 ///
 /// The words are checked before anything is read or made. A bad command line prints the usage on `errors`, and leaves the rest.
 /// `script` takes memory for a map, for its steps, and for a buffer on either side; `threads` for a map, its workers and their
-/// steps. It fails where a write does.
+/// steps; `memo` for a cache and what it keeps. It fails where a write does.
 pub fn run_words<T: Threads + Wait + Clock + Sync, R: Read, O: Write, E: Write>(
     rt: &T,
     alloc: Global,
@@ -73,11 +76,21 @@ pub fn run_words<T: Threads + Wait + Clock + Sync, R: Read, O: Write, E: Write>(
         ⊎ (Appends (O.contents output.old) (O.contents output.new) (verdict_lines (c * n) false) × (errors.new ≡ errors.old)
         × IsJudged ⟦<RecAlone<u64, u64, PlaceState> as Recorded>⟧.known c n false)) }
     ensures threads_input { ForThreads (in_bytes words.now) (λ c n. input.new ≡ input.old) }
+
+    // How threads that ask a cache end.
+    ensures memo_good { ForMemo (in_bytes words.now) (λ c n. result ≡ Ok Status.Good
+        → SaysAllRight c n (O.contents output.old) (O.contents output.new) × (errors.new ≡ errors.old)) }
+    ensures memo_refused { ForMemo (in_bytes words.now) (λ c n. result ≡ Ok Status.Refused
+        → SaysMemoRefusal (E.contents errors.old) (E.contents errors.new) × (output.new ≡ output.old)) }
+    ensures memo_input { ForMemo (in_bytes words.now) (λ c n. input.new ≡ input.old) }
 {
     match asked(words) {
         Some(Command::Script) => script::run(rt, alloc, input, output, errors),
         Some(Command::Threads { callers, steps }) => {
             threads::run(rt, alloc, callers, steps, output, errors)
+        }
+        Some(Command::Memo { callers, keys }) => {
+            memo::run(rt, alloc, callers, keys, output, errors)
         }
         None => {
             print_usage(errors)?;
@@ -119,8 +132,11 @@ fn asked(words: &[String]) -> Option<Command>
     if is_script(words) {
         return Some(Command::Script);
     }
-    let (callers, steps) = size(words)?;
-    Some(Command::Threads { callers, steps })
+    if let Some((callers, steps)) = size(words, "threads") {
+        return Some(Command::Threads { callers, steps });
+    }
+    let (callers, keys) = size(words, "memo")?;
+    Some(Command::Memo { callers, keys })
 }
 
 fn is_script(words: &[String]) -> bool
@@ -129,12 +145,12 @@ fn is_script(words: &[String]) -> bool
     words.len() == 1 && words[0].as_str() == "script"
 }
 
-// The numbers of `threads C N`.
-fn size(words: &[String]) -> Option<(u32, u64)>
-    ensures some { IfSome result (λ p. IsThreads (in_bytes words.now) p.0 p.1) }
-    ensures none { IfNone result ((c n : ℕ) → IsThreads (in_bytes words.now) c n → ⊥) }
+// The numbers of such a command, as `threads C N`.
+fn size(words: &[String], name: &str) -> Option<(u32, u64)>
+    ensures some { IfSome result (λ p. IsSized name.now (in_bytes words.now) p.0 p.1) }
+    ensures none { IfNone result ((c n : ℕ) → IsSized name.now (in_bytes words.now) c n → ⊥) }
 {
-    if words.len() != 3 || words[0].as_str() != "threads" {
+    if words.len() != 3 || words[0].as_str() != name {
         return None;
     }
     let callers = number(words[1].as_str())?;

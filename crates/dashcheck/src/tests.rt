@@ -8,7 +8,7 @@ use std::rt::Clock;
 use std::sync::Wait;
 use std::thread::Threads;
 
-const USAGE: &str = "usage: dashcheck script | dashcheck threads C N\n";
+const USAGE: &str = "usage: dashcheck script | dashcheck threads C N | dashcheck memo C N\n";
 
 // Gives the bytes, one piece a read, then fails.
 #[derive(Drop)]
@@ -377,6 +377,11 @@ fn checks_the_command_line_first(rt: HostRuntime) {
         "threads x 1",
         "threads 4 100 1",
         "Threads 4 100",
+        "memo",
+        "memo 0 1",
+        "memo 65 1",
+        "memo 1 10001",
+        "memo 4 16 1",
         "--help",
     ] {
         let mut input = Failing { bytes: b"get 1\n" };
@@ -414,6 +419,20 @@ fn threads_print_how_many_entries_they_logged_and_that_they_are_legal(rt: HostRu
         ("threads 1 0", "entries 0\nlegal\n"),
         ("threads 1 7", "entries 7\nlegal\n"),
         ("threads 64 1", "entries 64\nlegal\n"),
+    ] {
+        let mut input = Failing { bytes: b"get 1\n" };
+        let ran = run(&rt, rt.alloc(), line, &mut input).expect(&rt, "refused");
+        is(&rt, input.bytes.len(), 6);
+        is_ran(&rt, line.as_bytes(), &ran, output, "", 0);
+    }
+}
+
+#[test]
+fn a_cache_computes_each_value_once(rt: HostRuntime) {
+    for (line, output) in [
+        ("memo 4 16", "answers 64\nright 64\ncomputed 16\n"),
+        ("memo 1 0", "answers 0\nright 0\ncomputed 0\n"),
+        ("memo 64 1", "answers 64\nright 64\ncomputed 1\n"),
     ] {
         let mut input = Failing { bytes: b"get 1\n" };
         let ran = run(&rt, rt.alloc(), line, &mut input).expect(&rt, "refused");

@@ -1,7 +1,9 @@
 //! The tests, in modules that are named as those that they test.
 mod checks;
 mod extend;
+mod memo;
 mod names;
+mod pages;
 mod parallel;
 mod set;
 mod words;

@@ -2,5 +2,6 @@
 #![tactic(auto)]
 
 pub mod names;
+pub mod pages;
 pub mod tally;
 pub mod words;

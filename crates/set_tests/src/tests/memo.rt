@@ -1,0 +1,143 @@
+//! Caches: what is kept, what is computed, and what want of memory does.
+use crate::tests::checks::is;
+use dashmap::hash::PlaceState;
+use dashmap::error::ConstructError;
+use dashmap::memo::{Memo, MemoRefused, Rule};
+use dashmap::Kept;
+use std::alloc::{AllocError, Global};
+use std::process::Abort;
+use std::sync::atomic::{AtomicU64, Ordering};
+use std::test::Fail;
+use std::thread;
+
+// The square of a key and one more. It counts what it computes, and key 0 is held in it till somebody says that it may go on.
+#[derive(Drop)]
+struct Square<'a> {
+    computed: &'a AtomicU64,
+    goes_on: &'a AtomicU64,
+}
+
+impl Rule<u64, u64> for Square<'_> {
+    ghost use Rattle.set_tests.specs.Square.{equal_alike, square_of};
+
+    ghost value_of = { square_of };
+
+    fn compute(&self, key: &u64) -> Result<u64, AllocError> {
+        self.computed.fetch_add(1, Ordering::SeqCst);
+        if *key == 0 {
+            wait_for(self.goes_on);
+        }
+        Ok(key.wrapping_mul(*key).wrapping_add(1))
+    }
+
+    ghost equal_alike = { equal_alike };
+}
+
+// Turns till the number isn't 0, and gives up in the end.
+fn wait_for(number: &AtomicU64) {
+    for _ in 0..1_000_000u64 {
+        if number.load(Ordering::SeqCst) != 0 {
+            break;
+        }
+        thread::yield_now();
+    }
+}
+
+#[test]
+fn what_is_kept_is_not_computed_again(rt: HostRuntime) {
+    let (computed, goes_on) = (AtomicU64::new(0), AtomicU64::new(1));
+    let rule = Square {
+        computed: &computed,
+        goes_on: &goes_on,
+    };
+    let cache = Memo::new(rt.alloc(), rule, 1).expect(&rt, "refused");
+    for key in [3, 3, 5] {
+        is(&rt, cache.ask(&rt, &key), Ok(key * key + 1));
+        is(&rt, cache.try_ask(&key), Ok(key * key + 1));
+    }
+    is(&rt, (cache.len(&rt), computed.load(Ordering::SeqCst)), (2, 2));
+    cache.forget(&rt, &3);
+    is(&rt, cache.try_ask(&3), Ok(10));
+    is(&rt, (cache.len(&rt), computed.load(Ordering::SeqCst)), (2, 3));
+    cache.clear(&rt);
+    is(&rt, cache.len(&rt), 0);
+}
+
+// Keys 0 and 4 go to one shard, which is held while the value of key 0 is computed.
+#[test]
+fn who_does_not_wait_computes(rt: HostRuntime) {
+    let (computed, goes_on) = (AtomicU64::new(0), AtomicU64::new(0));
+    let rule = Square {
+        computed: &computed,
+        goes_on: &goes_on,
+    };
+    let cache = Memo::with_hasher_and_shard_amount(rt.alloc(), rule, PlaceState, 4).expect(
+        &rt, "refused",
+    );
+    let (waited, passed) = thread::join(
+        &rt,
+        || cache.ask(&rt, &0),
+        || {
+            wait_for(&computed);
+            let passed = cache.try_ask(&4);
+            goes_on.store(1, Ordering::SeqCst);
+            passed
+        },
+    );
+    is(&rt, (waited, passed), (Ok(1), Ok(17)));
+    is(&rt, cache.len(&rt), 1);
+}
+
+// The key itself, in memory of its own.
+#[derive(Drop)]
+struct Echo;
+
+impl Rule<String, String> for Echo {
+    ghost value_of = { λ text. text };
+
+    fn compute(&self, key: &String) -> Result<String, AllocError> {
+        key.copy()
+    }
+
+    ghost equal_alike = { λ j k same. same };
+}
+
+// A cache. Where the first try found no memory the second finds some.
+fn echoes<T: Abort>(rt: &T, alloc: Global) -> Memo<String, String, Echo> {
+    match Memo::new(alloc, Echo, 1) {
+        Ok(cache) => cache,
+        Err(refused) => {
+            is(rt, refused, ConstructError::Memory);
+            Memo::new(alloc, Echo, 1).expect(rt, "refused twice")
+        }
+    }
+}
+
+// One request for memory is refused, as `rt try --test --fail-alloc` makes it, or none is: the refusal is named, or the value answered
+// all the same. Later calls answer.
+#[test]
+fn one_refusal_is_named_and_over(rt: HostRuntime) {
+    let cache = echoes(&rt, rt.alloc());
+    let Ok(key) = format!(in rt.alloc(); "fox") else {
+        return;
+    };
+    let mut refused = 0u64;
+    for _ in 0..2u64 {
+        for answer in [cache.ask(&rt, &key), cache.try_ask(&key)] {
+            match answer {
+                Ok(value) => is(&rt, value.as_str(), "fox"),
+                Err(MemoRefused {}) => refused = refused.saturating_add(1),
+            }
+        }
+        assert!(rt; refused <= 1);
+    }
+    is(&rt, cache.ask(&rt, &key).is_ok() || cache.ask(&rt, &key).is_ok(), true);
+    assert!(rt; cache.len(&rt) <= 1);
+}
+
+#[test]
+fn the_refusal_has_its_number(rt: HostRuntime) -> Result<(), Fail> {
+    let text = format!(in rt.alloc(); "{}", MemoRefused {})?;
+    is(&rt, text.as_str(), "no memory (25)");
+    Ok(())
+}
