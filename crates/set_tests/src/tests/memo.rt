@@ -18,9 +18,11 @@ struct Square<'a> {
 }
 
 impl Rule<u64, u64> for Square<'_> {
-    ghost use Rattle.set_tests.specs.Square.{equal_alike, square_of};
+    ghost use Rattle.std.specs.Prelude.{◌+◌, ◌*◌, ◌%◌, ◌^◌};
+    ghost use Rattle.std.proofs.Common.{arith};
+    ghost use Rattle.std.proofs.lemmas.Bool.Decides.{nat_tests};
 
-    ghost value_of = { square_of };
+    ghost value_of = { λ k. (k * k + 1) % 2 ^ 64 };
 
     fn compute(&self, key: &u64) -> Result<u64, AllocError> {
         self.computed.fetch_add(1, Ordering::SeqCst);
@@ -30,7 +32,7 @@ impl Rule<u64, u64> for Square<'_> {
         Ok(key.wrapping_mul(*key).wrapping_add(1))
     }
 
-    ghost equal_alike = { equal_alike };
+    ghost equal_alike = { λ j k same. Prim.grind (arith, nat_tests) };
 }
 
 // Turns till the number isn't 0, and gives up in the end.
