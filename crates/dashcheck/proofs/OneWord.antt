@@ -11,6 +11,11 @@ module _ {A B : Type 0} (f : A → B) where
   only (x ∷ []) w one first = ap (λ y. f y ∷ []) (sym first)
   only (x ∷ y ∷ words) w one first = absurd (omega (arith, one))
 
+  -- its first word is this
+  pub starts : (words : List A) (w : A) (t : B) (rest : List B) → w ≡ get_or words 0 w → map f words ≡ t ∷ rest → f w ≡ t
+  starts [] w t rest first is = cc
+  starts (x ∷ words) w t rest first is = rw first (ap (λ ws. get_or ws 0 t) is)
+
   -- its words are these three
   pub three : (words : List A) (u v w : A) → length words ≡ 3 → u ≡ get_or words 0 u → v ≡ get_or words 1 v → w ≡ get_or words 2 w → map f words ≡ f u ∷ f v ∷ f w ∷ []
   three [] u v w many a b c = absurd (omega (arith, many))

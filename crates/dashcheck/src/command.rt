@@ -7,10 +7,9 @@ ghost use Rattle.dashcheck.specs.Memo.{SaysAllRight, SaysRefusal as SaysMemoRefu
 ghost use Rattle.dashcheck.specs.Script.{TakesAll, Refuses, stop_text};
 ghost use Rattle.dashcheck.specs.Threads.{IsSized, IsJudged, SaysRefusal, verdict_lines};
 
-use crate::memo;
 use crate::script::{self, Stop};
 use crate::step::number;
-use crate::threads;
+use crate::{memo, threads};
 use dash_history::alone::RecAlone;
 use dash_history::known::Recorded;
 use dash_shard::hash::PlaceState;

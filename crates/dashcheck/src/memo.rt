@@ -53,17 +53,18 @@ struct Square<'a> {
 }
 
 impl Rule<u64, u64> for Square<'_> {
+    ghost use Rattle.std.proofs.Common.{arith};
+    ghost use Rattle.std.proofs.lemmas.Bool.Decides.{nat_tests};
     ghost use Rattle.dashcheck.specs.Memo.{value_of};
-    ghost use Rattle.dashcheck.specs.inner.Memo.{equal_alike};
 
     ghost value_of = { value_of };
 
     fn compute(&self, key: &u64) -> Result<u64, AllocError> {
         self.computed.fetch_add(1, Ordering::SeqCst);
-        Ok(square(*key))
+        Ok(square_of(*key))
     }
 
-    ghost equal_alike = { equal_alike };
+    ghost equal_alike = { λ j k same. Prim.grind (arith, nat_tests) };
 }
 
 // How many keys were answered, and how many of these answers are right.
@@ -157,7 +158,8 @@ fn ask_on_threads<T: Threads + Wait + Clock + Sync>(
     keys: u64,
     tallies: &mut [Result<Tally, MemoRefused>],
 )
-    requires { keys ≤ 10000 }
+    requires some { 0 < length tallies.old }
+    requires short { keys ≤ 10000 }
     ensures len { length tallies.new ≡ length tallies.old }
     ensures each { EachAllRight keys tallies.new }
 {
@@ -179,7 +181,7 @@ fn ask_all<T: Wait + Clock>(rt: &T, cache: &Cache<'_>, keys: u64) -> Result<Tall
     for key in 0..keys {
         let value = cache.ask(rt, &key)?;
         tally.answers += 1;
-        if value == square(key) {
+        if value == square_of(key) {
             tally.right += 1;
         }
     }
@@ -203,7 +205,7 @@ fn sum_of(tallies: &[Result<Tally, MemoRefused>], keys: u64) -> Result<Tally, Me
 }
 
 // The value of a key.
-fn square(key: u64) -> u64
+fn square_of(key: u64) -> u64
     ensures { result ≡ value_of key }
 {
     key.wrapping_mul(key).wrapping_add(1)

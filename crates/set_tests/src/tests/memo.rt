@@ -1,9 +1,9 @@
 //! Caches: what is kept, what is computed, and what want of memory does.
 use crate::tests::checks::is;
-use dashmap::hash::PlaceState;
-use dashmap::error::ConstructError;
-use dashmap::memo::{Memo, MemoRefused, Rule};
 use dashmap::Kept;
+use dashmap::error::ConstructError;
+use dashmap::hash::PlaceState;
+use dashmap::memo::{Memo, MemoRefused, Rule};
 use std::alloc::{AllocError, Global};
 use std::process::Abort;
 use std::sync::atomic::{AtomicU64, Ordering};
@@ -57,10 +57,18 @@ fn what_is_kept_is_not_computed_again(rt: HostRuntime) {
         is(&rt, cache.ask(&rt, &key), Ok(key * key + 1));
         is(&rt, cache.try_ask(&key), Ok(key * key + 1));
     }
-    is(&rt, (cache.len(&rt), computed.load(Ordering::SeqCst)), (2, 2));
+    is(
+        &rt,
+        (cache.len(&rt), computed.load(Ordering::SeqCst)),
+        (2, 2),
+    );
     cache.forget(&rt, &3);
     is(&rt, cache.try_ask(&3), Ok(10));
-    is(&rt, (cache.len(&rt), computed.load(Ordering::SeqCst)), (2, 3));
+    is(
+        &rt,
+        (cache.len(&rt), computed.load(Ordering::SeqCst)),
+        (2, 3),
+    );
     cache.clear(&rt);
     is(&rt, cache.len(&rt), 0);
 }
@@ -133,7 +141,11 @@ fn one_refusal_is_named_and_over(rt: HostRuntime) {
         }
         assert!(rt; refused <= 1);
     }
-    is(&rt, cache.ask(&rt, &key).is_ok() || cache.ask(&rt, &key).is_ok(), true);
+    is(
+        &rt,
+        cache.ask(&rt, &key).is_ok() || cache.ask(&rt, &key).is_ok(),
+        true,
+    );
     assert!(rt; cache.len(&rt) <= 1);
 }
 

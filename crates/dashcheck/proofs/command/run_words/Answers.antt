@@ -4,22 +4,23 @@ use Rattle.std.specs.Io.KnownBytes.{Appends}
 use Rattle.dash_shard.specs.declared.hash.PlaceState.{PlaceState}
 use Rattle.dash_steps.specs.Takes.{Known}
 use Rattle.dashcheck.specs.inner.Command.{Asks}
+use Rattle.dashcheck.specs.Memo.{SaysAllRight}
 use Rattle.dashcheck.specs.Threads.{IsThreads, IsJudged, SaysRefusal, verdict_lines}
 use Rattle.dashcheck.proofs.OneWord.{at-size}
 use Rattle.dashcheck.proofs.command.run_words.Goals as goal
 
 legal-size : {w : Known ℕ ℕ (Unit {0}) PlaceState} (words : List (List ℕ)) (c n d m : ℕ) → IsThreads words c n → IsThreads words d m → IsJudged w c n true → IsJudged w d m true
-legal-size {w} words c n d m one other h = at-size (λ i k. IsJudged w i k true) words c n d m one other h
+legal-size {w} words c n d m one other h = at-size (λ i k. IsJudged w i k true) words _ c n d m one other h
 
 refused-size : {w : Known ℕ ℕ (Unit {0}) PlaceState} {A B : Type 0} (old new : Option (List ℕ)) (Says : ℕ → Type 0) (words : List (List ℕ)) (c n d m : ℕ) → IsThreads words c n → IsThreads words d m
     → (SaysRefusal w c n old new × A) ⊎ (Says (c * n) × B × IsJudged w c n false) → (SaysRefusal w d m old new × A) ⊎ (Says (d * m) × B × IsJudged w d m false)
-refused-size {w} {A} {B} old new Says words c n d m one other h = at-size (λ i k. (SaysRefusal w i k old new × A) ⊎ (Says (i * k) × B × IsJudged w i k false)) words c n d m one other h
+refused-size {w} {A} {B} old new Says words c n d m one other h = at-size (λ i k. (SaysRefusal w i k old new × A) ⊎ (Says (i * k) × B × IsJudged w i k false)) words _ c n d m one other h
 
 pub returns-in-Some-Threads-clause-threads_good : goal.returns-in-Some-Threads-clause-threads_good
 returns-in-Some-Threads-clause-threads_good g c d m words good =
     let size = subst (Asks (map string_bytes c.args.words.now)) c.in-Some-Threads.field-0-is c.in-Some-Threads.ensures.some in
     let p = c.run-in-Some-Threads.ensures.good good in
-    (at-size (λ i k. Appends (g.O.Write.contents c.args.output.now) (g.O.Write.contents c.run-in-Some-Threads.new.output) (verdict_lines (i * k) true)) _ _ _ d m size words p.0, p.1)
+    (at-size (λ i k. Appends (g.O.Write.contents c.args.output.now) (g.O.Write.contents c.run-in-Some-Threads.new.output) (verdict_lines (i * k) true)) _ _ _ _ d m size words p.0, p.1)
 
 pub returns-in-Some-Threads-clause-threads_legal : goal.returns-in-Some-Threads-clause-threads_legal
 returns-in-Some-Threads-clause-threads_legal g c d m words good =
@@ -30,3 +31,9 @@ pub returns-in-Some-Threads-clause-threads_refused : goal.returns-in-Some-Thread
 returns-in-Some-Threads-clause-threads_refused g c d m words refused =
     let size = subst (Asks (map string_bytes c.args.words.now)) c.in-Some-Threads.field-0-is c.in-Some-Threads.ensures.some in
     refused-size (g.E.Write.contents c.args.errors.now) (g.E.Write.contents c.run-in-Some-Threads.new.errors) (λ k. Appends (g.O.Write.contents c.args.output.now) (g.O.Write.contents c.run-in-Some-Threads.new.output) (verdict_lines k false)) _ _ _ d m size words (c.run-in-Some-Threads.ensures.refused refused)
+
+pub returns-in-Some-Memo-clause-memo_good : goal.returns-in-Some-Memo-clause-memo_good
+returns-in-Some-Memo-clause-memo_good g c d m words good =
+    let size = subst (Asks (map string_bytes c.args.words.now)) c.in-Some-Memo.field-0-is c.in-Some-Memo.ensures.some in
+    let p = c.run-in-Some-Memo.ensures.good good in
+    (at-size (λ i k. SaysAllRight i k (g.O.Write.contents c.args.output.now) (g.O.Write.contents c.run-in-Some-Memo.new.output)) _ _ _ _ d m size words p.0, p.1)
