@@ -21,7 +21,7 @@ use std::rt::Clock;
 use std::sync::Wait;
 use thiserror::Error;
 
-/// No memory to compute a value, or to copy the one that is kept (25). What is kept stays.
+/// No memory to compute a value, or to copy the one that is kept (25). What is kept stays so.
 #[derive(Clone, Copy, Debug, PartialEq, Eq, Error)]
 #[error("no memory (25)")]
 pub struct MemoRefused {}
@@ -38,14 +38,16 @@ pub trait Rule<K: KeptKey, V: Kept> {
     // The value of a key, up to alike.
     ghost value_of: { K → V };
 
-    /// A value of the key. It is refused only for want of memory.
+    /// A value of the key, where there is memory for it.
     fn compute(&self, key: &K) -> Result<V, AllocError>
         ensures { IfOk result (λ value. IsTrue (V.alike (value_of key.now) value)) };
 
+    // Equal keys have alike values.
     ghost equal_alike: { (j k : K) → K.eq j k ≡ true → V.alike (value_of j) (value_of k) ≡ true };
 }
 
-/// A value that is kept, and the key that it is of.
+/// What a cache keeps: a key, and a value of that key by the rule. The type says so, and so it is known of what comes out of a lock.
+#[derive(Drop)]
 pub struct Answer<K: KeptKey, V: Kept, R: Rule<K, V>> {
     key: K,
     value: V,
@@ -62,17 +64,7 @@ impl<K: KeptKey, V: Kept, R: Rule<K, V>> Model for Answer<K, V, R> {
     ghost invariant = { λ a. IsTrue (V.alike (R.value_of a.key) a.value) };
 }
 
-impl<K: KeptKey + Drop, V: Kept + Drop, R: Rule<K, V>> Drop for Answer<K, V, R> {
-    fn drop(self) {
-        let Self {
-            key: _,
-            value: _,
-            rule: _,
-        } = self;
-    }
-}
-
-impl<K: KeptKey + Drop, V: Kept + Drop, R: Rule<K, V>> Answer<K, V, R> {
+impl<K: KeptKey + Drop, V: Kept + Drop, R: Rule<K, V> + Drop> Answer<K, V, R> {
     // Copies of the key and of its value.
     fn of(key: &K, value: &V) -> Result<Self, AllocError>
         requires { IsTrue (V.alike (R.value_of key.now) value.now) }
@@ -134,7 +126,7 @@ impl<K: KeptKey + Drop, V: Kept + Drop, R: Rule<K, V> + Drop> Memo<K, V, R, Fixe
     }
 }
 
-impl<K: KeptKey + Drop, V: Kept + Drop, R: Rule<K, V>, S: BuildHasher> Memo<K, V, R, S> {
+impl<K: KeptKey + Drop, V: Kept + Drop, R: Rule<K, V> + Drop, S: BuildHasher> Memo<K, V, R, S> {
     /// A cache of so many shards.
     ///
     /// It is refused where the amount is no power of two above 1 (5), then where there is no memory (8).
@@ -145,7 +137,6 @@ impl<K: KeptKey + Drop, V: Kept + Drop, R: Rule<K, V>, S: BuildHasher> Memo<K, V
         amount: usize,
     ) -> Result<Self, ConstructError>
     where
-        R: Drop,
         S: Clone + Drop,
         requires { (s t : S) → S.is_clone s t → HashAlike ⟦<Self as Keyed>⟧.by s t }
         ensures made { IfOk result (λ m. m ≡ record { hasher = hasher; amount = amount }) }
@@ -156,8 +147,8 @@ impl<K: KeptKey + Drop, V: Kept + Drop, R: Rule<K, V>, S: BuildHasher> Memo<K, V
         Ok(Memo { rule, map })
     }
 
-    // The value that is kept at the entry, if it is of an equal key, or else one that is computed, and kept where there is an entry,
-    // and memory for it.
+    // A copy of the value that is kept at the entry, if that is of an equal key. Else one that is computed, and kept where there is an
+    // entry, and memory.
     fn answer(
         &self,
         entry: Option<Entry<'_, K, Answer<K, V, R>, S>>,
@@ -179,14 +170,14 @@ impl<K: KeptKey + Drop, V: Kept + Drop, R: Rule<K, V>, S: BuildHasher> Memo<K, V
         Ok(value)
     }
 
-    /// The value of the key: the one that is kept, or one that is computed while the key's shard is held, and then kept. Waits for the
-    /// key's shard.
+    /// A value of the key: a copy of the one that is kept, or else one that is computed while the key's shard is held, and of which a copy
+    /// is kept. Waits for the key's shard.
     ///
-    /// It takes memory for a copy of the key and for one of the answer, which hands a value out and keeps its copy, and as the map's `entry`
-    /// does. It is refused (25) only where there is none to compute the value, or to copy the one that is kept. Where there is none to keep
-    /// it, the value that was computed is answered all the same.
+    /// It takes memory as `compute` and the map's `entry` do, and for copies of the key and of the value. It is refused (25) only where
+    /// there is none to compute the value, or to copy the one that is kept. Where there is none to keep it, the value that was computed
+    /// is answered all the same.
     ///
-    /// A rule that asks the same cache from `compute` deadlocks where it wants that shard.
+    /// Whoever wants the shard waits till then: a rule that asks the same cache from `compute` deadlocks where the two keys share a shard.
     pub fn ask<W: Wait + Clock>(&self, rt: &W, key: &K) -> Result<V, MemoRefused>
         ensures { IfOk result (λ value. IsTrue (V.alike (R.value_of key.now) value)) }
     {
@@ -197,8 +188,8 @@ impl<K: KeptKey + Drop, V: Kept + Drop, R: Rule<K, V>, S: BuildHasher> Memo<K, V
         self.answer(entry, key)
     }
 
-    /// As `ask`, for a caller who waits for nobody: where the map's `try_entry` doesn't get the key's shard, the value is computed and
-    /// not kept.
+    /// As `ask`, for a caller who waits for nobody: where `RwLock::try_write` doesn't get the key's shard, which says nothing of who has
+    /// it, the value is computed and not kept. It holds the shard too while it computes, where it gets it.
     pub fn try_ask(&self, key: &K) -> Result<V, MemoRefused>
         ensures { IfOk result (λ value. IsTrue (V.alike (R.value_of key.now) value)) }
     {
