@@ -1,5 +1,5 @@
 //! A cache of what a rule computes, over the map that threads share.
-ghost use Rattle.std.specs.Prelude.{◌≡◌, ◌↔◌, ◌∷◌, [], true, IfErr, IfOk, IfSome, IsErrOf, IsTrue, Option};
+ghost use Rattle.std.specs.Prelude.{◌≡◌, ◌↔◌, ◌∷◌, [], true, IfErr, IfOk, IfSome, IsErrOf, IsTrue, Option, is_some};
 ghost use Rattle.dash_shard.specs.Errors.{IsOneOf};
 ghost use Rattle.dash_shard.specs.Hashing.{by, HashAlike, IsAmount};
 ghost use Rattle.dash_shard.specs.declared.error.ConstructError.TheVariants.{Memory, Parallelism, ShardAmount};
@@ -68,6 +68,8 @@ impl<K: KeptKey + Drop, V: Kept + Drop, R: Rule<K, V> + Drop> Answer<K, V, R> {
     // Copies of the key and of its value.
     fn of(key: &K, value: &V) -> Result<Self, AllocError>
         requires { IsTrue (V.alike (R.value_of key.now) value.now) }
+        ensures key { IfOk result (λ a. IsTrue (K.alike key.now a.0)) }
+        ensures value { IfOk result (λ a. IsTrue (V.alike value.now a.1)) }
     {
         Ok(Answer {
             key: key.copy()?,
@@ -78,7 +80,8 @@ impl<K: KeptKey + Drop, V: Kept + Drop, R: Rule<K, V> + Drop> Answer<K, V, R> {
 
     // A copy of the value, where it is of an equal key.
     fn recall(&self, key: &K) -> Result<Option<V>, AllocError>
-        ensures { IfOk result (λ found. IfSome found (λ value. IsTrue (V.alike (R.value_of key.now) value))) }
+        ensures some { IfOk result (λ found. is_some found ≡ K.eq self.now.0 key.now) }
+        ensures value { IfOk result (λ found. IfSome found (λ v. IsTrue (V.alike (R.value_of key.now) v))) }
     {
         if self.key != *key {
             return Ok(None);
