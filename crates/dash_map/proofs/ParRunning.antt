@@ -26,7 +26,7 @@ use Rattle.dash_steps.specs.inner.Take.{Goes}
 use Rattle.dash_steps.specs.declared.step.ShardStep.{ShardStep}
 use Rattle.dash_steps.specs.declared.step.Reply.{Reply}
 use Rattle.dash_map.specs.Alone.{AloneState, IsAlone, KeepsRoom}
-use Rattle.dash_map.specs.ParRun.{goes_to, TakesThere, RunsAlone, RanWhole, ParRuns}
+use Rattle.dash_map.specs.ParRun.{goes_to, TakesThere, RunsAlone, RanAsOne, ParRuns}
 use Rattle.dash_map.specs.declared.run.Fault.{Fault}
 use Rattle.dash_map.specs.declared.run.Fault.TheVariants.{NoSuchShard}
 use Rattle.dash_map.specs.declared.parallel.run.ParOutcome.{ParOutcome}
@@ -204,7 +204,7 @@ module _ {K V A S : Type 0} (h : KeyHash K S) (law : IsLawful h) (k : K → K �
     (alike_equal : (i j : K) → k i j ≡ true → h.eq i j ≡ true) (acts : A → table.Act K V) (a b : AloneState K V S) (lawful : IsAlone h a) (steps : List (ShardStep K V A)) where
   -- all steps were taken
   pub ran-whole : (replies : List (Option (Reply K V))) → ParRan (TakesThere h k v acts) (goes_to h acts a) a.row steps replies b.row → All (λ t. goes_to h acts a t < length a.row) steps → length replies ≡ length steps → All IsSome replies
-      → RanWhole h k v acts a b steps replies
+      → RanAsOne h k v acts a b steps replies
   ran-whole replies ran below long all =
       let ys = told replies all in
       let own = subst (λ l. ParRan (TakesThere h k v acts) (goes_to h acts a) a.row steps l b.row) ys.1 ran in
@@ -227,7 +227,7 @@ all-there goes n ts none k d within = below (goes (get_or ts k d)) n (λ past. n
 module _ {K V A S : Type 0} (h : KeyHash K S) (k : K → K → Bool) (v : V → V → Bool) (acts : A → table.Act K V) (a new : AloneState K V S) (steps : List (ShardStep K V A)) (outcome : ParOutcome K V) where
   -- the run went to its end, or some step found no memory
   pub finished : (Any (λ t. length a.row ≤ goes_to h acts a t) steps → ⊥) → (outcome.fault ≡ Some NoSuchShard → ⊥) → ParRan (TakesThere h k v acts) (goes_to h acts a) a.row steps outcome.replies.items new.row
-      → length outcome.replies.items ≡ length steps → (outcome.fault ≡ None → RanWhole h k v acts a new steps outcome.replies.items) → ParRuns h k v acts a new steps outcome
+      → length outcome.replies.items ≡ length steps → (outcome.fault ≡ None → RanAsOne h k v acts a new steps outcome.replies.items) → ParRuns h k v acts a new steps outcome
   finished none other apart long whole = record {
     missing = (λ e. absurd (other e), λ some. absurd (none some));
     refused = λ e. absurd (other e);

@@ -32,7 +32,7 @@ module _ {K V A S : Type 0} (h : KeyHash K S) where
 
     -- Each step got a reply. THE ORDER BETWEEN SHARDS DECIDES NOTHING: the list is a run in its own order, and so is each list that has the
     -- same steps with the same replies, on each shard in the same order.
-    pub record RanWhole (old new : AloneState K V S) (steps : List (ShardStep K V A)) (replies : List (Option (Reply K V))) : Type 0 where
+    pub record RanAsOne (old new : AloneState K V S) (steps : List (ShardStep K V A)) (replies : List (Option (Reply K V))) : Type 0 where
       pub told : List (Reply K V)
       pub all : replies ≡ map Some told
       pub len : length told ≡ length steps
@@ -46,7 +46,7 @@ module _ {K V A S : Type 0} (h : KeyHash K S) where
       pub refused : outcome.fault ≡ Some NoSuchShard → (new ≡ old) × All (λ o. o ≡ None) outcome.replies.items
       pub apart : ParRan TakesThere (goes_to acts old) old.row steps outcome.replies.items new.row
       pub len : (length outcome.replies.items ≡ length steps) ⊎ ((outcome.replies.items ≡ []) × (new ≡ old))
-      pub whole : outcome.fault ≡ None → RanWhole old new steps outcome.replies.items
+      pub whole : outcome.fault ≡ None → RanAsOne old new steps outcome.replies.items
 
     -- the same on shards that were found behind the locks of this map, and left there
     abbrev pub ParRunsBehind : MapState S → List (ShardStep K V A) → ParOutcome K V → Type 0

@@ -24,10 +24,10 @@ abbrev pub SaysAllRight : ℕ → ℕ → Option (List ℕ) → Option (List ℕ
 SaysAllRight c n old new = (computed : ℕ) × Appends old new (tally_lines (c * n) (c * n) computed)
 
 -- what is said of a refusal
-abbrev pub refusal_text : Refusal → List ℕ
-refusal_text Cache = codes "refused: no memory (8)"
-refusal_text Answer = codes "refused: no memory (25)"
+abbrev pub memo_refusal : Refusal → List ℕ
+memo_refusal Cache = codes "refused: no memory (8)"
+memo_refusal Answer = codes "refused: no memory (25)"
 
 -- a refusal was printed as one line
-abbrev pub SaysRefusal : Option (List ℕ) → Option (List ℕ) → Type 0
-SaysRefusal old new = (refusal : Refusal) × Appends old new (refusal_text refusal ++ 10 ∷ [])
+abbrev pub SaysMemoRefusal : Option (List ℕ) → Option (List ℕ) → Type 0
+SaysMemoRefusal old new = (refusal : Refusal) × Appends old new (memo_refusal refusal ++ 10 ∷ [])

@@ -3,7 +3,7 @@ ghost use Rattle.std.specs.Prelude.{◌≡◌, ◌↔◌, ℕ, ◌*◌, ◌++◌
 ghost use Rattle.std.specs.Io.KnownBytes.{Appends};
 ghost use Rattle.dashcheck.specs.Command.{ForMemo, ForThreads, IsScript, IsCommand, code_of, in_bytes, usage};
 ghost use Rattle.dashcheck.specs.inner.Command.{Asks};
-ghost use Rattle.dashcheck.specs.Memo.{SaysAllRight, SaysRefusal as SaysMemoRefusal};
+ghost use Rattle.dashcheck.specs.Memo.{SaysAllRight, SaysMemoRefusal};
 ghost use Rattle.dashcheck.specs.Script.{TakesAll, Refuses, stop_text};
 ghost use Rattle.dashcheck.specs.Threads.{IsSized, IsJudged, SaysRefusal, verdict_lines};
 

@@ -1,7 +1,7 @@
 //! `dashcheck memo`: threads that ask one cache for the same values, and how many of these were computed.
 ghost use Rattle.std.specs.Prelude.{◌≡◌, ◌≢◌, ℕ, ◌*◌, ◌+◌, ◌%◌, ◌^◌, ◌<◌, ◌≤◌, ◌==◌, ◌∷◌, ◌++◌, [], IfOk, IfErr, OnOk, length, slice_index_or, if◌then◌else◌};
 ghost use Rattle.std.specs.Io.KnownBytes.{Appends};
-ghost use Rattle.dashcheck.specs.Memo.{SaysAllRight, SaysRefusal, refusal_text, tally_lines, value_of};
+ghost use Rattle.dashcheck.specs.Memo.{SaysAllRight, SaysMemoRefusal, memo_refusal, tally_lines, value_of};
 ghost use Rattle.dashcheck.specs.Threads.{IsSize};
 ghost use Rattle.dashcheck.specs.inner.Memo.{AreAllRight, EachAllRight};
 
@@ -34,9 +34,9 @@ pub enum Refusal {
 
 impl fmt::Display for Refusal {
     ghost use Rattle.std.specs.Prelude.{Some};
-    ghost use Rattle.dashcheck.specs.Memo.{refusal_text};
+    ghost use Rattle.dashcheck.specs.Memo.{memo_refusal};
 
-    ghost output = { λ refusal. Some (refusal_text refusal) };
+    ghost output = { λ refusal. Some (memo_refusal refusal) };
 
     fn fmt<W: fmt::Write>(&self, f: &mut fmt::Formatter<W>) -> fmt::Result {
         match self {
@@ -91,7 +91,7 @@ pub fn run<T: Threads + Wait + Clock + Sync, O: Write, E: Write>(
     ensures good { result ≡ Ok Status.Good
         → SaysAllRight callers keys (O.contents output.old) (O.contents output.new) × (errors.new ≡ errors.old) }
     ensures refused { result ≡ Ok Status.Refused
-        → SaysRefusal (E.contents errors.old) (E.contents errors.new) × (output.new ≡ output.old) }
+        → SaysMemoRefusal (E.contents errors.old) (E.contents errors.new) × (output.new ≡ output.old) }
 {
     let computed = AtomicU64::new(0);
     match tally_of(rt, alloc, callers, keys, &computed) {
@@ -121,7 +121,7 @@ fn tell<O: Write>(tally: Tally, computed: u64, output: &mut O) -> io::Result<Sta
 fn refuse<E: Write>(refusal: Refusal, errors: &mut E) -> io::Result<Status>
     ensures status { IfOk result (λ status. status ≡ Status.Refused) }
     ensures said { OnOk result
-        (Appends (E.contents errors.old) (E.contents errors.new) (refusal_text refusal ++ 10 ∷ [])) }
+        (Appends (E.contents errors.old) (E.contents errors.new) (memo_refusal refusal ++ 10 ∷ [])) }
 {
     writeln!(errors, "{refusal}")?;
     Ok(Status::Refused)
