@@ -4,21 +4,13 @@ mod Amounts
 pub mod BySlot
 mod Asking
 mod Carrying
-mod Changing
-mod Counting
 mod Counts
 pub mod Equals
-mod Exchanging
-mod Fitting
 mod Fours
-mod Handing
-mod HoldFields
 mod Kept
 pub mod Lawful
 mod Lanes
 pub mod Lending
-mod LockBorrows
-mod LockShown
 mod Marked
 pub mod Moving
 mod Odds
@@ -26,9 +18,7 @@ mod Slots
 mod Placing
 mod Positions
 pub mod Remade
-mod RoundParts
 mod Rewriting
-mod Rounds
 pub mod Routing
 pub mod Rows
 mod Searching
@@ -37,8 +27,5 @@ mod Shrinking
 mod Sweeping
 mod Tells
 pub mod Unions
-mod Walking
 mod Ways
-mod WordSteps
-mod Words
 mod Written

@@ -6,8 +6,6 @@ pub mod Search
 pub mod Held
 pub mod Puts
 pub mod Guarded
-pub mod Lock
-pub mod LockState
 pub mod Closures
 pub mod Errors
 pub mod Each

@@ -2,59 +2,22 @@
 //!
 //! The word counts readers or says a writer, and has a mark for readers that wait and one for writers. It changes by the events of
 //! `LockEvent` alone, each one atomic step. Whoever can't have the lock spins, pauses for longer each time, and then sets its mark and sleeps.
-ghost use Rattle.std.specs.Prelude.{◌≡◌, ℕ, Option, Some, IfSome};
-ghost use Rattle.std.specs.Borrow.{Lends, sem};
+ghost use Rattle.std.specs.Prelude.{◌≡◌, IfSome};
 ghost use Rattle.std.specs.Fn.{FnOnceReturnsAtMut, FnOnceTakesAtMut};
-ghost use Rattle.std.specs.Map.Iter.{deref_pair_mut};
-ghost use Rattle.dash_shard.specs.Guarded.{KeepsFit};
-ghost use Rattle.dash_shard.specs.Lock.{FoundBehind, LeftBehind};
+ghost use Rattle.dash_lock.specs.KeepsFit.{KeepsFit};
+ghost use Rattle.dash_lock.specs.Lock.{FoundBehind, LeftBehind};
 
-use cell::Cell;
-use hold::Hold;
-use sleepers::Sleepers;
+use dash_lock::cell::Cell;
+use dash_lock::hold::Hold;
+use dash_lock::sleepers::Sleepers;
+pub use dash_lock::{Lendable, Tagged, word};
 use std::marker::Model;
 use std::mem::{self, ManuallyDrop};
 use std::ops::Deref;
 use std::rt::Clock;
 use std::sync::Wait;
 
-mod cell;
-pub(crate) mod hold;
 pub mod raw;
-mod sleepers;
-pub mod word;
-
-/// A type whose lock has a tag, fixed when the lock is made. Each value that the lock ever has fits it.
-pub trait Tagged {
-    type Tag;
-
-    /// Whether a value fits a tag.
-    ghost fits: { Self.Tag → Self → Type 0 };
-}
-
-/// A value that lends pairs of a key and a part while it stays behind its lock. Whatever is written in the part, the value fits as before.
-pub trait Lendable: Tagged {
-    type Key;
-
-    type Part;
-
-    /// Whether there is a pair at a position.
-    ghost has: { Self → ℕ → Type 0 };
-
-    /// The pair there.
-    ghost pair: { Self → ℕ → Option (Self.Key × Self.Part) };
-
-    /// The value with another part there.
-    ghost with: { Self → ℕ → Self.Part → Self };
-
-    /// Lends the pair, its part to be written.
-    fn pair_mut(&mut self, position: usize) -> (&Self::Key, &mut Self::Part)
-        requires { has self.old position }
-        ensures* writes_back { sem 𝓛 (Lends Self.row Self.Part.row self.entry result.1 (with self.old position)) }
-        ensures pair { pair self.old position ≡ Some (deref_pair_mut result) }
-        ensures keeps { (tag : Self.Tag) (w : Self.Part) → Self.fits tag self.old → Self.fits tag (with self.old position w) }
-        ensures stays { (w : Self.Part) (j : ℕ) → has self.old j → has (with self.old position w) j };
-}
 
 /// A value behind a reader-writer lock, as the original's `RwLock` over its `RawRwLock`. A contract sees a lock as its tag.
 ///

@@ -2,10 +2,10 @@
 ghost use Rattle.std.specs.Prelude.{◌≡◌, IfOk, IfSome};
 ghost use Rattle.dash_shard.specs.inner.IsHold.{IsHold};
 
-use super::hold::Hold;
-use super::word::{MOST_READERS, ONE_READER, ONE_WRITER};
 use super::{RwLock, Tagged};
 use crossbeam_utils::Backoff;
+use dash_lock::hold::Hold;
+use dash_lock::word::{MOST_READERS, ONE_READER, ONE_WRITER};
 use std::marker::Model;
 use std::rt::Clock;
 use std::snapshot::Snapshot;

@@ -8,7 +8,7 @@ ghost use Rattle.dash_shard.specs.Steps.{Get, Contains, Pair, Found, Remove, Rem
 ghost use Rattle.dash_shard.specs.Shard.{slot, with_value_in, pairs, shard_len, Routes, IsShard, RepliesOn, TakesInPlace, TakesBy};
 ghost use Rattle.dash_shard.specs.Closures.{MayAsk, Viewed, MayChange, ChangesOn, MayGive, Answered, Given};
 ghost use Rattle.dash_shard.specs.Held.{FitsTag, Inserts, Reserves, Loses};
-ghost use Rattle.dash_shard.specs.Lock.{LeftBehind};
+ghost use Rattle.dash_lock.specs.Lock.{LeftBehind};
 
 use crate::error::TryReserveError;
 use crate::keyed::Keyed;

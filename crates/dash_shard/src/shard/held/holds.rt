@@ -4,14 +4,14 @@ ghost use Rattle.std.specs.Prelude.{◌≡◌, ℕ, IsSome, Some, refl};
 ghost use Rattle.std.specs.Borrow.{Lends, sem};
 ghost use Rattle.std.specs.Map.Iter.{deref_pair_mut};
 ghost use Rattle.dash_shard.specs.Hashing.{by};
-ghost use Rattle.dash_shard.specs.Lock.{LeftBehind};
+ghost use Rattle.dash_lock.specs.Lock.{LeftBehind};
 ghost use Rattle.dash_shard.specs.Shard.{slot, with_value_in};
 ghost use Rattle.dash_shard.specs.inner.Lending.{KeepsTag};
 
 use super::ShardTag;
-use crate::lock::hold::Hold;
 use crate::lock::{RwLock, Tagged};
 use crate::shard::Shard;
+use dash_lock::hold::Hold;
 use std::hash::{BuildHasher, Hash};
 
 /// A hold to write of a shard's lock.
@@ -73,7 +73,7 @@ impl<'a, K: Eq + Hash, V, S: BuildHasher> Holds for Hold<'a, Shard<K, V, S>> {
 
     type Lock = &'a RwLock<Shard<K, V, S>>;
 
-    ghost use Rattle.dash_shard.specs.inner.Lending.{with_held};
+    ghost use Rattle.dash_lock.specs.inner.Lending.{with_held};
 
     ghost right = { λ h. h.right };
 

@@ -1,5 +1,6 @@
 use Rattle.std.proofs.Common.{subst, sym}
-use Rattle.dash_shard.specs.Guarded.{Guarded, KeepsFit}
+use Rattle.dash_lock.specs.KeepsFit.{KeepsFit}
+use Rattle.dash_shard.specs.Guarded.{Guarded}
 use Rattle.dash_shard.proofs.lock.RwLockWriteGuard.change.Goals as goal
 
 -- what the caller knows of the guard, of the fields

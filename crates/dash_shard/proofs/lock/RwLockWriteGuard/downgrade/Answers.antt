@@ -1,4 +1,4 @@
-use Rattle.dash_shard.specs.Lock.{left}
+use Rattle.dash_lock.specs.Lock.{left}
 use Rattle.dash_shard.proofs.lock.RwLockWriteGuard.downgrade.Goals as goal
 
 -- the lock has what the guard held

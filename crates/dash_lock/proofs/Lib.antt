@@ -1,0 +1,13 @@
+mod Changing
+mod Counting
+mod Exchanging
+mod Fitting
+mod Handing
+mod HoldFields
+mod LockBorrows
+mod LockShown
+mod RoundParts
+mod Rounds
+mod Walking
+mod WordSteps
+mod Words

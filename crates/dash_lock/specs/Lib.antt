@@ -1,0 +1,4 @@
+pub mod Lock
+pub mod LockState
+pub mod KeepsFit
+pub mod inner
