@@ -6,7 +6,7 @@ use Rattle.std.specs.Cmp.{IsEquivalence}
 use Rattle.crossbeam_utils.specs.declared.cache_padded.CachePadded.{CachePadded}
 use Rattle.crossbeam_utils.specs.Padded.{padded_value}
 use Rattle.dash_shard.specs.Hashing.{KeyHash, IsAmount, HashAlike}
-use Rattle.dash_shard.specs.Lock.{FoundBehind, LeftBehind}
+use Rattle.dash_lock.specs.Lock.{FoundBehind, LeftBehind}
 use Rattle.dash_shard.specs.inner.Rows.{Moved}
 use Rattle.dash_shard.proofs.Rows.{moved-length, moved-from, moved-to}
 use Rattle.dash_history.specs.declared.record.held.RecTag.{RecTag}

@@ -5,7 +5,7 @@ use Rattle.std.proofs.lemmas.Result.{IfOk-weaker}
 use Rattle.dash_parallel.specs.Apart.{steps_of}
 use Rattle.dash_parallel.specs.Lanes.{LaneRan}
 use Rattle.dash_shard.specs.Hashing.{KeyHash, route_by}
-use Rattle.dash_shard.specs.Lock.{FoundBehind, LeftBehind}
+use Rattle.dash_lock.specs.Lock.{FoundBehind, LeftBehind}
 use Rattle.dash_shard.specs.Shard.{ShardState, IsTagged}
 use Rattle.dash_shard.proofs.Routing.{route_below}
 use Rattle.dash_map.specs.Extend.{PutsAll, PutsBehind, PutsEachBehind}

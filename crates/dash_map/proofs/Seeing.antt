@@ -10,7 +10,7 @@ use Rattle.std.specs.Map.Iter.{deref_pair}
 use Rattle.dash_shard.proofs.Rows.{each-more as put-more}
 use Rattle.dash_shard.specs.Hashing.{KeyHash, IsAmount, route_by}
 use Rattle.dash_shard.specs.Contents.{at}
-use Rattle.dash_shard.specs.Lock.{FoundBehind, LeftBehind}
+use Rattle.dash_lock.specs.Lock.{FoundBehind, LeftBehind}
 use Rattle.dash_shard.specs.Shard.{ShardState, SameShard, EachAt, Routes, IsShard, IsTagged, pairs, shard_len}
 use Rattle.dash_map.specs.Alone.{AloneState, IsAlone, KeepsRoom}
 use Rattle.dash_map.specs.Behind.{AreBehind, SawShard, SawShards, StandsAt, LeavesShard, LeavesShards}

@@ -6,7 +6,7 @@ ghost use Rattle.dash_shard.specs.Errors.{IsOneOf};
 ghost use Rattle.dash_shard.specs.Shard.{EachAt, IsTagged};
 ghost use Rattle.dash_shard.specs.declared.error.ConstructError.TheVariants.{ShardAmount, CapacityOverflow, Memory};
 ghost use Rattle.dash_shard.specs.Held.{FitsTag};
-ghost use Rattle.dash_shard.specs.Lock.{FoundBehind, LeftBehind};
+ghost use Rattle.dash_lock.specs.Lock.{FoundBehind, LeftBehind};
 ghost use Rattle.dash_map.specs.Amounts.{Overflows};
 ghost use Rattle.dash_map.specs.Extend.{HasNoRoom};
 ghost use Rattle.dash_map.specs.inner.Amounts.{share};

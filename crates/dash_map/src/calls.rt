@@ -5,7 +5,7 @@ ghost use Rattle.std.specs.Option.{option_map};
 ghost use Rattle.std.specs.Map.Iter.{deref_pair};
 ghost use Rattle.dash_shard.specs.Closures.{MayAsk, Viewed, MayChange, ChangesOn, MayGive, Answered, Given};
 ghost use Rattle.dash_shard.specs.Contents.{at};
-ghost use Rattle.dash_shard.specs.Lock.{FoundBehind};
+ghost use Rattle.dash_lock.specs.Lock.{FoundBehind};
 ghost use Rattle.dash_shard.specs.Shard.{pairs, IsShard};
 ghost use Rattle.dash_map.specs.Behind.{SawShards, LeavesShard, SawAt, LeavesShards, IsShardOf, Removes, RemovesBy, AltersBy};
 ghost use Rattle.dash_map.specs.Gets.{IsGot, IsGotMut};

@@ -5,7 +5,7 @@ ghost use Rattle.std.specs.Map.Iter.{deref_pair};
 ghost use Rattle.dash_shard.specs.Hashing.{by};
 ghost use Rattle.dash_shard.specs.Contents.{at};
 ghost use Rattle.dash_map.specs.Alone.{IsAlone, contents, len_in, room_in};
-ghost use Rattle.dash_shard.specs.Lock.{FoundBehind, LeftBehind};
+ghost use Rattle.dash_lock.specs.Lock.{FoundBehind, LeftBehind};
 ghost use Rattle.dash_map.specs.Behind.{AreBehind};
 ghost use Rattle.dash_map.specs.Copies.{CopiesAlone};
 ghost use Rattle.dash_shard.specs.Hashing.{HashAlike};

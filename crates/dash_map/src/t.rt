@@ -4,7 +4,7 @@ ghost use Rattle.std.specs.Map.Calls.{CalledAtPair, TakesPair};
 ghost use Rattle.dash_shard.specs.Closures.{MayAsk, Viewed, MayChange, ChangesOn, MayGive, Answered, Given};
 ghost use Rattle.dash_shard.specs.Each.{CalledOnPair, TakesOnPair};
 ghost use Rattle.dash_shard.specs.Held.{Inserts};
-ghost use Rattle.dash_shard.specs.Lock.{FoundBehind};
+ghost use Rattle.dash_lock.specs.Lock.{FoundBehind};
 ghost use Rattle.dash_shard.specs.Steps.{RemoveIf, RemoveIfMut};
 ghost use Rattle.dash_map.specs.Alone.{contents, len_in, room_in};
 ghost use Rattle.dash_map.specs.AllPairs.{ClearsAlone, ShrinksAlone, RetainsAlone, AltersAllAlone};

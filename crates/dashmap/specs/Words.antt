@@ -3,7 +3,7 @@ pub use Rattle.dash_parallel.specs.Apart.{EachPart, RanFront, RanWhole, TakenInT
 pub use Rattle.dash_shard.specs.Contents.{at}
 pub use Rattle.dash_shard.specs.Hashing.{IsAmount, HashAlike, route_by}
 pub use Rattle.dash_shard.specs.Held.{Inserts, Loses}
-pub use Rattle.dash_shard.specs.Lock.{FoundBehind, LeftBehind, Leaves}
+pub use Rattle.dash_lock.specs.Lock.{FoundBehind, LeftBehind, Leaves}
 pub use Rattle.dash_shard.specs.Puts.{PutsPair}
 pub use Rattle.dash_shard.specs.Shard.{ShardState, slot, pairs, shard_len, HasKey, IsShard, IsTagged, RepliesOn, TakesInPlace}
 pub use Rattle.dash_shard.specs.Steps.{Step, Reply, Get, Contains, Insert, Remove, RemoveIf, RemoveIfMut, Alter, Read, Count, AlterAll, Retain, Pair, Found, Old, Number, Pairs, Done}

@@ -1,7 +1,7 @@
 //! A recorded map that threads share, and its two moves: shards out of their locks, and behind them again.
 ghost use Rattle.std.specs.Prelude.{◌∷◌, [], ◌≡◌, ◌<◌, ◌↔◌, Some, IsErrOf, IfOk, IfErr, IfSome, length};
 ghost use Rattle.crossbeam_utils.specs.Padded.{padded_value};
-ghost use Rattle.dash_shard.specs.Lock.{FoundBehind, LeftBehind};
+ghost use Rattle.dash_lock.specs.Lock.{FoundBehind, LeftBehind};
 ghost use Rattle.dash_shard.specs.Shard.{EachAt};
 ghost use Rattle.dash_shard.specs.Errors.{IsOneOf};
 ghost use Rattle.dash_shard.specs.declared.error.ConstructError.TheVariants.{Callers, Memory, ShardAmount};

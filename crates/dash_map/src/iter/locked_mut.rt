@@ -5,7 +5,7 @@ ghost use Rattle.std.specs.Iterator.{size};
 ghost use Rattle.std.specs.Borrow.{Lends, sem};
 ghost use Rattle.std.specs.Map.Iter.{deref_pair_mut};
 ghost use Rattle.dash_shard.specs.Hashing.{by};
-ghost use Rattle.dash_shard.specs.Lock.{FoundBehind, LeftBehind};
+ghost use Rattle.dash_lock.specs.Lock.{FoundBehind, LeftBehind};
 ghost use Rattle.dash_ref.specs.Multi.{lent_pair, lent_value};
 ghost use Rattle.dash_map.specs.Behind.{IsShardOf};
 ghost use Rattle.dash_map.specs.Walking.{IterState, IsDone, at_start, steps_left};

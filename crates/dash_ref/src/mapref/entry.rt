@@ -6,7 +6,7 @@ ghost use Rattle.dash_ref.specs.RefMut.{rewritten, stored};
 ghost use Rattle.dash_ref.specs.Entry.{MayModify, Modified, Puts, PutsCopy, revalued};
 ghost use Rattle.dash_ref.specs.EntryCases.{MatchEntry, entry_shard, IsEntryOf};
 ghost use Rattle.dash_shard.specs.Hashing.{by};
-ghost use Rattle.dash_shard.specs.Lock.{LeftBehind};
+ghost use Rattle.dash_lock.specs.Lock.{LeftBehind};
 ghost use Rattle.dash_shard.specs.Shard.{Routes, IsShard};
 
 use crate::mapref::one::RefMut;

@@ -7,7 +7,7 @@ ghost use Rattle.dash_shard.specs.Contents.{at};
 ghost use Rattle.dash_shard.specs.Steps.{Insert, Old, Pair, Remove, RemoveIf};
 ghost use Rattle.dash_map.specs.Alone.{IsAlone, TakesAlone, TakesAloneBy, contents, len_in};
 ghost use Rattle.dash_map.specs.AllPairs.{ClearsAlone, RetainsAlone};
-ghost use Rattle.dash_shard.specs.Lock.{FoundBehind, LeftBehind};
+ghost use Rattle.dash_lock.specs.Lock.{FoundBehind, LeftBehind};
 ghost use Rattle.dash_map.specs.Behind.{AreBehind};
 ghost use Rattle.dash_map.specs.Extend.{HasNoRoom};
 ghost use Rattle.dashmap.specs.Set.{AnsweredKey, CalledAtKey, MayAskKey, TakesKey, keys_of, member, stood};

@@ -5,7 +5,7 @@ ghost use Rattle.std.specs.Borrow.{Lends, sem};
 ghost use Rattle.std.specs.Map.Iter.{deref_pair, deref_pair_mut};
 ghost use Rattle.dash_shard.specs.Hashing.{by};
 ghost use Rattle.dash_shard.specs.Contents.{at};
-ghost use Rattle.dash_shard.specs.Lock.{LeftBehind};
+ghost use Rattle.dash_lock.specs.Lock.{LeftBehind};
 ghost use Rattle.dash_shard.specs.Shard.{slot, pairs, HasKey};
 ghost use Rattle.dash_ref.specs.Ref.{Stands};
 ghost use Rattle.dash_ref.specs.RefMut.{stored, rewritten, GetsMut};
