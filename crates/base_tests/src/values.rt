@@ -1,5 +1,5 @@
 //! Keys and values for tests.
-use dash_steps::kept::Kept;
+use dash_kept::Kept;
 use std::alloc::AllocError;
 
 /// A name with a note, which says nothing to `==` and to hashers.

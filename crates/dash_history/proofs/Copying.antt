@@ -1,12 +1,12 @@
 -- Copies of the pairs of a row of shards, as far as the loop has come.
 use Rattle.std.proofs.Common.{◌≡◌, ℕ, ◌+◌, ◌<◌, ◌≤◌, Bool, true, IsTrue, List, [], ◌++◌, flat_map, length, get_or, drop, sym, ap, subst, ◌∙◌, drop_of_length-le, append_assoc, append-nil}
 use Rattle.dash_shard.specs.Shard.{pairs}
-use Rattle.dash_steps.specs.Alike.{alike_pair}
+use Rattle.dash_kept.specs.Alike.{alike_pair}
 use Rattle.dash_steps.specs.inner.Copied.{alike_pairs}
 use Rattle.std.specs.Cmp.Lexicographic.{pointwise}
 use Rattle.dash_history.specs.History.{RecState}
 use Rattle.dash_steps.specs.inner.Sweep.{AddsAlike}
-use Rattle.dash_steps.proofs.Items.{alike-append}
+use Rattle.dash_kept.proofs.Items.{alike-append}
 use Rattle.dash_history.proofs.Placing.{drop-next}
 
 module _ {K V A S : Type 0} (k : K → K → Bool) (v : V → V → Bool) (row : List (RecState K V A S)) where

@@ -4,7 +4,7 @@ use Rattle.std.specs.List.{Contains, filter_map}
 use Rattle.dash_shard.specs.Shard.{EachAt, pairs}
 use Rattle.std.specs.Option.{option_eq}
 use Rattle.std.specs.Cmp.Lexicographic.{pointwise}
-use Rattle.dash_steps.specs.Alike.{alike_pair}
+use Rattle.dash_kept.specs.Alike.{alike_pair}
 use Rattle.dash_steps.specs.Steps.{alike_record}
 use Rattle.dash_steps.specs.Takes.{Known, Runs}
 use Rattle.dash_history.specs.History.{LogState, done}

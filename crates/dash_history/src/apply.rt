@@ -6,8 +6,8 @@ ghost use Rattle.dash_history.specs.declared.record.RecordFault.TheVariants.{Las
 use crate::known::Recorded;
 use crate::record::map::RecordedMap;
 use crate::record::{CallerLog, RecordFault};
+use dash_kept::{Kept, KeptKey};
 use dash_steps::action::KeptAction;
-use dash_steps::kept::{Kept, KeptKey};
 use dash_steps::step::{Reply, ShardStep};
 use std::hash::BuildHasher;
 use std::rt::Clock;

@@ -11,8 +11,8 @@ use crate::known::Recorded;
 use crate::record::CallerLog;
 use crate::record::map::RecordedMap;
 use core::mem::replace_with;
+use dash_kept::{Kept, KeptKey};
 use dash_steps::action::KeptAction;
-use dash_steps::kept::{Kept, KeptKey};
 use std::hash::BuildHasher;
 use thiserror::Error;
 

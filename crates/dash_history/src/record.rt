@@ -12,9 +12,9 @@ ghost use Rattle.dash_history.specs.Refused.{Records};
 ghost use Rattle.dash_history.specs.Alone.{IsFresh};
 
 use crate::known::Recorded;
+use dash_kept::{Kept, KeptKey};
 use dash_shard::shard::{Iter, Shard};
 use dash_steps::action::KeptAction;
-use dash_steps::kept::{Kept, KeptKey};
 use dash_steps::step::{Record, Reply, ShardStep};
 use plan::{carry_out, find, prepare};
 use std::alloc::{AllocError, Global};

@@ -3,7 +3,7 @@ use Rattle.std.specs.Prelude.{◌≡◌, Bool, IsTrue, length}
 use Rattle.std.specs.Option.{option_eq}
 use Rattle.dash_shard.specs.Contents.{at}
 use Rattle.dash_shard.specs.Shard.{ShardState, pairs, shard_len}
-use Rattle.dash_steps.specs.Alike.{alike_pair}
+use Rattle.dash_kept.specs.Alike.{alike_pair}
 use Rattle.dash_map.specs.Alone.{AloneState, EachShard}
 
 -- by which keys are equal, which keys and values are alike, and which hasher is a clone

@@ -1,7 +1,7 @@
 -- Copies of the pairs of a map.
 use Rattle.std.specs.Prelude.{Bool, List, IsTrue}
 use Rattle.std.specs.Cmp.Lexicographic.{pointwise}
-use Rattle.dash_steps.specs.Alike.{alike_pair}
+use Rattle.dash_kept.specs.Alike.{alike_pair}
 use Rattle.dash_map.specs.Alone.{AloneState, contents}
 
 -- a copy of each pair of the map, once, in the order of its shards and slots

@@ -10,10 +10,10 @@ ghost use Rattle.dash_map.specs.inner.Copies.{PutsCopy, IsCopied, AreCopied};
 
 use crate::alone::Alone;
 use crate::map::DashMap;
+use dash_kept::{Kept, KeptKey};
 use dash_shard::keyed::Keyed;
 use dash_shard::row::Row;
 use dash_shard::shard::Shard;
-use dash_steps::kept::{Kept, KeptKey};
 use std::alloc::{AllocError, Global};
 use std::hash::BuildHasher;
 use std::rt::Clock;

@@ -6,8 +6,8 @@ ghost use Rattle.dash_map.specs.Pairs.{CopiesPairs};
 
 use crate::alone::Alone;
 use crate::map::DashMap;
+use dash_kept::Kept;
 use dash_shard::keyed::Keyed;
-use dash_steps::kept::Kept;
 use dash_steps::sweep::add_copies;
 use std::alloc::AllocError;
 use std::hash::{BuildHasher, Hash};

@@ -2,7 +2,6 @@ pub mod AlikeLaws
 pub mod Copies
 pub mod Finding
 pub mod Frames
-pub mod Items
 pub mod Planning
 pub mod Preparing
 pub mod Sweeping

@@ -1,12 +1,10 @@
--- When two values are alike, where keys and values say when theirs are: the same numbers, bytes and items.
-use Rattle.std.specs.Prelude.{◌==◌, ◌&&◌, Bool, true, false}
+-- When two replies are alike, where keys and values say when theirs are.
+use Rattle.std.specs.Prelude.{◌==◌, Bool, true, false}
 use Rattle.std.specs.Bool.{beq}
 use Rattle.std.specs.Option.{option_eq}
 use Rattle.std.specs.Cmp.Lexicographic.{pointwise}
+use Rattle.dash_kept.specs.Alike.{alike_pair}
 use Rattle.dash_shard.specs.Steps.{Reply, Pair, Found, Old, Pairs, Number, Done}
-
-abbrev pub alike_pair : {K V : Type 0} → (K → K → Bool) → (V → V → Bool) → K × V → K × V → Bool
-alike_pair k v p q = k p.0 q.0 && v p.1 q.1
 
 abbrev pub alike_reply : {K V : Type 0} → (K → K → Bool) → (V → V → Bool) → Reply K V → Reply K V → Bool
 alike_reply k v (Pair o) (Pair p) = option_eq (alike_pair k v) o p

@@ -1,10 +1,9 @@
-//! Steps of a sharded hash map and their replies as values, exact copies of keys and values, and actions.
+//! Steps of a sharded hash map and their replies as values, and actions.
 //! Each step is of one shard. What it does is decided on copies, before anything changes.
 #![tactic(auto)]
 
 pub mod action;
 pub mod change;
-pub mod kept;
 pub mod step;
 pub mod sweep;
 pub mod take;

@@ -9,9 +9,9 @@ ghost use Rattle.dash_steps.specs.inner.Take.{Goes, goes-after};
 
 use crate::action::Action;
 use crate::change::{copy_found, look, make_change, plan_asked};
-use crate::kept::{Kept, KeptKey};
 use crate::step::{Reply, ShardStep};
 use crate::sweep::copy_pairs;
+use dash_kept::{Kept, KeptKey};
 use dash_parallel::part::Part;
 use dash_shard::keyed::Keyed;
 use dash_shard::shard::Shard;

@@ -12,8 +12,9 @@ use Rattle.std.proofs.lemmas.List.{drop_all}
 use Rattle.dash_shard.specs.Contents.{at, Distinct, EachOnce}
 use Rattle.dash_shard.specs.Steps as table
 use Rattle.dash_shard.specs.inner.Steps.{Replies, after, step_shard}
-use Rattle.dash_steps.specs.Alike.{alike_pair, alike_reply}
-use Rattle.dash_steps.specs.inner.AlikeLaws.{pair_equiv}
+use Rattle.dash_kept.specs.Alike.{alike_pair}
+use Rattle.dash_steps.specs.Alike.{alike_reply}
+use Rattle.dash_kept.specs.inner.AlikeLaws.{pair_equiv}
 use Rattle.dash_steps.specs.Steps.{reply_of}
 use Rattle.dash_steps.specs.Takes.{Answers, Takes, Runs}
 use Rattle.dash_steps.specs.declared.step.ShardStep.{ShardStep}

@@ -13,6 +13,7 @@
 //!   somebody may choose keys that all go to one shard and one group of slots.
 #![tactic(auto)]
 
+pub use dash_kept::{Kept, KeptKey};
 pub use dash_map::alone::Alone;
 pub use dash_map::map::DashMap;
 pub use dash_map::read_only::ReadOnlyView;
@@ -21,7 +22,6 @@ pub use dash_map::waiting::Waiting;
 pub use dash_ref::mapref::entry::{Entry, OccupiedEntry, VacantEntry};
 pub use dash_ref::util::SharedValue;
 pub use dash_shard::error::TryReserveError;
-pub use dash_steps::kept::{Kept, KeptKey};
 pub use memo::Memo;
 pub use set::DashSet;
 

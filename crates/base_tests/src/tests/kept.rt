@@ -1,5 +1,5 @@
 //! Copies of numbers, texts and wholes.
-use dash_steps::kept::{Kept, KeptKey};
+use dash_kept::{Kept, KeptKey};
 use std::alloc::AllocError;
 
 // At the bound, as generic code calls them.

@@ -11,9 +11,9 @@ ghost use Rattle.dash_steps.specs.Takes.{known};
 
 use super::{CallerLog, RecShard, RecordFault};
 use crate::known::Recorded;
+use dash_kept::{Kept, KeptKey};
 use dash_shard::lock::{RwLockWriteGuard, Tagged};
 use dash_steps::action::KeptAction;
-use dash_steps::kept::{Kept, KeptKey};
 use dash_steps::step::{Reply, ShardStep};
 use std::hash::BuildHasher;
 use std::marker::Model;

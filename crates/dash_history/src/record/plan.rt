@@ -10,11 +10,11 @@ ghost use Rattle.core.specs.Result.{result_ok};
 
 use crate::known::Recorded;
 use crate::record::RecShard;
+use dash_kept::{Kept, KeptKey};
 use dash_shard::keyed::Keyed;
 use dash_shard::shard::{InsertRefused, Shard};
 use dash_steps::action::KeptAction;
 use dash_steps::change::{Change, copy_found, look, make_change, plan_asked};
-use dash_steps::kept::{Kept, KeptKey};
 use dash_steps::step::{Reply, ShardStep};
 use dash_steps::sweep::{ask_each, copy_pairs, put_each};
 use std::alloc::{AllocError, Global};

@@ -2,11 +2,11 @@
 use crate::tests::checks::{is, prints};
 use crate::tests::maps::{map_of_four, put};
 use base_tests::values::Uncopied;
+use dash_kept::Kept;
 use dash_map::alone::Alone;
 use dash_map::run::{Fault, RunOutcome};
 use dash_shard::hash::PlaceState;
 use dash_steps::action::Action;
-use dash_steps::kept::Kept;
 use dash_steps::step::ShardStep;
 use std::alloc::Global;
 use std::process::Abort;

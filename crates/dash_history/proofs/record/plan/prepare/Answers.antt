@@ -6,7 +6,7 @@ use Rattle.dash_shard.specs.Steps.{Pair, Found, Old, Pairs, Number, Done}
 use Rattle.dash_shard.specs.inner.Steps.{value}
 use Rattle.dash_shard.specs.Shard.{pairs}
 use Rattle.std.specs.Cmp.Lexicographic.{pointwise}
-use Rattle.dash_steps.specs.Alike.{alike_pair}
+use Rattle.dash_kept.specs.Alike.{alike_pair}
 use Rattle.dash_steps.specs.Steps.{step_of}
 use Rattle.dash_steps.proofs.AlikeLaws.{reply_equiv}
 use Rattle.dash_steps.proofs.Finding.{found-pair, found-taken, planned-answers, planned-fits}

@@ -1,6 +1,6 @@
 use Rattle.std.proofs.Common.{true, false, sym, arith, ◌∙◌}
-use Rattle.dash_steps.proofs.Items.{first, last}
-use Rattle.dash_steps.proofs.kept.wholes.VecKept.same.Goals as goal
+use Rattle.dash_kept.proofs.Items.{first, last}
+use Rattle.dash_kept.proofs.wholes.VecKept.same.Goals as goal
 
 pub returns-then-not-same : goal.returns-then-not-same
 returns-then-not-same g c =

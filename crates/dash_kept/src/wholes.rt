@@ -2,10 +2,10 @@
 ghost use Rattle.std.specs.Prelude.{◌≡◌};
 ghost use Rattle.std.specs.Option.{option_eq};
 ghost use Rattle.std.specs.Cmp.Lexicographic.{lists_equiv, options_equiv, pointwise};
-ghost use Rattle.dash_steps.specs.Alike.{alike_pair};
-ghost use Rattle.dash_steps.specs.inner.AlikeLaws.{list_equal, option_equal, pair_equal, pair_equiv};
+ghost use Rattle.dash_kept.specs.Alike.{alike_pair};
+ghost use Rattle.dash_kept.specs.inner.AlikeLaws.{list_equal, option_equal, pair_equal, pair_equiv};
 
-use crate::kept::{Kept, KeptKey};
+use crate::{Kept, KeptKey};
 use std::alloc::AllocError;
 
 impl<A: Kept + Drop, B: Kept> Kept for (A, B) {

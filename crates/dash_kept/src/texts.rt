@@ -5,7 +5,7 @@ ghost use Rattle.std.specs.Cmp.{bool_eq_equiv, nat_eq_equiv};
 ghost use Rattle.std.specs.Cmp.Derive.{point_equiv};
 ghost use Rattle.std.specs.String.{string_eq, string_eq_equiv};
 
-use crate::kept::{Kept, KeptKey};
+use crate::{Kept, KeptKey};
 use std::alloc::AllocError;
 
 impl Kept for bool {

@@ -1,6 +1,6 @@
 use Rattle.std.proofs.Common.{arith}
-use Rattle.dash_steps.proofs.Items.{copied}
-use Rattle.dash_steps.proofs.kept.wholes.VecKept.copy.Goals as goal
+use Rattle.dash_kept.proofs.Items.{copied}
+use Rattle.dash_kept.proofs.wholes.VecKept.copy.Goals as goal
 
 pub loop-i-preserved : goal.loop-i-preserved
 loop-i-preserved g c =

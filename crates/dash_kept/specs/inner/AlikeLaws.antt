@@ -4,7 +4,7 @@ use Rattle.std.proofs.lemmas.Bool.{and_parts, and_from}
 use Rattle.std.specs.Cmp.{IsEquivalence}
 use Rattle.std.specs.Cmp.Lexicographic.{pointwise}
 use Rattle.std.specs.Option.{option_eq}
-use Rattle.dash_steps.specs.Alike.{alike_pair}
+use Rattle.dash_kept.specs.Alike.{alike_pair}
 
 module _ {K V : Type 0} {k : K → K → Bool} {v : V → V → Bool} (lk : IsEquivalence k) (lv : IsEquivalence v) where
   pub pair_equiv : IsEquivalence (alike_pair k v)

@@ -3,7 +3,7 @@ ghost use Rattle.std.specs.Prelude.{nat_eq};
 ghost use Rattle.std.specs.Ordering.{int_eq};
 ghost use Rattle.std.specs.Cmp.{nat_eq_equiv, int_eq_equiv};
 
-use crate::kept::{Kept, KeptKey};
+use crate::{Kept, KeptKey};
 use std::alloc::AllocError;
 
 impl Kept for u8 {

@@ -1,4 +1,6 @@
-//! Exact copies, and when two values are alike.
+//! Exact copies of keys and values, and when two values are alike.
+#![tactic(auto)]
+
 ghost use Rattle.std.specs.Prelude.{◌≡◌, Bool, true, IfOk, IsTrue};
 ghost use Rattle.std.specs.Cmp.{IsEquivalence};
 

@@ -1,0 +1,2 @@
+-- What only proofs use.
+pub mod AlikeLaws
