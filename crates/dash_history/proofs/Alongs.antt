@@ -3,7 +3,7 @@ use Rattle.std.proofs.Common.{◌≡◌, ℕ, ◌<◌, ◌==◌, ◌⊎◌, List
 use Rattle.std.proofs.lemmas.List.Elements.{same_from_all_zip}
 use Rattle.std.proofs.lemmas.Option.{same_Some}
 use Rattle.std.proofs.lemmas.Bool.{cases_eq, cases_lt}
-use Rattle.dash_history.specs.History.{Rises}
+use Rattle.dash_history.specs.History.{Rises, Follows, FollowOn, LogRises}
 use Rattle.dash_history.specs.OneHistory.{Earlier, IsMerge, record_at, along, of_shard, StampsStandInOrder}
 use Rattle.dash_steps.specs.declared.step.Record.{Record}
 use Rattle.dash_history.specs.declared.gather.At.{At}
@@ -45,6 +45,30 @@ module _ {K V A : Type 0} where
   pub rises-in_order : (low : ℕ) (h : List (Record K V A)) → Rises low h → InOrder Before h
   rises-in_order low [] rises = tt
   rises-in_order low (r ∷ h) rises = (λ q m. inl (rises-above r.stamp h rises.1 q m), rises-in_order r.stamp h rises.1)
+
+  follows-before : (a b c : Record K V A) → Follows a b → Before b c → Before a c
+  follows-before a b c (inl p) (inl q) = inl (omega (arith, p, q))
+  follows-before a b c (inl p) (inr q) = inl (omega (arith, p, q.0))
+  follows-before a b c (inr p) (inl q) = inl (omega (arith, p.0, q))
+  follows-before a b c (inr p) (inr q) = inr (omega (arith, p.0, q.0), omega (arith, p.1, q.1))
+
+  follows-is : (a b : Record K V A) → Follows a b → Before a b
+  follows-is a b (inl p) = inl p
+  follows-is a b (inr p) = inr (p.0, p.1)
+
+  after-all : (r : Record K V A) (rs : List (Record K V A)) → FollowOn r rs → (q : Record K V A) → Has rs q → Before r q
+  after-all r [] f q m = absurd m
+  after-all r (x ∷ rs) f q (inl e) = subst (Before r) e (follows-is r x f.0)
+  after-all r (x ∷ rs) f q (inr m) = follows-before r x q f.0 (after-all x rs f.1 q m)
+
+  follow-in_order : (r : Record K V A) (rs : List (Record K V A)) → FollowOn r rs → InOrder Before (r ∷ rs)
+  follow-in_order r [] f = ((λ q m. absurd m), tt)
+  follow-in_order r (x ∷ rs) f = ((λ q m. after-all r (x ∷ rs) f q m), follow-in_order x rs f.1)
+
+  -- the order of a log is that of the merge
+  pub log-in_order : (es : List (Record K V A)) → LogRises es → InOrder Before es
+  log-in_order [] rises = tt
+  log-in_order (r ∷ rs) rises = follow-in_order r rs rises.1
 
   -- each record names the shard in whose history it stands, and stamps rise there
   pub record Tidy (hs : List (List (Record K V A))) : Type 0 where

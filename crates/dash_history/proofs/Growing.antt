@@ -1,16 +1,24 @@
 -- Histories and logs that grow by one record.
-use Rattle.std.proofs.Common.{◌≡◌, ℕ, ◌<◌, List, [], ◌∷◌, ◌++◌, length, map, All, refl, sym, subst, arith}
+use Rattle.std.proofs.Common.{◌≡◌, ℕ, ◌<◌, List, [], ◌∷◌, ◌++◌, length, map, All, inl, refl, sym, subst, arith}
 use Rattle.std.proofs.lemmas.List.Elements.{All-append, All-cons, All-nil}
 use Rattle.std.proofs.lemmas.List.{map-append}
 use Rattle.dash_steps.specs.declared.step.Record.{Record}
 use Rattle.dash_steps.specs.Takes.{Kinds, Takes, Runs}
-use Rattle.dash_history.specs.History.{last_or, Rises, done, shard_of, IsHistory, LogState, IsLog}
+use Rattle.dash_history.specs.History.{last_or, Rises, FollowOn, LogRises, done, shard_of, IsHistory, LogState, IsLog}
 use Rattle.dash_steps.proofs.Copies.{runs-more}
 
 module _ {K V A : Type 0} where
   rises-more : (low : ℕ) (h : List (Record K V A)) (r : Record K V A) → Rises low h → last_or low h < r.stamp → Rises low (h ++ r ∷ [])
   rises-more low [] r rises above = (above, tt)
   rises-more low (q ∷ h) r rises above = (rises.0, rises-more q.stamp h r rises.1 above)
+
+  follow-more : (q : Record K V A) (h : List (Record K V A)) (r : Record K V A) → FollowOn q h → last_or q.stamp h < r.stamp → FollowOn q (h ++ r ∷ [])
+  follow-more q [] r follows above = (inl above, tt)
+  follow-more q (x ∷ h) r follows above = (follows.0, follow-more x h r follows.1 above)
+
+  log-rises-more : (h : List (Record K V A)) (r : Record K V A) → LogRises h → last_or 0 h < r.stamp → LogRises (h ++ r ∷ [])
+  log-rises-more [] r rises above = (above, tt)
+  log-rises-more (q ∷ h) r rises above = (rises.0, follow-more q h r rises.1 above)
 
   pub last_or-more : (low : ℕ) (h : List (Record K V A)) (r : Record K V A) → last_or low (h ++ r ∷ []) ≡ r.stamp
   last_or-more low [] r = refl
@@ -24,7 +32,7 @@ module _ {K V A : Type 0} where
       → entries ≡ l.entries ++ r ∷ [] → IsLog (record { caller = l.caller; last = last; entries = entries })
   log-more l r last entries log above stamp own e = rw e (record {
     of = all-more (λ q. q.caller ≡ l.caller) l.entries r log.of own;
-    rises = rises-more 0 l.entries r log.rises (omega (arith, log.last, above, stamp));
+    rises = log-rises-more l.entries r log.rises (omega (arith, log.last, above, stamp));
     last = omega (arith, last_or-more 0 l.entries r, stamp);
   })
 

@@ -3,7 +3,7 @@ use Rattle.std.proofs.Common.{◌≡◌, ◌==◌, ℕ, ◌&&◌, Bool, true, sy
 use Rattle.std.proofs.lemmas.Bool.{and_parts, and_from}
 use Rattle.std.specs.Cmp.{IsEquivalence, nat_eq_equiv}
 use Rattle.dash_steps.specs.declared.step.ShardStep.{ShardStep}
-use Rattle.dash_steps.specs.declared.step.ShardStep.TheVariants.{Get, Contains, Insert, Remove, RemoveIf, RemoveIfMut, Alter, Read, Count, AlterAll, Retain}
+use Rattle.dash_steps.specs.declared.step.ShardStep.TheVariants.{Get, Contains, Insert, Remove, RemoveIf, RemoveIfMut, Alter, Read, Count, AlterAll, Retain, CountPart, ReadPart}
 use Rattle.dash_steps.specs.declared.step.Reply as program
 use Rattle.dash_steps.specs.declared.step.Record.{Record}
 use Rattle.dash_steps.specs.Steps.{reply_of, alike_step, alike_record}
@@ -42,6 +42,8 @@ module _ {K V A : Type 0} {k : K → K → Bool} {v : V → V → Bool} {f : A �
   step-chained (Count i) (Count j) (Count l) h g = chained nat_eq_equiv i j l h g
   step-chained (AlterAll i a) (AlterAll j b) (AlterAll l c) h g = both_at i j l a b c h g
   step-chained (Retain i a) (Retain j b) (Retain l c) h g = both_at i j l a b c h g
+  step-chained (CountPart i) (CountPart j) (CountPart l) h g = chained nat_eq_equiv i j l h g
+  step-chained (ReadPart i) (ReadPart j) (ReadPart l) h g = chained nat_eq_equiv i j l h g
   step-chained x y z h g = cc
 
   -- what a record says, the same record says

@@ -94,6 +94,7 @@ module _ {K V A S : Type 0} (w : Known K V A S) (lk : IsEquivalence w.alike_key)
         left = IfOk-weaker result (λ reply. Recorded (kinds_of w s.shard) s s' l l' step reply) _
             (λ reply recorded. (s, subst (λ n. IsRecTagged w.keys m.hasher m.amount m.callers n s) goes at, legal, found, (s', put, subst (λ x. Recorded x s s' l l' step reply) same recorded))) r.ok;
         refused = MatchResult-weaker result r.refused (λ x p. p) (λ e h. (h.0, h.2));
-        no_such_shard = (λ e. absurd (never-missing result step r.faults e), λ le. let past : m.amount ≤ shard_of (kinds_on w m) step = le in absurd (omega (arith, goes, within, past)));
-        last_stamp = λ e. (s, subst (λ k. IsRecTagged w.keys m.hasher m.amount m.callers k s) goes at, legal, found, r.last_stamp.0 e);
+        part = r.part;
+        no_such_shard = (λ e. absurd (never-missing result step r.faults e), λ no. let past : m.amount ≤ shard_of (kinds_on w m) step = no.1 in absurd (omega (arith, goes, within, past)));
+        last_stamp = λ e. (s, subst (λ k. IsRecTagged w.keys m.hasher m.amount m.callers k s) goes at, legal, found, (r.last_stamp.0 e).1);
       }

@@ -4,12 +4,12 @@ use Rattle.std.specs.List.{AllZip}
 use Rattle.std.proofs.lemmas.Bool.{and_parts, and_from}
 use Rattle.std.proofs.lemmas.Option.{slice_get-get_or, slice_get_within}
 use Rattle.std.specs.Cmp.Lexicographic.{pointwise}
-use Rattle.dash_history.specs.History.{Rises}
+use Rattle.dash_history.specs.History.{LogRises}
 use Rattle.dash_history.specs.OneHistory.{IsMerge, along, of_shard, of_caller}
 use Rattle.dash_steps.specs.Steps.{alike_record}
 use Rattle.dash_steps.specs.declared.step.Record.{Record}
 use Rattle.dash_history.specs.declared.gather.At.{At}
-use Rattle.dash_history.proofs.Alongs.{Before, never, Tidy, rises-in_order, along-in_order, along-has, has-along, keeps-shard}
+use Rattle.dash_history.proofs.Alongs.{Before, never, Tidy, log-in_order, along-in_order, along-has, has-along, keeps-shard}
 use Rattle.dash_history.proofs.Members.{Has, has-kept, kept-has, in_order-kept, agree}
 
 module _ {X : Type 0} (e : X → X → Bool) where
@@ -79,12 +79,12 @@ module _ {K V A : Type 0} (k : K → K → Bool) (v : V → V → Bool) (f : A �
 
   module _ (hs : List (List (Record K V A))) (ats : List At) (tidy : Tidy hs) (merge : IsMerge hs ats) (j : ℕ) (entries : List (Record K V A)) where
     -- where of each shard the log says what the history says, so it does along the merge
-    pub order-from-match : Rises 0 entries → ((r : Record K V A) → Has entries r → r.shard < length hs)
+    pub order-from-match : LogRises entries → ((r : Record K V A) → Has entries r → r.shard < length hs)
         → ((s : ℕ) (h : List (Record K V A)) → slice_get hs s ≡ Some h → pointwise same (of_caller j h) (of_shard s entries) ≡ true) → pointwise same (of_caller j (along hs ats)) entries ≡ true
     order-from-match rises shards match = unzipped same (of_caller j (along hs ats)) entries
         (agree Before never (Like same) back forth (of_caller j (along hs ats)) entries
         (in_order-kept Before (λ r. r.caller == j) (along hs ats) (along-in_order hs ats tidy merge))
-        (rises-in_order 0 entries rises)
+        (log-in_order entries rises)
         (λ r m.
         let o = has-kept (λ r. r.caller == j) (along hs ats) r m in
         let g = along-has hs ats tidy merge r o.0 in

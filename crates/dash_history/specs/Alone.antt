@@ -4,6 +4,7 @@ use Rattle.std.specs.Option.{option_map_or}
 use Rattle.dash_shard.specs.Hashing.{KeyHash, IsAmount, HashAlike}
 use Rattle.dash_shard.specs.Shard.{EachAt, pairs}
 use Rattle.dash_steps.specs.Takes.{Known, kinds_at, Kinds}
+use Rattle.dash_steps.specs.Steps.{IsPart}
 use Rattle.dash_history.specs.History.{LogState, RecState, IsRecorded, Recorded, last_or, shard_of}
 use Rattle.dash_history.specs.Refused.{NoStamp}
 use Rattle.dash_steps.specs.declared.step.ShardStep.{ShardStep}
@@ -62,6 +63,6 @@ module _ {K V A S : Type 0} where
     pub recorded : Recorded (kinds_in w a) before after l l' step reply
     pub others : a' ≡ record a { row = slice_set a.row (shard_of (kinds_in w a) step) after }
 
-  -- the map has a shard of the step's number, and no stamp is above the shard's last and the log's
+  -- the step is no part, the map has a shard of its number, and no stamp is above the shard's last and the log's
   abbrev pub NoStampIn : Known K V A S → RecAloneState K V A S → LogState K V A → ShardStep K V A → Type 0
-  NoStampIn w a l step = (shard_of (kinds_in w a) step < length a.row) × NoStamp (last_at a (shard_of (kinds_in w a) step)) l.last
+  NoStampIn w a l step = (IsPart step → ⊥) × (shard_of (kinds_in w a) step < length a.row) × NoStamp (last_at a (shard_of (kinds_in w a) step)) l.last

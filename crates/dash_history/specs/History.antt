@@ -1,9 +1,9 @@
 -- The history of a shard and the log of a caller, and how both grow.
-use Rattle.std.specs.Prelude.{ℕ, ◌≡◌, ◌+◌, ◌<◌, ◌≤◌, max, List, [], ◌∷◌, ◌++◌, map, All, ⊤, IsTrue}
+use Rattle.std.specs.Prelude.{ℕ, ◌≡◌, ◌+◌, ◌<◌, ◌≤◌, ◌⊎◌, max, List, [], ◌∷◌, ◌++◌, map, All, ⊤, IsTrue}
 use Rattle.dash_shard.specs.Steps as table
 use Rattle.dash_shard.specs.Steps.{line, line_shard}
 use Rattle.dash_shard.specs.Shard.{ShardState, IsShard, SameShard, pairs}
-use Rattle.dash_steps.specs.Steps.{step_of, reply_of, alike_record}
+use Rattle.dash_steps.specs.Steps.{step_of, reply_of, alike_record, part_of, IsPart}
 use Rattle.dash_steps.specs.Takes.{Known, kinds_at, Kinds, Takes, Runs}
 use Rattle.dash_steps.specs.declared.step.ShardStep.{ShardStep}
 use Rattle.dash_steps.specs.declared.step.Reply.{Reply}
@@ -18,6 +18,20 @@ last_or low (r ∷ rs) = last_or r.stamp rs
 abbrev pub Rises : {K V A : Type 0} → ℕ → List (Record K V A) → Type 0
 Rises low [] = ⊤
 Rises low (r ∷ rs) = (low < r.stamp) × Rises r.stamp rs
+
+-- q stands after r in a log: at a later stamp, or it is a part of r's whole step, in a later shard
+abbrev pub Follows : {K V A : Type 0} → Record K V A → Record K V A → Type 0
+Follows r q = (r.stamp < q.stamp) ⊎ ((r.stamp ≡ q.stamp) × (r.shard < q.shard) × IsPart r.step × (part_of q.step ≡ part_of r.step))
+
+-- each record stands after the one before it
+abbrev pub FollowOn : {K V A : Type 0} → Record K V A → List (Record K V A) → Type 0
+FollowOn r [] = ⊤
+FollowOn r (q ∷ qs) = Follows r q × FollowOn q qs
+
+-- stamp and shard rise strictly, and stamps are equal among the parts of one whole step alone
+abbrev pub LogRises : {K V A : Type 0} → List (Record K V A) → Type 0
+LogRises [] = ⊤
+LogRises (r ∷ rs) = (0 < r.stamp) × FollowOn r rs
 
 -- what a record says was done: its step with its reply, in the words of the table
 abbrev pub done : {K V A : Type 0} → (A → table.Act K V) → Record K V A → table.Step K V × table.Reply K V
@@ -51,7 +65,7 @@ pub record LogState (K V A : Type 0) : Type 0 where
 -- caller log: the caller's own records, and the last stamp is not below theirs
 pub record IsLog {K V A : Type 0} (l : LogState K V A) : Type 0 where
   pub of : All (λ r. r.caller ≡ l.caller) l.entries
-  pub rises : Rises 0 l.entries
+  pub rises : LogRises l.entries
   pub last : last_or 0 l.entries ≤ l.last
 
 -- what contracts see of a recorded shard

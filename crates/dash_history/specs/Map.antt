@@ -3,11 +3,11 @@ use Rattle.std.specs.Prelude.{ℕ, ◌≡◌, ◌<◌, ◌↔◌, List, [], ◌�
 use Rattle.dash_shard.specs.Hashing.{KeyHash}
 use Rattle.dash_lock.specs.Lock.{FoundBehind, LeftBehind}
 use Rattle.dash_shard.specs.Shard.{EachAt}
-use Rattle.dash_steps.specs.Steps.{step_of, reply_of}
+use Rattle.dash_steps.specs.Steps.{step_of, reply_of, IsPart}
 use Rattle.dash_steps.specs.Takes.{Known, kinds_at, Kinds, Answers}
 use Rattle.dash_history.specs.History.{RecState, LogState, IsCopy, IsRecorded, NoShard, Recorded, shard_of}
 use Rattle.dash_history.specs.Alone.{RecAloneState, IsRecTagged, IsRecAlone}
-use Rattle.dash_history.specs.Refused.{NoStamp}
+use Rattle.dash_history.specs.Refused.{NoStamp, RefusesPart}
 use Rattle.dash_steps.specs.declared.step.ShardStep.{ShardStep}
 use Rattle.dash_steps.specs.declared.step.Reply.{Reply}
 use Rattle.dash_steps.specs.declared.step.Record.{Record}
@@ -69,10 +69,12 @@ pub record Logged {K V A : Type 0} (m : Kinds K V A) (l l' : LogState K V A) (st
   pub answers : Answers m.rules contents (step_of m.acts step) (reply_of reply)
 
 -- A step through the locks is taken and recorded on its shard, and logged with its reply. Or it is handed back, and the log is as
--- it was: for want of its shard exactly where the map has none, for want of a stamp only where none was left.
+-- it was: exactly where it is a part of a whole step, for want of its shard exactly where the map has none, for want of a stamp only
+-- where none was left.
 pub record Logs {K V A S : Type 0} (w : Known K V A S) (m : RecMapState S) (l l' : LogState K V A) (step : ShardStep K V A) (result : Result (Reply K V) (ShardStep K V A × RecordFault)) : Type 0 where
   pub ok : IfOk result (λ reply. Logged (kinds_on w m) l l' step reply)
   pub left : IfOk result (λ reply. LeavesRecShard w m (shard_on w m step) (λ s t. Recorded (kinds_on w m) s t l l' step reply))
   pub refused : IfErr result (λ e. (e.0 ≡ step) × (l' ≡ l))
-  pub no_such_shard : (result ≡ Err (step, NoSuchShard)) ↔ NoShard (kinds_on w m) step
+  pub part : RefusesPart step result
+  pub no_such_shard : (result ≡ Err (step, NoSuchShard)) ↔ (IsPart step → ⊥) × NoShard (kinds_on w m) step
   pub last_stamp : result ≡ Err (step, LastStamp) → SawRecShard w m (shard_on w m step) (λ s. NoStamp s.last l.last)

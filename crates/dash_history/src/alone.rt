@@ -9,9 +9,10 @@ ghost use Rattle.dash_history.specs.inner.Fresh.{FreshRow};
 ghost use Rattle.dash_shard.specs.Shard.{EachAt, pairs};
 ghost use Rattle.dash_steps.specs.inner.Copied.{alike_pairs};
 ghost use Rattle.dash_history.specs.OneHistory.{IsOneHistory, Gathers, CopiesEntry, CopiesRecPairs, histories, record_at};
-ghost use Rattle.dash_history.specs.Refused.{HandsBack};
+ghost use Rattle.dash_history.specs.Refused.{HandsBack, RefusesPart};
 ghost use Rattle.dash_history.specs.declared.record.RecordFault.TheVariants.{LastStamp, NoSuchShard, Locked};
 ghost use Rattle.dash_steps.specs.Takes.{Known, known};
+ghost use Rattle.dash_steps.specs.Steps.{IsPart};
 ghost use Rattle.dash_steps.specs.declared.step.ShardStep.{ShardStep};
 ghost use Rattle.dash_steps.specs.declared.step.Reply.{Reply};
 
@@ -193,7 +194,7 @@ impl<K: KeptKey + Drop, V: Kept + Drop, S: BuildHasher, A: KeptAction<K, V> + Dr
     /// Takes a step on the step's shard, and adds one same record of it at the end of the shard's history and of the caller's
     /// log.
     ///
-    /// It waits for nobody. Where it is refused, the step is handed back, and nothing changes.
+    /// It waits for nobody. Where it is refused (24, then 20, then 18, then 19), the step is handed back, and nothing changes.
     pub fn apply(
         &mut self,
         log: &mut CallerLog<K, V, A>,
@@ -206,14 +207,19 @@ impl<K: KeptKey + Drop, V: Kept + Drop, S: BuildHasher, A: KeptAction<K, V> + Dr
         ensures refused { HandsBack step self.old self.new log.old log.new result }
 
         // In this order; else there was no memory.
+        ensures part { RefusesPart step result }
         ensures no_such_shard { (result ≡ Err (step, NoSuchShard))
-            ↔ NoShard (kinds_in ⟦<Self as Recorded>⟧.known self.old) step }
+            ↔ (IsPart step → ⊥) × NoShard (kinds_in ⟦<Self as Recorded>⟧.known self.old) step }
         ensures last_stamp { (result ≡ Err (step, LastStamp))
             ↔ NoStampIn ⟦<Self as Recorded>⟧.known self.old log.old step }
         ensures locked { result ≡ Err (step, Locked) → ⊥ }
     {
-        let (hash, idx) = step.route(&self.hasher, self.row.len());
-        if idx >= self.row.len() {
+        let amount = self.row.len();
+        if step.is_part() {
+            return Err((step, RecordFault::Part));
+        }
+        let (hash, idx) = step.route(&self.hasher, amount);
+        if idx >= amount {
             return Err((step, RecordFault::NoSuchShard));
         }
         self.row[idx].record_hashed(log, hash, step)

@@ -1,5 +1,6 @@
 //! Steps of callers on a map that threads share.
 ghost use Rattle.std.specs.Prelude.{◌≡◌, ◌-◌, ◌^◌, ◌<◌, ◌⊎◌};
+ghost use Rattle.dash_steps.specs.Steps.{IsPart};
 ghost use Rattle.dash_history.specs.Map.{Logs, shard_on};
 ghost use Rattle.dash_history.specs.declared.record.RecordFault.TheVariants.{LastStamp, Locked};
 
@@ -22,7 +23,7 @@ impl<K: KeptKey + Drop, V: Kept + Drop, S: BuildHasher, A: KeptAction<K, V> + Dr
     /// Waits for the shard of the step's number, takes the step there, and adds one same record of it at the end of the shard's
     /// history and of the caller's log.
     ///
-    /// Where it is refused (20, then 18, then 19), the step is handed back, and pairs, history and log stay as they were.
+    /// Where it is refused (24, then 20, then 18, then 19), the step is handed back, and pairs, history and log stay as they were.
     pub fn apply<R: Wait + Clock>(
         &self,
         rt: &R,
@@ -33,10 +34,13 @@ impl<K: KeptKey + Drop, V: Kept + Drop, S: BuildHasher, A: KeptAction<K, V> + Dr
         ensures logs { Logs ⟦<Self as Recorded>⟧.known self.now log.old log.new step result }
 
         // The shard's last stamp is not known here, the log's is.
-        ensures last_stamp { shard_on ⟦<Self as Recorded>⟧.known self.now step < self.now.amount
+        ensures last_stamp { (IsPart step → ⊥) → shard_on ⟦<Self as Recorded>⟧.known self.now step < self.now.amount
             → log.old.last ≡ 2 ^ 64 - 1 → result ≡ Err (step, LastStamp) }
         ensures locked { result ≡ Err (step, Locked) → ⊥ }
     {
+        if step.is_part() {
+            return Err((step, RecordFault::Part));
+        }
         let (hash, idx) = self.route(&step);
         if idx >= self.shard_count() {
             return Err((step, RecordFault::NoSuchShard));
@@ -46,8 +50,8 @@ impl<K: KeptKey + Drop, V: Kept + Drop, S: BuildHasher, A: KeptAction<K, V> + Dr
 
     /// As `apply`, but it waits for nobody: where somebody holds the shard, the step is refused.
     ///
-    /// Where it is refused (20, then 21, then 18, then 19), the step is handed back, and pairs, history and log stay as they
-    /// were.
+    /// Where it is refused (24, then 20, then 21, then 18, then 19), the step is handed back, and pairs, history and log stay as
+    /// they were.
     pub fn try_apply(
         &self,
         log: &mut CallerLog<K, V, A>,
@@ -57,9 +61,12 @@ impl<K: KeptKey + Drop, V: Kept + Drop, S: BuildHasher, A: KeptAction<K, V> + Dr
         ensures logs { Logs ⟦<Self as Recorded>⟧.known self.now log.old log.new step result }
 
         // Whether the shard is free is not known here; where it is, the log's last stamp is looked at.
-        ensures last_stamp { shard_on ⟦<Self as Recorded>⟧.known self.now step < self.now.amount
+        ensures last_stamp { (IsPart step → ⊥) → shard_on ⟦<Self as Recorded>⟧.known self.now step < self.now.amount
             → log.old.last ≡ 2 ^ 64 - 1 → (result ≡ Err (step, Locked)) ⊎ (result ≡ Err (step, LastStamp)) }
     {
+        if step.is_part() {
+            return Err((step, RecordFault::Part));
+        }
         let (hash, idx) = self.route(&step);
         if self.shard_count() <= idx {
             return Err((step, RecordFault::NoSuchShard));

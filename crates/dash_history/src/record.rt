@@ -2,7 +2,7 @@
 ghost use Rattle.std.specs.Prelude.{◌≡◌, ◌<◌, [], IsTrue, IfOk, IfErr, vec_len, vec_capacity, max};
 ghost use Rattle.dash_shard.specs.Hashing.{IsAmount};
 ghost use Rattle.dash_shard.specs.Shard.{SameShard, pairs, shard_len};
-ghost use Rattle.dash_steps.specs.Steps.{alike_record};
+ghost use Rattle.dash_steps.specs.Steps.{alike_record, IsPart};
 ghost use Rattle.dash_steps.specs.Takes.{known};
 ghost use Rattle.dash_history.specs.History.{IsLog, IsRecorded, GoesTo, last_or};
 ghost use Rattle.dash_history.specs.inner.Tells.{Tells};
@@ -41,6 +41,9 @@ pub enum RecordFault {
     /// Somebody holds the step's shard, and the call waits for nobody.
     #[error("locked (21)")]
     Locked,
+    /// The step is a part of a whole step, which no call takes by itself.
+    #[error("whole step's part (24)")]
+    Part,
 }
 
 /// What one caller did, in its order.
@@ -319,6 +322,7 @@ impl<K: KeptKey + Drop, V: Kept + Drop, S: BuildHasher, A: KeptAction<K, V> + Dr
         requires goes { GoesTo ⟦<Self as Recorded>⟧.known self.old.shard step }
         requires hash { HasHash ⟦<Self as Recorded>⟧.known self.old.shard step hash }
         requires caller { log.old.caller < self.old.callers }
+        requires own { IsPart step → ⊥ }
         ensures records { Records ⟦<Self as Recorded>⟧.known self.old self.new log.old log.new step result }
         ensures last { self.old.last ≡ last_or 0 self.old.history }
         ensures legal { IsRecorded ⟦<Self as Recorded>⟧.known self.new }

@@ -9,7 +9,7 @@ use Rattle.dash_shard.specs.Contents.{at, keys, on, Distinct, EachOnce}
 use Rattle.dash_shard.specs.Steps.{Line, at_key, on_shard, Step, Reply, Act, line, line_shard, line_after, LineReplies, Pair, Found, Old, Pairs, Number, changed, if_yes, if_no}
 use Rattle.dash_shard.specs.inner.Steps.{Becomes, key_or, value, after, step_shard}
 use Rattle.dash_steps.specs.declared.step.ShardStep.{ShardStep}
-use Rattle.dash_steps.specs.declared.step.ShardStep.TheVariants.{Get, Contains, Insert, Remove, RemoveIf, RemoveIfMut, Alter, Read, Count, AlterAll, Retain}
+use Rattle.dash_steps.specs.declared.step.ShardStep.TheVariants.{Get, Contains, Insert, Remove, RemoveIf, RemoveIfMut, Alter, Read, Count, AlterAll, Retain, CountPart, ReadPart}
 use Rattle.dash_kept.specs.Alike.{alike_pair}
 use Rattle.dash_steps.specs.Alike.{alike_reply}
 use Rattle.dash_steps.specs.Steps.{step_of, alike_step}
@@ -168,4 +168,6 @@ module _ {K V A : Type 0} (m : Kinds K V A) (laws : Lawful m.rules) (alike_acts 
   line-alike (Count i) (Count j) h = (eqb-true i j h, λ p. (at_laws m.rules laws).refl (Some p), λ l. (reply_laws m.rules laws).refl (Number (min (length l) (2 ^ 64 - 1))))
   line-alike (AlterAll i f) (AlterAll j g) h = let p = and_parts _ _ h in (eqb-true i j p.0, changed-alike f g p.1, λ l. refl)
   line-alike (Retain i f) (Retain j g) h = let p = and_parts _ _ h in (eqb-true i j p.0, λ q. if_yes-changed f g p.1 (Some q), λ l. refl)
+  line-alike (CountPart i) (CountPart j) h = (eqb-true i j h, λ p. (at_laws m.rules laws).refl (Some p), λ l. (reply_laws m.rules laws).refl (Number (min (length l) (2 ^ 64 - 1))))
+  line-alike (ReadPart i) (ReadPart j) h = (eqb-true i j h, λ p. (at_laws m.rules laws).refl (Some p), λ l. (reply_laws m.rules laws).refl (Pairs l))
   line-alike s t h = cc

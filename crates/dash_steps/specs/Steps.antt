@@ -1,9 +1,11 @@
 -- The program's steps, replies and records, in the words of the step table.
-use Rattle.std.specs.Prelude.{◌==◌, ◌&&◌, Bool, false}
+use Rattle.std.specs.Prelude.{ℕ, ◌==◌, ◌&&◌, Bool, false, Option, Some, None, IsSome}
 use Rattle.dash_shard.specs.Steps as table
 use Rattle.dash_steps.specs.Alike.{alike_reply}
 use Rattle.dash_steps.specs.declared.step.ShardStep.{ShardStep}
-use Rattle.dash_steps.specs.declared.step.ShardStep.TheVariants.{Get, Contains, Insert, Remove, RemoveIf, RemoveIfMut, Alter, Read, Count, AlterAll, Retain}
+use Rattle.dash_steps.specs.declared.step.ShardStep.TheVariants.{Get, Contains, Insert, Remove, RemoveIf, RemoveIfMut, Alter, Read, Count, AlterAll, Retain, CountPart, ReadPart}
+use Rattle.dash_steps.specs.declared.step.Whole.{Whole}
+use Rattle.dash_steps.specs.declared.step.Whole.TheVariants as whole
 use Rattle.dash_steps.specs.declared.step.Reply.{Reply}
 use Rattle.dash_steps.specs.declared.step.Reply.TheVariants.{Pair, Found, Old, Pairs, Number, Done}
 use Rattle.dash_steps.specs.declared.step.Record.{Record}
@@ -30,6 +32,23 @@ step_of acts (Read i) = table.Read i
 step_of acts (Count i) = table.Count i
 step_of acts (AlterAll i f) = table.AlterAll i (acts f)
 step_of acts (Retain i f) = table.Retain i (acts f)
+step_of acts (CountPart i) = table.Count i
+step_of acts (ReadPart i) = table.Read i
+
+-- the kind of whole step that the step is a part of, or none
+abbrev pub part_of : {K V A : Type 0} → ShardStep K V A → Option Whole
+part_of (CountPart i) = Some whole.Count
+part_of (ReadPart i) = Some whole.Read
+part_of step = None
+
+-- the step is a part of a whole step
+abbrev pub IsPart : {K V A : Type 0} → ShardStep K V A → Type 0
+IsPart step = IsSome (part_of step)
+
+-- the part of a whole step in shard i
+abbrev pub part : {K V A : Type 0} → Whole → ℕ → ShardStep K V A
+part whole.Count i = CountPart i
+part whole.Read i = ReadPart i
 
 abbrev pub alike_step : {K V A : Type 0} → (K → K → Bool) → (V → V → Bool) → (A → A → Bool) → ShardStep K V A → ShardStep K V A → Bool
 alike_step k v f (Get x) (Get y) = k x y
@@ -43,6 +62,8 @@ alike_step k v f (Read i) (Read j) = i == j
 alike_step k v f (Count i) (Count j) = i == j
 alike_step k v f (AlterAll i a) (AlterAll j b) = (i == j) && f a b
 alike_step k v f (Retain i a) (Retain j b) = (i == j) && f a b
+alike_step k v f (CountPart i) (CountPart j) = i == j
+alike_step k v f (ReadPart i) (ReadPart j) = i == j
 alike_step k v f _ _ = false
 
 abbrev pub alike_record : {K V A : Type 0} → (K → K → Bool) → (V → V → Bool) → (A → A → Bool) → Record K V A → Record K V A → Bool

@@ -1,5 +1,5 @@
 //! One step of one shard, its reply, and the record of both.
-ghost use Rattle.std.specs.Prelude.{◌≡◌, ◌<◌, IfOk, IsTrue};
+ghost use Rattle.std.specs.Prelude.{◌≡◌, ◌<◌, ◌↔◌, IfOk, IsTrue};
 ghost use Rattle.dash_shard.specs.Hashing.{by};
 
 use crate::action::Action;
@@ -33,6 +33,34 @@ pub enum ShardStep<K, V, A = ()> {
     AlterAll(usize, A),
     /// Changes each value of the shard, and takes out the pairs on which the action answers no.
     Retain(usize, A),
+    /// The part of a count of the whole map in one shard: what `Count` is.
+    CountPart(usize),
+    /// The part of a copy of the whole map in one shard: what `Read` is.
+    ReadPart(usize),
+}
+
+/// A step of all shards at once. It has a part in each.
+#[derive(Clone, Copy, Debug, PartialEq, Eq, Drop)]
+pub enum Whole {
+    /// How many pairs the map has.
+    Count,
+    /// The pairs of the map.
+    Read,
+}
+
+impl Whole {
+    ghost use Rattle.dash_steps.specs.Steps.{part};
+
+    /// Its part in a shard.
+    #[inline]
+    pub fn part<K, V, A>(self, shard: usize) -> ShardStep<K, V, A>
+        ensures { result ≡ part self shard }
+    {
+        match self {
+            Whole::Count => ShardStep::CountPart(shard),
+            Whole::Read => ShardStep::ReadPart(shard),
+        }
+    }
 }
 
 /// What a step returns.
@@ -66,7 +94,7 @@ impl<K, V: Kept, A> ShardStep<K, V, A> {
     ghost use Rattle.dash_shard.specs.Contents.{keys};
     ghost use Rattle.dash_shard.specs.Hashing.{IsAmount, route_by};
     ghost use Rattle.dash_shard.specs.Steps.{line, line_shard};
-    ghost use Rattle.dash_steps.specs.Steps.{alike_step, step_of};
+    ghost use Rattle.dash_steps.specs.Steps.{alike_step, step_of, IsPart};
     ghost use Rattle.dash_steps.specs.inner.Hashed.{shard_by, IsAbout, IsHashBy, Asks, OfKey};
 
     /// The number of the step's shard: the route of its key among `amount` shards, or the number that it names.
@@ -120,8 +148,18 @@ impl<K, V: Kept, A> ShardStep<K, V, A> {
             ShardStep::Read(shard)
             | ShardStep::Count(shard)
             | ShardStep::AlterAll(shard, _)
-            | ShardStep::Retain(shard, _) => Err(*shard),
+            | ShardStep::Retain(shard, _)
+            | ShardStep::CountPart(shard)
+            | ShardStep::ReadPart(shard) => Err(*shard),
         }
+    }
+
+    /// Whether the step is a part of a whole step.
+    #[inline]
+    pub fn is_part(&self) -> bool
+        ensures { IsTrue result ↔ IsPart self.now }
+    {
+        matches!(self, ShardStep::CountPart(_) | ShardStep::ReadPart(_))
     }
 
     /// The key of a step that asks its action of the pair there. For the crates here alone.
@@ -190,6 +228,8 @@ impl<K, V: Kept, A> ShardStep<K, V, A> {
                 Ok(ShardStep::AlterAll(*shard, action.copy()?))
             }
             ShardStep::Retain(shard, action) => Ok(ShardStep::Retain(*shard, action.copy()?)),
+            ShardStep::CountPart(shard) => Ok(ShardStep::CountPart(*shard)),
+            ShardStep::ReadPart(shard) => Ok(ShardStep::ReadPart(*shard)),
         }
     }
 }
@@ -233,8 +273,10 @@ impl<K: Kept, V: Kept, A: Kept> ShardStep<K, V, A> {
             (ShardStep::RemoveIf(j, f), ShardStep::RemoveIf(k, g))
             | (ShardStep::RemoveIfMut(j, f), ShardStep::RemoveIfMut(k, g))
             | (ShardStep::Alter(j, f), ShardStep::Alter(k, g)) => j.same(k) && f.same(g),
-            (ShardStep::Read(i), ShardStep::Read(j)) | (ShardStep::Count(i), ShardStep::Count(j)) =>
-                { i == j }
+            (ShardStep::Read(i), ShardStep::Read(j))
+            | (ShardStep::Count(i), ShardStep::Count(j))
+            | (ShardStep::CountPart(i), ShardStep::CountPart(j))
+            | (ShardStep::ReadPart(i), ShardStep::ReadPart(j)) => i == j,
             (ShardStep::AlterAll(i, f), ShardStep::AlterAll(j, g))
             | (ShardStep::Retain(i, f), ShardStep::Retain(j, g)) => i == j && f.same(g),
             _ => false,

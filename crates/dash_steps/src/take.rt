@@ -67,11 +67,13 @@ pub fn take<K: KeptKey + Drop, V: Kept + Drop, S: BuildHasher, A: Action<K, V> +
         ShardStep::RemoveIf(_, _) | ShardStep::RemoveIfMut(_, _) | ShardStep::Alter(_, _) => {
             take_asked(shard, hash, step)
         }
-        ShardStep::Read(number) => match copy_pairs(shard.allocator(), shard.iter()) {
-            Ok(pairs) => Ok(Reply::Pairs(pairs)),
-            Err(_) => Err(ShardStep::Read(number)),
-        },
-        ShardStep::Count(_) => Ok(Reply::Number(shard.len() as u64)),
+        ShardStep::Read(_) | ShardStep::ReadPart(_) => {
+            match copy_pairs(shard.allocator(), shard.iter()) {
+                Ok(pairs) => Ok(Reply::Pairs(pairs)),
+                Err(_) => Err(step),
+            }
+        }
+        ShardStep::Count(_) | ShardStep::CountPart(_) => Ok(Reply::Number(shard.len() as u64)),
         ShardStep::AlterAll(_, action) => {
             shard.retain(
                 |key: &K, value: &mut V| -> bool

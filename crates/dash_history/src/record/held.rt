@@ -4,6 +4,7 @@ ghost use Rattle.dash_shard.specs.Hashing.{by};
 ghost use Rattle.dash_shard.specs.Shard.{Routes};
 ghost use Rattle.dash_lock.specs.Lock.{LeftBehind};
 ghost use Rattle.dash_history.specs.History.{IsRecorded, GoesTo};
+ghost use Rattle.dash_steps.specs.Steps.{IsPart};
 ghost use Rattle.dash_steps.specs.inner.Hashed.{HasHash};
 ghost use Rattle.dash_history.specs.Held.{FitsRecTag};
 ghost use Rattle.dash_history.specs.Refused.{Records};
@@ -136,8 +137,8 @@ impl<K: KeptKey + Drop, V: Kept + Drop, S: BuildHasher, A: KeptAction<K, V> + Dr
 
     /// Takes a step of this shard, and adds one same record of it at the end of its history and of the caller's log.
     ///
-    /// Takes memory for the copies and the records, before anything changes. Where it is refused (18, 19), the step is handed
-    /// back, and nothing changes.
+    /// Takes memory for the copies and the records, before anything changes. Where it is refused (24, then 18, then 19), the step
+    /// is handed back, and nothing changes.
     pub fn record(
         &mut self,
         log: &mut CallerLog<K, V, A>,
@@ -147,11 +148,14 @@ impl<K: KeptKey + Drop, V: Kept + Drop, S: BuildHasher, A: KeptAction<K, V> + Dr
         requires caller { log.old.caller < self.old.callers }
         ensures { Records ⟦<Self as Recorded>⟧.known self.old self.new log.old log.new step result }
     {
+        if step.is_part() {
+            return Err((step, RecordFault::Part));
+        }
         let hash = self.guard.hash_of(&step);
         self.record_hashed(log, hash, step)
     }
 
-    // As `record`, for a caller who has the hash of the step's key.
+    // As `record`, for a caller who has the hash of the step's key, and knows that it is no part.
     pub(crate) fn record_hashed(
         &mut self,
         log: &mut CallerLog<K, V, A>,
@@ -161,6 +165,7 @@ impl<K: KeptKey + Drop, V: Kept + Drop, S: BuildHasher, A: KeptAction<K, V> + Dr
         requires goes { GoesTo ⟦<Self as Recorded>⟧.known self.old.shard step }
         requires hash { HasHash ⟦<Self as Recorded>⟧.known self.old.shard step hash }
         requires caller { log.old.caller < self.old.callers }
+        requires own { IsPart step → ⊥ }
         ensures { Records ⟦<Self as Recorded>⟧.known self.old self.new log.old log.new step result }
     {
         // The closure takes the log and gives it back, and a log with no entries stands in its place meanwhile.
@@ -174,6 +179,7 @@ impl<K: KeptKey + Drop, V: Kept + Drop, S: BuildHasher, A: KeptAction<K, V> + Dr
                 requires goes { GoesTo (known K.KeptKey V.alike A.KeptAction S.BuildHasher S.Hasher.Hasher) shard.old.shard step }
                 requires hash { HasHash (known K.KeptKey V.alike A.KeptAction S.BuildHasher S.Hasher.Hasher) shard.old.shard step hash }
                 requires caller { mine.caller < shard.old.callers }
+                requires own { IsPart step → ⊥ }
                 ensures { Records (known K.KeptKey V.alike A.KeptAction S.BuildHasher S.Hasher.Hasher) shard.old shard.new mine result.0 step result.1 }
             {
                 let mut log = mine;

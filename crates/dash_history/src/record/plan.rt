@@ -70,11 +70,13 @@ pub(super) fn prepare<
         ShardStep::RemoveIf(_, _) | ShardStep::RemoveIfMut(_, _) | ShardStep::Alter(_, _) => {
             plan_asked(pair, step)
         }
-        ShardStep::Read(_) => Ok((
+        ShardStep::Read(_) | ShardStep::ReadPart(_) => Ok((
             Reply::Pairs(copy_pairs(alloc, shard.iter())?),
             Change::Stays,
         )),
-        ShardStep::Count(_) => Ok((Reply::Number(shard.len() as u64), Change::Stays)),
+        ShardStep::Count(_) | ShardStep::CountPart(_) => {
+            Ok((Reply::Number(shard.len() as u64), Change::Stays))
+        }
         ShardStep::AlterAll(_, action) | ShardStep::Retain(_, action) => {
             let all = matches!(step, ShardStep::AlterAll(_, _));
             let made = ask_each(alloc, shard.iter(), action, all)?;
@@ -151,7 +153,10 @@ pub(super) fn carry_out<
             make_change(shard, found.ok(), decided);
             Ok(())
         }
-        ShardStep::Read(_) | ShardStep::Count(_) => Ok(()),
+        ShardStep::Read(_)
+        | ShardStep::Count(_)
+        | ShardStep::CountPart(_)
+        | ShardStep::ReadPart(_) => Ok(()),
         ShardStep::AlterAll(_shard, _action) | ShardStep::Retain(_shard, _action) => {
             // The number's contract says that all pairs go to the shard.
             let _ = shard.number();

@@ -1,4 +1,4 @@
-use Rattle.std.proofs.Common.{true, IsTrue, refl, ap, subst, arith, is_some, ◌∙◌, rules}
+use Rattle.std.proofs.Common.{◌≡◌, ℕ, ⊎_elim, true, IsTrue, refl, ap, subst, arith, is_some, ◌∙◌, rules}
 use Rattle.std.specs.Cmp.Lexicographic.{pointwise}
 use Rattle.std.specs.Map.Iter.{deref_pair}
 use Rattle.dash_shard.specs.Hashing.{key_hash}
@@ -60,17 +60,21 @@ returns-in-Remove-clause-taken g c =
 pub returns-in-Ok-copy_pairs-clause-taken : goal.returns-in-Ok-copy_pairs-clause-taken
 returns-in-Ok-copy_pairs-clause-taken g c =
     let s = c.args.shard.now in
+    let h = key_hash g.K.PartialEq.eq g.K.Hash.hash_input g.S.BuildHasher g.S.Hasher.Hasher in
     let copies = c.in-Ok-copy_pairs.pairs.items in
-    rw c.in-Read.is (reads _ (lawful-of g.S.BuildHasher g.S.Hasher.Hasher g.met.K.Eq.laws g.met.K.Hash.respects_eq) _ _ g.met.K.Kept.alike_laws g.met.V.Kept.alike_laws g.met.K.KeptKey.alike_equal s c.requires.lawful c.in-Read.number (rw c.in-Read.is at c.requires.goes.here) (Pairs c.in-Ok-copy_pairs.pairs)
-    (answers-all _ _ _ g.met.K.Eq.laws s c.requires.lawful _ _ _ _ refl (rw c.in-Read.is at c.requires.goes.here) (table.Pairs (pairs s)) _ refl
-    (subst (λ l. IsTrue (pointwise (alike_pair g.K.Kept.alike g.V.Kept.alike) l copies)) c.iter.ensures.pairs c.in-Ok-copy_pairs.ensures)))
+    let taken = λ (i : ℕ) (here : i ≡ s.number). reads h (lawful-of g.S.BuildHasher g.S.Hasher.Hasher g.met.K.Eq.laws g.met.K.Hash.respects_eq) _ _ g.met.K.Kept.alike_laws g.met.V.Kept.alike_laws g.met.K.KeptKey.alike_equal s c.requires.lawful i here (Pairs c.in-Ok-copy_pairs.pairs)
+    (answers-all _ _ _ g.met.K.Eq.laws s c.requires.lawful _ _ _ _ refl here (table.Pairs (pairs s)) _ refl
+    (subst (λ l. IsTrue (pointwise (alike_pair g.K.Kept.alike g.V.Kept.alike) l copies)) c.iter.ensures.pairs c.in-Ok-copy_pairs.ensures)) in
+    ⊎_elim (λ is. rw is.1 (taken is.0 (rw is.1 at c.requires.goes.here))) (λ is. rw is.1 (taken is.0 (rw is.1 at c.requires.goes.here))) c.in-Read.is
 
 pub returns-in-Count-clause-taken : goal.returns-in-Count-clause-taken
 returns-in-Count-clause-taken g c =
     let s = c.args.shard.now in
-    rw c.in-Count.is (counts _ (lawful-of g.S.BuildHasher g.S.Hasher.Hasher g.met.K.Eq.laws g.met.K.Hash.respects_eq) _ _ g.met.K.Kept.alike_laws g.met.V.Kept.alike_laws g.met.K.KeptKey.alike_equal s c.requires.lawful _ (rw c.in-Count.is at c.requires.goes.here) (Number c.len.result)
-    (answers-all _ _ _ g.met.K.Eq.laws s c.requires.lawful _ _ _ _ refl (rw c.in-Count.is at c.requires.goes.here) (table.Number c.len.result) _ (ap table.Number (omega (arith, c.len.ensures.len, c.len.type_inv)))
-    ((reply_equiv g.met.K.Kept.alike_laws g.met.V.Kept.alike_laws).refl (table.Number c.len.result))))
+    let h = key_hash g.K.PartialEq.eq g.K.Hash.hash_input g.S.BuildHasher g.S.Hasher.Hasher in
+    let taken = λ (i : ℕ) (here : i ≡ s.number). counts h (lawful-of g.S.BuildHasher g.S.Hasher.Hasher g.met.K.Eq.laws g.met.K.Hash.respects_eq) _ _ g.met.K.Kept.alike_laws g.met.V.Kept.alike_laws g.met.K.KeptKey.alike_equal s c.requires.lawful i here (Number c.len.result)
+    (answers-all _ _ _ g.met.K.Eq.laws s c.requires.lawful _ _ _ _ refl here (table.Number c.len.result) _ (ap table.Number (omega (arith, c.len.ensures.len, c.len.type_inv)))
+    ((reply_equiv g.met.K.Kept.alike_laws g.met.V.Kept.alike_laws).refl (table.Number c.len.result))) in
+    ⊎_elim (λ is. rw is.1 (taken is.0 (rw is.1 at c.requires.goes.here))) (λ is. rw is.1 (taken is.0 (rw is.1 at c.requires.goes.here))) c.in-Count.is
 
 pub returns-in-AlterAll-clause-taken : goal.returns-in-AlterAll-clause-taken
 returns-in-AlterAll-clause-taken g c =

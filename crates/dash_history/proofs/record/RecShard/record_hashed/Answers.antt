@@ -45,8 +45,9 @@ returns-in-Ok-clause-records g c =
             ∙ ap (of c.args.log.now.caller (stamp_of c.args.self.now c.args.log.now)) entries;
       };
       refused = tt;
-      last_stamp = (λ e. absurd (made-refused _ _ e), λ m. absurd (omega (arith, c.if-last.false, stamp, m)));
-      log_last = λ m. absurd (omega (arith, c.if-last.false, c.max-last.ensures, stamp, m, c.self.ranges, c.log.ranges));
+      part = (λ e. absurd (made-refused _ _ e), λ p. absurd (c.requires.own p));
+      last_stamp = (λ e. absurd (made-refused _ _ e), λ no. let m = no.1 in absurd (omega (arith, c.if-last.false, stamp, m)));
+      log_last = λ _ m. absurd (omega (arith, c.if-last.false, c.max-last.ensures, stamp, m, c.self.ranges, c.log.ranges));
       faults = tt;
       stays = c.grow.ensures.stays;
       callers = c.grow.ensures.callers;

@@ -1,4 +1,4 @@
-use Rattle.std.proofs.Common.{◌≡◌, true, false, IsTrue, Some, None, refl, ap, subst, arith, is_some, ◌∙◌, ⊎_elim}
+use Rattle.std.proofs.Common.{◌≡◌, ◌^◌, ◌-◌, min, length, true, false, IsTrue, Some, None, refl, ap, subst, arith, is_some, ◌∙◌, ⊎_elim}
 use Rattle.std.proofs.lemmas.Result.{IfOk-weaker}
 use Rattle.std.specs.Map.Iter.{deref_pair}
 use Rattle.dash_shard.specs.Hashing.{key_hash}
@@ -38,8 +38,10 @@ returns-in-None-clause-answers g c =
 
 pub returns-in-Count-clause-answers : goal.returns-in-Count-clause-answers
 returns-in-Count-clause-answers g c =
-    rw c.in-Count.is (answers-all _ _ _ g.met.K.Eq.laws c.args.shard.now c.len.ensures.lawful _ _ _ _ refl (rw c.in-Count.is at c.requires.goes) (Number c.len.result) _ (ap Number (omega (arith, c.len.ensures.len, c.len.type_inv)))
-    ((reply_equiv g.met.K.Kept.alike_laws g.met.V.Kept.alike_laws).refl (Number c.len.result)))
+    let laws = (reply_equiv g.met.K.Kept.alike_laws g.met.V.Kept.alike_laws).refl (Number c.len.result) in
+    let count : Number c.len.result ≡ Number (min (length (pairs c.args.shard.now)) (2 ^ 64 - 1)) = ap Number (omega (arith, c.len.ensures.len, c.len.type_inv)) in
+    ⊎_elim (λ is. rw is.1 (answers-all _ _ _ g.met.K.Eq.laws c.args.shard.now c.len.ensures.lawful _ _ _ _ refl (rw is.1 at c.requires.goes) (Number c.len.result) _ count laws))
+    (λ is. rw is.1 (answers-all _ _ _ g.met.K.Eq.laws c.args.shard.now c.len.ensures.lawful _ _ _ _ refl (rw is.1 at c.requires.goes) (Number c.len.result) _ count laws)) c.in-Count.is
 
 pub returns-in_ok-copy_found-in-Get-clause-answers : goal.returns-in_ok-copy_found-in-Get-clause-answers
 returns-in_ok-copy_found-in-Get-clause-answers g c =
@@ -64,8 +66,9 @@ returns-in-RemoveIf-clause-decides g c =
 pub returns-in_ok-copy_pairs-in-Read-clause-answers : goal.returns-in_ok-copy_pairs-in-Read-clause-answers
 returns-in_ok-copy_pairs-in-Read-clause-answers g c =
     let copies = c.in_ok-copy_pairs-in-Read.field-0.items in
-    rw c.in-Read.is (answers-all _ _ _ g.met.K.Eq.laws c.args.shard.now c.iter.ensures.lawful _ _ _ _ refl (rw c.in-Read.is at c.requires.goes) (Pairs (pairs c.args.shard.now)) _ refl
-    (subst (λ l. IsTrue (pointwise (alike_pair g.K.Kept.alike g.V.Kept.alike) l copies)) c.iter.ensures.pairs c.in_ok-copy_pairs-in-Read.ensures))
+    let made = subst (λ l. IsTrue (pointwise (alike_pair g.K.Kept.alike g.V.Kept.alike) l copies)) c.iter.ensures.pairs c.in_ok-copy_pairs-in-Read.ensures in
+    ⊎_elim (λ is. rw is.1 (answers-all _ _ _ g.met.K.Eq.laws c.args.shard.now c.iter.ensures.lawful _ _ _ _ refl (rw is.1 at c.requires.goes) (Pairs (pairs c.args.shard.now)) _ refl made))
+    (λ is. rw is.1 (answers-all _ _ _ g.met.K.Eq.laws c.args.shard.now c.iter.ensures.lawful _ _ _ _ refl (rw is.1 at c.requires.goes) (Pairs (pairs c.args.shard.now)) _ refl made)) c.in-Read.is
 
 pub returns-in_ok-made-in-AlterAll-clause-answers : goal.returns-in_ok-made-in-AlterAll-clause-answers
 returns-in_ok-made-in-AlterAll-clause-answers g c =
