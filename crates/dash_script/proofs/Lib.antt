@@ -5,4 +5,4 @@ mod Replaying
 mod Replies
 mod Taking
 mod Texts
-mod Working
+pub mod Working

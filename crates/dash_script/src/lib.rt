@@ -6,6 +6,4 @@ mod lines;
 pub mod script;
 pub mod status;
 pub mod step;
-#[cfg(test)]
-mod tests;
 pub mod threads;

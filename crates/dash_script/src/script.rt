@@ -162,30 +162,3 @@ impl Session {
         }
     }
 }
-
-#[cfg(test)]
-mod tests {
-    use super::*;
-    use std::test::Fail;
-
-    #[test]
-    fn texts_are_those_of_the_map(rt: HostRuntime) -> Result<(), Fail> {
-        for fault in [
-            RecordFault::LastStamp,
-            RecordFault::Memory,
-            RecordFault::NoSuchShard,
-            RecordFault::Locked,
-        ] {
-            assert_eq!(rt;
-                format!(in rt.alloc(); "{fault}")?.as_str(),
-                fault_text(fault)
-            );
-        }
-        let refused = format!(in rt.alloc(); "refused: {}", ConstructError::Memory)?;
-        assert_eq!(rt;
-            format!(in rt.alloc(); "{}", Stop::Memory)?.as_str(),
-            refused.as_str()
-        );
-        Ok(())
-    }
-}

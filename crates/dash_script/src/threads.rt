@@ -1,5 +1,5 @@
 //! `dashcheck threads`: threads that take steps on one recorded map, the count of what they logged, and whether the history that
-//! is gathered of it is legal.
+//! is gathered of it is legal. But for `run` its functions are for the tests alone.
 ghost use Rattle.std.specs.Prelude.{◌≡◌, ◌≢◌, ℕ, ◌+◌, ◌*◌, ◌%◌, ◌^◌, ◌<◌, ◌≤◌, ◌⊎◌, ◌↔◌, ◌∷◌, ◌++◌, [], All, Err, IfOk, IfErr, IfSome, IfNone, OnOk, OnErr, IsTrue, length, map, sum_by, slice_index_or, vec_len, if◌then◌else◌, true, false};
 ghost use Rattle.std.specs.Io.KnownBytes.{Appends};
 ghost use Rattle.dash_history.specs.Alone.{fresh_logs};
@@ -9,7 +9,7 @@ ghost use Rattle.dash_script.specs.Replay.{IsThreadStep};
 ghost use Rattle.dash_script.specs.Threads.{IsSize, IsJudged, IsSo, thread_step, refusal_text, SaysRefusal, verdict_lines};
 ghost use Rattle.dash_script.specs.inner.Threads.{LogsStep, IsIdle, IsFirstRefusal, MayRefuse, Works, AllDone, HasTaken, idle, IsJudgedOf, IsJudgedBy};
 
-mod replay;
+pub mod replay;
 
 use crate::status::Status;
 use dash_history::alone::RecAlone;
@@ -66,18 +66,18 @@ impl fmt::Display for Refusal {
     }
 }
 
-// The log of a thread, and why it stopped before its last step.
+/// The log of a thread, and why it stopped before its last step.
 #[derive(Drop)]
-struct Worker {
-    log: Log,
-    refused: Option<Refusal>,
+pub struct Worker {
+    pub log: Log,
+    pub refused: Option<Refusal>,
 }
 
-// What became of the threads' steps: how many entries their logs have, and whether the history that was gathered is legal.
+/// What became of the threads' steps: how many entries their logs have, and whether the history that was gathered is legal.
 #[derive(Clone, Copy)]
-struct Outcome {
-    entries: usize,
-    legal: bool,
+pub struct Outcome {
+    pub entries: usize,
+    pub legal: bool,
 }
 
 /// Takes the steps of `callers` threads, `steps` of each, on one map. Then it gathers the history of the map with their logs, and
@@ -129,8 +129,8 @@ fn outcome_of<T: Threads + Wait + Clock + Sync>(
     Ok(Outcome { entries, legal })
 }
 
-// Prints what became of the steps.
-fn tell<O: Write>(outcome: Outcome, output: &mut O) -> io::Result<Status>
+/// Prints what became of the steps.
+pub fn tell<O: Write>(outcome: Outcome, output: &mut O) -> io::Result<Status>
     ensures status { IfOk result (λ status. status ≡ (if outcome.legal then Status.Good else Status.Refused)) }
     ensures said { OnOk result
         (Appends (O.contents output.old) (O.contents output.new) (verdict_lines outcome.entries outcome.legal)) }
@@ -146,8 +146,8 @@ fn tell<O: Write>(outcome: Outcome, output: &mut O) -> io::Result<Status>
     Ok(Status::Good)
 }
 
-// Says why the threads were refused.
-fn refuse<E: Write>(refusal: Refusal, errors: &mut E) -> io::Result<Status>
+/// Says why the threads were refused.
+pub fn refuse<E: Write>(refusal: Refusal, errors: &mut E) -> io::Result<Status>
     ensures status { IfOk result (λ status. status ≡ Status.Refused) }
     ensures said { OnOk result
         (Appends (E.contents errors.old) (E.contents errors.new) (refusal_text refusal ++ 10 ∷ [])) }
@@ -227,8 +227,13 @@ fn logs_of(alloc: Global, workers: Vec<Worker>) -> Result<Vec<Log>, AllocError>
     workers.into_iter().map(|worker| worker.log).collect(alloc)
 }
 
-// Takes the steps of each worker, in a thread of its own where one can be started.
-fn take_all<T: Threads + Wait + Clock + Sync>(rt: &T, map: &Map, workers: &mut [Worker], steps: u64)
+/// Takes the steps of each worker, in a thread of its own where one can be started.
+pub fn take_all<T: Threads + Wait + Clock + Sync>(
+    rt: &T,
+    map: &Map,
+    workers: &mut [Worker],
+    steps: u64,
+)
     requires size { IsSize map.now.callers steps }
     requires shards { map.now.amount ≡ 4 }
     requires some { 0 < length workers.old }
@@ -246,8 +251,8 @@ fn take_all<T: Threads + Wait + Clock + Sync>(rt: &T, map: &Map, workers: &mut [
     );
 }
 
-// A worker for each log.
-fn idle_workers(alloc: Global, logs: Vec<Log>) -> Result<Vec<Worker>, AllocError>
+/// A worker for each log.
+pub fn idle_workers(alloc: Global, logs: Vec<Log>) -> Result<Vec<Worker>, AllocError>
     ensures { IfOk result (λ workers. workers.items ≡ map idle logs.items) }
 {
     logs.into_iter()
@@ -326,8 +331,8 @@ fn take<T: Wait + Clock>(
     }
 }
 
-// The step of this number of a thread.
-fn step(thread: u64, number: u64) -> ShardStep<u64, u64>
+/// The step of this number of a thread.
+pub fn step(thread: u64, number: u64) -> ShardStep<u64, u64>
     requires thread { thread < 64 }
     requires number { number < 10000 }
     ensures step { result ≡ thread_step thread number }
@@ -338,120 +343,5 @@ fn step(thread: u64, number: u64) -> ShardStep<u64, u64>
         0 => ShardStep::Insert(key, thread * 1_000_000 + number),
         1 => ShardStep::Get(key),
         _ => ShardStep::Remove(key),
-    }
-}
-
-#[cfg(test)]
-mod tests {
-    use super::*;
-    use dash_shard::error::ConstructError;
-    use dash_steps::step::Reply;
-    use std::process::Abort;
-    use std::test::Fail;
-
-    #[test]
-    fn steps_of_a_thread(rt: HostRuntime) -> Result<(), Fail> {
-        for (thread, number, text) in [
-            (0, 0, "Insert(0, 0)"),
-            (2, 1, "Get(3)"),
-            (63, 2, "Remove(1)"),
-            (63, 9_999, "Insert(14, 63009999)"),
-        ] {
-            let step = step(thread, number);
-            assert_eq!(rt; format!(in rt.alloc(); "{step:?}")?.as_str(), text);
-        }
-        Ok(())
-    }
-
-    // Four workers that have done nothing on a map of five callers, and the log of the fifth.
-    fn four_idle<T: Abort>(rt: &T, alloc: Global) -> (Map, Vec<Worker>, Log)
-        ensures callers { result.0.callers ≡ 5 }
-        ensures amount { result.0.amount ≡ 4 }
-        ensures some { 0 < length result.1.items }
-        ensures idle { All (IsIdle 5) result.1.items }
-    {
-        let (map, logs) = Map::new(alloc, PlaceState, SHARDS, 5).expect(rt, "refused");
-        let mut workers = idle_workers(alloc, logs).expect(rt, "refused");
-        let last = workers.pop().expect(rt, "no worker");
-        (map, workers, last.log)
-    }
-
-    // Waits until the key is there.
-    fn await_key<T: Wait + Clock + Abort>(rt: &T, map: &Map, log: &mut Log, key: u64) {
-        for _ in rt.forever() {
-            assert!(rt; log.caller() < map.callers());
-            if let Ok(Reply::Pair(Some(_))) = map.apply(rt, log, ShardStep::Get(key)) {
-                return;
-            }
-            // A look takes memory.
-            for _ in 0..1_000 {
-                thread::yield_now();
-            }
-        }
-    }
-
-    // Shard 1 is held, and each of four workers comes to it in its four steps. So none ends before the first steps of all are
-    // seen, and they are seen only where each worker has a thread of its own.
-    #[test]
-    fn each_worker_has_a_thread_of_its_own(rt: HostRuntime) {
-        let (map, mut workers, mut log) = four_idle(&rt, rt.alloc());
-        let held = map.held(&rt, 1);
-        let idle = workers.as_mut_slice();
-        thread::join(
-            &rt,
-            ||
-                requires { IsSize map.callers 4 × (map.amount ≡ 4) × (0 < length idle.now) × All (IsIdle map.callers) idle.now }
-            { take_all(&rt, &map, idle, 4) },
-            || {
-                for key in [0, 2, 3] {
-                    await_key(&rt, &map, &mut log, key);
-                }
-                drop(held);
-            },
-        );
-        for worker in &workers {
-            assert_eq!(rt; worker.log.entries().len(), 4);
-        }
-    }
-
-    #[test]
-    fn a_failed_allocation_in_a_step_is_told(rt: HostRuntime) -> Result<(), Fail> {
-        let mut refused = Vec::new(rt.alloc());
-        assert_eq!(rt; refuse(Refusal::Memory, &mut refused)?, Status::Refused);
-        assert_eq!(rt; refused.as_slice(), b"refused: no memory (19)\n".as_slice());
-        Ok(())
-    }
-
-    #[test]
-    fn a_history_that_is_not_legal_is_told(rt: HostRuntime) -> Result<(), Fail> {
-        let mut output = Vec::new(rt.alloc());
-        let outcome = Outcome {
-            entries: 3,
-            legal: false,
-        };
-        assert_eq!(rt; tell(outcome, &mut output)?, Status::Refused);
-        assert_eq!(rt; output.as_slice(), b"entries 3\nnot legal\n".as_slice());
-        Ok(())
-    }
-
-    #[test]
-    fn texts_are_those_of_the_map(rt: HostRuntime) -> Result<(), Fail> {
-        for (refusal, fault) in [
-            (Refusal::LastStamp, RecordFault::LastStamp),
-            (Refusal::Memory, RecordFault::Memory),
-        ] {
-            let text = format!(in rt.alloc(); "refused: {fault}")?;
-            assert_eq!(rt; format!(in rt.alloc(); "{refusal}")?, text);
-        }
-        for (refusal, error) in [
-            (Refusal::Mismatch, GatherError::Mismatch),
-            (Refusal::Gather, GatherError::Memory),
-        ] {
-            let text = format!(in rt.alloc(); "refused: {error}")?;
-            assert_eq!(rt; format!(in rt.alloc(); "{refusal}")?, text);
-        }
-        let text = format!(in rt.alloc(); "refused: {}", ConstructError::Memory)?;
-        assert_eq!(rt; format!(in rt.alloc(); "{}", Refusal::Map)?, text);
-        Ok(())
     }
 }

@@ -1,11 +1,14 @@
-//! What a script prints, where reads succeed and where they fail.
-use crate::script;
-use crate::status::Status;
+//! What a script prints, where reads succeed and where they fail, and the texts of its stops.
+use dash_history::record::RecordFault;
+use dash_script::script::{self, Stop};
+use dash_script::status::Status;
+use dash_shard::error::ConstructError;
 use std::alloc::Global;
 use std::io::{self, Read};
 use std::process::Abort;
 use std::rt::Clock;
 use std::sync::Wait;
+use std::test::Fail;
 
 // Gives the bytes, one piece a read, then fails.
 #[derive(Drop)]
@@ -288,4 +291,27 @@ fn refuses_failed_reads(rt: HostRuntime) {
             Status::Refused,
         );
     }
+}
+
+#[test]
+fn texts_are_those_of_the_map(rt: HostRuntime) -> Result<(), Fail> {
+    for fault in [
+        RecordFault::LastStamp,
+        RecordFault::Memory,
+        RecordFault::NoSuchShard,
+        RecordFault::Locked,
+    ] {
+        let refused = format!(in rt.alloc(); "refused line 3: {fault}")?;
+        let stop = Stop::Step { line: 3, fault };
+        assert_eq!(rt;
+            format!(in rt.alloc(); "{stop}")?.as_str(),
+            refused.as_str()
+        );
+    }
+    let refused = format!(in rt.alloc(); "refused: {}", ConstructError::Memory)?;
+    assert_eq!(rt;
+        format!(in rt.alloc(); "{}", Stop::Memory)?.as_str(),
+        refused.as_str()
+    );
+    Ok(())
 }
