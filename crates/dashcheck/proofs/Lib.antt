@@ -1,9 +1,1 @@
-mod Numbers
 mod OneWord
-mod PlainMaps
-mod Reading
-mod Replaying
-mod Replies
-mod Taking
-mod Texts
-mod Working

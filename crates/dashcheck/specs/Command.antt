@@ -1,9 +1,7 @@
 -- The command line.
 use Rattle.std.specs.Prelude.{◌≡◌, ◌⊎◌, ℕ, List, [], ◌∷◌, codes, map, String, string_bytes}
 use Rattle.dashcheck.specs.Memo.{IsMemo}
-use Rattle.dashcheck.specs.Threads.{IsThreads}
-use Rattle.dashcheck.specs.declared.command.Status.{Status}
-use Rattle.dashcheck.specs.declared.command.Status.TheVariants.{Good, Refused, BadCommandLine}
+use Rattle.dashcheck.specs.Words.{IsThreads}
 
 -- the words, as bytes, are the one word `script`
 abbrev pub IsScript : List (List ℕ) → Type 0
@@ -28,9 +26,3 @@ ForMemo words P = (c n : ℕ) → IsMemo words c n → P c n
 -- what a bad command line is told
 abbrev pub usage : List ℕ
 usage = codes "usage: dashcheck script | dashcheck threads C N | dashcheck memo C N"
-
--- the exit status
-abbrev pub code_of : Status → ℕ
-code_of Good = 0
-code_of Refused = 1
-code_of BadCommandLine = 2

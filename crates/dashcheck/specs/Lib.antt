@@ -1,7 +1,4 @@
-pub mod Change
 pub mod Command
 pub mod Memo
-pub mod Replay
-pub mod Script
-pub mod Threads
+pub mod Words
 pub mod inner

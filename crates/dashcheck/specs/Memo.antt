@@ -2,7 +2,7 @@
 use Rattle.std.specs.Prelude.{ℕ, ◌+◌, ◌*◌, ◌%◌, ◌^◌, ◌++◌, List, [], ◌∷◌, Option, codes}
 use Rattle.std.specs.Fmt.{decimal}
 use Rattle.std.specs.Io.KnownBytes.{Appends}
-use Rattle.dashcheck.specs.Threads.{IsSized}
+use Rattle.dashcheck.specs.Words.{IsSized}
 use Rattle.dashcheck.specs.declared.memo.Refusal.{Refusal}
 use Rattle.dashcheck.specs.declared.memo.Refusal.TheVariants.{Cache, Answer}
 

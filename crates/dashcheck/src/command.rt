@@ -1,17 +1,21 @@
 //! The command line.
 ghost use Rattle.std.specs.Prelude.{◌≡◌, ◌↔◌, ℕ, ◌*◌, ◌++◌, ◌∷◌, [], ◌⊎◌, IsTrue, IfSome, IfNone, IfOk, OnOk, OnErr, true, false};
 ghost use Rattle.std.specs.Io.KnownBytes.{Appends};
-ghost use Rattle.dashcheck.specs.Command.{ForMemo, ForThreads, IsScript, IsCommand, code_of, in_bytes, usage};
+ghost use Rattle.dash_script.specs.Status.{code_of};
+ghost use Rattle.dashcheck.specs.Command.{ForMemo, ForThreads, IsScript, IsCommand, in_bytes, usage};
 ghost use Rattle.dashcheck.specs.inner.Command.{Asks};
 ghost use Rattle.dashcheck.specs.Memo.{SaysAllRight, SaysMemoRefusal};
-ghost use Rattle.dashcheck.specs.Script.{TakesAll, Refuses, stop_text};
-ghost use Rattle.dashcheck.specs.Threads.{IsSized, IsJudged, SaysRefusal, verdict_lines};
+ghost use Rattle.dash_script.specs.Script.{TakesAll, Refuses, stop_text};
+ghost use Rattle.dash_script.specs.Threads.{IsJudged, SaysRefusal, verdict_lines};
+ghost use Rattle.dashcheck.specs.Words.{IsSized};
 
-use crate::script::{self, Stop};
-use crate::step::number;
-use crate::{memo, threads};
+use crate::memo;
 use dash_history::alone::RecAlone;
 use dash_history::known::Recorded;
+use dash_script::script::{self, Stop};
+use dash_script::status::Status;
+use dash_script::step::number;
+use dash_script::threads;
 use dash_shard::hash::PlaceState;
 use std::alloc::Global;
 use std::io::{self, Read, Write};
@@ -20,14 +24,6 @@ use std::sync::Wait;
 use std::thread::Threads;
 
 const USAGE: &str = "usage: dashcheck script | dashcheck threads C N | dashcheck memo C N";
-
-/// How the program ended.
-#[derive(Clone, Copy, Debug, PartialEq, Eq)]
-pub enum Status {
-    Good,
-    Refused,
-    BadCommandLine,
-}
 
 /// What the words ask for.
 #[derive(Clone, Copy)]
@@ -109,18 +105,6 @@ pub fn exit_code(words: &[String], ran: io::Result<Status>) -> u8
         (Ok(status), _) => status.code(),
         (Err(_), Some(_)) => Status::Refused.code(),
         (Err(_), None) => Status::BadCommandLine.code(),
-    }
-}
-
-impl Status {
-    fn code(self) -> u8
-        ensures { result ≡ code_of self }
-    {
-        match self {
-            Status::Good => 0,
-            Status::Refused => 1,
-            Status::BadCommandLine => 2,
-        }
     }
 }
 

@@ -1,15 +1,10 @@
 //! `dashcheck` takes a script of steps on a recorded map and prints each reply, lets threads take steps on one, or lets them ask a cache.
 #![tactic(auto)]
 
-mod change;
 pub mod command;
-mod lines;
 mod memo;
-mod script;
-mod step;
 #[cfg(test)]
 mod tests;
-mod threads;
 
 use command::{exit_code, refuse_memory, run_words};
 use std::process::ExitCode;

@@ -2,10 +2,10 @@
 ghost use Rattle.std.specs.Prelude.{◌≡◌, ◌≢◌, ℕ, ◌*◌, ◌+◌, ◌%◌, ◌^◌, ◌<◌, ◌≤◌, ◌==◌, ◌∷◌, ◌++◌, [], IfOk, IfErr, OnOk, length, slice_index_or, if◌then◌else◌};
 ghost use Rattle.std.specs.Io.KnownBytes.{Appends};
 ghost use Rattle.dashcheck.specs.Memo.{SaysAllRight, SaysMemoRefusal, memo_refusal, tally_lines, value_of};
-ghost use Rattle.dashcheck.specs.Threads.{IsSize};
+ghost use Rattle.dash_script.specs.Threads.{IsSize};
 ghost use Rattle.dashcheck.specs.inner.Memo.{AreAllRight, EachAllRight};
 
-use crate::command::Status;
+use dash_script::status::Status;
 use dashmap::Memo;
 use dashmap::hash::PlaceState;
 use dashmap::memo::{MemoRefused, Rule};

@@ -1,7 +1,7 @@
 -- What the words of the command line ask for.
 use Rattle.std.specs.Prelude.{ℕ, List, codes}
 use Rattle.dashcheck.specs.Memo.{IsMemo}
-use Rattle.dashcheck.specs.Threads.{IsThreads}
+use Rattle.dashcheck.specs.Words.{IsThreads}
 use Rattle.dashcheck.specs.declared.command.Command.{Command}
 use Rattle.dashcheck.specs.declared.command.Command.TheVariants.{Script, Threads, Memo}
 use Rattle.dashcheck.specs.Command.{IsScript}

@@ -5,7 +5,8 @@ use Rattle.dash_shard.specs.declared.hash.PlaceState.{PlaceState}
 use Rattle.dash_steps.specs.Takes.{Known}
 use Rattle.dashcheck.specs.inner.Command.{Asks}
 use Rattle.dashcheck.specs.Memo.{SaysAllRight}
-use Rattle.dashcheck.specs.Threads.{IsThreads, IsJudged, SaysRefusal, verdict_lines}
+use Rattle.dashcheck.specs.Words.{IsThreads}
+use Rattle.dash_script.specs.Threads.{IsJudged, SaysRefusal, verdict_lines}
 use Rattle.dashcheck.proofs.OneWord.{at-size}
 use Rattle.dashcheck.proofs.command.run_words.Goals as goal
 

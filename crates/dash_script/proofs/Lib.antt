@@ -1,0 +1,8 @@
+mod Numbers
+mod PlainMaps
+mod Reading
+mod Replaying
+mod Replies
+mod Taking
+mod Texts
+pub mod Working

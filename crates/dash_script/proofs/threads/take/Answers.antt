@@ -1,0 +1,18 @@
+use Rattle.std.proofs.Common.{Err, ap, ◌∙◌, arith}
+use Rattle.dash_shard.proofs.Routing.{route_below}
+use Rattle.dash_script.proofs.Working.{logged-ok, not-outside}
+use Rattle.dash_script.proofs.threads.take.Goals.{in-Ok, in-Err-default-LastStamp, in-Err-default-Memory}
+use Rattle.dash_script.proofs.threads.take.Goals as goal
+
+pub unreachable-requires : goal.unreachable-requires
+unreachable-requires g c =
+    let e = c.in-Err-default-NoSuchShard in
+    not-outside _ _ c.args.step c.requires.kind (λ k. route_below _ c.args.map.now.amount (omega (arith, c.requires.shards)))
+    (c.apply.ensures.logs.no_such_shard.0 (e.is ∙ ap (λ s. Err (s, e.field-0-1)) e.ensures.logs.refused.0 ∙ ap (λ f. Err (c.args.step, f)) e.field-0-1-is))
+
+pub returns-clause-taken : goal.returns-clause-taken
+returns-clause-taken g c = elim c.match-apply.branch [
+  | in-Ok w ↦ rw w.result-is (logged-ok _ _ _ c.args.step c.apply.result _ c.requires.kind w.in-Ok.is c.apply.ensures.logs.ok)
+  | in-Err-default-LastStamp w ↦ rw w.result-is tt
+  | in-Err-default-Memory w ↦ rw w.result-is tt
+]

@@ -1,0 +1,7 @@
+-- What only proofs, invariants and the contracts of private functions use.
+pub mod AlikeChange
+pub mod Changes
+pub mod Lines
+pub mod Replay
+pub mod Threads
+pub mod Words

@@ -1,6 +1,0 @@
-use Rattle.dashcheck.specs.inner.Lines.{left_of}
-use Rattle.dashcheck.proofs.Taking.{Going}
-use Rattle.dashcheck.proofs.script.take_steps.Given as goal
-
-abbrev pub invariant-loop-line : goal.invariant-loop-line
-invariant-loop-line g l = Going (g.R.Read.remaining l.fn.input) (left_of (λ r. g.R.Read.remaining r.now) l.lines) (g.O.Write.contents l.fn.output) (g.O.Write.contents l.output) l.line
