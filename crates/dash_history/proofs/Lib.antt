@@ -16,3 +16,8 @@ mod Following
 mod Matching
 mod Gathering
 mod Copying
+mod Parts
+mod Adding
+mod WholeLogs
+mod WholeAlone
+mod Joining

@@ -4,4 +4,5 @@ pub mod Held
 pub mod Map
 pub mod Refused
 pub mod OneHistory
+pub mod WholeSteps
 pub mod inner
