@@ -21,3 +21,4 @@ mod Adding
 mod WholeLogs
 mod WholeAlone
 mod Joining
+mod SharedSteps

@@ -5,4 +5,5 @@ pub mod Map
 pub mod Refused
 pub mod OneHistory
 pub mod WholeSteps
+pub mod SharedSteps
 pub mod inner

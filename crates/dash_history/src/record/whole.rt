@@ -96,6 +96,7 @@ impl<K: KeptKey + Drop, V: Kept + Drop, S: BuildHasher, A: KeptAction<K, V> + Dr
         requires { IsNext ⟦<Self as Recorded>⟧.known self.old entry }
         ensures added { IsTrue result → self.new ≡ and_record self.old entry }
         ensures refused { IsFalse result → self.new ≡ self.old }
+        ensures stays { (self.new.shard ≡ self.old.shard) × (self.new.callers ≡ self.old.callers) }
     {
         if !make_room(&mut self.history) {
             return false;
@@ -107,7 +108,8 @@ impl<K: KeptKey + Drop, V: Kept + Drop, S: BuildHasher, A: KeptAction<K, V> + Dr
 
     fn take_back(&mut self)
         requires { (s : RecState K V A S) × HasOneMore ⟦<Self as Recorded>⟧.known s self.old }
-        ensures { (s : RecState K V A S) → HasOneMore ⟦<Self as Recorded>⟧.known s self.old → self.new ≡ s }
+        ensures back { (s : RecState K V A S) → HasOneMore ⟦<Self as Recorded>⟧.known s self.old → self.new ≡ s }
+        ensures stays { (self.new.shard ≡ self.old.shard) × (self.new.callers ≡ self.old.callers) }
     {
         drop(self.history.pop());
         self.last = last_of(&self.history);
