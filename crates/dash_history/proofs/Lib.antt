@@ -22,3 +22,4 @@ mod WholeLogs
 mod WholeAlone
 mod Joining
 mod SharedSteps
+mod Standing
