@@ -16,3 +16,10 @@ mod Following
 mod Matching
 mod Gathering
 mod Copying
+mod Parts
+mod Adding
+mod WholeLogs
+mod WholeAlone
+mod Joining
+mod SharedSteps
+mod Standing

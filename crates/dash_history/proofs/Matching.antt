@@ -13,10 +13,10 @@ use Rattle.dash_history.proofs.Alongs.{Before, never, Tidy, log-in_order, along-
 use Rattle.dash_history.proofs.Members.{Has, has-kept, kept-has, in_order-kept, agree}
 
 module _ {X : Type 0} (e : X → X → Bool) where
-  abbrev Like : X → X → Type 0
+  abbrev pub Like : X → X → Type 0
   Like x y = e x y ≡ true
 
-  zipped : (xs ys : List X) → pointwise e xs ys ≡ true → AllZip Like xs ys
+  pub zipped : (xs ys : List X) → pointwise e xs ys ≡ true → AllZip Like xs ys
   zipped [] [] h = tt
   zipped [] (y ∷ ys) h = cc
   zipped (x ∷ xs) [] h = cc
@@ -35,7 +35,7 @@ module _ {X : Type 0} (e : X → X → Bool) where
   has-like (q ∷ xs) (y ∷ ys) z x (inl p) = (y, inl refl, subst (λ v. Like v y) p z.0)
   has-like (q ∷ xs) (y ∷ ys) z x (inr h) = let r = has-like xs ys z.1 x h in (r.0, inr r.1, r.2)
 
-  like-has : (xs ys : List X) → AllZip Like xs ys → (y : X) → Has ys y → (x : X) × Has xs x × Like x y
+  pub like-has : (xs ys : List X) → AllZip Like xs ys → (y : X) → Has ys y → (x : X) × Has xs x × Like x y
   like-has xs [] z y h = absurd h
   like-has [] (q ∷ ys) z y h = absurd z
   like-has (x ∷ xs) (q ∷ ys) z y (inl p) = (x, inl refl, subst (Like x) p z.0)
@@ -61,11 +61,11 @@ filters p q (x ∷ xs) = go (filters p q xs) (p x) (q x) refl refl
     go rest false false e f = rest
 
 module _ {K V A : Type 0} (k : K → K → Bool) (v : V → V → Bool) (f : A → A → Bool) where
-  abbrev same : Record K V A → Record K V A → Bool
+  abbrev pub same : Record K V A → Record K V A → Bool
   same = alike_record k v f
 
   -- alike records have one stamp, one caller and one shard
-  tells : (r q : Record K V A) → same r q ≡ true → (r.stamp ≡ q.stamp) × (r.caller ≡ q.caller) × (r.shard ≡ q.shard)
+  pub tells : (r q : Record K V A) → same r q ≡ true → (r.stamp ≡ q.stamp) × (r.caller ≡ q.caller) × (r.shard ≡ q.shard)
   tells r q h =
       let front = and_parts _ _ (and_parts _ _ (and_parts _ _ h).0).0 in
       let first = and_parts _ _ front.0 in

@@ -4,4 +4,6 @@ pub mod Held
 pub mod Map
 pub mod Refused
 pub mod OneHistory
+pub mod WholeSteps
+pub mod SharedSteps
 pub mod inner

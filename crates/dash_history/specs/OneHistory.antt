@@ -1,11 +1,12 @@
 -- One history of a recorded map: the merge of the histories of its shards, and when the logs of its callers match them.
-use Rattle.std.specs.Prelude.{ℕ, ◌≡◌, ◌<◌, ◌≤◌, ◌==◌, ◌⊎◌, ◌↔◌, List, [], map, filter, flat_map, length, Option, Some, option_and_then, slice_get, All, IsTrue, Result, IfOk, Err, Vec}
+use Rattle.std.specs.Prelude.{ℕ, ◌≡◌, ◌+◌, ◌<◌, ◌≤◌, ◌==◌, ◌⊎◌, ◌↔◌, List, [], map, filter, flat_map, length, Option, Some, option_and_then, slice_get, All, IsTrue, Result, IfOk, Err, Vec}
 use Rattle.std.specs.List.{Contains, filter_map}
 use Rattle.dash_shard.specs.Shard.{EachAt, pairs}
 use Rattle.std.specs.Option.{option_eq}
 use Rattle.std.specs.Cmp.Lexicographic.{pointwise}
 use Rattle.dash_kept.specs.Alike.{alike_pair}
-use Rattle.dash_steps.specs.Steps.{alike_record}
+use Rattle.dash_steps.specs.Steps.{alike_record, part_of}
+use Rattle.dash_steps.specs.declared.step.Whole.{Whole}
 use Rattle.dash_steps.specs.Takes.{Known, Runs}
 use Rattle.dash_history.specs.History.{LogState, done}
 use Rattle.dash_history.specs.Alone.{RecAloneState, kinds_in}
@@ -48,6 +49,16 @@ module _ {K V A : Type 0} where
     pub all : (j : ℕ) → j < c → (i : ℕ) × (l : LogState K V A) × (slice_get logs i ≡ Some l) × (l.caller ≡ j)
     pub once : (i k : ℕ) (l m : LogState K V A) → slice_get logs i ≡ Some l → slice_get logs k ≡ Some m → l.caller ≡ m.caller → i ≡ k
 
+  -- the log has a part of a whole step of this kind in each of n shards, all at this stamp
+  abbrev pub HasWhole : ℕ → Whole → ℕ → List (Record K V A) → Type 0
+  HasWhole n kind t entries = (i : ℕ) → i < n → (r : Record K V A) × Contains entries r × (r.stamp ≡ t) × (r.shard ≡ i) × (part_of r.step ≡ Some kind)
+
+-- from some index on, the places are those of the shards 0 to n - 1 at the stamp t, by this caller; no other place has that stamp
+pub record StandsWhole (n t caller : ℕ) (ats : List At) : Type 0 where
+  pub from : ℕ
+  pub parts : (i : ℕ) → i < n → (a : At) × (slice_get ats (from + i) ≡ Some a) × (a.stamp ≡ t) × (a.shard ≡ i) × (a.caller ≡ caller)
+  pub others : (k : ℕ) (a : At) → slice_get ats k ≡ Some a → a.stamp ≡ t → (from ≤ k) × (k < from + n)
+
 -- the histories of the shards, and the pairs of all shards
 module _ {K V A S : Type 0} where
   abbrev pub histories : RecAloneState K V A S → List (List (Record K V A))
@@ -88,9 +99,15 @@ module _ {K V A S : Type 0} (w : Known K V A S) where
     pub history : IsOneHistory a ats
     pub callers : EachAt logs (λ _ l. Same (of_caller l.caller (along (histories a) ats)) l.entries)
 
-  -- what an answer of gather says: the headline, or that the logs don't match; want of memory says nothing of them
+  -- each whole step of all shards of the map that a log has stands together at one place of the history
+  abbrev pub WholesStand : RecAloneState K V A S → List (LogState K V A) → List At → Type 0
+  WholesStand a logs ats = EachAt logs (λ _ l. (kind : Whole) (t : ℕ) → HasWhole (length a.row) kind t l.entries → StandsWhole (length a.row) t l.caller ats)
+
+  -- What an answer of gather says: the headline, and where whole steps stand, or that the logs don't match. Want of memory says nothing
+  -- of them.
   pub record Gathers {G : Type 0} (a : RecAloneState K V A S) (logs : List (LogState K V A)) (answer : Result (Vec At G) GatherError) : Type 0 where
     pub gathered : IfOk answer (λ ats. IsGathered a logs ats.items)
+    pub wholes : IfOk answer (λ ats. WholesStand a logs ats.items)
     pub mismatch : answer ≡ Err Mismatch → Matches a logs → ⊥
 
 -- a place of a stamp above t stands after every one of a stamp up to t

@@ -3,4 +3,5 @@ pub mod Fresh
 pub mod Gathering
 pub mod Grows
 pub mod Locks
+pub mod Parts
 pub mod Tells

@@ -1,5 +1,5 @@
 //! A recorded map of one owner, without locks.
-ghost use Rattle.std.specs.Prelude.{◌∷◌, [], ◌≡◌, ◌+◌, ◌<◌, max, ◌↔◌, Some, IsErrOf, IsSomeAnd, IfOk, IfErr, length, slice_get, Err, IsTrue, flat_map, option_map};
+ghost use Rattle.std.specs.Prelude.{◌∷◌, [], ◌≡◌, ◌+◌, ◌<◌, max, ◌↔◌, Some, IsErrOf, IsSomeAnd, IfOk, IfErr, IsFalse, OnErr, ◌-◌, ◌^◌, length, slice_get, Err, IsTrue, flat_map, option_map};
 ghost use Rattle.dash_shard.specs.Errors.{IsOneOf};
 ghost use Rattle.dash_shard.specs.declared.error.ConstructError.TheVariants.{Callers, Memory, ShardAmount};
 ghost use Rattle.dash_shard.specs.Hashing.{IsAmount, HashAlike};
@@ -10,7 +10,11 @@ ghost use Rattle.dash_shard.specs.Shard.{EachAt, pairs};
 ghost use Rattle.dash_steps.specs.inner.Copied.{alike_pairs};
 ghost use Rattle.dash_history.specs.OneHistory.{IsOneHistory, Gathers, CopiesEntry, CopiesRecPairs, histories, record_at};
 ghost use Rattle.dash_history.specs.Refused.{HandsBack, RefusesPart};
+ghost use Rattle.dash_history.specs.declared.record.RecordFault.TheVariants as fault;
 ghost use Rattle.dash_history.specs.declared.record.RecordFault.TheVariants.{LastStamp, NoSuchShard, Locked};
+ghost use Rattle.dash_history.specs.WholeSteps.{AppliedWhole, CountsAll, ClonesAll, top_of};
+ghost use Rattle.dash_history.specs.inner.Parts.{Planned};
+ghost use Rattle.dash_steps.specs.declared.step.Whole.{Whole};
 ghost use Rattle.dash_steps.specs.Takes.{Known, known};
 ghost use Rattle.dash_steps.specs.Steps.{IsPart};
 ghost use Rattle.dash_steps.specs.declared.step.ShardStep.{ShardStep};
@@ -21,6 +25,7 @@ use crate::gather::merge::merge;
 use crate::gather::{At, GatherError};
 use crate::known::Recorded;
 use crate::record::map::Locked;
+use crate::record::whole::{Parts, join_numbers, join_pairs, plan_whole, record_whole};
 use crate::record::{CallerLog, RecShard, RecordFault};
 use dash_kept::{Kept, KeptKey};
 use dash_shard::error::ConstructError;
@@ -29,7 +34,7 @@ use dash_shard::keyed::Keyed;
 use dash_shard::row::Row;
 use dash_shard::shard::Shard;
 use dash_steps::action::KeptAction;
-use dash_steps::step::{Record, Reply, ShardStep};
+use dash_steps::step::{Record, Reply, ShardStep, Whole};
 use dash_steps::sweep::add_copies;
 use std::alloc::{AllocError, Global};
 use std::hash::BuildHasher;
@@ -223,6 +228,71 @@ impl<K: KeptKey + Drop, V: Kept + Drop, S: BuildHasher, A: KeptAction<K, V> + Dr
             return Err((step, RecordFault::NoSuchShard));
         }
         self.row[idx].record_hashed(log, hash, step)
+    }
+
+    // The records of a whole step of this map.
+    fn plan(&self, log: &CallerLog<K, V, A>, kind: Whole) -> Result<Parts<K, V, A>, RecordFault>
+        ensures planned { IfOk result (λ p. Planned ⟦<Self as Recorded>⟧.known (λ s. s) kind self.now.row log.now p.stamp p.kept.items
+            p.logged.items) }
+        ensures lawful { IsRecAlone ⟦<Self as Recorded>⟧.known self.now }
+        ensures last_stamp { IsErrOf result LastStamp ↔ (top_of self.now log.now ≡ 2 ^ 64 - 1) }
+        ensures kinds { IfErr result (IsOneOf (LastStamp ∷ fault.Memory ∷ [])) }
+    {
+        plan_whole(self.row.items(), log, kind)
+    }
+
+    // Adds the records of a whole step to the shards and to the log, or changes nothing where there is no memory for them.
+    fn record_parts(&mut self, log: &mut CallerLog<K, V, A>, parts: Parts<K, V, A>) -> bool
+        requires caller { log.old.caller < self.old.callers }
+        requires planned { (kind : Whole) × Planned ⟦<Self as Recorded>⟧.known (λ s. s) kind self.old.row log.old parts.stamp
+            parts.kept.items parts.logged.items }
+        ensures added { IsTrue result → (kind : Whole) → Planned ⟦<Self as Recorded>⟧.known (λ s. s) kind self.old.row log.old parts.stamp
+            parts.kept.items parts.logged.items
+            → AppliedWhole ⟦<Self as Recorded>⟧.known kind self.old self.new log.old log.new parts.logged.items }
+        ensures lawful { IsRecAlone ⟦<Self as Recorded>⟧.known self.new }
+        ensures refused { IsFalse result → (self.new ≡ self.old) × (log.new ≡ log.old) }
+    {
+        record_whole(self.row.items_mut(), log, parts)
+    }
+
+    /// How many pairs the map has, saturating at 2^64 - 1: a whole step.
+    ///
+    /// Its part in each shard is recorded there, all at one stamp, and so in the caller's log. It waits for nobody, and takes memory
+    /// for the records. Where it is refused (18, then 19), nothing changes.
+    pub fn count_all(&mut self, log: &mut CallerLog<K, V, A>) -> Result<u64, RecordFault>
+        requires { log.old.caller < self.old.callers }
+        ensures ok { IfOk result (CountsAll ⟦<Self as Recorded>⟧.known self.old self.new log.old log.new) }
+        ensures lawful { IsRecAlone ⟦<Self as Recorded>⟧.known self.new }
+        ensures refused { OnErr result ((self.new ≡ self.old) × (log.new ≡ log.old)) }
+        ensures last_stamp { IsErrOf result LastStamp ↔ (top_of self.old log.old ≡ 2 ^ 64 - 1) }
+        ensures kinds { IfErr result (IsOneOf (LastStamp ∷ fault.Memory ∷ [])) }
+    {
+        let parts = self.plan(log, Whole::Count)?;
+        let number = join_numbers(&parts.logged);
+        if !self.record_parts(log, parts) {
+            return Err(RecordFault::Memory);
+        }
+        Ok(number)
+    }
+
+    /// Copies of all pairs of the map: a whole step, as `count_all`. It takes memory for the copies too.
+    pub fn clone_all(&mut self, log: &mut CallerLog<K, V, A>) -> Result<Vec<(K, V)>, RecordFault>
+        requires { log.old.caller < self.old.callers }
+        ensures ok { IfOk result (λ copies.
+            ClonesAll ⟦<Self as Recorded>⟧.known self.old self.new log.old log.new copies.items) }
+        ensures lawful { IsRecAlone ⟦<Self as Recorded>⟧.known self.new }
+        ensures refused { OnErr result ((self.new ≡ self.old) × (log.new ≡ log.old)) }
+        ensures last_stamp { IsErrOf result LastStamp ↔ (top_of self.old log.old ≡ 2 ^ 64 - 1) }
+        ensures kinds { IfErr result (IsOneOf (LastStamp ∷ fault.Memory ∷ [])) }
+    {
+        let parts = self.plan(log, Whole::Read)?;
+        let Ok(copies) = join_pairs(self.row.allocator(), &parts.logged) else {
+            return Err(RecordFault::Memory);
+        };
+        if !self.record_parts(log, parts) {
+            return Err(RecordFault::Memory);
+        }
+        Ok(copies)
     }
 
     /// The merge of the histories: the places of all records, first by stamp, and among equal stamps by shard.

@@ -6,3 +6,4 @@ mod apply;
 pub mod gather;
 pub mod known;
 pub mod record;
+mod whole_steps;

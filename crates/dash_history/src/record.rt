@@ -25,6 +25,7 @@ use thiserror::Error;
 pub mod held;
 pub mod map;
 mod plan;
+pub(crate) mod whole;
 
 /// Why a step is refused. Nothing changes then, and the step is handed back.
 #[derive(Clone, Copy, Debug, PartialEq, Eq, Error)]

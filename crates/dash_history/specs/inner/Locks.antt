@@ -1,15 +1,16 @@
 -- The locks of a recorded map.
-use Rattle.std.specs.Prelude.{ℕ, ◌≡◌, List}
+use Rattle.std.specs.Prelude.{ℕ, ◌≡◌, List, length}
 use Rattle.crossbeam_utils.specs.declared.cache_padded.CachePadded.{CachePadded}
 use Rattle.crossbeam_utils.specs.Padded.{padded_value}
 use Rattle.dash_shard.specs.Hashing.{IsAmount}
+use Rattle.dash_lock.specs.Lock.{FoundBehind}
 use Rattle.dash_shard.specs.Shard.{EachAt}
 use Rattle.dash_steps.specs.Takes.{Known}
 use Rattle.dash_history.specs.Alone.{IsCallers}
 use Rattle.dash_history.specs.Held.{FitsRecTag}
 use Rattle.dash_history.specs.History.{RecState, IsRecorded}
 use Rattle.dash_history.specs.declared.record.held.RecTag.{RecTag}
-use Rattle.dash_history.specs.Map.{RecMapState}
+use Rattle.dash_history.specs.Map.{RecMapState, IsRecShardOf}
 
 module _ {S : Type 0} where
   -- the lock was made for shard i of the map
@@ -24,6 +25,11 @@ module _ {S : Type 0} where
     pub amount : IsAmount m.amount
     pub callers : IsCallers m.callers
     pub tagged : EachAt locks (IsRecAt m)
+
+-- these are all shards of the map, as they were found behind their locks, in rising order
+pub record HoldsAll {K V A S : Type 0} (w : Known K V A S) (m : RecMapState S) (holds : List (RecState K V A S)) : Type 0 where
+  pub count : length holds ≡ m.amount
+  pub each : EachAt holds (λ i s. IsRecShardOf w.keys m i s × IsRecorded w s × FoundBehind s)
 
 -- a shard that leaves the lock: it fits what the lock was made for, and its history is legal
 abbrev pub LeavesLock : {K V A S : Type 0} → Known K V A S → RecTag S → RecState K V A S → Type 0

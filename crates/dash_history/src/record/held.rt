@@ -1,21 +1,25 @@
 //! A recorded shard that is held for writing, changed in place behind its lock.
-ghost use Rattle.std.specs.Prelude.{◌≡◌, ◌<◌, ◌↔◌, IsTrue};
+ghost use Rattle.std.specs.Prelude.{◌≡◌, ◌<◌, ◌↔◌, IsFalse, IsTrue};
 ghost use Rattle.dash_shard.specs.Hashing.{by};
 ghost use Rattle.dash_shard.specs.Shard.{Routes};
 ghost use Rattle.dash_lock.specs.Lock.{LeftBehind};
-ghost use Rattle.dash_history.specs.History.{IsRecorded, GoesTo};
+ghost use Rattle.dash_history.specs.History.{IsRecorded, GoesTo, RecState};
+ghost use Rattle.dash_history.specs.WholeSteps.{and_record};
+ghost use Rattle.dash_history.specs.inner.Parts.{HasOneMore, IsNext};
 ghost use Rattle.dash_steps.specs.Steps.{IsPart};
 ghost use Rattle.dash_steps.specs.inner.Hashed.{HasHash};
 ghost use Rattle.dash_history.specs.Held.{FitsRecTag};
 ghost use Rattle.dash_history.specs.Refused.{Records};
 ghost use Rattle.dash_steps.specs.Takes.{known};
 
+use super::whole::Member;
 use super::{CallerLog, RecShard, RecordFault};
 use crate::known::Recorded;
 use dash_kept::{Kept, KeptKey};
 use dash_shard::lock::{RwLockWriteGuard, Tagged};
 use dash_steps::action::KeptAction;
-use dash_steps::step::{Reply, ShardStep};
+use dash_steps::step::{Record, Reply, ShardStep, Whole};
+use std::alloc::{AllocError, Global};
 use std::hash::BuildHasher;
 use std::marker::Model;
 use std::mem;
@@ -189,5 +193,58 @@ impl<K: KeptKey + Drop, V: Kept + Drop, S: BuildHasher, A: KeptAction<K, V> + Dr
         );
         *log = mine;
         answer
+    }
+}
+
+impl<K: KeptKey + Drop, V: Kept + Drop, S: BuildHasher, A: KeptAction<K, V> + Drop> Member<
+    K,
+    V,
+    S,
+    A,
+> for RecShardMut<'_, K, V, S, A> {
+    ghost state = { λ s. s };
+
+    fn last(&self) -> u64 {
+        self.guard.last_stamp()
+    }
+
+    fn tell(
+        &self,
+        alloc: Global,
+        kind: Whole,
+        stamp: u64,
+        caller: u32,
+    ) -> Result<(Record<K, V, A>, Record<K, V, A>), AllocError> {
+        self.guard.tell(alloc, kind, stamp, caller)
+    }
+
+    fn add(&mut self, entry: Record<K, V, A>) -> bool
+        requires { IsNext ⟦<Self as Recorded>⟧.known self.old entry }
+        ensures added { IsTrue result → self.new ≡ and_record self.old entry }
+        ensures refused { IsFalse result → self.new ≡ self.old }
+    {
+        self.guard.change(
+            |shard: &mut RecShard<K, V, S, A>| -> bool
+                requires { IsNext (known K.KeptKey V.alike A.KeptAction S.BuildHasher S.Hasher.Hasher) shard.old entry }
+                ensures added { IsTrue result → shard.new ≡ and_record shard.old entry }
+                ensures refused { IsFalse result → shard.new ≡ shard.old }
+                ensures stays { (shard.new.shard ≡ shard.old.shard) × (shard.new.callers ≡ shard.old.callers) }
+            { shard.add(entry) },
+        )
+    }
+
+    fn take_back(&mut self)
+        requires { (s : RecState K V A S) × HasOneMore ⟦<Self as Recorded>⟧.known s self.old }
+        ensures { (s : RecState K V A S) → HasOneMore ⟦<Self as Recorded>⟧.known s self.old → self.new ≡ s }
+    {
+        self.guard.change(
+            |shard: &mut RecShard<K, V, S, A>|
+                requires { (s : RecState K V A S)
+                    × HasOneMore (known K.KeptKey V.alike A.KeptAction S.BuildHasher S.Hasher.Hasher) s shard.old }
+                ensures back { (s : RecState K V A S)
+                    → HasOneMore (known K.KeptKey V.alike A.KeptAction S.BuildHasher S.Hasher.Hasher) s shard.old → shard.new ≡ s }
+                ensures stays { (shard.new.shard ≡ shard.old.shard) × (shard.new.callers ≡ shard.old.callers) }
+            { shard.take_back() },
+        )
     }
 }

@@ -120,6 +120,11 @@ impl<K: KeptKey + Drop, V: Kept + Drop, S: BuildHasher, A: KeptAction<K, V> + Dr
         self.row.len()
     }
 
+    // The allocator of the map.
+    pub(crate) fn allocator(&self) -> Global {
+        self.row.allocator()
+    }
+
     /// The hash of a step's key, or 0 where it has none, and the number of the shard that the step goes to.
     #[inline]
     pub(crate) fn route(&self, step: &ShardStep<K, V, A>) -> (u64, usize)

@@ -7,6 +7,7 @@ use Rattle.dash_history.specs.inner.Gathering.{EachRecorded}
 use Rattle.dash_history.specs.inner.Gathering.{Finds}
 use Rattle.dash_steps.specs.Takes.{known_by}
 use Rattle.dash_history.proofs.Gathering.{below-seen, gathered-seen, mismatch-seen}
+use Rattle.dash_history.proofs.Standing.{wholes-seen}
 use Rattle.dash_steps.proofs.Copies.{lawful-by}
 use Rattle.dash_history.proofs.Refusals.{made-refused}
 use Rattle.dash_history.proofs.alone.RecAlone.gather.Goals as goal
@@ -37,7 +38,7 @@ returns-in-Ok-true g c =
     let found = rw c.in-Ok-Some.field-0-is at c.in-Ok-Some.ensures in
     let gathered = gathered-seen w laws c.self.inside.hasher c.self.inside.callers c.self.inside.row c.args.self.now c.self.view_is c.self.invariant c.items.result.now c.items.ensures c.in-Ok.ats.items c.in-Ok.ensures
     c.args.logs.now found.2 c.items-2.result.now c.items-2.ensures c.deref.result.now c.deref.ensures.value found.0 (c.in-Ok-true.ensures.0 c.in-Ok-true.field-0-test) in
-    record { gathered = gathered; mismatch = λ e. absurd (made-refused _ _ e) }
+    record { gathered = gathered; wholes = wholes-seen w c.self.inside.hasher c.self.inside.callers c.self.inside.row c.args.self.now c.self.view_is c.self.invariant c.args.logs.now c.in-Ok.ats.items gathered; mismatch = λ e. absurd (made-refused _ _ e) }
 
 pub returns-in-Ok-false : goal.returns-in-Ok-false
 returns-in-Ok-false g c =
@@ -48,4 +49,4 @@ returns-in-Ok-false g c =
     let mismatch = mismatch-seen w laws c.self.inside.hasher c.self.inside.callers c.self.inside.row c.args.self.now c.self.view_is c.self.invariant c.items.result.now c.items.ensures c.in-Ok.ats.items c.in-Ok.ensures
     c.args.logs.now found.2 c.items-2.result.now c.items-2.ensures c.deref.result.now c.deref.ensures.value
     (λ keeps. absurd (both_ways c.in-Ok-false.field-0 c.in-Ok-false.field-0-test (c.in-Ok-false.ensures.1 keeps))) in
-    record { gathered = tt; mismatch = λ _. mismatch }
+    record { gathered = tt; wholes = tt; mismatch = λ _. mismatch }

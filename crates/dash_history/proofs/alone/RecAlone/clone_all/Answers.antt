@@ -1,0 +1,20 @@
+use Rattle.std.proofs.Common.{List, IsTrue, subst}
+use Rattle.std.specs.Cmp.Lexicographic.{pointwise}
+use Rattle.dash_kept.specs.Alike.{alike_pair}
+use Rattle.dash_steps.specs.Takes.{known_by}
+use Rattle.dash_steps.specs.declared.step.Record.{Record}
+use Rattle.dash_steps.specs.declared.step.Whole.TheVariants as whole
+use Rattle.dash_history.specs.WholeSteps.{joined_pairs}
+use Rattle.dash_history.proofs.Joining.{copies-joined}
+use Rattle.dash_history.proofs.alone.RecAlone.clone_all.Goals as goal
+
+pub returns-clause-ok : goal.returns-clause-ok
+returns-clause-ok g c =
+    let applied = c.record_parts.ensures.added c.if-not-record_parts.false whole.Read c.in_ok-parts.ensures.planned in
+    let joined = subst (λ (rs : List (Record g.row.K.Denot g.row.V.Denot g.row.A.Denot)). IsTrue (pointwise (alike_pair g.K.Kept.alike g.V.Kept.alike) (joined_pairs rs) c.in-Ok.copies.items)) c.deref.ensures.value c.in-Ok.ensures in
+    record {
+      parts = c.in_ok-parts.parts.logged.items;
+      applied = applied;
+      joined = joined;
+      pairs = copies-joined (known_by g.K.PartialEq.eq g.K.Hash.hash_input g.K.Kept.alike g.V.Kept.alike g.A.Kept.alike g.A.Action.acts g.S.BuildHasher g.S.Hasher.Hasher) g.met.K.Kept.alike_laws g.met.V.Kept.alike_laws c.args.self.now c.record_parts.new.self c.args.log.now c.record_parts.new.log c.in_ok-parts.parts.logged.items applied c.in-Ok.copies.items joined;
+    }

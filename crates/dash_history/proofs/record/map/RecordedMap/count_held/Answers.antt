@@ -1,0 +1,18 @@
+use Rattle.std.proofs.Common.{List, ap, sym, subst, ◌∙◌}
+use Rattle.dash_history.specs.History.{RecState}
+use Rattle.dash_history.specs.WholeSteps.{joined_number}
+use Rattle.dash_history.specs.inner.Parts.{Planned}
+use Rattle.dash_steps.specs.Takes.{known_by}
+use Rattle.dash_steps.specs.declared.step.Whole.TheVariants as whole
+use Rattle.dash_history.proofs.record.map.RecordedMap.count_held.Goals as goal
+
+pub returns-clause-ok : goal.returns-clause-ok
+returns-clause-ok g c =
+    let Row : Type 0 = List (RecState g.row.K.Denot g.row.V.Denot g.row.A.Denot g.row.S.Denot) in
+    let p = c.in_ok-parts.parts in
+    let planned = subst (λ (row : Row). Planned (known_by g.K.PartialEq.eq g.K.Hash.hash_input g.K.Kept.alike g.V.Kept.alike g.A.Kept.alike g.A.Action.acts g.S.BuildHasher g.S.Hasher.Hasher) (λ s. s) whole.Count row c.args.log.now p.stamp p.kept.items p.logged.items) (c.deref.ensures.value ∙ sym c.deref_mut.ensures.value) c.in_ok-parts.ensures.planned in
+    record {
+      parts = p.logged.items;
+      logs = c.record_held.ensures.logs c.if-not-record_held.false whole.Count planned;
+      joined = c.join_numbers-number.ensures ∙ ap joined_number c.deref-2.ensures.value;
+    }

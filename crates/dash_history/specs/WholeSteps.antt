@@ -1,0 +1,94 @@
+-- Whole steps: a count or a copy of the whole map, by one part in each shard, all at one stamp.
+use Rattle.std.specs.Prelude.{ℕ, ◌≡◌, ◌+◌, ◌-◌, ◌^◌, min, max, List, [], ◌∷◌, ◌++◌, length, flat_map, Some, slice_get, IsTrue}
+use Rattle.std.specs.List.{sum_by}
+use Rattle.std.specs.Cmp.Lexicographic.{pointwise}
+use Rattle.dash_shard.specs.Shard.{EachAt, pairs}
+use Rattle.dash_shard.specs.Steps as table
+use Rattle.dash_kept.specs.Alike.{alike_pair}
+use Rattle.dash_steps.specs.Alike.{alike_reply}
+use Rattle.dash_steps.specs.Steps.{reply_of, alike_record, part}
+use Rattle.dash_steps.specs.Takes.{Known}
+use Rattle.dash_steps.specs.declared.step.Record.{Record}
+use Rattle.dash_steps.specs.declared.step.Whole.{Whole}
+use Rattle.dash_steps.specs.declared.step.Whole.TheVariants as whole
+use Rattle.dash_history.specs.Alone.{RecAloneState}
+use Rattle.dash_history.specs.History.{LogState, RecState}
+use Rattle.dash_history.specs.OneHistory.{CopiesRecPairs, rec_contents}
+
+module _ {K V : Type 0} where
+  -- what the part of a whole step replies at the pairs of its shard
+  abbrev pub part_reply : Whole → List (K × V) → table.Reply K V
+  part_reply whole.Count P = table.Number (min (length P) (2 ^ 64 - 1))
+  part_reply whole.Read P = table.Pairs P
+
+  -- the number, and the pairs, that a part replies
+  abbrev pub number_in : table.Reply K V → ℕ
+  number_in (table.Number n) = n
+  number_in reply = 0
+
+  abbrev pub pairs_in : table.Reply K V → List (K × V)
+  pairs_in (table.Pairs P) = P
+  pairs_in reply = []
+
+module _ {K V A : Type 0} where
+  -- what parts reply, joined: their numbers added up, saturating at 2^64 - 1, or their pairs, one list after the other
+  abbrev pub joined_number : List (Record K V A) → ℕ
+  joined_number rs = min (sum_by (λ r. number_in (reply_of r.reply)) rs) (2 ^ 64 - 1)
+
+  abbrev pub joined_pairs : List (Record K V A) → List (K × V)
+  joined_pairs rs = flat_map (λ r. pairs_in (reply_of r.reply)) rs
+
+-- the greatest of a number and the lasts of these shards
+abbrev pub greatest : {X : Type 0} → (X → ℕ) → ℕ → List X → ℕ
+greatest last n [] = n
+greatest last n (x ∷ xs) = greatest last (max n (last x)) xs
+
+module _ {K V A S : Type 0} where
+  -- the greatest of the log's last and the lasts of all shards
+  abbrev pub top_of : RecAloneState K V A S → LogState K V A → ℕ
+  top_of a l = greatest (λ s. s.last) l.last a.row
+
+  -- the shard with one record more at the end of its history
+  abbrev pub and_record : RecState K V A S → Record K V A → RecState K V A S
+  and_record s r = record s { last = r.stamp; history = s.history ++ r ∷ [] }
+
+module _ {K V A S : Type 0} (w : Known K V A S) where
+  -- the record tells the part of such a whole step in a shard, at this stamp and by this caller, with the reply at the shard's pairs
+  pub record TellsPart (kind : Whole) (stamp caller : ℕ) (s : RecState K V A S) (r : Record K V A) : Type 0 where
+    pub stamped : r.stamp ≡ stamp
+    pub by : r.caller ≡ caller
+    pub of : r.shard ≡ s.shard.number
+    pub step : r.step ≡ part kind s.shard.number
+    pub replied : IsTrue (alike_reply w.alike_key w.alike_value (part_reply kind (pairs s.shard)) (reply_of r.reply))
+
+  -- the shard's part was recorded at the end of its history, and so in the log
+  pub record RecordsPart (kind : Whole) (stamp caller : ℕ) (s s' : RecState K V A S) (logged : Record K V A) : Type 0 where
+    pub kept : Record K V A
+    pub tells : TellsPart kind stamp caller s kept
+    pub grown : s' ≡ and_record s kept
+    pub same : IsTrue (alike_record w.alike_key w.alike_value w.alike_action kept logged)
+
+  -- A whole step was taken: its part in each shard was recorded there, all at one stamp, one above all lasts. The log has the same
+  -- records at its end, in rising order of shards.
+  pub record AppliedWhole (kind : Whole) (a a' : RecAloneState K V A S) (l l' : LogState K V A) (parts : List (Record K V A)) : Type 0 where
+    pub hasher : a'.hasher ≡ a.hasher
+    pub callers : a'.callers ≡ a.callers
+    pub shards : length a'.row ≡ length a.row
+    pub count : length parts ≡ length a.row
+    pub recorded : EachAt a.row (λ i s. (s' : RecState K V A S) × (r : Record K V A) × (slice_get a'.row i ≡ Some s') × (slice_get parts i ≡ Some r)
+        × RecordsPart kind (top_of a l + 1) l.caller s s' r)
+    pub log : l' ≡ record l { last = top_of a l + 1; entries = l.entries ++ parts }
+
+  -- a count of the whole map was taken, and this number is what its parts reply and how many pairs the map has, at most 2^64 - 1
+  pub record CountsAll (a a' : RecAloneState K V A S) (l l' : LogState K V A) (n : ℕ) : Type 0 where
+    pub parts : List (Record K V A)
+    pub applied : AppliedWhole whole.Count a a' l l' parts
+    pub joined : n ≡ joined_number parts
+    pub number : n ≡ min (length (rec_contents a)) (2 ^ 64 - 1)
+
+  -- a copy of the whole map was taken, and these pairs are copies of what its parts reply and of the map's pairs
+  pub record ClonesAll (a a' : RecAloneState K V A S) (l l' : LogState K V A) (copies : List (K × V)) : Type 0 where
+    pub parts : List (Record K V A)
+    pub applied : AppliedWhole whole.Read a a' l l' parts
+    pub joined : IsTrue (pointwise (alike_pair w.alike_key w.alike_value) (joined_pairs parts) copies)
+    pub pairs : CopiesRecPairs w a copies
