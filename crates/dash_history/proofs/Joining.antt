@@ -23,16 +23,16 @@ use Rattle.dash_history.specs.OneHistory.{CopiesRecPairs, rec_contents}
 use Rattle.dash_history.specs.WholeSteps.{AppliedWhole, joined_number, joined_pairs, number_in, pairs_in}
 
 -- the sum along a list, from its front
-total : {X : Type 0} → (X → ℕ) → List X → ℕ
+pub total : {X : Type 0} → (X → ℕ) → List X → ℕ
 total f [] = 0
 total f (x ∷ xs) = f x + total f xs
 
-total-is : {X : Type 0} (f : X → ℕ) (xs : List X) → total f xs ≡ sum_by f xs
+pub total-is : {X : Type 0} (f : X → ℕ) (xs : List X) → total f xs ≡ sum_by f xs
 unfolding total
 total-is f xs = is_sum_by (total f) f refl (λ _ _. refl) xs
 
 -- two rows of numbers, where each of the one is that of the other, at most m: their sums are the same, at most m
-total-held : {X Y : Type 0} (m : ℕ) (f : X → ℕ) (g : Y → ℕ) (xs : List X) (ys : List Y) → length ys ≡ length xs → ((i : ℕ) (x : X) → slice_get xs i ≡ Some x → (y : Y) × (slice_get ys i ≡ Some y) × (g y ≡ min (f x) m))
+pub total-held : {X Y : Type 0} (m : ℕ) (f : X → ℕ) (g : Y → ℕ) (xs : List X) (ys : List Y) → length ys ≡ length xs → ((i : ℕ) (x : X) → slice_get xs i ≡ Some x → (y : Y) × (slice_get ys i ≡ Some y) × (g y ≡ min (f x) m))
     → min (total g ys) m ≡ min (total f xs) m
 unfolding total
 total-held m f g [] [] long each = refl
@@ -45,16 +45,16 @@ total-held m f g (x ∷ xs) (y ∷ ys) long each =
     omega (arith, here, rest)
 
 module _ {K V : Type 0} (k : K → K → Bool) (v : V → V → Bool) where
-  number-alike : (n : ℕ) (r : Reply K V) → alike_reply k v (Number n) r ≡ true → number_in r ≡ n
+  pub number-alike : (n : ℕ) (r : Reply K V) → alike_reply k v (Number n) r ≡ true → number_in r ≡ n
   number-alike n (Number m) h = sym (eqb-true n m h)
   number-alike n r h = cc
 
-  pairs-alike : (P : List (K × V)) (r : Reply K V) → alike_reply k v (Pairs P) r ≡ true → pointwise (alike_pair k v) P (pairs_in r) ≡ true
+  pub pairs-alike : (P : List (K × V)) (r : Reply K V) → alike_reply k v (Pairs P) r ≡ true → pointwise (alike_pair k v) P (pairs_in r) ≡ true
   pairs-alike P (Pairs l) h = h
   pairs-alike P r h = cc
 
   -- lists one after the other, each alike the other's
-  joined-alike : {X Y : Type 0} (f : X → List (K × V)) (g : Y → List (K × V)) (xs : List X) (ys : List Y) → length ys ≡ length xs
+  pub joined-alike : {X Y : Type 0} (f : X → List (K × V)) (g : Y → List (K × V)) (xs : List X) (ys : List Y) → length ys ≡ length xs
       → ((i : ℕ) (x : X) → slice_get xs i ≡ Some x → (y : Y) × (slice_get ys i ≡ Some y) × (pointwise (alike_pair k v) (f x) (g y) ≡ true)) → pointwise (alike_pair k v) (flat_map f xs) (flat_map g ys) ≡ true
   joined-alike f g [] [] long each = refl
   joined-alike f g [] (y ∷ ys) long each = absurd (omega (arith, long))

@@ -23,3 +23,6 @@ mod WholeAlone
 mod Joining
 mod SharedSteps
 mod Standing
+mod Counting
+mod Cutting
+mod There

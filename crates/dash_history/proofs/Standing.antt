@@ -1,21 +1,27 @@
 -- The parts of a whole step stand side by side in the merge.
-use Rattle.std.proofs.Common.{ℕ, zero, suc, ◌≡◌, ◌==◌, ◌+◌, ◌<◌, ◌≤◌, ◌⊎◌, List, length, map, Some, slice_get, refl, sym, ap, subst, ◌∙◌, inl, inr, ⊎_elim, arith, get_or, eq-eqb, eqb-true}
-use Rattle.std.proofs.lemmas.Bool.{cases_eq, cases_lt}
+use Rattle.std.proofs.Common.{ℕ, zero, suc, ◌≡◌, ◌==◌, ◌+◌, ◌<◌, Bool, true, List, [], ◌∷◌, length, Option, Some, slice_get, refl, sym, ap, subst, ◌∙◌, inl, inr, ⊎_elim, arith, get_or, eq-eqb, eqb-true}
+use Rattle.std.proofs.lemmas.Bool.{and_parts, cases_eq, cases_lt}
 use Rattle.std.proofs.lemmas.List.{length-map}
 use Rattle.std.proofs.lemmas.Option.{slice_get-get_or, slice_get_within, same_Some}
-use Rattle.dash_steps.specs.Steps.{alike_record}
-use Rattle.dash_steps.specs.Takes.{Known}
+use Rattle.dash_steps.specs.Steps.{alike_record, alike_step, part, part_of}
+use Rattle.dash_steps.specs.declared.step.ShardStep.{ShardStep}
+use Rattle.dash_steps.specs.declared.step.ShardStep.TheVariants.{CountPart, ReadPart}
+use Rattle.dash_steps.specs.declared.step.Whole.TheVariants as whole
+use Rattle.dash_steps.specs.Takes.{Known, kinds_at}
 use Rattle.dash_steps.specs.declared.step.Record.{Record}
 use Rattle.dash_steps.specs.declared.step.Whole.{Whole}
 use Rattle.dash_steps.proofs.Copies.{Lawful}
 use Rattle.dash_history.specs.Alone.{RecAloneState, IsRecAlone, kinds_in}
-use Rattle.dash_history.specs.History.{LogState, RecState}
-use Rattle.dash_history.specs.OneHistory.{Earlier, HasWhole, IsGathered, IsMerge, StandsWhole, WholesStand, histories, of_caller, of_shard}
+use Rattle.dash_history.specs.History.{LogState, RecState, shard_of}
+use Rattle.dash_history.specs.OneHistory.{Earlier, HasWhole, IsGathered, IsWhole, StandsWhole, WholesStand, along, histories, of_caller, of_shard, record_at}
 use Rattle.dash_history.specs.declared.gather.At.{At}
 use Rattle.dash_history.proofs.Matching.{like-has, zipped}
 use Rattle.dash_history.proofs.Matching as matching
-use Rattle.dash_history.proofs.Members.{contains-has, get-has, has-contains, has-get, has-kept, kept-has, get-within}
+use Rattle.dash_history.proofs.Members.{Has, contains-has, get-has, has-contains, has-get, has-kept, kept-has, get-within}
 use Rattle.dash_history.proofs.Merging.{at-from, from-at}
+use Rattle.dash_history.proofs.There.{one-map}
+use Rattle.dash_history.proofs.Whole.{of-shard}
+use Rattle.std.specs.List.{filter_map}
 
 module _ (n t j : ℕ) (ats : List At) (order : (i k : ℕ) (a b : At) → i < k → slice_get ats i ≡ Some a → slice_get ats k ≡ Some b → Earlier a b)
     (few : (k : ℕ) (a : At) → slice_get ats k ≡ Some a → a.shard < n) where
@@ -30,7 +36,7 @@ module _ (n t j : ℕ) (ats : List At) (order : (i k : ℕ) (a b : At) → i < k
   ]
 
   -- there is one place of a shard at the stamp
-  one-place : (k l : ℕ) (a b : At) → slice_get ats k ≡ Some a → slice_get ats l ≡ Some b → a.stamp ≡ t → b.stamp ≡ t → a.shard ≡ b.shard → k ≡ l
+  pub one-place : (k l : ℕ) (a b : At) → slice_get ats k ≡ Some a → slice_get ats l ≡ Some b → a.stamp ≡ t → b.stamp ≡ t → a.shard ≡ b.shard → k ≡ l
   one-place k l a b e f ta tb same = elim (cases_eq k l) as (λ _. k ≡ l) [
     | inl is ↦ is
     | inr apart ↦ absurd (elim (cases_lt k l) as (λ _. ⊥) [
@@ -85,7 +91,22 @@ module _ (n t j : ℕ) (ats : List At) (order : (i k : ℕ) (a b : At) → i < k
           (omega (arith, same, in-turn a.shard lt), omega (arith, same, in-turn a.shard lt, lt));
     }
 
-module _ {K V A S : Type 0} (w : Known K V A S) (a : RecAloneState K V A S) (alone : IsRecAlone w a) (logs : List (LogState K V A)) (ats : List At) (gathered : IsGathered w a logs ats) where
+-- what stands at a place of a mapped list, where each item is kept
+mapped-at : {X Y : Type 0} (g : X → Option Y) (xs : List X) → ((x : X) → Has xs x → (y : Y) × (g x ≡ Some y)) → (k : ℕ) (x : X) (y : Y) → slice_get xs k ≡ Some x → g x ≡ Some y → slice_get (filter_map g xs) k ≡ Some y
+mapped-at g [] has k x y e is = cc
+mapped-at g (z ∷ xs) has zero x y e is = rw (ap g (same_Some z x e) ∙ is) refl
+mapped-at g (z ∷ xs) has (suc k) x y e is = let first = has z (inl refl) in rw first.1 (mapped-at g xs (λ v h. has v (inr h)) k x y e is)
+
+module _ {K V A : Type 0} (k : K → K → Bool) (v : V → V → Bool) (f : A → A → Bool) where
+  -- what is alike a part of this kind is one
+  part-alike : (kind : Whole) (s p : ShardStep K V A) → alike_step k v f s p ≡ true → part_of p ≡ Some kind → (n : ℕ) × (s ≡ part kind n)
+  part-alike kind (CountPart i) (CountPart j) h is = (i, ap (λ x. part x i) (same_Some whole.Count kind is))
+  part-alike kind (ReadPart i) (ReadPart j) h is = (i, ap (λ x. part x i) (same_Some whole.Read kind is))
+  part-alike kind s (CountPart j) h is = let never : ⊥ = cc in absurd never
+  part-alike kind s (ReadPart j) h is = let never : ⊥ = cc in absurd never
+  part-alike kind s p h is = let never : ⊥ = cc in absurd never
+
+module _ {K V A S : Type 0} (w : Known K V A S) (a : RecAloneState K V A S) (alone : IsRecAlone w a) (laws : Lawful (kinds_in w a).rules) (logs : List (LogState K V A)) (ats : List At) (gathered : IsGathered w a logs ats) where
   long : length (histories a) ≡ length a.row
   long = length-map a.row (λ s. s.history)
 
@@ -96,10 +117,26 @@ module _ {K V A S : Type 0} (w : Known K V A S) (a : RecAloneState K V A S) (alo
       let f = from-at (histories a) x.shard x.place n.0 n.1 in
       omega (arith, slice_get_within (histories a) x.shard f.0 f.1, long)
 
+  shard-of_part : (kind : Whole) (n : ℕ) (s : ShardStep K V A) → s ≡ part kind n → shard_of (kinds_in w a) s ≡ n
+  shard-of_part whole.Count n s e = ap (shard_of (kinds_in w a)) e
+  shard-of_part whole.Read n s e = ap (shard_of (kinds_in w a)) e
+
+  -- the place of a shard's part, and its record
+  record Placed (kind : Whole) (t caller s : ℕ) : Type 0 where
+    pub index : ℕ
+    pub place : At
+    pub stands : slice_get ats index ≡ Some place
+    pub stamped : place.stamp ≡ t
+    pub of : place.shard ≡ s
+    pub by : place.caller ≡ caller
+    pub entry : Record K V A
+    pub found : record_at (histories a) place.shard place.place ≡ Some entry
+    pub own : entry.shard ≡ s
+    pub step : entry.step ≡ part kind s
+
   module _ (i : ℕ) (l : LogState K V A) (own : slice_get logs i ≡ Some l) (kind : Whole) (t : ℕ) (has : HasWhole (length a.row) kind t l.entries) where
-    -- the place of the part in a shard
-    place : (s : ℕ) → s < length a.row → (k : ℕ) × (x : At) × (slice_get ats k ≡ Some x) × (x.stamp ≡ t) × (x.shard ≡ s) × (x.caller ≡ l.caller)
-    place s lt =
+    placed : (s : ℕ) → s < length a.row → Placed kind t l.caller s
+    placed s lt =
         let same = alike_record w.alike_key w.alike_value w.alike_action in
         let p = has s lt in
         let h = get-within (histories a) s (omega (arith, lt, long)) in
@@ -109,16 +146,45 @@ module _ {K V A S : Type 0} (w : Known K V A S) (a : RecAloneState K V A S) (alo
         let o = has-kept (λ r. r.caller == l.caller) h.0 q.0 q.1 in
         let g = has-get h.0 q.0 o.0 in
         let x : At = record { stamp = q.0.stamp; shard = s; place = g.0; caller = q.0.caller } in
-        let there = has-get ats x (contains-has ats x ((gathered.history.merge.each x).1 (q.0, at-from (histories a) s g.0 h.0 q.0 h.1 g.1, refl, refl))) in
-        (there.0, x, there.1, told.0 ∙ p.2, refl, eqb-true q.0.caller l.caller o.1)
+        let found = at-from (histories a) s g.0 h.0 q.0 h.1 g.1 in
+        let there = has-get ats x (contains-has ats x ((gathered.history.merge.each x).1 (q.0, found, refl, refl))) in
+        let is = of-shard w a alone laws s h.0 q.0 h.1 o.0 in
+        let like = part-alike w.alike_key w.alike_value w.alike_action kind q.0.step p.0.step (and_parts _ _ (and_parts _ _ q.2).0).1 p.4 in
+        record {
+          index = there.0;
+          place = x;
+          stands = there.1;
+          stamped = told.0 ∙ p.2;
+          of = refl;
+          by = eqb-true q.0.caller l.caller o.1;
+          entry = q.0;
+          found = found;
+          own = is.0;
+          step = like.1 ∙ ap (λ n. part kind n) (sym (shard-of_part kind like.0 q.0.step like.1) ∙ is.1);
+        }
 
-    pub stands : StandsWhole (length a.row) t l.caller ats
-    stands = side-by-side (length a.row) t l.caller ats gathered.history.merge.in_order few-shards (omega (arith, alone.amount.several)) place
+    stands-whole : StandsWhole (length a.row) t l.caller ats
+    stands-whole = side-by-side (length a.row) t l.caller ats gathered.history.merge.in_order few-shards (omega (arith, alone.amount.several))
+        (λ s lt. let p = placed s lt in (p.index, p.place, p.stands, p.stamped, p.of, p.by))
+
+    -- the record of a shard's part along the merge
+    part-along : (from : StandsWhole (length a.row) t l.caller ats) (s : ℕ) → s < length a.row → (q : Record K V A) × (slice_get (along (histories a) ats) (from.from + s) ≡ Some q) × (q.shard ≡ s) × (q.step ≡ part kind s)
+    part-along from s lt =
+        let p = placed s lt in
+        let x = from.parts s lt in
+        let here : p.index ≡ from.from + s = one-place (length a.row) t l.caller ats gathered.history.merge.in_order few-shards p.index (from.from + s) p.place x.0 p.stands x.1 p.stamped x.2 (p.of ∙ sym x.3) in
+        (p.entry, mapped-at (λ y. record_at (histories a) y.shard y.place) ats (λ y h. let n = (gathered.history.merge.each y).0 (has-contains ats y h) in (n.0, n.1)) (from.from + s) p.place p.entry (ap (slice_get ats) (sym here) ∙ p.stands) p.found, p.own, p.step)
+
+    is-whole : IsWhole w a kind t l.caller ats
+    is-whole =
+        let from = stands-whole in
+        let one = one-map w a alone laws ats gathered.history.merge kind from.from (part-along from) in
+        record { stands = from; contents_there = one.0; before = one.1; after = one.2; answers = one.3 }
 
   pub wholes-stand : WholesStand w a logs ats
-  wholes-stand = λ i l own kind t has. stands i l own kind t has
+  wholes-stand = λ i l own kind t has. is-whole i l own kind t has
 
 -- of the map, as its fields are seen
 pub wholes-seen : {K V A S : Type 0} (w : Known K V A S) (base : S) (c : ℕ) (row : List (RecState K V A S)) (z : RecAloneState K V A S) → record { hasher = base; callers = c; row = row } ≡ z
-    → IsRecAlone w (record { hasher = base; callers = c; row = row }) → (logs : List (LogState K V A)) (ats : List At) → IsGathered w z logs ats → WholesStand w z logs ats
-wholes-seen w base c row z view alone logs ats gathered = wholes-stand w z (subst (IsRecAlone w) view alone) logs ats gathered
+    → IsRecAlone w (record { hasher = base; callers = c; row = row }) → Lawful (kinds_at w base (length row)).rules → (logs : List (LogState K V A)) (ats : List At) → IsGathered w z logs ats → WholesStand w z logs ats
+wholes-seen w base c row z view alone laws logs ats gathered = wholes-stand w z (subst (IsRecAlone w) view alone) (subst (λ x. Lawful (kinds_in w x).rules) view laws) logs ats gathered

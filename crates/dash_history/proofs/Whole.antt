@@ -29,21 +29,21 @@ pub has-all : {X : Type 0} (P : X → Type 0) (xs : List X) → ((x : X) → Has
 has-all P [] f = All-nil P
 has-all P (x ∷ xs) f = All-cons P x xs (f x (inl refl)) (has-all P xs (λ y m. f y (inr m)))
 
-flat_map-map : {X Y : Type 0} (f : X → List Y) (xs : List X) → flat_map (λ P. P) (map f xs) ≡ flat_map f xs
+pub flat_map-map : {X Y : Type 0} (f : X → List Y) (xs : List X) → flat_map (λ P. P) (map f xs) ≡ flat_map f xs
 flat_map-map f [] = refl
 flat_map-map f (x ∷ xs) = ap (λ l. f x ++ l) (flat_map-map f xs)
 
 -- lists of nothing, one for each
 module _ {X Y : Type 0} where
-  blank : X → List Y
+  pub blank : X → List Y
   blank x = []
 
-  blank-union : (xs : List X) → flat_map (λ P. P) (map blank xs) ≡ []
+  pub blank-union : (xs : List X) → flat_map (λ P. P) (map blank xs) ≡ []
   unfolding blank
   blank-union [] = refl
   blank-union (x ∷ xs) = blank-union xs
 
-  blank-at : (xs : List X) (i : ℕ) → get_or (map blank xs) i [] ≡ []
+  pub blank-at : (xs : List X) (i : ℕ) → get_or (map blank xs) i [] ≡ []
   unfolding blank
   blank-at [] i = refl
   blank-at (x ∷ xs) zero = refl
@@ -53,14 +53,14 @@ module _ {K V A S : Type 0} (w : Known K V A S) (a : RecAloneState K V A S) (alo
   abbrev m : Kinds K V A
   m = kinds_in w a
 
-  legal : (i : ℕ) (s : RecState K V A S) → slice_get a.row i ≡ Some s → IsHistory m a.callers i s.history (pairs s.shard)
+  pub legal : (i : ℕ) (s : RecState K V A S) → slice_get a.row i ≡ Some s → IsHistory m a.callers i s.history (pairs s.shard)
   legal i s e =
       let t = alone.tagged i s e in
       subst (λ n. IsHistory m a.callers n s.history (pairs s.shard)) t.number
       (subst (λ c. IsHistory m c s.shard.number s.history (pairs s.shard)) t.callers
       (subst (λ k. IsHistory k s.callers s.shard.number s.history (pairs s.shard)) (kinds-same w a.hasher (length a.row) a.callers i s t) (alone.recorded i s e).history))
 
-  of-shard : (i : ℕ) (h : List (Record K V A)) (r : Record K V A) → slice_get (histories a) i ≡ Some h → Has h r → (r.shard ≡ i) × (shard_of m r.step ≡ i) × (r.caller < a.callers)
+  pub of-shard : (i : ℕ) (h : List (Record K V A)) (r : Record K V A) → slice_get (histories a) i ≡ Some h → Has h r → (r.shard ≡ i) × (shard_of m r.step ≡ i) × (r.caller < a.callers)
   of-shard i h r e x =
       let f = mapped-get (λ s. s.history) a.row i h e in
       all-has (λ r. (r.shard ≡ i) × (shard_of m r.step ≡ i) × (r.caller < a.callers)) h r (subst (λ l. All (λ r. (r.shard ≡ i) × (shard_of m r.step ≡ i) × (r.caller < a.callers)) l) f.2 (legal i f.0 f.1).of) x
@@ -75,20 +75,20 @@ module _ {K V A S : Type 0} (w : Known K V A S) (a : RecAloneState K V A S) (alo
     pub caller-below : (x : At) → Has ats x → x.caller < a.callers
     caller-below x h = let f = caller-along (histories a) ats tidy merge x h in subst (λ n. n < a.callers) f.5 (of-shard f.0 f.1 f.2 f.3 f.4).2
 
-    goes : (r : Record K V A) → Has (along (histories a) ats) r → (shard_of m r.step ≡ r.shard) × (r.shard < length a.row)
+    pub goes : (r : Record K V A) → Has (along (histories a) ats) r → (shard_of m r.step ≡ r.shard) × (r.shard < length a.row)
     goes r x =
         let f = along-has (histories a) ats tidy merge r x in
         ((of-shard r.shard f.0 r f.1 f.2).1, omega (arith, slice_get_within (histories a) r.shard f.0 f.1, length-map a.row (λ s. s.history)))
 
     -- the steps on a shard are those of the records that name it
-    steps-of : (s : ℕ) (rs : List (Record K V A)) → ((r : Record K V A) → Has rs r → shard_of m r.step ≡ r.shard) → filter (λ d. step_shard m.rules.keys d.0 == s) (map (done w.acts) rs) ≡ map (done w.acts) (of_shard s rs)
+    pub steps-of : (s : ℕ) (rs : List (Record K V A)) → ((r : Record K V A) → Has rs r → shard_of m r.step ≡ r.shard) → filter (λ d. step_shard m.rules.keys d.0 == s) (map (done w.acts) rs) ≡ map (done w.acts) (of_shard s rs)
     steps-of s [] f = refl
     steps-of s (r ∷ rs) f =
         rw (f r (inl refl)) (elim (r.shard == s) as (λ b. cond b (done w.acts r ∷ filter (λ d. step_shard m.rules.keys d.0 == s) (map (done w.acts) rs)) (filter (λ d. step_shard m.rules.keys d.0 == s) (map (done w.acts) rs))
         ≡ map (done w.acts) (cond b (r ∷ of_shard s rs) (of_shard s rs)))
         [ true ↦ ap (λ l. done w.acts r ∷ l) (steps-of s rs (λ q x. f q (inr x))) | false ↦ steps-of s rs (λ q x. f q (inr x)) ])
 
-    in-range : (n : ℕ) (rs : List (Record K V A)) → ((r : Record K V A) → Has rs r → shard_of m r.step < n) → All (λ d. step_shard m.rules.keys d.0 < n) (map (done w.acts) rs)
+    pub in-range : (n : ℕ) (rs : List (Record K V A)) → ((r : Record K V A) → Has rs r → shard_of m r.step < n) → All (λ d. step_shard m.rules.keys d.0 < n) (map (done w.acts) rs)
     in-range n [] f = All-nil (λ d. step_shard m.rules.keys d.0 < n)
     in-range n (r ∷ rs) f = All-cons (λ d. step_shard m.rules.keys d.0 < n) (done w.acts r) (map (done w.acts) rs) (f r (inl refl)) (in-range n rs (λ q x. f q (inr x)))
 
@@ -103,7 +103,7 @@ module _ {K V A S : Type 0} (w : Known K V A S) (a : RecAloneState K V A S) (alo
         (subst (λ l. Runs m.rules [] l (pairs f.0.shard)) (sym (steps-of s (along (histories a) ats) (λ r x. (goes r x).0) ∙ ap (map (done w.acts)) (keeps-shard (histories a) ats tidy merge s f.0.history h)))
         (legal s f.0 f.1).runs))
 
-    blank-spread : Spread m.rules laws (map blank a.row)
+    pub blank-spread : Spread m.rules laws (map blank a.row)
     unfolding blank
     blank-spread j P e = let f = mapped-get blank a.row j P e in subst (λ l. IsOnShard m.rules.keys (0 + j) l) f.2 (record { distinct = tt; routed = λ k away. refl })
 

@@ -1,5 +1,5 @@
 -- One history of a recorded map: the merge of the histories of its shards, and when the logs of its callers match them.
-use Rattle.std.specs.Prelude.{ℕ, ◌≡◌, ◌+◌, ◌<◌, ◌≤◌, ◌==◌, ◌⊎◌, ◌↔◌, List, [], map, filter, flat_map, length, Option, Some, option_and_then, slice_get, All, IsTrue, Result, IfOk, Err, Vec}
+use Rattle.std.specs.Prelude.{ℕ, ◌≡◌, ◌+◌, ◌-◌, ◌^◌, min, take, drop, ◌<◌, ◌≤◌, ◌==◌, ◌⊎◌, ◌↔◌, List, [], map, filter, flat_map, length, Option, Some, option_and_then, slice_get, All, IsTrue, Result, IfOk, Err, Vec}
 use Rattle.std.specs.List.{Contains, filter_map}
 use Rattle.dash_shard.specs.Shard.{EachAt, pairs}
 use Rattle.std.specs.Option.{option_eq}
@@ -7,6 +7,9 @@ use Rattle.std.specs.Cmp.Lexicographic.{pointwise}
 use Rattle.dash_kept.specs.Alike.{alike_pair}
 use Rattle.dash_steps.specs.Steps.{alike_record, part_of}
 use Rattle.dash_steps.specs.declared.step.Whole.{Whole}
+use Rattle.dash_steps.specs.declared.step.Whole.TheVariants as whole
+use Rattle.dash_history.specs.Joined.{joined_number, joined_pairs}
+use Rattle.dash_shard.specs.Contents.{EachOnce}
 use Rattle.dash_steps.specs.Takes.{Known, Runs}
 use Rattle.dash_history.specs.History.{LogState, done}
 use Rattle.dash_history.specs.Alone.{RecAloneState, kinds_in}
@@ -99,9 +102,23 @@ module _ {K V A S : Type 0} (w : Known K V A S) where
     pub history : IsOneHistory a ats
     pub callers : EachAt logs (λ _ l. Same (of_caller l.caller (along (histories a) ats)) l.entries)
 
-  -- each whole step of all shards of the map that a log has stands together at one place of the history
+  -- these records of parts reply, joined, what one map with the contents P has
+  abbrev pub Joined : Whole → List (K × V) → List (Record K V A) → Type 0
+  Joined whole.Count P rs = joined_number rs ≡ min (length P) (2 ^ 64 - 1)
+  Joined whole.Read P rs = (l : List (K × V)) × EachOnce w.keys.eq P l × IsTrue (pointwise (alike_pair w.alike_key w.alike_value) l (joined_pairs rs))
+
+  -- A whole step stands side by side: along the places before it one map came to have the contents there, along those from it on it
+  -- came to the pairs of all shards, and the step's parts reply what that map has.
+  pub record IsWhole (a : RecAloneState K V A S) (kind : Whole) (t caller : ℕ) (ats : List At) : Type 0 where
+    pub stands : StandsWhole (length a.row) t caller ats
+    pub contents_there : List (K × V)
+    pub before : Runs (kinds_in w a).rules [] (map (done w.acts) (take stands.from (along (histories a) ats))) contents_there
+    pub after : Runs (kinds_in w a).rules contents_there (map (done w.acts) (drop stands.from (along (histories a) ats))) (rec_contents a)
+    pub answers : Joined kind contents_there (take (length a.row) (drop stands.from (along (histories a) ats)))
+
+  -- each whole step of all shards of the map that a log has is one step of one map
   abbrev pub WholesStand : RecAloneState K V A S → List (LogState K V A) → List At → Type 0
-  WholesStand a logs ats = EachAt logs (λ _ l. (kind : Whole) (t : ℕ) → HasWhole (length a.row) kind t l.entries → StandsWhole (length a.row) t l.caller ats)
+  WholesStand a logs ats = EachAt logs (λ _ l. (kind : Whole) (t : ℕ) → HasWhole (length a.row) kind t l.entries → IsWhole a kind t l.caller ats)
 
   -- What an answer of gather says: the headline, and where whole steps stand, or that the logs don't match. Want of memory says nothing
   -- of them.

@@ -32,7 +32,7 @@ module _ {K V : Type 0} (m : Rules K V) (laws : Lawful m) where
   none-alike (Some p) a = cc
 
   -- what a step on a shard leaves has the keys of that shard
-  on-after : (P Q : List (K × V)) (step : Step K V) (reply : Reply K V) → IsOnShard m.keys (step_shard m.keys step) P → Takes m P step reply Q → IsOnShard m.keys (step_shard m.keys step) Q
+  pub on-after : (P Q : List (K × V)) (step : Step K V) (reply : Reply K V) → IsOnShard m.keys (step_shard m.keys step) P → Takes m P step reply Q → IsOnShard m.keys (step_shard m.keys step) Q
   on-after P Q step reply on t = record {
     distinct = t.distinct;
     routed = λ k away. none-alike (at m.keys.eq Q k) (subst (λ o. AlikeAt m o (at m.keys.eq Q k)) (after-elsewhere (line step) k (at m.keys.eq P k) away ∙ on.routed k away) (t.each_key k));

@@ -4,3 +4,4 @@ mod gather;
 mod held;
 mod map;
 mod try_apply;
+mod whole;

@@ -38,7 +38,7 @@ returns-in-Ok-true g c =
     let found = rw c.in-Ok-Some.field-0-is at c.in-Ok-Some.ensures in
     let gathered = gathered-seen w laws c.self.inside.hasher c.self.inside.callers c.self.inside.row c.args.self.now c.self.view_is c.self.invariant c.items.result.now c.items.ensures c.in-Ok.ats.items c.in-Ok.ensures
     c.args.logs.now found.2 c.items-2.result.now c.items-2.ensures c.deref.result.now c.deref.ensures.value found.0 (c.in-Ok-true.ensures.0 c.in-Ok-true.field-0-test) in
-    record { gathered = gathered; wholes = wholes-seen w c.self.inside.hasher c.self.inside.callers c.self.inside.row c.args.self.now c.self.view_is c.self.invariant c.args.logs.now c.in-Ok.ats.items gathered; mismatch = λ e. absurd (made-refused _ _ e) }
+    record { gathered = gathered; wholes = wholes-seen w c.self.inside.hasher c.self.inside.callers c.self.inside.row c.args.self.now c.self.view_is c.self.invariant (laws c.self.inside.hasher (length c.self.inside.row)) c.args.logs.now c.in-Ok.ats.items gathered; mismatch = λ e. absurd (made-refused _ _ e) }
 
 pub returns-in-Ok-false : goal.returns-in-Ok-false
 returns-in-Ok-false g c =
