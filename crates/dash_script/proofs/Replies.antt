@@ -13,10 +13,11 @@ use Rattle.dash_steps.specs.Takes.{rules}
 use Rattle.dash_steps.specs.inner.Kinds.{kinds}
 use Rattle.dash_script.specs.Change.{acts}
 use Rattle.dash_script.specs.inner.AlikeChange.{alike_change}
-use Rattle.dash_steps.specs.declared.step.ShardStep.TheVariants.{Get, Contains, Insert, Remove, RemoveIf, RemoveIfMut, Alter, Read, Count, AlterAll, Retain}
+use Rattle.dash_steps.specs.declared.step.ShardStep.TheVariants.{Get, Contains, Insert, Remove, RemoveIf, RemoveIfMut, Alter, Read, Count, AlterAll, Retain, CountPart, ReadPart}
 use Rattle.dash_history.specs.declared.record.RecordFault.{RecordFault}
 use Rattle.dash_history.specs.declared.record.RecordFault.TheVariants.{NoSuchShard}
-use Rattle.dash_script.specs.Script.{ScriptStep, IsFaultOf}
+use Rattle.dash_script.specs.Script.{ScriptStep, IsFaultOf, written}
+use Rattle.dash_steps.specs.Steps.{IsPart}
 
 -- the step goes outside a map of four shards exactly where it names a missing one
 module _ (route : ℕ → ℕ) (below : (k : ℕ) → route k < 4) where
@@ -39,13 +40,21 @@ module _ (route : ℕ → ℕ) (below : (k : ℕ) → route k < 4) where
   outside (Count i) = ((λ far. far), (λ named. named))
   outside (AlterAll i f) = ((λ far. far), (λ named. named))
   outside (Retain i f) = ((λ far. far), (λ named. named))
+  outside (CountPart i) = ((λ far. far), (λ named. named))
+  outside (ReadPart i) = ((λ far. far), (λ named. named))
+
+  -- a step that has a line is no part
+  own : (step : ScriptStep) → (written step).fits → IsPart step → ⊥
+  own (CountPart i) fits is = fits
+  own (ReadPart i) fits is = fits
+  own step fits is = cc
 
   -- a map of four shards refuses a step for want of its shard exactly where it names a missing one
-  pub faulted : {R : Type 0} (step : ScriptStep) (r : Result R (ScriptStep × RecordFault)) (e : ScriptStep × RecordFault) → r ≡ Err e → e.0 ≡ step
-      → ((r ≡ Err (step, NoSuchShard)) ↔ (4 ≤ shard-in step)) → IsFaultOf step e.1
-  faulted step r e is back missing = (
-    (λ none. (outside step).0 (missing.0 (is ∙ ap (λ s. Err (s, e.1)) back ∙ ap (λ w. Err (step, w)) none))),
-    (λ named. let same = missing.1 ((outside step).1 named) in cc),
+  pub faulted : {R : Type 0} (step : ScriptStep) (r : Result R (ScriptStep × RecordFault)) (e : ScriptStep × RecordFault) → r ≡ Err e → e.0 ≡ step → (written step).fits
+      → ((r ≡ Err (step, NoSuchShard)) ↔ (IsPart step → ⊥) × (4 ≤ shard-in step)) → IsFaultOf step e.1
+  faulted step r e is back fits missing = (
+    (λ none. (outside step).0 (missing.0 (is ∙ ap (λ s. Err (s, e.1)) back ∙ ap (λ w. Err (step, w)) none)).1),
+    (λ named. let same = missing.1 (own step fits, (outside step).1 named) in cc),
   )
 
 -- why a recorded map isn't made

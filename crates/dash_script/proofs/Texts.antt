@@ -15,7 +15,7 @@ use Rattle.std.proofs.lemmas.Str.{IsAscii-append, IsUtf8-from_ascii}
 use Rattle.std.proofs.lemmas.Str.Ascii.{IsAscii-cons, IsAscii-from_all}
 use Rattle.std.proofs.lemmas.Str.Parse.{numerals_by_value, tells_by_index}
 use Rattle.std.proofs.lemmas.Str.Pattern.{IsSplitOnceResult, split_parts, split_after}
-use Rattle.dash_steps.specs.declared.step.ShardStep.TheVariants.{Get, Contains, Insert, Remove, RemoveIf, RemoveIfMut, Alter, Read, Count, AlterAll, Retain}
+use Rattle.dash_steps.specs.declared.step.ShardStep.TheVariants.{Get, Contains, Insert, Remove, RemoveIf, RemoveIfMut, Alter, Read, Count, AlterAll, Retain, CountPart, ReadPart}
 use Rattle.dash_script.specs.declared.change.Change.{Change}
 use Rattle.dash_script.specs.declared.change.Change.TheVariants.{Add, Below, AddBelow}
 use Rattle.dash_script.specs.Script.{ScriptStep}
@@ -102,6 +102,8 @@ line-parts (Read i) = (refl, refl)
 line-parts (Count i) = (refl, refl)
 line-parts (AlterAll i f) = (refl, refl)
 line-parts (Retain i f) = (refl, refl)
+line-parts (CountPart i) = (refl, refl)
+line-parts (ReadPart i) = (refl, refl)
 
 -- the first word of a step's line, of a change, and of a key with a change
 pub first-kind : (step : ScriptStep) → IsFirst (line_of step) (step_word step) (step_rest step)
@@ -133,6 +135,8 @@ words-step (Read i) = inr (inr (inr (inr (inr (inr (inr (inl refl)))))))
 words-step (Count i) = inr (inr (inr (inr (inr (inr (inr (inr (inl refl))))))))
 words-step (AlterAll i f) = inr (inr (inr (inr (inr (inr (inr (inr (inr (inl refl)))))))))
 words-step (Retain i f) = inr (inr (inr (inr (inr (inr (inr (inr (inr (inr refl)))))))))
+words-step (CountPart i) = inr (inr (inr (inr (inr (inr (inr (inr (inl refl))))))))
+words-step (ReadPart i) = inr (inr (inr (inr (inr (inr (inr (inl refl)))))))
 
 IsAscii-two : (k : ℕ) (text : List ℕ) → k < 2 ^ 64 → IsAscii text → IsAscii (decimal k ++ 32 ∷ text)
 IsAscii-two k text small ascii = IsAscii-append (decimal k) (32 ∷ text) (IsAscii-decimal k small) (spaced text ascii)
@@ -157,6 +161,8 @@ IsAscii-rest (Read i) small = IsAscii-decimal i small
 IsAscii-rest (Count i) small = IsAscii-decimal i small
 IsAscii-rest (AlterAll i f) small = IsAscii-two i (change_text f) small.0 (IsAscii-change f small.1)
 IsAscii-rest (Retain i f) small = IsAscii-two i (change_text f) small.0 (IsAscii-change f small.1)
+IsAscii-rest (CountPart i) small = absurd small
+IsAscii-rest (ReadPart i) small = absurd small
 
 pub IsAscii-line : (step : ScriptStep) → HasWords step → IsAscii (line_of step)
 IsAscii-line step small = subst IsAscii (line-parts step).1 (IsAscii-letters (step_word step) (line-parts step).0 (step_rest step) (IsAscii-rest step small))
@@ -189,6 +195,8 @@ short-rest (Read i) small = omega (arith, short-decimal i small)
 short-rest (Count i) small = omega (arith, short-decimal i small)
 short-rest (AlterAll i f) small = short-two i (change_text f) 50 small.0 (short-change f small.1)
 short-rest (Retain i f) small = short-two i (change_text f) 50 small.0 (short-change f small.1)
+short-rest (CountPart i) small = absurd small
+short-rest (ReadPart i) small = absurd small
 
 short-word : (step : ScriptStep) → length (step_word step) ≤ 11
 short-word (Get k) = omega arith
@@ -202,6 +210,8 @@ short-word (Read i) = omega arith
 short-word (Count i) = omega arith
 short-word (AlterAll i f) = omega arith
 short-word (Retain i f) = omega arith
+short-word (CountPart i) = omega arith
+short-word (ReadPart i) = omega arith
 
 -- a line of a step is short, and no line end is in it
 pub short-line : (step : ScriptStep) → HasWords step → length (line_of step) < 128
@@ -230,6 +240,8 @@ clean-rest (Read i) small = clean-decimal i small
 clean-rest (Count i) small = clean-decimal i small
 clean-rest (AlterAll i f) small = clean-two i (change_text f) small.0 (clean-change f small.1)
 clean-rest (Retain i f) small = clean-two i (change_text f) small.0 (clean-change f small.1)
+clean-rest (CountPart i) small = absurd small
+clean-rest (ReadPart i) small = absurd small
 
 pub clean-line : (step : ScriptStep) → HasWords step → All (λ b. b ≢ 10) (line_of step)
 clean-line step small = subst (All (λ b. b ≢ 10)) (line-parts step).1 (clean-letters (step_word step) (line-parts step).0 (step_rest step) (clean-rest step small))

@@ -18,7 +18,7 @@ use Rattle.dash_steps.specs.Takes.{Known, rules}
 use Rattle.dash_steps.specs.inner.Kinds.{kinds}
 use Rattle.dash_history.proofs.Telling.{tells-of}
 use Rattle.dash_steps.specs.declared.step.ShardStep.{ShardStep}
-use Rattle.dash_steps.specs.declared.step.ShardStep.TheVariants.{Get, Contains, Insert, Remove, RemoveIf, RemoveIfMut, Alter, Read, Count, AlterAll, Retain}
+use Rattle.dash_steps.specs.declared.step.ShardStep.TheVariants.{Get, Contains, Insert, Remove, RemoveIf, RemoveIfMut, Alter, Read, Count, AlterAll, Retain, CountPart, ReadPart}
 use Rattle.dash_steps.specs.declared.step.Reply.{Reply}
 use Rattle.dash_script.specs.declared.threads.Refusal.{Refusal}
 use Rattle.dash_script.specs.declared.threads.Refusal.TheVariants.{Map, LastStamp, Memory, Mismatch, Gather}
@@ -44,6 +44,8 @@ same-step (Read i) t known same = absurd known
 same-step (Count i) t known same = absurd known
 same-step (AlterAll i a) t known same = absurd known
 same-step (Retain i a) t known same = absurd known
+same-step (CountPart i) t known same = absurd known
+same-step (ReadPart i) t known same = absurd known
 same-step s t known same = cc
 
 -- a step of a thread goes to the shard of its key, so to one of the shards

@@ -9,7 +9,7 @@ use Rattle.dash_shard.specs.Steps.{line, line_shard}
 use Rattle.dash_steps.specs.Steps.{step_of, reply_of}
 use Rattle.dash_steps.specs.Takes.{Answers, rules}
 use Rattle.dash_steps.specs.declared.step.ShardStep.{ShardStep}
-use Rattle.dash_steps.specs.declared.step.ShardStep.TheVariants.{Get, Contains, Insert, Remove, RemoveIf, RemoveIfMut, Alter, Read, Count, AlterAll, Retain}
+use Rattle.dash_steps.specs.declared.step.ShardStep.TheVariants.{Get, Contains, Insert, Remove, RemoveIf, RemoveIfMut, Alter, Read, Count, AlterAll, Retain, CountPart, ReadPart}
 use Rattle.dash_steps.specs.declared.step.Reply.{Reply}
 use Rattle.dash_steps.specs.declared.step.Reply.TheVariants.{Pair, Found, Old, Pairs, Number, Done}
 use Rattle.dash_history.specs.declared.record.RecordFault.{RecordFault}
@@ -35,7 +35,7 @@ written_change (Add n) = record { text = codes "add" ++ 32 ∷ decimal n; fits =
 written_change (Below n) = record { text = codes "below" ++ 32 ∷ decimal n; fits = n < 2 ^ 64 }
 written_change (AddBelow n m) = record { text = codes "addbelow" ++ 32 ∷ decimal n ++ 32 ∷ decimal m; fits = (n < 2 ^ 64) × (m < 2 ^ 64) }
 
--- a step as its line
+-- a step as its line; the part of a whole step has none, so nothing fits
 abbrev pub written : ScriptStep → Written
 written (Get k) = record { text = codes "get" ++ 32 ∷ decimal k; fits = k < 2 ^ 64 }
 written (Contains k) = record { text = codes "contains" ++ 32 ∷ decimal k; fits = k < 2 ^ 64 }
@@ -48,6 +48,8 @@ written (Read i) = record { text = codes "read" ++ 32 ∷ decimal i; fits = i < 
 written (Count i) = record { text = codes "count" ++ 32 ∷ decimal i; fits = i < 2 ^ 64 }
 written (AlterAll i f) = record { text = codes "alterall" ++ 32 ∷ decimal i ++ 32 ∷ (written_change f).text; fits = (i < 2 ^ 64) × (written_change f).fits }
 written (Retain i f) = record { text = codes "retain" ++ 32 ∷ decimal i ++ 32 ∷ (written_change f).text; fits = (i < 2 ^ 64) × (written_change f).fits }
+written (CountPart i) = record { text = codes "count" ++ 32 ∷ decimal i; fits = ⊥ }
+written (ReadPart i) = record { text = codes "read" ++ 32 ∷ decimal i; fits = ⊥ }
 
 -- a reply as it is printed: `pair none` or `pair K V`, `found yes` or `found no`, `old none` or `old V`, `pairs` with ` K:V` for
 -- each pair, `number N`, `done`
@@ -98,6 +100,7 @@ fault_text fault.LastStamp = codes "last stamp (18)"
 fault_text fault.Memory = codes "no memory (19)"
 fault_text fault.NoSuchShard = codes "no such shard (20)"
 fault_text fault.Locked = codes "locked (21)"
+fault_text fault.Part = codes "whole step's part (24)"
 
 abbrev pub stop_text : Stop → List ℕ
 stop_text (stops.BadStep line) = codes "refused line " ++ decimal line ++ codes ": bad step"

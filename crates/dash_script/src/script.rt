@@ -1,7 +1,7 @@
 //! `dashcheck script`: steps from the input, one a line, and their replies on the output.
 ghost use Rattle.std.specs.Prelude.{◌≡◌, ◌≢◌, ◌<◌, ◌++◌, ◌∷◌, [], Some, IfSome, IfNone, IfOk, IfErr, OnOk};
 ghost use Rattle.std.specs.Io.KnownBytes.{Appends};
-ghost use Rattle.dash_script.specs.Script.{text_of, fault_text, IsReplyTo, IsFaultOf, TakesAll, StopsAt, Refuses};
+ghost use Rattle.dash_script.specs.Script.{text_of, fault_text, IsReplyTo, IsFaultOf, TakesAll, StopsAt, Refuses, written};
 
 use crate::change::Change;
 use crate::lines::Lines;
@@ -59,6 +59,7 @@ fn fault_text(fault: RecordFault) -> &'static str
         RecordFault::Memory => "no memory (19)",
         RecordFault::NoSuchShard => "no such shard (20)",
         RecordFault::Locked => "locked (21)",
+        RecordFault::Part => "whole step's part (24)",
     }
 }
 
@@ -153,6 +154,7 @@ impl Session {
     }
 
     fn take<T: Wait + Clock>(&mut self, rt: &T, step: Step) -> Result<Reply<u64, u64>, RecordFault>
+        requires { (written step).fits }
         ensures reply { IfOk result (λ reply. IsReplyTo step reply) }
         ensures fault { IfErr result (λ fault. IsFaultOf step fault) }
     {

@@ -328,6 +328,7 @@ fn take<T: Wait + Clock>(
         Err((_, RecordFault::Memory)) => Err(Refusal::Memory),
         Err((_, RecordFault::NoSuchShard)) => unreachable!(),
         Err((_, RecordFault::Locked)) => unreachable!(),
+        Err((_, RecordFault::Part)) => unreachable!(),
     }
 }
 

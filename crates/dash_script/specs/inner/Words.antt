@@ -2,7 +2,7 @@
 use Rattle.std.specs.Prelude.{codes, ◌≡◌, ℕ, ◌<◌, ◌≤◌, ◌++◌, List, [], ◌∷◌, length, flat_map, slice_index_or}
 use Rattle.std.specs.Fmt.{decimal}
 use Rattle.dash_steps.specs.declared.step.Reply.{Reply}
-use Rattle.dash_steps.specs.declared.step.ShardStep.TheVariants.{Get, Contains, Insert, Remove, RemoveIf, RemoveIfMut, Alter, Read, Count, AlterAll, Retain}
+use Rattle.dash_steps.specs.declared.step.ShardStep.TheVariants.{Get, Contains, Insert, Remove, RemoveIf, RemoveIfMut, Alter, Read, Count, AlterAll, Retain, CountPart, ReadPart}
 use Rattle.dash_script.specs.declared.change.Change.{Change}
 use Rattle.dash_script.specs.declared.change.Change.TheVariants.{Add, Below, AddBelow}
 use Rattle.dash_script.specs.Script.{ScriptStep, written_change, written, text_of, IsReplyTo, IsInOrder}
@@ -61,6 +61,8 @@ step_word (Read i) = codes "read"
 step_word (Count i) = codes "count"
 step_word (AlterAll i f) = codes "alterall"
 step_word (Retain i f) = codes "retain"
+step_word (CountPart i) = codes "count"
+step_word (ReadPart i) = codes "read"
 
 abbrev pub step_rest : ScriptStep → List ℕ
 step_rest (Get k) = decimal k
@@ -74,6 +76,8 @@ step_rest (Read i) = decimal i
 step_rest (Count i) = decimal i
 step_rest (AlterAll i f) = decimal i ++ 32 ∷ change_text f
 step_rest (Retain i f) = decimal i ++ 32 ∷ change_text f
+step_rest (CountPart i) = decimal i
+step_rest (ReadPart i) = decimal i
 
 -- the lines of the steps, and those of their replies
 abbrev pub step_lines : List (ScriptStep × Reply ℕ ℕ) → List ℕ

@@ -127,6 +127,8 @@ fn replay(
         }
         ShardStep::Read(shard)
         | ShardStep::Count(shard)
+        | ShardStep::CountPart(shard)
+        | ShardStep::ReadPart(shard)
         | ShardStep::AlterAll(shard, _)
         | ShardStep::Retain(shard, _) => replay_shard(alloc, plain, *shard, step),
     }

@@ -300,6 +300,7 @@ fn texts_are_those_of_the_map(rt: HostRuntime) -> Result<(), Fail> {
         RecordFault::Memory,
         RecordFault::NoSuchShard,
         RecordFault::Locked,
+        RecordFault::Part,
     ] {
         let refused = format!(in rt.alloc(); "refused line 3: {fault}")?;
         let stop = Stop::Step { line: 3, fault };

@@ -8,7 +8,7 @@ pub unreachable-requires : goal.unreachable-requires
 unreachable-requires g c =
     let e = c.in-Err-default-NoSuchShard in
     not-outside _ _ c.args.step c.requires.kind (λ k. route_below _ c.args.map.now.amount (omega (arith, c.requires.shards)))
-    (c.apply.ensures.logs.no_such_shard.0 (e.is ∙ ap (λ s. Err (s, e.field-0-1)) e.ensures.logs.refused.0 ∙ ap (λ f. Err (c.args.step, f)) e.field-0-1-is))
+    (c.apply.ensures.logs.no_such_shard.0 (e.is ∙ ap (λ s. Err (s, e.field-0-1)) e.ensures.logs.refused.0 ∙ ap (λ f. Err (c.args.step, f)) e.field-0-1-is)).1
 
 pub returns-clause-taken : goal.returns-clause-taken
 returns-clause-taken g c = elim c.match-apply.branch [
