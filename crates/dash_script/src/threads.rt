@@ -1,5 +1,5 @@
 //! `dashcheck threads`: threads that take steps on one recorded map, the count of what they logged, and whether the history that
-//! is gathered of it is legal. But for `run` its functions are for the tests alone.
+//! is gathered of it is legal. But for `run` its functions are public for the tests alone.
 ghost use Rattle.std.specs.Prelude.{◌≡◌, ◌≢◌, ℕ, ◌+◌, ◌*◌, ◌%◌, ◌^◌, ◌<◌, ◌≤◌, ◌⊎◌, ◌↔◌, ◌∷◌, ◌++◌, [], All, Err, IfOk, IfErr, IfSome, IfNone, OnOk, OnErr, IsTrue, length, map, sum_by, slice_index_or, vec_len, if◌then◌else◌, true, false};
 ghost use Rattle.std.specs.Io.KnownBytes.{Appends};
 ghost use Rattle.dash_history.specs.Alone.{fresh_logs};
