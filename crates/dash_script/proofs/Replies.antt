@@ -1,19 +1,13 @@
 -- What a recorded map answers.
-use Rattle.std.proofs.Common.{◌≡◌, ℕ, ◌<◌, ◌≤◌, ◌^◌, Ok, Err, refl, ap, subst, ◌∙◌, inl, inr, arith}
+use Rattle.std.proofs.Common.{◌≡◌, ℕ, ◌<◌, ◌≤◌, Ok, Err, refl, ap, subst, ◌∙◌, inl, inr, arith}
 use Rattle.std.specs.Prelude.{◌↔◌, ◌⊎◌, Result, IfErr, IsErrAnd, IsErrOf, nat_eq}
-use Rattle.std.proofs.Math.ListN.{replicate}
-use Rattle.std.proofs.lemmas.List.{length-replicate}
 use Rattle.dash_shard.specs.Contents.{keys}
-use Rattle.dash_shard.specs.Steps as table
 use Rattle.dash_shard.specs.Hashing.{IsAmount}
 use Rattle.dash_shard.specs.declared.error.ConstructError.{ConstructError}
 use Rattle.dash_shard.specs.declared.error.ConstructError.TheVariants.{ShardAmount, Memory, Callers}
 use Rattle.dash_history.specs.Alone.{IsCallers}
 use Rattle.dash_shard.specs.inner.Steps.{step_shard}
 use Rattle.dash_steps.specs.Steps.{step_of}
-use Rattle.dash_steps.specs.declared.step.Reply.TheVariants.{Number}
-use Rattle.dash_steps.specs.declared.step.Whole.{Whole}
-use Rattle.dash_steps.specs.declared.step.Whole.TheVariants as whole
 use Rattle.dash_history.specs.History.{shard_of}
 use Rattle.dash_steps.specs.Takes.{rules}
 use Rattle.dash_steps.specs.inner.Kinds.{kinds}
@@ -23,7 +17,7 @@ use Rattle.dash_steps.specs.declared.step.ShardStep.TheVariants.{Get, Contains, 
 use Rattle.dash_history.specs.declared.record.RecordFault.{RecordFault}
 use Rattle.dash_history.specs.declared.record.RecordFault.TheVariants.{NoSuchShard}
 use Rattle.dash_script.specs.declared.step.Line.TheVariants as says
-use Rattle.dash_script.specs.Script.{ScriptStep, IsReplyTo, IsFaultOf, written}
+use Rattle.dash_script.specs.Script.{ScriptStep, IsFaultOf, written}
 use Rattle.dash_steps.specs.Steps.{IsPart}
 
 -- the step goes outside a map of four shards exactly where it names a missing one
@@ -63,10 +57,6 @@ module _ (route : ℕ → ℕ) (below : (k : ℕ) → route k < 4) where
     (λ none. (outside step).0 (missing.0 (is ∙ ap (λ s. Err (s, e.1)) back ∙ ap (λ w. Err (step, w)) none)).1),
     (λ named. let same = missing.1 (own step fits, (outside step).1 named) in cc),
   )
-
--- each number of 64 bits counts some pairs
-pub counts : (kind : Whole) → kind ≡ whole.Count → (n : ℕ) → n < 2 ^ 64 → IsReplyTo (says.Whole kind) (Number n)
-counts kind is n small = rw is (replicate n (0, 0), ap (λ k. table.Number k) (omega (arith, length-replicate {A = ℕ × ℕ} n (0, 0))))
 
 -- why a recorded map isn't made
 abbrev Kinds : ConstructError → Type 0

@@ -4,7 +4,7 @@ use Rattle.std.specs.Option.{option_map_or}
 use Rattle.std.specs.Fmt.{decimal}
 use Rattle.std.specs.List.Sorted.{IsPermutation, IsNonDecreasingBy}
 use Rattle.std.specs.Io.KnownBytes.{Appends}
-use Rattle.dash_shard.specs.Contents.{keys}
+use Rattle.dash_shard.specs.Contents.{keys, Distinct}
 use Rattle.dash_shard.specs.Errors.{IsOneOf}
 use Rattle.dash_shard.specs.Steps.{line, line_shard}
 use Rattle.dash_steps.specs.Steps.{step_of, reply_of}
@@ -76,10 +76,11 @@ text_of Done = codes "done"
 abbrev pub StartsWithLines : List ℕ → List ℕ → List ℕ → Type 0
 StartsWithLines input lines rest = (input ≡ lines ++ rest) ⊎ (rest ≡ []) × (input ++ 10 ∷ [] ≡ lines)
 
--- there are contents on which the step table gives this reply to this step, or which this reply to a whole step counts or holds
+-- there are contents on which the step table gives this reply to this step, or which this reply to a whole step counts or holds,
+-- no key twice
 abbrev pub IsReplyTo : Line → Reply ℕ ℕ → Type 0
 IsReplyTo (says.Step step) reply = (route : ℕ → ℕ) × (shards : ℕ) × (ps : List (ℕ × ℕ)) × Answers (rules nat_eq nat_eq (keys nat_eq route shards)) ps (step_of acts step) (reply_of reply)
-IsReplyTo (says.Whole kind) reply = (ps : List (ℕ × ℕ)) × (reply_of reply ≡ part_reply kind ps)
+IsReplyTo (says.Whole kind) reply = (ps : List (ℕ × ℕ)) × Distinct nat_eq ps × (reply_of reply ≡ part_reply kind ps)
 
 -- the same reply, with its pairs in rising order of their keys
 abbrev pub IsInOrder : Reply ℕ ℕ → Reply ℕ ℕ → Type 0
