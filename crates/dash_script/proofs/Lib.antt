@@ -5,4 +5,5 @@ mod Replaying
 mod Replies
 mod Taking
 mod Texts
+mod Wholes
 pub mod Working

@@ -16,6 +16,7 @@ use Rattle.dash_script.specs.inner.AlikeChange.{alike_change}
 use Rattle.dash_steps.specs.declared.step.ShardStep.TheVariants.{Get, Contains, Insert, Remove, RemoveIf, RemoveIfMut, Alter, Read, Count, AlterAll, Retain, CountPart, ReadPart}
 use Rattle.dash_history.specs.declared.record.RecordFault.{RecordFault}
 use Rattle.dash_history.specs.declared.record.RecordFault.TheVariants.{NoSuchShard}
+use Rattle.dash_script.specs.declared.step.Line.TheVariants as says
 use Rattle.dash_script.specs.Script.{ScriptStep, IsFaultOf, written}
 use Rattle.dash_steps.specs.Steps.{IsPart}
 
@@ -51,7 +52,7 @@ module _ (route : ℕ → ℕ) (below : (k : ℕ) → route k < 4) where
 
   -- a map of four shards refuses a step for want of its shard exactly where it names a missing one
   pub faulted : {R : Type 0} (step : ScriptStep) (r : Result R (ScriptStep × RecordFault)) (e : ScriptStep × RecordFault) → r ≡ Err e → e.0 ≡ step → (written step).fits
-      → ((r ≡ Err (step, NoSuchShard)) ↔ (IsPart step → ⊥) × (4 ≤ shard-in step)) → IsFaultOf step e.1
+      → ((r ≡ Err (step, NoSuchShard)) ↔ (IsPart step → ⊥) × (4 ≤ shard-in step)) → IsFaultOf (says.Step step) e.1
   faulted step r e is back fits missing = (
     (λ none. (outside step).0 (missing.0 (is ∙ ap (λ s. Err (s, e.1)) back ∙ ap (λ w. Err (step, w)) none)).1),
     (λ named. let same = missing.1 (own step fits, (outside step).1 named) in cc),

@@ -7,7 +7,8 @@ use Rattle.std.proofs.lemmas.List.Elements.{All-append, All-nil}
 use Rattle.dash_steps.specs.declared.step.Reply.{Reply}
 use Rattle.dash_history.specs.declared.record.RecordFault.{RecordFault}
 use Rattle.dash_script.specs.declared.script.Stop.TheVariants.{BadStep, Step}
-use Rattle.dash_script.specs.Script.{ScriptStep, text_of, StartsWithLines, Took, IsNext, IsFaultOf, StopsAt}
+use Rattle.dash_script.specs.declared.step.Line.{Line}
+use Rattle.dash_script.specs.Script.{text_of, StartsWithLines, Took, IsNext, IsFaultOf, StopsAt}
 use Rattle.dash_script.specs.inner.Words.{HasWords, line_of}
 use Rattle.dash_script.specs.inner.Words.{IsToldOf, step_lines, reply_lines}
 use Rattle.dash_script.specs.inner.Lines.{ReadsPart, ReadsLine}
@@ -15,7 +16,7 @@ use Rattle.dash_script.proofs.Texts.{short-line, clean-line, same-word, no-longe
 
 -- so many steps were taken, and this is left of the input
 pub record Going (input left old now : Option (List ℕ)) (line : ℕ) : Type 0 where
-  pub done : List (ScriptStep × Reply ℕ ℕ)
+  pub done : List (Line × Reply ℕ ℕ)
   pub took : Took input left old now done
   pub count : line ≡ length done + 1
 
@@ -71,7 +72,7 @@ ended left text rest (inr e) = ([], e.1)
 
 -- where the line that was read is no step's, no step's line is next
 not-next : (left : List ℕ) (new : Option (List ℕ)) (text : List ℕ) → All (λ b. b ≢ 10) text → ReadsPart (Some left) new text
-    → ((step : ScriptStep) → HasWords step → text ≡ line_of step → ⊥) → (step : ScriptStep) → IsNext left step → ⊥
+    → ((step : Line) → HasWords step → text ≡ line_of step → ⊥) → (step : Line) → IsNext left step → ⊥
 not-next left new text clean part other step next =
     let words : HasWords step = next.0 in
     let line = ended left (line_of step) next.1 next.2 in
@@ -91,13 +92,13 @@ not-empty left new text part none = elim (parts left new text part) [
 ]
 
 -- bytes that were read as the line of a step
-next-line : (left : List ℕ) (new : Option (List ℕ)) (step : ScriptStep) → HasWords step → ReadsPart (Some left) new (line_of step) → (rest : List ℕ) × (new ≡ Some rest) × Ends left (line_of step) rest
+next-line : (left : List ℕ) (new : Option (List ℕ)) (step : Line) → HasWords step → ReadsPart (Some left) new (line_of step) → (rest : List ℕ) × (new ≡ Some rest) × Ends left (line_of step) rest
 next-line left new step words part = elim (parts left new (line_of step) part) [
   | inl p ↦ p
   | inr long ↦ absurd (omega (arith, long.0, short-line step words))
 ]
 
-read-more : (input left new : Option (List ℕ)) (lines : List ℕ) (step : ScriptStep) → HasWords step → IfSome input (λ bytes. IsSomeAnd left (StartsWithLines bytes lines)) → ReadsPart left new (line_of step)
+read-more : (input left new : Option (List ℕ)) (lines : List ℕ) (step : Line) → HasWords step → IfSome input (λ bytes. IsSomeAnd left (StartsWithLines bytes lines)) → ReadsPart left new (line_of step)
     → IfSome input (λ bytes. IsSomeAnd new (StartsWithLines bytes (lines ++ (line_of step ++ 10 ∷ []))))
 read-more None left new lines step words h part = tt
 read-more (Some bytes) None new lines step words h part = absurd h
@@ -113,7 +114,7 @@ All-one : {X : Type 0} (P : X → Type 0) (x : X) → P x → All P (x ∷ [])
 All-one P x h zero d inside = h
 All-one P x h (suc k) d inside = absurd (omega (arith, inside))
 
-took-more : (input left new old now now' : Option (List ℕ)) (done : List (ScriptStep × Reply ℕ ℕ)) (step : ScriptStep) (reply : Reply ℕ ℕ) → Took input left old now done → HasWords step → ReadsPart left new (line_of step)
+took-more : (input left new old now now' : Option (List ℕ)) (done : List (Line × Reply ℕ ℕ)) (step : Line) (reply : Reply ℕ ℕ) → Took input left old now done → HasWords step → ReadsPart left new (line_of step)
     → IsToldOf step reply → Appends now now' (text_of reply ++ 10 ∷ []) → Took input new old now' (done ++ (step, reply) ∷ [])
 took-more input left new old now now' done step reply took words part answered printed = record {
   read = rw (← flat_map_more (λ d. line_of d.0 ++ 10 ∷ []) [] done (step, reply)) (read-more input left new (step_lines done) step words took.read part);
@@ -126,18 +127,18 @@ module _ (input left new old now : Option (List ℕ)) (line : ℕ) (text : List 
   part : All (λ b. b ≢ 10) text × ReadsPart left new text
   part = rw is at read
 
-  bad : (l : Option (List ℕ)) → ReadsPart l new text → ((step : ScriptStep) → HasWords step → text ≡ line_of step → ⊥) → IfSome l (λ bytes. (bytes ≢ []) × ((step : ScriptStep) → IsNext bytes step → ⊥))
+  bad : (l : Option (List ℕ)) → ReadsPart l new text → ((step : Line) → HasWords step → text ≡ line_of step → ⊥) → IfSome l (λ bytes. (bytes ≢ []) × ((step : Line) → IsNext bytes step → ⊥))
   bad None p other = tt
   bad (Some bytes) p other = (not-empty bytes new text p, not-next bytes new text part.0 p other)
 
-  pub stops-bad : ((step : ScriptStep) → HasWords step → text ≡ line_of step → ⊥) → StopsAt (BadStep line) input old now
+  pub stops-bad : ((step : Line) → HasWords step → text ≡ line_of step → ⊥) → StopsAt (BadStep line) input old now
   stops-bad other = (g.done, left, g.took, (g.count, bad left part.1 other))
 
-  module _ (step : ScriptStep) (same : text ≡ line_of step) (words : HasWords step) where
+  module _ (step : Line) (same : text ≡ line_of step) (words : HasWords step) where
     known : ReadsPart left new (line_of step)
     known = subst (λ t. ReadsPart left new t) same part.1
 
-    refused : (fault : RecordFault) → IsFaultOf step fault → (l : Option (List ℕ)) → ReadsPart l new (line_of step) → IfSome l (λ bytes. (s : ScriptStep) × IsNext bytes s × IsFaultOf s fault)
+    refused : (fault : RecordFault) → IsFaultOf step fault → (l : Option (List ℕ)) → ReadsPart l new (line_of step) → IfSome l (λ bytes. (s : Line) × IsNext bytes s × IsFaultOf s fault)
     refused fault of None p = tt
     refused fault of (Some bytes) p = let next = next-line bytes new step words p in (step, (words, next.0, starts-next bytes (line_of step) next.0 next.2), of)
 

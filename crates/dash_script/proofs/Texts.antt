@@ -1,4 +1,4 @@
--- Words of a text, and lines of steps.
+-- Words of a text, and lines of a script.
 use Rattle.std.proofs.Common.{◌≡◌, ℕ, suc, ◌<◌, ◌^◌, List, [], ◌∷◌, ◌++◌, length, length-append, get_or, drop, Option, Some, None, Ok, Err, Bor, ◌⊎◌, inl, inr, refl, sym, ap, subst, ◌∙◌, arith}
 use Rattle.std.specs.declared.result.Result.{Result}
 use Rattle.std.specs.Option.{IfSome, IfNone}
@@ -18,8 +18,11 @@ use Rattle.std.proofs.lemmas.Str.Pattern.{IsSplitOnceResult, split_parts, split_
 use Rattle.dash_steps.specs.declared.step.ShardStep.TheVariants.{Get, Contains, Insert, Remove, RemoveIf, RemoveIfMut, Alter, Read, Count, AlterAll, Retain, CountPart, ReadPart}
 use Rattle.dash_script.specs.declared.change.Change.{Change}
 use Rattle.dash_script.specs.declared.change.Change.TheVariants.{Add, Below, AddBelow}
+use Rattle.dash_steps.specs.declared.step.Whole.TheVariants as whole
+use Rattle.dash_script.specs.declared.step.Line.{Line}
+use Rattle.dash_script.specs.declared.step.Line.TheVariants as says
 use Rattle.dash_script.specs.Script.{ScriptStep}
-use Rattle.dash_script.specs.inner.Words.{HasChange, HasWords, change_text, line_of}
+use Rattle.dash_script.specs.inner.Words.{HasChange, HasStep, HasWords, change_text, line_of, step_text}
 use Rattle.dash_script.specs.inner.Words.{change_word, change_rest, step_word, step_rest, IsFirst}
 
 -- what `split_once` at a space gives
@@ -67,21 +70,29 @@ spaced text = IsAscii-cons 32 text (omega arith)
 clean-spaced : (text : List ℕ) → All (λ b. b ≢ 10) text → All (λ b. b ≢ 10) (32 ∷ text)
 clean-spaced text = All-cons (λ b. b ≢ 10) 32 text (λ e. omega (arith, e))
 
--- a word of small letters, which stands before a space
-module _ (word : List ℕ) (tested : list_all (λ b. nat_lt 96 b && nat_lt b 123) word ≡ true) (rest : List ℕ) where
+-- a word of small letters
+module _ (word : List ℕ) (tested : list_all (λ b. nat_lt 96 b && nat_lt b 123) word ≡ true) where
   letter : (i : ℕ) → i < length word → (96 < get_or word i 0) × (get_or word i 0 < 123)
   letter i inside = let both = and_parts _ _ (AllPass-from_list_all (λ b. nat_lt 96 b && nat_lt b 123) word tested i 0 inside) in (ltb-true _ _ both.0, ltb-true _ _ both.1)
 
-  first-letters : IsFirst (word ++ 32 ∷ rest) word rest
-  first-letters = record { parts = refl; free = λ i inside e. omega (arith, letter i inside, e) }
+  IsAscii-word : IsAscii word
+  IsAscii-word = IsAscii-from_all word (All-from_get_or (λ b. b < 128) word 0 (λ i inside. omega (arith, letter i inside)))
 
-  IsAscii-letters : IsAscii rest → IsAscii (word ++ 32 ∷ rest)
-  IsAscii-letters ascii = IsAscii-append word (32 ∷ rest) (IsAscii-from_all word (All-from_get_or (λ b. b < 128) word 0 (λ i inside. omega (arith, letter i inside)))) (spaced rest ascii)
+  clean-word : All (λ b. b ≢ 10) word
+  clean-word = All-from_get_or (λ b. b ≢ 10) word 0 (λ i inside e. omega (arith, letter i inside, e))
 
-  clean-letters : All (λ b. b ≢ 10) rest → All (λ b. b ≢ 10) (word ++ 32 ∷ rest)
-  clean-letters clean = All-append (λ b. b ≢ 10) word (32 ∷ rest) (All-from_get_or (λ b. b ≢ 10) word 0 (λ i inside e. omega (arith, letter i inside, e))) (clean-spaced rest clean)
+  -- and what follows it and a space
+  module _ (rest : List ℕ) where
+    first-letters : IsFirst (word ++ 32 ∷ rest) word rest
+    first-letters = record { parts = refl; free = λ i inside e. omega (arith, letter i inside, e) }
 
--- A change and a line are their first word, a space and the rest, and the word is of small letters.
+    IsAscii-letters : IsAscii rest → IsAscii (word ++ 32 ∷ rest)
+    IsAscii-letters ascii = IsAscii-append word (32 ∷ rest) IsAscii-word (spaced rest ascii)
+
+    clean-letters : All (λ b. b ≢ 10) rest → All (λ b. b ≢ 10) (word ++ 32 ∷ rest)
+    clean-letters clean = All-append (λ b. b ≢ 10) word (32 ∷ rest) clean-word (clean-spaced rest clean)
+
+-- A change and a step's line are their first word, a space and the rest, and the word is of small letters.
 abbrev IsLetters : List ℕ → Type 0
 IsLetters word = list_all (λ b. nat_lt 96 b && nat_lt b 123) word ≡ true
 
@@ -90,24 +101,24 @@ change-parts (Add n) = (refl, refl)
 change-parts (Below n) = (refl, refl)
 change-parts (AddBelow n m) = (refl, refl)
 
-line-parts : (step : ScriptStep) → IsLetters (step_word step) × (step_word step ++ 32 ∷ step_rest step ≡ line_of step)
-line-parts (Get k) = (refl, refl)
-line-parts (Contains k) = (refl, refl)
-line-parts (Insert k v) = (refl, refl)
-line-parts (Remove k) = (refl, refl)
-line-parts (RemoveIf k f) = (refl, refl)
-line-parts (RemoveIfMut k f) = (refl, refl)
-line-parts (Alter k f) = (refl, refl)
-line-parts (Read i) = (refl, refl)
-line-parts (Count i) = (refl, refl)
-line-parts (AlterAll i f) = (refl, refl)
-line-parts (Retain i f) = (refl, refl)
-line-parts (CountPart i) = (refl, refl)
-line-parts (ReadPart i) = (refl, refl)
+step-parts : (step : ScriptStep) → IsLetters (step_word step) × (step_word step ++ 32 ∷ step_rest step ≡ step_text step)
+step-parts (Get k) = (refl, refl)
+step-parts (Contains k) = (refl, refl)
+step-parts (Insert k v) = (refl, refl)
+step-parts (Remove k) = (refl, refl)
+step-parts (RemoveIf k f) = (refl, refl)
+step-parts (RemoveIfMut k f) = (refl, refl)
+step-parts (Alter k f) = (refl, refl)
+step-parts (Read i) = (refl, refl)
+step-parts (Count i) = (refl, refl)
+step-parts (AlterAll i f) = (refl, refl)
+step-parts (Retain i f) = (refl, refl)
+step-parts (CountPart i) = (refl, refl)
+step-parts (ReadPart i) = (refl, refl)
 
 -- the first word of a step's line, of a change, and of a key with a change
-pub first-kind : (step : ScriptStep) → IsFirst (line_of step) (step_word step) (step_rest step)
-first-kind step = subst (λ t. IsFirst t (step_word step) (step_rest step)) (line-parts step).1 (first-letters (step_word step) (line-parts step).0 (step_rest step))
+pub first-kind : (step : ScriptStep) → IsFirst (step_text step) (step_word step) (step_rest step)
+first-kind step = subst (λ t. IsFirst t (step_word step) (step_rest step)) (step-parts step).1 (first-letters (step_word step) (step-parts step).0 (step_rest step))
 
 pub first-change : (f : Change) → IsFirst (change_text f) (change_word f) (change_rest f)
 first-change f = subst (λ t. IsFirst t (change_word f) (change_rest f)) (change-parts f).1 (first-letters (change_word f) (change-parts f).0 (change_rest f))
@@ -149,7 +160,7 @@ IsAscii-rest_of (AddBelow n m) small = IsAscii-two n (decimal m) small.0 (IsAsci
 IsAscii-change : (f : Change) → HasChange f → IsAscii (change_text f)
 IsAscii-change f small = subst IsAscii (change-parts f).1 (IsAscii-letters (change_word f) (change-parts f).0 (change_rest f) (IsAscii-rest_of f small))
 
-IsAscii-rest : (step : ScriptStep) → HasWords step → IsAscii (step_rest step)
+IsAscii-rest : (step : ScriptStep) → HasStep step → IsAscii (step_rest step)
 IsAscii-rest (Get k) small = IsAscii-decimal k small
 IsAscii-rest (Contains k) small = IsAscii-decimal k small
 IsAscii-rest (Insert k v) small = IsAscii-two k (decimal v) small.0 (IsAscii-decimal v small.1)
@@ -164,8 +175,13 @@ IsAscii-rest (Retain i f) small = IsAscii-two i (change_text f) small.0 (IsAscii
 IsAscii-rest (CountPart i) small = absurd small
 IsAscii-rest (ReadPart i) small = absurd small
 
-pub IsAscii-line : (step : ScriptStep) → HasWords step → IsAscii (line_of step)
-IsAscii-line step small = subst IsAscii (line-parts step).1 (IsAscii-letters (step_word step) (line-parts step).0 (step_rest step) (IsAscii-rest step small))
+IsAscii-step : (step : ScriptStep) → HasStep step → IsAscii (step_text step)
+IsAscii-step step small = subst IsAscii (step-parts step).1 (IsAscii-letters (step_word step) (step-parts step).0 (step_rest step) (IsAscii-rest step small))
+
+pub IsAscii-line : (said : Line) → HasWords said → IsAscii (line_of said)
+IsAscii-line (says.Step step) small = IsAscii-step step small
+IsAscii-line (says.Whole whole.Count) small = IsAscii-word (codes "countall") refl
+IsAscii-line (says.Whole whole.Read) small = IsAscii-word (codes "readall") refl
 
 -- what `from_utf8` refuses isn't ASCII
 pub no-text : (E : Type 0) (P : E → Type 0) (line : List ℕ) (r : Result (Bor (List ℕ)) E) → MatchResult r (λ s. (s.now ≡ line) × IsUtf8 line) (λ e. ¬ (IsUtf8 line) × P e) → IfNone (result_ok r) (IsAscii line → ⊥)
@@ -183,7 +199,7 @@ short-change (Add n) small = omega (arith, length-append (codes "add") (32 ∷ d
 short-change (Below n) small = omega (arith, length-append (codes "below") (32 ∷ decimal n), short-decimal n small)
 short-change (AddBelow n m) small = omega (arith, length-append (codes "addbelow") (32 ∷ decimal n ++ 32 ∷ decimal m), short-two n (decimal m) 20 small.0 (short-decimal m small.1))
 
-short-rest : (step : ScriptStep) → HasWords step → length (step_rest step) ≤ 71
+short-rest : (step : ScriptStep) → HasStep step → length (step_rest step) ≤ 71
 short-rest (Get k) small = omega (arith, short-decimal k small)
 short-rest (Contains k) small = omega (arith, short-decimal k small)
 short-rest (Insert k v) small = omega (arith, short-two k (decimal v) 20 small.0 (short-decimal v small.1))
@@ -213,9 +229,8 @@ short-word (Retain i f) = omega arith
 short-word (CountPart i) = omega arith
 short-word (ReadPart i) = omega arith
 
--- a line of a step is short, and no line end is in it
-pub short-line : (step : ScriptStep) → HasWords step → length (line_of step) < 128
-short-line step small = subst (λ t. length t < 128) (line-parts step).1 (omega (arith, length-append (step_word step) (32 ∷ step_rest step), short-word step, short-rest step small))
+short-step : (step : ScriptStep) → HasStep step → length (step_text step) < 128
+short-step step small = subst (λ t. length t < 128) (step-parts step).1 (omega (arith, length-append (step_word step) (32 ∷ step_rest step), short-word step, short-rest step small))
 
 clean-decimal : (n : ℕ) → n < 2 ^ 64 → All (λ b. b ≢ 10) (decimal n)
 clean-decimal n small = All-from_get_or (λ b. b ≢ 10) (decimal n) 0 (λ i inside e. let digit = digits_decimal (numerals_by_value _ tells_by_index) n small i inside in omega (arith, digit, e))
@@ -228,7 +243,7 @@ clean-change (Add n) small = clean-letters (codes "add") refl (decimal n) (clean
 clean-change (Below n) small = clean-letters (codes "below") refl (decimal n) (clean-decimal n small)
 clean-change (AddBelow n m) small = clean-letters (codes "addbelow") refl (decimal n ++ 32 ∷ decimal m) (clean-two n (decimal m) small.0 (clean-decimal m small.1))
 
-clean-rest : (step : ScriptStep) → HasWords step → All (λ b. b ≢ 10) (step_rest step)
+clean-rest : (step : ScriptStep) → HasStep step → All (λ b. b ≢ 10) (step_rest step)
 clean-rest (Get k) small = clean-decimal k small
 clean-rest (Contains k) small = clean-decimal k small
 clean-rest (Insert k v) small = clean-two k (decimal v) small.0 (clean-decimal v small.1)
@@ -243,5 +258,16 @@ clean-rest (Retain i f) small = clean-two i (change_text f) small.0 (clean-chang
 clean-rest (CountPart i) small = absurd small
 clean-rest (ReadPart i) small = absurd small
 
-pub clean-line : (step : ScriptStep) → HasWords step → All (λ b. b ≢ 10) (line_of step)
-clean-line step small = subst (All (λ b. b ≢ 10)) (line-parts step).1 (clean-letters (step_word step) (line-parts step).0 (step_rest step) (clean-rest step small))
+clean-step : (step : ScriptStep) → HasStep step → All (λ b. b ≢ 10) (step_text step)
+clean-step step small = subst (All (λ b. b ≢ 10)) (step-parts step).1 (clean-letters (step_word step) (step-parts step).0 (step_rest step) (clean-rest step small))
+
+-- a line is short, and no line end is in it
+pub short-line : (said : Line) → HasWords said → length (line_of said) < 128
+short-line (says.Step step) small = short-step step small
+short-line (says.Whole whole.Count) small = omega arith
+short-line (says.Whole whole.Read) small = omega arith
+
+pub clean-line : (said : Line) → HasWords said → All (λ b. b ≢ 10) (line_of said)
+clean-line (says.Step step) small = clean-step step small
+clean-line (says.Whole whole.Count) small = clean-word (codes "countall") refl
+clean-line (says.Whole whole.Read) small = clean-word (codes "readall") refl

@@ -1,17 +1,17 @@
 //! `dashcheck script`: steps from the input, one a line, and their replies on the output.
 ghost use Rattle.std.specs.Prelude.{◌≡◌, ◌≢◌, ◌<◌, ◌++◌, ◌∷◌, [], Some, IfSome, IfNone, IfOk, IfErr, OnOk};
 ghost use Rattle.std.specs.Io.KnownBytes.{Appends};
-ghost use Rattle.dash_script.specs.Script.{text_of, fault_text, IsReplyTo, IsFaultOf, TakesAll, StopsAt, Refuses, written};
+ghost use Rattle.dash_script.specs.Script.{text_of, fault_text, IsReplyTo, IsFaultOf, TakesAll, StopsAt, Refuses, written_line};
 
 use crate::change::Change;
 use crate::lines::Lines;
 use crate::status::Status;
-use crate::step::{Printed, Step, in_order, parse};
+use crate::step::{Line, Printed, in_order, parse};
 use dash_history::record::map::RecordedMap;
 use dash_history::record::{CallerLog, RecordFault};
 use dash_shard::error::ConstructError;
 use dash_shard::hash::PlaceState;
-use dash_steps::step::Reply;
+use dash_steps::step::{Reply, Whole};
 use std::alloc::Global;
 use std::fmt;
 use std::io::{self, Read, Write};
@@ -20,7 +20,7 @@ use std::sync::Wait;
 
 const SHARDS: usize = 4;
 
-// Only the pairs of a shard may take a line of so many bytes.
+// Only pairs may take a line of so many bytes.
 const LIMIT: usize = 128;
 
 /// Why a script stops before its end.
@@ -73,7 +73,7 @@ struct Session {
 }
 
 /// Takes each step of the input and prints its reply, up to the first refusal, which it prints on `errors`. Where the output
-/// fails it prints nothing more. It fails where a write does, or where there is no memory for the line of a shard's pairs.
+/// fails it prints nothing more. It fails where a write does, or where there is no memory for a line of pairs.
 pub fn run<T: Wait + Clock, R: Read, O: Write, E: Write>(
     rt: &T,
     alloc: Global,
@@ -153,14 +153,24 @@ impl Session {
         Ok(Session { map, log })
     }
 
-    fn take<T: Wait + Clock>(&mut self, rt: &T, step: Step) -> Result<Reply<u64, u64>, RecordFault>
-        requires { (written step).fits }
-        ensures reply { IfOk result (λ reply. IsReplyTo step reply) }
-        ensures fault { IfErr result (λ fault. IsFaultOf step fault) }
+    fn take<T: Wait + Clock>(&mut self, rt: &T, line: Line) -> Result<Reply<u64, u64>, RecordFault>
+        requires { (written_line line).fits }
+        ensures reply { IfOk result (λ reply. IsReplyTo line reply) }
+        ensures fault { IfErr result (λ fault. IsFaultOf line fault) }
     {
-        match self.map.apply(rt, &mut self.log, step) {
-            Ok(reply) => Ok(reply),
-            Err((_, fault)) => Err(fault),
+        match line {
+            Line::Step(step) => match self.map.apply(rt, &mut self.log, step) {
+                Ok(reply) => Ok(reply),
+                Err((_, fault)) => Err(fault),
+            },
+            Line::Whole(Whole::Count) => {
+                let number = self.map.count_all(rt, &mut self.log)?;
+                Ok(Reply::Number(number))
+            }
+            Line::Whole(Whole::Read) => {
+                let pairs = self.map.clone_all(rt, &mut self.log)?;
+                Ok(Reply::Pairs(pairs))
+            }
         }
     }
 }

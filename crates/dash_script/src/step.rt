@@ -3,24 +3,46 @@ ghost use Rattle.std.specs.Prelude.{◌≡◌, ◌↔◌, ℕ, ◌<◌, ◌^◌,
 ghost use Rattle.std.specs.Fmt.{decimal};
 ghost use Rattle.std.specs.Str.{IsAscii};
 ghost use Rattle.dash_script.specs.declared.change.Change.{Change};
-ghost use Rattle.dash_script.specs.Script.{ScriptStep, IsInOrder, written};
+ghost use Rattle.dash_script.specs.declared.step.Line.{Line};
+ghost use Rattle.dash_script.specs.Script.{ScriptStep, IsInOrder, written, written_line};
 ghost use Rattle.dash_script.specs.inner.Words.{HasChange, change_text, IsPlain, IsFirst};
 
 use crate::change::Change;
-use dash_steps::step::{Reply, ShardStep};
+use dash_steps::step::{Reply, ShardStep, Whole};
 use std::{fmt, str};
 
-/// A step of a script.
+/// A step of one shard.
 pub type Step = ShardStep<u64, u64, Change>;
 
-/// The step that a line says, or `None` for a bad one.
-pub fn parse(line: &[u8]) -> Option<Step>
-    ensures some { IfSome result (λ step. line.now ≡ (written step).text) }
-    ensures words { IfSome result (λ step. (written step).fits) }
-    ensures none { IfNone result ((step : ScriptStep) → (written step).fits
-        → line.now ≡ (written step).text → ⊥) }
+/// What a line of a script says.
+#[derive(Drop)]
+pub enum Line {
+    /// A step of one shard.
+    Step(Step),
+    /// A step of the whole map.
+    Whole(Whole),
+}
+
+/// What the bytes of a line say, or `None` for a bad step.
+pub fn parse(bytes: &[u8]) -> Option<Line>
+    ensures some { IfSome result (λ line. bytes.now ≡ (written_line line).text) }
+    ensures words { IfSome result (λ line. (written_line line).fits) }
+    ensures none { IfNone result ((line : Line) → (written_line line).fits → bytes.now ≡ (written_line line).text → ⊥) }
 {
-    let (kind, rest) = first_word(text(line)?)?;
+    match text(bytes)? {
+        "countall" => Some(Line::Whole(Whole::Count)),
+        "readall" => Some(Line::Whole(Whole::Read)),
+        text => Some(Line::Step(parse_step(text)?)),
+    }
+}
+
+// A step of one shard.
+fn parse_step(text: &str) -> Option<Step>
+    ensures some { IfSome result (λ step. text.now ≡ (written step).text) }
+    ensures words { IfSome result (λ step. (written step).fits) }
+    ensures none { IfNone result ((step : ScriptStep) → (written step).fits → text.now ≡ (written step).text → ⊥) }
+{
+    let (kind, rest) = first_word(text)?;
     match kind {
         "get" => Some(ShardStep::Get(number(rest)?)),
         "contains" => Some(ShardStep::Contains(number(rest)?)),

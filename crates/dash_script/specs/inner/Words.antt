@@ -5,7 +5,8 @@ use Rattle.dash_steps.specs.declared.step.Reply.{Reply}
 use Rattle.dash_steps.specs.declared.step.ShardStep.TheVariants.{Get, Contains, Insert, Remove, RemoveIf, RemoveIfMut, Alter, Read, Count, AlterAll, Retain, CountPart, ReadPart}
 use Rattle.dash_script.specs.declared.change.Change.{Change}
 use Rattle.dash_script.specs.declared.change.Change.TheVariants.{Add, Below, AddBelow}
-use Rattle.dash_script.specs.Script.{ScriptStep, written_change, written, text_of, IsReplyTo, IsInOrder}
+use Rattle.dash_script.specs.declared.step.Line.{Line}
+use Rattle.dash_script.specs.Script.{ScriptStep, written_change, written, written_line, text_of, IsReplyTo, IsInOrder}
 
 -- the text of a change, and that its numbers have 64 bits
 abbrev pub change_text : Change → List ℕ
@@ -14,12 +15,19 @@ change_text f = (written_change f).text
 abbrev pub HasChange : Change → Type 0
 HasChange f = (written_change f).fits
 
--- the line of a step, and that its numbers have 64 bits
-abbrev pub line_of : ScriptStep → List ℕ
-line_of step = (written step).text
+-- the text of a step, and that its numbers have 64 bits
+abbrev pub step_text : ScriptStep → List ℕ
+step_text step = (written step).text
 
-abbrev pub HasWords : ScriptStep → Type 0
-HasWords step = (written step).fits
+abbrev pub HasStep : ScriptStep → Type 0
+HasStep step = (written step).fits
+
+-- the text of a line, and that its numbers have 64 bits
+abbrev pub line_of : Line → List ℕ
+line_of said = (written_line said).text
+
+abbrev pub HasWords : Line → Type 0
+HasWords said = (written_line said).fits
 
 -- ` K:V`
 abbrev pub pair_text : ℕ × ℕ → List ℕ
@@ -80,12 +88,12 @@ step_rest (CountPart i) = decimal i
 step_rest (ReadPart i) = decimal i
 
 -- the lines of the steps, and those of their replies
-abbrev pub step_lines : List (ScriptStep × Reply ℕ ℕ) → List ℕ
+abbrev pub step_lines : List (Line × Reply ℕ ℕ) → List ℕ
 step_lines done = flat_map (λ d. line_of d.0 ++ 10 ∷ []) done
 
-abbrev pub reply_lines : List (ScriptStep × Reply ℕ ℕ) → List ℕ
+abbrev pub reply_lines : List (Line × Reply ℕ ℕ) → List ℕ
 reply_lines done = flat_map (λ d. text_of d.1 ++ 10 ∷ []) done
 
 -- what is told for a reply to the step
-abbrev pub IsToldOf : ScriptStep → Reply ℕ ℕ → Type 0
-IsToldOf step told = (reply : Reply ℕ ℕ) × IsReplyTo step reply × IsInOrder reply told
+abbrev pub IsToldOf : Line → Reply ℕ ℕ → Type 0
+IsToldOf said told = (reply : Reply ℕ ℕ) × IsReplyTo said reply × IsInOrder reply told

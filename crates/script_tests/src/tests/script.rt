@@ -169,6 +169,24 @@ fn takes_steps_on_shards(rt: HostRuntime) {
 }
 
 #[test]
+fn takes_whole_steps(rt: HostRuntime) {
+    check(
+        &rt,
+        rt.alloc(),
+        b"insert 0 1\ninsert 1 2\ninsert 3 4\ncountall\nreadall\n",
+        "old none\nold none\nold none\nnumber 3\npairs 0:1 1:2 3:4\n",
+        "",
+    );
+    check(
+        &rt,
+        rt.alloc(),
+        b"readall\ninsert 9 1\ninsert 2 5\nremove 9\ncountall",
+        "pairs\nold none\nold none\npair 9 1\nnumber 1\n",
+        "",
+    )
+}
+
+#[test]
 fn refuses_steps_on_missing_shards(rt: HostRuntime) {
     check(
         &rt,
@@ -195,7 +213,7 @@ fn refuses_steps_on_missing_shards(rt: HostRuntime) {
 
 #[test]
 fn refuses_bad_steps(rt: HostRuntime) {
-    let bad: [&[u8]; 48] = [
+    let bad: [&[u8]; 51] = [
         b"\n",
         b" get 1\n",
         b"get 1 \n",
@@ -244,6 +262,9 @@ fn refuses_bad_steps(rt: HostRuntime) {
         b"retain 1\n",
         b"retain 18446744073709551616 below 1\n",
         b"retain 1 below\n",
+        b"countall 0\n",
+        b"countall \n",
+        b"readall x\n",
     ];
     for line in bad {
         check(&rt, rt.alloc(), line, "", "refused line 1: bad step\n");
