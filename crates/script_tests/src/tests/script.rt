@@ -1,8 +1,11 @@
 //! What a script prints, where reads succeed and where they fail, and the texts of its stops.
 use dash_history::record::RecordFault;
+use dash_history::record::map::RecordedMap;
 use dash_script::script::{self, Stop};
 use dash_script::status::Status;
 use dash_shard::error::ConstructError;
+use dash_shard::hash::PlaceState;
+use dash_steps::step::ShardStep;
 use std::alloc::Global;
 use std::io::{self, Read};
 use std::process::Abort;
@@ -336,4 +339,31 @@ fn texts_are_those_of_the_map(rt: HostRuntime) -> Result<(), Fail> {
         refused.as_str()
     );
     Ok(())
+}
+
+// The steps of three inserts, a count and a copy: of the last two there is a part in each shard.
+#[test]
+fn five_lines_are_eleven_records(rt: HostRuntime) {
+    let (map, mut logs) = RecordedMap::<u64, u64, PlaceState>::new(
+        rt.alloc(),
+        PlaceState,
+        4,
+        1,
+    ).expect(&rt, "refused");
+    let mut log = logs.pop().expect(&rt, "no log");
+    for (key, value) in [(0, 1), (1, 2), (3, 4)] {
+        assert!(rt; log.caller() < map.callers());
+        let reply = map.apply(&rt, &mut log, ShardStep::Insert(key, value));
+        assert!(rt; reply.is_ok());
+    }
+    assert!(rt; log.caller() < map.callers());
+    assert_eq!(rt; map.count_all(&rt, &mut log), Ok(3));
+    assert!(rt; map.clone_all(&rt, &mut log).is_ok());
+    let stamps = [1, 2, 3, 4, 4, 4, 4, 5, 5, 5, 5];
+    assert_eq!(rt; log.entries().len(), stamps.len());
+    for (record, stamp) in log.entries().iter().zip(stamps) {
+        assert_eq!(rt; record.stamp, stamp);
+    }
+    let ats = map.alone().gather(&[log]).expect(&rt, "refused");
+    assert_eq!(rt; ats.len(), 11);
 }
