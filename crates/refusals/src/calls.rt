@@ -1,11 +1,13 @@
 //! The calls by their names.
-ghost use Rattle.dash_shard.specs.Hashing.{by, HashAlike};
+ghost use Rattle.dash_shard.specs.Hashing.{HashAlike};
 
+use crate::cache::Echoes;
 use crate::keys::Key;
 use crate::maps::{Map, SHARDS};
 use crate::outcome::Outcome;
 use crate::{cache, gathering, lists, making, recorded, sets, single, steps, whole};
 use dashmap::DashSet;
+use dashmap::keyed::Keyed;
 use dashmap::memo::Memo;
 use std::alloc::Global;
 use std::hash::BuildHasher;
@@ -43,8 +45,8 @@ where
     R: Threads + Wait + Clock + Sync,
     S: BuildHasher + Clone + Copy + Send + Sync + Drop,
     S::Hasher: Send,
-    requires map { (s t : S) → S.is_clone s t → HashAlike (by Key.Hash S.BuildHasher S.Hasher.Hasher) s t }
-    requires cache { (s t : S) → S.is_clone s t → HashAlike (by String.Hash S.BuildHasher S.Hasher.Hasher) s t }
+    requires map { (s t : S) → S.is_clone s t → HashAlike ⟦<Map<S> as Keyed>⟧.by s t }
+    requires cache { (s t : S) → S.is_clone s t → HashAlike ⟦<Echoes<S> as Keyed>⟧.by s t }
 {
     match call {
         "with_hasher"
@@ -68,7 +70,7 @@ where
     R: Threads + Wait + Clock + Sync,
     S: BuildHasher + Clone + Copy + Send + Sync + Drop,
     S::Hasher: Send,
-    requires { (s t : S) → S.is_clone s t → HashAlike (by Key.Hash S.BuildHasher S.Hasher.Hasher) s t }
+    requires { (s t : S) → S.is_clone s t → HashAlike ⟦<Map<S> as Keyed>⟧.by s t }
 {
     let Ok(map) = Map::with_hasher_and_shard_amount(alloc, hasher, SHARDS) else {
         return Ok(None);
@@ -100,7 +102,7 @@ fn of_recorded<R, S>(rt: &R, alloc: Global, hasher: S, call: &str) -> Taken
 where
     R: Wait + Clock,
     S: BuildHasher + Clone + Copy + Drop,
-    requires { (s t : S) → S.is_clone s t → HashAlike (by Key.Hash S.BuildHasher S.Hasher.Hasher) s t }
+    requires { (s t : S) → S.is_clone s t → HashAlike ⟦<Map<S> as Keyed>⟧.by s t }
 {
     if call == "new" {
         return Ok(Some(recorded::new(alloc, hasher)));
@@ -132,7 +134,7 @@ where
     R: Threads + Wait + Clock + Sync,
     S: BuildHasher + Clone + Copy + Send + Sync + Drop,
     S::Hasher: Send,
-    requires { (s t : S) → S.is_clone s t → HashAlike (by Key.Hash S.BuildHasher S.Hasher.Hasher) s t }
+    requires { (s t : S) → S.is_clone s t → HashAlike ⟦<Map<S> as Keyed>⟧.by s t }
 {
     let Ok(set) = DashSet::<Key, S>::with_hasher(alloc, hasher, 1) else {
         return Ok(None);
@@ -151,7 +153,7 @@ fn of_cache<R, S>(rt: &R, alloc: Global, hasher: S, call: &str) -> Taken
 where
     R: Wait + Clock,
     S: BuildHasher + Clone + Drop,
-    requires { (s t : S) → S.is_clone s t → HashAlike (by String.Hash S.BuildHasher S.Hasher.Hasher) s t }
+    requires { (s t : S) → S.is_clone s t → HashAlike ⟦<Echoes<S> as Keyed>⟧.by s t }
 {
     let (waits, kept) = match call {
         "ask" => (true, false),

@@ -1,11 +1,12 @@
 //! Calls that make a map, a set or a cache: where they are refused nothing is made, and asked again they make it.
-ghost use Rattle.dash_shard.specs.Hashing.{by, HashAlike};
+ghost use Rattle.dash_shard.specs.Hashing.{HashAlike};
 
 use crate::keys::{Key, Value};
 use crate::maps::{Map, SHARDS, has};
 use crate::outcome::{Outcome, judged};
 use dashmap::DashMap;
 use dashmap::error::ConstructError;
+use dashmap::keyed::Keyed;
 use std::alloc::Global;
 use std::hash::BuildHasher;
 
@@ -34,7 +35,7 @@ fn hashed<S: BuildHasher + Clone + Drop>(
     hasher: S,
     call: &str,
 ) -> Result<Map<S>, ConstructError>
-    requires { (s t : S) → S.is_clone s t → HashAlike (by Key.Hash S.BuildHasher S.Hasher.Hasher) s t }
+    requires { (s t : S) → S.is_clone s t → HashAlike ⟦<Map<S> as Keyed>⟧.by s t }
 {
     match call {
         "with_hasher" => DashMap::with_hasher(alloc, hasher, 1),
@@ -63,7 +64,7 @@ pub fn construct<S: BuildHasher + Clone + Copy + Drop>(
     hasher: S,
     call: &str,
 ) -> Outcome
-    requires { (s t : S) → S.is_clone s t → HashAlike (by Key.Hash S.BuildHasher S.Hasher.Hasher) s t }
+    requires { (s t : S) → S.is_clone s t → HashAlike ⟦<Map<S> as Keyed>⟧.by s t }
 {
     match hashed(alloc, hasher, call) {
         Ok(map) => judged(None, has(alloc, map, 0).1),

@@ -45,3 +45,9 @@ pub fn has<S: BuildHasher + Drop>(alloc: Global, map: Map<S>, count: u64) -> (Ma
     let has = alone_has(alloc, &alone, count);
     (alone.end(), has)
 }
+
+/// Whether somebody holds the shard that is full.
+pub fn is_held<S: BuildHasher + Drop>(alloc: Global, map: &Map<S>) -> bool {
+    let key = bare(alloc, 0);
+    map.try_get_mut(&key).is_locked()
+}

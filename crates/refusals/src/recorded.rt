@@ -1,13 +1,14 @@
 //! The calls of a recorded map.
-ghost use Rattle.dash_shard.specs.Hashing.{by, HashAlike};
+ghost use Rattle.dash_shard.specs.Hashing.{HashAlike};
 
 use crate::keys::{Key, Value, bare, key_of, pairs_from, value_of};
 use crate::making::{memory_name, named};
-use crate::maps::{FULL, SHARDS};
+use crate::maps::{FULL, Map, SHARDS};
 use crate::outcome::{Outcome, judged};
 use dash_history::record::map::RecordedMap;
 use dash_history::record::{CallerLog, RecordFault};
 use dash_shard::error::ConstructError;
+use dash_shard::keyed::Keyed;
 use dash_steps::step::{Reply, ShardStep};
 use std::alloc::Global;
 use std::hash::BuildHasher;
@@ -28,14 +29,14 @@ pub fn make<S: BuildHasher + Clone + Drop>(
     alloc: Global,
     hasher: S,
 ) -> Result<(Recorded<S>, Vec<Log>), ConstructError>
-    requires { (s t : S) → S.is_clone s t → HashAlike (by Key.Hash S.BuildHasher S.Hasher.Hasher) s t }
+    requires { (s t : S) → S.is_clone s t → HashAlike ⟦<Map<S> as Keyed>⟧.by s t }
 {
     Recorded::new(alloc, hasher, SHARDS, 2)
 }
 
 /// `new`: where it is refused (8) nothing is made.
 pub fn new<S: BuildHasher + Clone + Copy + Drop>(alloc: Global, hasher: S) -> Outcome
-    requires { (s t : S) → S.is_clone s t → HashAlike (by Key.Hash S.BuildHasher S.Hasher.Hasher) s t }
+    requires { (s t : S) → S.is_clone s t → HashAlike ⟦<Map<S> as Keyed>⟧.by s t }
 {
     let name = match make(alloc, hasher) {
         Ok((_, logs)) => return judged(None, logs.len() == 2),

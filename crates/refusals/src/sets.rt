@@ -1,13 +1,14 @@
 //! The calls of a set.
-ghost use Rattle.dash_shard.specs.Hashing.{by, HashAlike};
+ghost use Rattle.dash_shard.specs.Hashing.{HashAlike};
 
 use crate::keys::{Key, bare, key_of, name};
 use crate::making::{memory_name, named};
-use crate::maps::FULL;
+use crate::maps::{FULL, Map};
 use crate::outcome::{Outcome, judged};
 use dashmap::DashSet;
 use dashmap::error::FromRefused;
 use dashmap::hash::FixedState;
+use dashmap::keyed::Keyed;
 use std::alloc::Global;
 use std::hash::BuildHasher;
 use std::rt::Clock;
@@ -85,7 +86,7 @@ pub fn clone<R: Wait + Clock, S: BuildHasher + Clone + Drop>(
     alloc: Global,
     set: Set<S>,
 ) -> Option<Outcome>
-    requires { (s t : S) → S.is_clone s t → HashAlike (by Key.Hash S.BuildHasher S.Hasher.Hasher) s t }
+    requires { (s t : S) → S.is_clone s t → HashAlike ⟦<Map<S> as Keyed>⟧.by s t }
 {
     let set = filled(alloc, set)?;
     if let Ok(copy) = set.clone(rt) {

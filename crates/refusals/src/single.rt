@@ -1,7 +1,7 @@
 //! Calls on one key, which is new in a full shard.
 
-use crate::keys::{Key, Value, bare, is_value_of, key_of, name, value_of};
-use crate::maps::{FULL, Map, filled, has};
+use crate::keys::{Key, Value, is_value_of, key_of, name, value_of};
+use crate::maps::{FULL, Map, filled, has, is_held};
 use crate::outcome::{Outcome, judged};
 use dashmap::Entry;
 use dashmap::error::{EntryRefused, InsertEntryRefused, InsertRefused, TryEntryRefused};
@@ -57,6 +57,32 @@ fn put<S: BuildHasher + Drop>(entry: Entry<'_, Key, Value, S>, value: Value) -> 
     }
 }
 
+// Puts a value at a key that has to be vacant. Where the entry is refused the pair comes back.
+fn put_at<R: Wait + Clock, S: BuildHasher + Drop>(
+    rt: &R,
+    map: &Map<S>,
+    key: Key,
+    value: Value,
+) -> Result<bool, (Key, Value)> {
+    match map.entry(rt, key) {
+        Ok(entry) => Ok(put(entry, value)),
+        Err(EntryRefused { key }) => Err((key, value)),
+    }
+}
+
+// The same by an entry that waits for nobody, which the one thread here has to get.
+fn try_put_at<S: BuildHasher + Drop>(
+    map: &Map<S>,
+    key: Key,
+    value: Value,
+) -> Result<bool, (Key, Value)> {
+    match map.try_entry(key) {
+        Ok(entry) => Ok(put(entry, value)),
+        Err(TryEntryRefused::Locked(_)) => Ok(false),
+        Err(TryEntryRefused::Memory(key)) => Err((key, value)),
+    }
+}
+
 /// `entry`: where it is refused (2) the pairs are unchanged, nobody holds the shard, and the key comes back.
 pub fn entry<R: Wait + Clock, S: BuildHasher + Drop>(
     rt: &R,
@@ -65,20 +91,13 @@ pub fn entry<R: Wait + Clock, S: BuildHasher + Drop>(
 ) -> Option<Outcome> {
     let map = filled(alloc, map)?;
     let (key, value) = (key_of(alloc, FULL)?, value_of(alloc, FULL)?);
-    let refused = match map.entry(rt, key) {
-        Ok(entry) => Ok(put(entry, value)),
-        Err(EntryRefused { key }) => Err((key, value)),
-    };
-    let (key, value) = match refused {
+    let (key, value) = match put_at(rt, &map, key, value) {
         Ok(answers) => return Some(judged(None, answers && has(alloc, map, FULL + 1).1)),
         Err(pair) => pair,
     };
-    let came_back = is_new(&key, &value) && map.try_get_mut(&bare(alloc, 0)).is_present();
+    let came_back = is_new(&key, &value) && !is_held(alloc, &map);
     let (map, same) = has(alloc, map, FULL);
-    let answers = match map.entry(rt, key) {
-        Ok(entry) => put(entry, value),
-        Err(_) => false,
-    };
+    let answers = matches!(put_at(rt, &map, key, value), Ok(true));
     let lawful = came_back && same && answers && has(alloc, map, FULL + 1).1;
     Some(judged(Some("EntryRefused (2)"), lawful))
 }
@@ -87,21 +106,13 @@ pub fn entry<R: Wait + Clock, S: BuildHasher + Drop>(
 pub fn try_entry<S: BuildHasher + Drop>(alloc: Global, map: Map<S>) -> Option<Outcome> {
     let map = filled(alloc, map)?;
     let (key, value) = (key_of(alloc, FULL)?, value_of(alloc, FULL)?);
-    let refused = match map.try_entry(key) {
-        Ok(entry) => Ok(put(entry, value)),
-        Err(TryEntryRefused::Locked(_)) => return Some(Outcome::Wrong("locked")),
-        Err(TryEntryRefused::Memory(key)) => Err((key, value)),
-    };
-    let (key, value) = match refused {
+    let (key, value) = match try_put_at(&map, key, value) {
         Ok(answers) => return Some(judged(None, answers && has(alloc, map, FULL + 1).1)),
         Err(pair) => pair,
     };
-    let came_back = is_new(&key, &value) && map.try_get_mut(&bare(alloc, 0)).is_present();
+    let came_back = is_new(&key, &value) && !is_held(alloc, &map);
     let (map, same) = has(alloc, map, FULL);
-    let answers = match map.try_entry(key) {
-        Ok(entry) => put(entry, value),
-        Err(_) => false,
-    };
+    let answers = matches!(try_put_at(&map, key, value), Ok(true));
     let lawful = came_back && same && answers && has(alloc, map, FULL + 1).1;
     Some(judged(Some("TryEntryRefused::Memory (10)"), lawful))
 }
@@ -114,15 +125,27 @@ pub fn insert_entry<R: Wait + Clock, S: BuildHasher + Drop>(
 ) -> Option<Outcome> {
     let map = filled(alloc, map)?;
     let (key, value) = (key_of(alloc, FULL)?, value_of(alloc, FULL)?);
-    let entry = map.entry(rt, key).ok()?;
-    let (refused, lawful) = match entry.insert_entry(value) {
-        Ok(entry) => (None, is_new(entry.key(), entry.get())),
-        Err(InsertEntryRefused { entry, value }) => {
-            let came_back = is_new(entry.key(), &value);
-            let holds = map.try_get(&bare(alloc, 0)).is_locked();
-            drop(entry.insert(value));
-            (Some("InsertEntryRefused (3)"), came_back && holds)
-        }
-    };
+    let (refused, lawful) = put_copy(rt, alloc, &map, key, value)?;
     Some(judged(refused, lawful && has(alloc, map, FULL + 1).1))
+}
+
+// Puts a value at a vacant key under a copy of it, or where that is refused under the key itself.
+fn put_copy<R: Wait + Clock, S: BuildHasher + Drop>(
+    rt: &R,
+    alloc: Global,
+    map: &Map<S>,
+    key: Key,
+    value: Value,
+) -> Option<(Option<&'static str>, bool)> {
+    let Ok(entry) = map.entry(rt, key) else {
+        return None;
+    };
+    match entry.insert_entry(value) {
+        Ok(entry) => Some((None, is_new(entry.key(), entry.get()))),
+        Err(InsertEntryRefused { entry, value }) => {
+            let came_back = is_new(entry.key(), &value) && is_held(alloc, map);
+            drop(entry.insert(value));
+            Some((Some("InsertEntryRefused (3)"), came_back))
+        }
+    }
 }

@@ -29,7 +29,8 @@ fn steps(alloc: Global) -> Option<Steps> {
 /// `run`: where a step is refused (14) the steps before it were taken, and it comes back with those behind.
 pub fn run<S: BuildHasher + Drop>(alloc: Global, map: Map<S>) -> Option<Outcome> {
     let mut map = filled(alloc, map)?;
-    let outcome = map.run(steps(alloc)?);
+    let list = steps(alloc)?;
+    let outcome = map.run(list);
     let taken = outcome.replies.len();
     let alone = map.alone();
     let Some((rest, fault)) = outcome.stopped else {

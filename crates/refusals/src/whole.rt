@@ -1,10 +1,11 @@
 //! Calls on all pairs of a map: copies, walks, views and room.
-ghost use Rattle.dash_shard.specs.Hashing.{by, HashAlike};
+ghost use Rattle.dash_shard.specs.Hashing.{HashAlike};
 
-use crate::keys::{Key, Value, is_value_of};
-use crate::maps::{FULL, Map, alone_has, filled, has};
+use crate::keys::{Key, Value, bare, is_value_of};
+use crate::maps::{FULL, Map, alone_has, filled, has, is_held};
 use crate::outcome::{Outcome, judged};
 use dashmap::ReadOnlyView;
+use dashmap::keyed::Keyed;
 use std::alloc::Global;
 use std::hash::BuildHasher;
 use std::rt::Clock;
@@ -45,7 +46,7 @@ pub fn clone<R: Wait + Clock, S: BuildHasher + Clone + Drop>(
     alloc: Global,
     map: Map<S>,
 ) -> Option<Outcome>
-    requires { (s t : S) → S.is_clone s t → HashAlike (by Key.Hash S.BuildHasher S.Hasher.Hasher) s t }
+    requires { (s t : S) → S.is_clone s t → HashAlike ⟦<Map<S> as Keyed>⟧.by s t }
 {
     let map = filled(alloc, map)?;
     if let Ok(copy) = map.clone(rt) {
@@ -93,7 +94,7 @@ pub fn iter<R: Wait + Clock, S: BuildHasher + Drop>(
             Some(judged(None, lawful && has(alloc, map, FULL).1))
         }
         (None, over) => {
-            let free = map.try_get_mut(&crate::keys::bare(alloc, 0)).is_present();
+            let free = !is_held(alloc, &map);
             let (map, same) = has(alloc, map, FULL);
             let answers = walk(rt, &map) == (Some(FULL), true);
             Some(judged(Some("AllocError (4)"), over && free && same && answers))
@@ -111,7 +112,7 @@ pub fn into_read_only<S: BuildHasher + Drop>(alloc: Global, map: Map<S>) -> Opti
 fn view_has_all<S: BuildHasher + Drop>(alloc: Global, view: &ReadOnlyView<Key, Value, S>) -> bool {
     let mut has = view.len() as u64 == FULL;
     for number in 0..FULL {
-        match view.get(&crate::keys::bare(alloc, number)) {
+        match view.get(&bare(alloc, number)) {
             Some(value) => has &= is_value_of(value, number),
             None => has = false,
         }
@@ -136,7 +137,7 @@ pub fn into_inner<S: BuildHasher + Drop>(alloc: Global, map: Map<S>) -> Option<O
 
 /// `clone` of a view: where it is refused (4) the view is unchanged.
 pub fn view_clone<S: BuildHasher + Clone + Drop>(alloc: Global, map: Map<S>) -> Option<Outcome>
-    requires { (s t : S) → S.is_clone s t → HashAlike (by Key.Hash S.BuildHasher S.Hasher.Hasher) s t }
+    requires { (s t : S) → S.is_clone s t → HashAlike ⟦<Map<S> as Keyed>⟧.by s t }
 {
     let view = filled(alloc, map)?.into_read_only();
     if let Ok(copy) = view.clone() {

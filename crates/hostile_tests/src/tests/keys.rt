@@ -26,7 +26,10 @@ impl Kept for Noted {
     ghost alike = { λ j k. j.name == k.name };
 
     fn copy(&self) -> Result<Noted, AllocError> {
-        Ok(make_noted(self.name, self.note))
+        Ok(Noted {
+            name: self.name,
+            note: self.note,
+        })
     }
 
     fn same(&self, other: &Noted) -> bool {
