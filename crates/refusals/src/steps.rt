@@ -1,9 +1,9 @@
 //! Lists of steps, taken one after the other or by two workers.
 
 use crate::keys::{Key, Value, bare, key_of, value_of};
-use crate::maps::{FULL, Map, alone_has, filled};
+use crate::maps::{FULL, Map, alone_has, filled, has};
 use crate::outcome::{Outcome, judged};
-use dashmap::run::{Fault, ShardStep};
+use dashmap::run::{Fault, RunOutcome, ShardStep};
 use std::alloc::Global;
 use std::hash::BuildHasher;
 use std::thread::Threads;
@@ -30,23 +30,26 @@ fn steps(alloc: Global) -> Option<Steps> {
 pub fn run<S: BuildHasher + Drop>(alloc: Global, map: Map<S>) -> Option<Outcome> {
     let mut map = filled(alloc, map)?;
     let list = steps(alloc)?;
-    let outcome = map.run(list);
-    let taken = outcome.replies.len();
-    let alone = map.alone();
-    let Some((rest, fault)) = outcome.stopped else {
-        let lawful = taken == STEPS && alone_has(alloc, &alone, FULL + 1);
-        return Some(judged(None, lawful));
-    };
-    let count = if taken > 2 { FULL + 1 } else { FULL };
-    let front = rest.len() == STEPS.saturating_sub(taken) && alone_has(alloc, &alone, count);
-    let mut map = alone.end();
-    let outcome = map.run(rest);
-    let answers = outcome.stopped.is_none();
-    let lawful = fault == Fault::Memory && front && answers;
-    Some(judged(
-        Some("Fault::Memory (14)"),
-        lawful && alone_has(alloc, &map.alone(), FULL + 1),
-    ))
+    let RunOutcome { replies, stopped } = map.run(list);
+    let taken = replies.len();
+    match stopped {
+        None => {
+            let lawful = taken == STEPS && alone_has(alloc, &map.alone(), FULL + 1);
+            Some(judged(None, lawful))
+        }
+        Some((rest, fault)) => {
+            let lawful = fault == Fault::Memory && goes_on(alloc, map, taken, rest);
+            Some(judged(Some("Fault::Memory (14)"), lawful))
+        }
+    }
+}
+
+// Whether so many steps were taken and no more, and the rest is taken when it is asked again.
+fn goes_on<S: BuildHasher + Drop>(alloc: Global, map: Map<S>, taken: usize, rest: Steps) -> bool {
+    let is_rest = rest.len() == STEPS.saturating_sub(taken);
+    let (mut map, front) = has(alloc, map, if taken > 2 { FULL + 1 } else { FULL });
+    let answers = map.run(rest).stopped.is_none();
+    is_rest && front && answers && alone_has(alloc, &map.alone(), FULL + 1)
 }
 
 /// `par_run` by two workers: where it is refused (14) each shard stands after a front of its own steps. These go to one shard.
