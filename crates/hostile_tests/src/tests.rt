@@ -1,0 +1,6 @@
+//! The tests, by what is hostile.
+mod checks;
+mod constructors;
+mod history;
+mod keys;
+mod logs;
