@@ -29,9 +29,10 @@ fn are_three(rt: &impl Abort, mut pairs: Vec<(u64, u64)>) {
     is(rt, pairs.as_slice(), &[(0, 1), (1, 2), (3, 4)]);
 }
 
-// Ends the test where these aren't the places of the parts at the stamp 6.
+// Ends the test where the places after the three inserts aren't those of the parts at the stamp 6.
 fn are_parts(rt: &impl Abort, ats: &[At]) {
-    for (at, shard) in ats.iter().zip([0, 1, 2, 3]) {
+    is(rt, ats.len(), 7);
+    for (at, shard) in ats.iter().skip(3).zip([0, 1, 2, 3]) {
         is(rt, (at.stamp, at.shard, at.caller), (6, shard, 0));
     }
 }
@@ -45,8 +46,7 @@ fn a_count_stands_at_one_place(rt: HostRuntime) {
     is(&rt, first.last_stamp(), 6);
     is(&rt, first.entries().len(), 6);
     let ats = alone.gather(&[first, second]).expect(&rt, "refused");
-    is(&rt, ats.len(), 7);
-    are_parts(&rt, &ats[3..]);
+    are_parts(&rt, &ats);
 }
 
 #[test]
@@ -56,8 +56,7 @@ fn a_count_through_locks_stands_at_one_place(rt: HostRuntime) {
     is(&rt, map.count_all(&rt, &mut first), Ok(3));
     is(&rt, first.last_stamp(), 6);
     let ats = map.alone().gather(&[first, second]).expect(&rt, "refused");
-    is(&rt, ats.len(), 7);
-    are_parts(&rt, &ats[3..]);
+    are_parts(&rt, &ats);
 }
 
 #[test]
@@ -80,6 +79,7 @@ fn copies_of_all_pairs(rt: HostRuntime) {
 fn a_held_shard_locks_the_try_forms_out(rt: HostRuntime) {
     let (map, mut first, second) = three_pairs(&rt, rt.alloc());
     assert!(rt; first.caller() < map.callers());
+    assert!(rt; 2 < map.shard_count());
     let held = map.held(&rt, 2);
     is(
         &rt,
@@ -173,11 +173,12 @@ fn beside<R: Abort + Threads + Wait + Clock + Sync>(
             if log.caller() != 3 {
                 return hundred_steps(rt, &map, log);
             }
-            assert!(rt; log.caller() < map.callers());
             for _ in 0..counts {
+                assert!(rt; log.caller() < map.callers());
                 map.count_all(rt, log).expect(rt, "refused");
             }
             for _ in 0..copies {
+                assert!(rt; log.caller() < map.callers());
                 map.clone_all(rt, log).expect(rt, "refused");
             }
         },
