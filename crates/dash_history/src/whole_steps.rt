@@ -56,6 +56,44 @@ impl<K: KeptKey + Drop, V: Kept + Drop, S: BuildHasher, A: KeptAction<K, V> + Dr
         Ok(Some(holds))
     }
 
+    // Why a whole step is refused that finds no memory for its holds. It holds each shard by itself.
+    #[cold]
+    fn fault_unheld<R: Wait + Clock>(&self, rt: &R, log: &CallerLog<K, V, A>) -> RecordFault
+        ensures last_stamp { result ≡ LastStamp → NoStampLeft ⟦<Self as Recorded>⟧.known self.now log.now }
+        ensures kinds { IsOneOf (LastStamp ∷ Memory ∷ []) result }
+    {
+        for idx in 0..self.shard_count() {
+            if self.held(rt, idx).last_stamp() == u64::MAX {
+                return RecordFault::LastStamp;
+            }
+        }
+        match log.last_stamp() {
+            u64::MAX => RecordFault::LastStamp,
+            _ => RecordFault::Memory,
+        }
+    }
+
+    // As `fault_unheld`, but first where somebody has a shard (21).
+    #[cold]
+    fn try_fault_unheld(&self, log: &CallerLog<K, V, A>) -> RecordFault
+        ensures last_stamp { result ≡ LastStamp → NoStampLeft ⟦<Self as Recorded>⟧.known self.now log.now }
+        ensures kinds { IsOneOf (Locked ∷ LastStamp ∷ Memory ∷ []) result }
+    {
+        let mut fault = match log.last_stamp() {
+            u64::MAX => RecordFault::LastStamp,
+            _ => RecordFault::Memory,
+        };
+        for idx in 0..self.shard_count() {
+            let Some(held) = self.try_held(idx) else {
+                return RecordFault::Locked;
+            };
+            if held.last_stamp() == u64::MAX {
+                fault = RecordFault::LastStamp;
+            }
+        }
+        fault
+    }
+
     // The records of a whole step of the shards that are held.
     fn plan_held(
         &self,
@@ -153,7 +191,7 @@ impl<K: KeptKey + Drop, V: Kept + Drop, S: BuildHasher, A: KeptAction<K, V> + Dr
     {
         match self.hold_all(rt) {
             Ok(holds) => self.count_held(holds, log),
-            Err(_) => Err(RecordFault::Memory),
+            Err(_) => Err(self.fault_unheld(rt, log)),
         }
     }
 
@@ -171,7 +209,7 @@ impl<K: KeptKey + Drop, V: Kept + Drop, S: BuildHasher, A: KeptAction<K, V> + Dr
     {
         match self.hold_all(rt) {
             Ok(holds) => self.clone_held(holds, log),
-            Err(_) => Err(RecordFault::Memory),
+            Err(_) => Err(self.fault_unheld(rt, log)),
         }
     }
 
@@ -186,7 +224,7 @@ impl<K: KeptKey + Drop, V: Kept + Drop, S: BuildHasher, A: KeptAction<K, V> + Dr
         match self.try_hold_all() {
             Ok(Some(holds)) => self.count_held(holds, log),
             Ok(None) => Err(RecordFault::Locked),
-            Err(_) => Err(RecordFault::Memory),
+            Err(_) => Err(self.try_fault_unheld(log)),
         }
     }
 
@@ -201,7 +239,7 @@ impl<K: KeptKey + Drop, V: Kept + Drop, S: BuildHasher, A: KeptAction<K, V> + Dr
         match self.try_hold_all() {
             Ok(Some(holds)) => self.clone_held(holds, log),
             Ok(None) => Err(RecordFault::Locked),
-            Err(_) => Err(RecordFault::Memory),
+            Err(_) => Err(self.try_fault_unheld(log)),
         }
     }
 }
