@@ -1,11 +1,11 @@
 //! Whole steps, as worked by hand, and beside threads.
 use super::gather::map_of_two;
-use super::map::{Alone, Log, Map, apply};
+use super::map::{Log, Map, apply};
 use crate::tests::checks::{is, prints};
 use dash_history::gather::At;
 use dash_history::record::RecordFault;
 use dash_shard::hash::PlaceState;
-use dash_steps::step::{Reply, ShardStep};
+use dash_steps::step::ShardStep;
 use std::alloc::Global;
 use std::process::Abort;
 use std::rt::Clock;
@@ -157,83 +157,100 @@ fn hundred_steps<R: Abort + Wait + Clock>(rt: &R, map: &Map, log: &mut Log) {
     }
 }
 
-// Three threads that take a hundred steps each, beside one that takes whole steps.
-fn beside<R: Abort + Threads + Wait + Clock + Sync>(
+// The same of each of these callers, on a thread of its own.
+fn hundred_steps_each<R: Abort + Threads + Wait + Clock + Sync>(
     rt: &R,
-    alloc: Global,
-    counts: u32,
-    copies: u32,
-) -> (Map, Vec<Log>) {
-    let (map, mut logs) = Map::new(alloc, PlaceState, 4, 4).expect(rt, "refused");
-    thread::for_each_mut(
-        rt,
-        logs.as_mut_slice(),
-        4,
-        &|_, log: &mut Log| {
-            if log.caller() != 3 {
-                return hundred_steps(rt, &map, log);
-            }
-            for _ in 0..counts {
-                assert!(rt; log.caller() < map.callers());
-                map.count_all(rt, log).expect(rt, "refused");
-            }
-            for _ in 0..copies {
-                assert!(rt; log.caller() < map.callers());
-                map.clone_all(rt, log).expect(rt, "refused");
-            }
-        },
-    );
-    (map, logs)
+    map: &Map,
+    logs: &mut [Log],
+) {
+    let work = |_: usize, log: &mut Log| hundred_steps(rt, map, log);
+    thread::for_each_mut(rt, logs, 3, &work);
 }
 
-// How many pairs stand in a row of places by key.
-fn count(plain: &[Option<u64>]) -> u64 {
+// What stands at each of sixteen keys.
+type Plain = [Option<u64>; 16];
+
+// How many pairs stand there.
+fn count(plain: &Plain) -> u64 {
     plain.iter().filter(|value| value.is_some()).count() as u64
 }
 
-// Replays the steps at these places, and holds each whole step against the pairs there. Answers how many whole steps there were.
-fn replay_wholes(rt: &impl Abort, alone: &Alone, ats: &[At]) -> u64 {
-    let mut plain: [Option<u64>; 16] = [None; 16];
-    let mut wholes: u64 = 0;
-    let mut sum: u64 = 0;
-    for at in ats {
+// What fifty counts of the whole map answer.
+fn counts<R: Abort + Wait + Clock>(rt: &R, alloc: Global, map: &Map, log: &mut Log) -> Vec<u64> {
+    let mut answers = Vec::new(alloc);
+    for _ in 0..50 {
+        assert!(rt; log.caller() < map.callers());
+        let number = map.count_all(rt, log).expect(rt, "refused");
+        answers.push(number).expect(rt, "refused");
+    }
+    answers
+}
+
+// What stood there by each of twenty copies of the whole map.
+fn copies<R: Abort + Wait + Clock>(rt: &R, alloc: Global, map: &Map, log: &mut Log) -> Vec<Plain> {
+    let mut answers = Vec::new(alloc);
+    for _ in 0..20 {
+        assert!(rt; log.caller() < map.callers());
+        let pairs = map.clone_all(rt, log).expect(rt, "refused");
+        let mut plain: Plain = [None; 16];
+        for (key, value) in &pairs {
+            plain[(*key % 16) as usize] = Some(*value);
+        }
+        is(rt, count(&plain), pairs.len() as u64);
+        answers.push(plain).expect(rt, "refused");
+    }
+    answers
+}
+
+// What stood there at each whole step, where all steps of these callers are replayed, so many.
+fn replay(rt: &impl Abort, alloc: Global, map: Map, logs: &[Log], steps: usize) -> Vec<Plain> {
+    let alone = map.alone();
+    let ats = alone.gather(logs).expect(rt, "refused");
+    is(rt, ats.len(), steps);
+    let mut plain: Plain = [None; 16];
+    let mut stood = Vec::new(alloc);
+    for at in &ats {
         assert!(rt; at.shard < alone.shard_count());
         let entry = alone.entry_at(at.shard, at.place).expect(rt, "no record");
-        match (&entry.step, &entry.reply) {
-            (ShardStep::Insert(key, value), _) => plain[(*key % 16) as usize] = Some(*value),
-            (ShardStep::Remove(key), _) => plain[(*key % 16) as usize] = None,
-            (ShardStep::CountPart(_), Reply::Number(number)) => sum = sum.wrapping_add(*number),
-            (ShardStep::ReadPart(_), Reply::Pairs(pairs)) => {
-                for (key, value) in pairs {
-                    is(rt, plain[(*key % 16) as usize], Some(*value));
-                }
-                sum = sum.wrapping_add(pairs.len() as u64);
+        match &entry.step {
+            ShardStep::Insert(key, value) => plain[(*key % 16) as usize] = Some(*value),
+            ShardStep::Remove(key) => plain[(*key % 16) as usize] = None,
+            ShardStep::CountPart(3) | ShardStep::ReadPart(3) => {
+                stood.push(plain).expect(rt, "refused")
             }
             _ => (),
         }
-        if entry.step.is_part() && at.shard == 3 {
-            is(rt, sum, count(&plain));
-            wholes = wholes.wrapping_add(1);
-            sum = 0;
-        }
     }
-    wholes
+    stood
 }
 
 #[test]
 fn counts_beside_three_threads(rt: HostRuntime) {
-    let (map, logs) = beside(&rt, rt.alloc(), 50, 0);
-    let alone = map.alone();
-    let ats = alone.gather(&logs).expect(&rt, "refused");
-    is(&rt, ats.len(), 500);
-    is(&rt, replay_wholes(&rt, &alone, &ats), 50);
+    let (map, mut logs) = Map::new(rt.alloc(), PlaceState, 4, 4).expect(&rt, "refused");
+    let mut fourth = logs.pop().expect(&rt, "no log");
+    let (_, answers) = thread::join_mut(
+        &rt,
+        &mut || hundred_steps_each(&rt, &map, logs.as_mut_slice()),
+        &mut || counts(&rt, rt.alloc(), &map, &mut fourth),
+    );
+    logs.push(fourth).expect(&rt, "refused");
+    let stood = replay(&rt, rt.alloc(), map, &logs, 500);
+    is(&rt, stood.len(), answers.len());
+    for (plain, answer) in stood.iter().zip(answers.iter()) {
+        is(&rt, *answer, count(plain));
+    }
 }
 
 #[test]
 fn copies_beside_three_threads(rt: HostRuntime) {
-    let (map, logs) = beside(&rt, rt.alloc(), 0, 20);
-    let alone = map.alone();
-    let ats = alone.gather(&logs).expect(&rt, "refused");
-    is(&rt, ats.len(), 380);
-    is(&rt, replay_wholes(&rt, &alone, &ats), 20);
+    let (map, mut logs) = Map::new(rt.alloc(), PlaceState, 4, 4).expect(&rt, "refused");
+    let mut fourth = logs.pop().expect(&rt, "no log");
+    let (_, answers) = thread::join_mut(
+        &rt,
+        &mut || hundred_steps_each(&rt, &map, logs.as_mut_slice()),
+        &mut || copies(&rt, rt.alloc(), &map, &mut fourth),
+    );
+    logs.push(fourth).expect(&rt, "refused");
+    let stood = replay(&rt, rt.alloc(), map, &logs, 380);
+    is(&rt, stood.as_slice(), answers.as_slice());
 }
