@@ -1,8 +1,10 @@
 //! `rust_bench WORK THREADS`: what `dash_bench` does, over the Rust crate `dashmap`, with the same keys, hasher and shards.
 
+mod hash;
+
 use dashmap::DashMap;
+use hash::FixedState;
 use rayon::prelude::*;
-use std::hash::{BuildHasher, Hasher};
 use std::time::Instant;
 
 const SHARDS: usize = 16;
@@ -10,35 +12,6 @@ const PAIRS: usize = 1_000_000;
 const SMALL: usize = 1_000;
 const STEPS: usize = 4_000_000;
 const HOLDS: usize = 200_000;
-
-/// FNV-1a on 64 bits, as the default hasher of the map that is measured.
-#[derive(Clone, Copy)]
-struct FixedState;
-
-struct FixedHasher(u64);
-
-impl BuildHasher for FixedState {
-    type Hasher = FixedHasher;
-
-    #[inline]
-    fn build_hasher(&self) -> FixedHasher {
-        FixedHasher(0xcbf29ce484222325)
-    }
-}
-
-impl Hasher for FixedHasher {
-    #[inline]
-    fn write(&mut self, bytes: &[u8]) {
-        for byte in bytes {
-            self.0 = (self.0 ^ u64::from(*byte)).wrapping_mul(0x100000001b3);
-        }
-    }
-
-    #[inline]
-    fn finish(&self) -> u64 {
-        self.0
-    }
-}
 
 type Map = DashMap<u64, u64, FixedState>;
 
