@@ -6,6 +6,7 @@ mod Listing
 mod Distincts
 mod Entering
 mod Extending
+mod Folding
 mod Found
 mod Leaving
 mod Lending

@@ -8,6 +8,7 @@ pub mod Copies
 pub mod Pairs
 pub mod Extend
 pub mod AllPairs
+pub mod Folds
 pub mod AloneWalk
 pub mod Lends
 pub mod Locks

@@ -16,7 +16,7 @@ use core::mem::replace_with;
 use dash_shard::error::ConstructError;
 use dash_shard::keyed::Keyed;
 use dash_shard::shard::InsertRefused;
-use std::alloc::Global;
+use std::alloc::{AllocError, Global};
 use std::fmt::Debug;
 use std::hash::{BuildHasher, Hash};
 use thiserror::Error;
@@ -36,6 +36,13 @@ impl<K, V> From<InsertRefused<K, V>> for ExtendRefused<K, V> {
     fn from(refused: InsertRefused<K, V>) -> Self {
         let InsertRefused { key, value } = refused;
         ExtendRefused { key, value }
+    }
+}
+
+/// So that `map.extend(pairs)?` converts. The pair is dropped.
+impl<K: Drop, V: Drop> From<ExtendRefused<K, V>> for AllocError {
+    fn from(_: ExtendRefused<K, V>) -> Self {
+        AllocError
     }
 }
 

@@ -1,5 +1,5 @@
 //! The map that threads share.
-ghost use Rattle.std.specs.Prelude.{◌≡◌, ◌<◌, ◌↔◌, ◌∷◌, [], length, IsErrOf, IfOk, IfErr, OnOk};
+ghost use Rattle.std.specs.Prelude.{ℕ, ◌≡◌, ◌<◌, ◌↔◌, ◌∷◌, [], length, IsErrOf, IfOk, IfErr, OnOk};
 ghost use Rattle.dash_shard.specs.Hashing.{by, IsAmount, HashAlike, hash_of, route_of_hash, route_by};
 ghost use Rattle.dash_shard.specs.declared.error.ConstructError.TheVariants.{CapacityOverflow, Memory, Parallelism, ShardAmount};
 ghost use Rattle.dash_map.specs.Amounts.{IsParallelism, IsDefault, Overflows, OverflowsDefault};
@@ -17,6 +17,7 @@ use dash_shard::shard::Shard;
 use std::alloc::Global;
 use std::hash::{BuildHasher, Hash};
 use std::marker::Model;
+use std::thread::{self, Threads};
 
 /// A shard behind its lock, on cache lines of its own.
 pub(crate) type Locked<K, V, S> = CachePadded<RwLock<Shard<K, V, S>>>;
@@ -67,14 +68,24 @@ pub fn default_shard_amount(parallelism: usize) -> Result<usize, ConstructError>
 impl<K: Eq + Hash + Drop, V: Drop> DashMap<K, V, FixedState> {
     /// A map with no pairs and the default hasher, of the default number of shards for so many processors.
     ///
-    /// It is refused where the parallelism is 0 or above 2^61 (6), then where there is no memory (8). The original reads the parallelism
-    /// from the system.
+    /// It is refused where the parallelism is 0 or above 2^61 (6), then where there is no memory (8). `of` asks the system for the number,
+    /// as the original does.
     pub fn new(alloc: Global, parallelism: usize) -> Result<Self, ConstructError>
         ensures amount { IfOk result (λ m. IsDefault parallelism m.amount) }
         ensures bad_parallelism { IsErrOf result Parallelism ↔ (IsParallelism parallelism → ⊥) }
         ensures kinds { IfErr result (IsOneOf (Parallelism ∷ Memory ∷ [])) }
     {
         Self::with_hasher(alloc, FixedState, parallelism)
+    }
+
+    /// As `new`, by the allocator of `rt`, for as many processors as the system says that this thread may run on, and for one where it
+    /// doesn't say, as the original's `new`. To ask takes the right to start threads, and reads a file of the system's.
+    pub fn of<R: Threads + AllocGlobal>(rt: &R) -> Result<Self, ConstructError>
+        ensures amount { IfOk result (λ m. (processors : ℕ) × IsDefault processors m.amount) }
+        ensures kinds { IfErr result (IsOneOf (Parallelism ∷ Memory ∷ [])) }
+    {
+        let processors = thread::available_parallelism(rt).map_or(1, |found| found.get());
+        Self::new(rt.alloc(), processors)
     }
 
     /// As `new`, with room for so many pairs if they spread evenly. Where the capacity can't be rounded up it is refused too (7).

@@ -1,18 +1,38 @@
-//! Lists of copies of a map's pairs.
+//! Lists of copies of a map's pairs, and what a closure makes of them.
 ghost use Rattle.std.specs.Prelude.{IfOk};
+ghost use Rattle.std.specs.List.{FoldsTo};
 ghost use Rattle.dash_map.specs.Alone.{IsAlone};
 ghost use Rattle.dash_map.specs.Behind.{SawShards};
+ghost use Rattle.dash_map.specs.Folds.{FoldsPair, MayFold};
 ghost use Rattle.dash_map.specs.Pairs.{CopiesPairs};
 
 use crate::alone::Alone;
 use crate::map::DashMap;
 use dash_kept::Kept;
 use dash_shard::keyed::Keyed;
+use dash_shard::shard::Iter;
 use dash_steps::sweep::add_copies;
 use std::alloc::AllocError;
 use std::hash::{BuildHasher, Hash};
 use std::rt::Clock;
 use std::sync::Wait;
+
+// What `f` makes of `first` and these pairs, called at each in turn with what it made before, and the closure as that leaves it.
+#[inline]
+pub(crate) fn fold_pairs<K, V, T, F: FnMut(T, &K, &V) -> T>(
+    pairs: Iter<'_, K, V>,
+    first: T,
+    mut f: F,
+) -> (T, F)
+    requires { MayFold F.FnMut f first }
+    ensures { FoldsTo (FoldsPair F.FnMut) (f, first) pairs.entry (result.1, result.0) }
+{
+    let mut folded = first;
+    for (key, value) in pairs {
+        folded = f(folded, key, value);
+    }
+    (folded, f)
+}
 
 impl<K: Eq + Hash + Kept + Drop, V: Kept + Drop, S: BuildHasher> Alone<K, V, S> {
     /// A copy of each pair, by rising shard and in each by rising slot.

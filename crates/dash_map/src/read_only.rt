@@ -8,6 +8,7 @@ ghost use Rattle.dash_map.specs.Alone.{IsAlone, contents, len_in, room_in};
 ghost use Rattle.dash_lock.specs.Lock.{FoundBehind, LeftBehind};
 ghost use Rattle.dash_map.specs.Behind.{AreBehind};
 ghost use Rattle.dash_map.specs.Copies.{CopiesAlone};
+ghost use Rattle.dash_map.specs.Folds.{FoldsPairs, MayFold, MayVisit, VisitsPairs};
 ghost use Rattle.dash_shard.specs.Hashing.{HashAlike};
 
 use crate::alone::Alone;
@@ -65,6 +66,14 @@ pub struct ViewRefused<K: Eq + Hash, V, S: BuildHasher> {
 impl<K: Eq + Hash, V, S: BuildHasher> fmt::Debug for ViewRefused<K, V, S> {
     fn fmt<W: fmt::Write>(&self, f: &mut fmt::Formatter<W>) -> fmt::Result {
         f.write_str("ViewRefused { .. }")
+    }
+}
+
+/// So that `view.into_inner(alloc)?` converts. The view is dropped.
+impl<K: Eq + Hash + Drop, V: Drop, S: BuildHasher + Drop> From<ViewRefused<K, V, S>>
+    for AllocError {
+    fn from(_: ViewRefused<K, V, S>) -> Self {
+        AllocError
     }
 }
 
@@ -137,6 +146,34 @@ impl<K: Eq + Hash, V, S: BuildHasher> ReadOnlyView<K, V, S> {
         ensures lawful { IsAlone ⟦<Self as Keyed>⟧.by self.now }
     {
         self.lent().iter()
+    }
+
+    /// What `f` makes of `first` and the pairs, called at each in turn with what it made before, in the order of `iter`.
+    #[inline]
+    pub fn fold<T, F: FnMut(T, &K, &V) -> T>(&self, first: T, mut f: F) -> T
+        requires { MayFold F.FnMut f first }
+        ensures { FoldsPairs F.FnMut f first (contents self.now) result }
+    {
+        let mut folded = first;
+        for (key, value) in self.iter() {
+            folded = f(folded, key, value);
+        }
+        folded
+    }
+
+    /// Calls `f` at each pair, in the order of `iter`.
+    #[inline]
+    pub fn for_each<F: FnMut(&K, &V)>(&self, mut f: F)
+        requires { MayVisit F.FnMut f }
+        ensures { VisitsPairs F.FnMut f (contents self.now) }
+    {
+        self.fold(
+            (),
+            |_: (), key: &K, value: &V|
+                requires { F.pre f key value }
+                ensures { F.step f.entry key.entry value.entry tt f.exit }
+            { f(key, value) },
+        );
     }
 
     /// The keys, in the order of `iter`.

@@ -1,10 +1,13 @@
-//! Calls of threads on all pairs of a map that they share: shard after shard, each in its turn held for writing.
+//! Calls of threads on all pairs of a map that they share: shard after shard, each in its turn held, by what changes pairs for writing.
 ghost use Rattle.std.specs.Map.Calls.{CalledAtPair, TakesPair};
 ghost use Rattle.dash_shard.specs.Each.{CalledOnPair, TakesOnPair};
-ghost use Rattle.dash_map.specs.Behind.{CallableOnPairs, LeavesShards};
+ghost use Rattle.dash_map.specs.Alone.{contents};
+ghost use Rattle.dash_map.specs.Behind.{CallableOnPairs, LeavesShards, SawShards};
+ghost use Rattle.dash_map.specs.Folds.{FoldsPairs, MayFold, MayVisit, VisitsPairs};
 ghost use Rattle.dash_map.specs.AllPairs.{ClearsAlone, ShrinksAlone, RetainsAlone, AltersAllAlone};
 
 use crate::map::DashMap;
+use crate::pairs::fold_pairs;
 use dash_shard::keyed::Keyed;
 use std::hash::{BuildHasher, Hash};
 use std::rt::Clock;
@@ -57,5 +60,45 @@ impl<K: Eq + Hash, V, S: BuildHasher> DashMap<K, V, S> {
         for idx in 0..self.row.len() {
             f = self.shards_mut(rt, idx).alter_all_by(f);
         }
+    }
+
+    /// What `f` makes of `first` and the pairs, called at each in turn with what it made before: by rising shard and in each by rising
+    /// slot. It waits until no writer has a shard, for one shard after the other, and holds each for reading while `f` runs over its
+    /// pairs. It takes no memory, and can't be refused. The original has no such call.
+    ///
+    /// Others may change the shards that it left, and those that it comes to. `f` may read this map, and a call of it from `f` that
+    /// writes deadlocks where it wants the held shard.
+    #[inline]
+    pub fn fold<R: Wait + Clock, T, F: FnMut(T, &K, &V) -> T>(
+        &self,
+        rt: &R,
+        first: T,
+        mut f: F,
+    ) -> T
+        requires { MayFold F.FnMut f first }
+        ensures { SawShards ⟦<Self as Keyed>⟧.by self.now (λ a. FoldsPairs F.FnMut f first (contents a) result) }
+    {
+        let mut folded = first;
+        for idx in 0..self.row.len() {
+            let shard = self.read_shard(rt, idx);
+            (folded, f) = fold_pairs(shard.iter(), folded, f);
+        }
+        folded
+    }
+
+    /// Calls `f` at each pair. It waits and holds as `fold` does.
+    #[inline]
+    pub fn for_each<R: Wait + Clock, F: FnMut(&K, &V)>(&self, rt: &R, mut f: F)
+        requires { MayVisit F.FnMut f }
+        ensures { SawShards ⟦<Self as Keyed>⟧.by self.now (λ a. VisitsPairs F.FnMut f (contents a)) }
+    {
+        self.fold(
+            rt,
+            (),
+            |_: (), key: &K, value: &V|
+                requires { F.pre f key value }
+                ensures { F.step f.entry key.entry value.entry tt f.exit }
+            { f(key, value) },
+        );
     }
 }

@@ -66,6 +66,14 @@ impl<K: Eq + Hash, V, S: BuildHasher> Debug for InsertEntryRefused<'_, K, V, S> 
     }
 }
 
+/// So that `vacant.insert_entry(value)?` converts. The value is dropped, and the entry too, which ends the hold.
+impl<K: Eq + Hash + Drop, V: Drop, S: BuildHasher> From<InsertEntryRefused<'_, K, V, S>>
+    for AllocError {
+    fn from(_: InsertEntryRefused<'_, K, V, S>) -> Self {
+        AllocError
+    }
+}
+
 /// Why an entry wasn't had without waiting. The key comes back, and the pairs are as they were.
 #[derive(Debug, Drop, Error)]
 #[error_bound(K: Debug)]

@@ -12,7 +12,7 @@ use dash_shard::lock::RwLockReadGuard;
 use dash_shard::shard::Shard;
 use std::fmt;
 use std::hash::{BuildHasher, Hash};
-use std::marker::Model;
+use std::marker::{Model, PhantomData};
 use std::ops::{Deref, DerefMut};
 use std::rc::Rc;
 use std::snapshot::Snapshot;
@@ -28,6 +28,8 @@ pub struct RefMulti<'a, K: Eq + Hash, V, S: BuildHasher> {
     position: usize,
     key: Snapshot<K>,
     value: Snapshot<V>,
+    // It says that the shard outlives `'a`, which no type inside an `Rc` does: a list of these is dropped by it.
+    marker: PhantomData<&'a Shard<K, V, S>>,
 }
 
 impl<'a, K: Eq + Hash, V, S: BuildHasher> Model for RefMulti<'a, K, V, S> {
@@ -61,6 +63,7 @@ impl<K: Eq + Hash, V, S: BuildHasher> Drop for RefMulti<'_, K, V, S> {
             position: _,
             key: _,
             value: _,
+            marker: _,
         } = self;
         drop(guard);
     }
@@ -86,6 +89,7 @@ impl<'a, K: Eq + Hash, V, S: BuildHasher> RefMulti<'a, K, V, S> {
             position,
             key,
             value,
+            marker: PhantomData,
         }
     }
 

@@ -12,6 +12,7 @@ use dash_shard::keyed::Keyed;
 use dash_shard::lock::RwLockReadGuard;
 use dash_shard::shard::Shard;
 pub use mapped::MappedRef;
+pub use parts::{First, Payload, Second};
 pub use projection::{Compose, Projection};
 use std::fmt;
 use std::hash::{BuildHasher, Hash};
@@ -21,6 +22,7 @@ use std::snapshot::Snapshot;
 pub use write::{HeldRef, MappedRefMut, RefMut};
 
 mod mapped;
+mod parts;
 mod projection;
 mod write;
 
