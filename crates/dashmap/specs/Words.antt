@@ -1,4 +1,6 @@
 -- The words of the contracts, for clauses of programs that use the maps.
+pub use Rattle.dash_kept.specs.Alike.{alike_pair}
+pub use Rattle.dash_kept.specs.inner.AlikeLaws.{pair_equal, pair_equiv}
 pub use Rattle.dash_parallel.specs.Apart.{EachPart, RanFront, RanWhole, TakenInTurn, steps_of}
 pub use Rattle.dash_shard.specs.Contents.{at}
 pub use Rattle.dash_shard.specs.Hashing.{IsAmount, HashAlike, route_by}
@@ -9,13 +11,17 @@ pub use Rattle.dash_shard.specs.Shard.{ShardState, slot, pairs, shard_len, HasKe
 pub use Rattle.dash_shard.specs.Steps.{Step, Reply, Get, Contains, Insert, Remove, RemoveIf, RemoveIfMut, Alter, Read, Count, AlterAll, Retain, Pair, Found, Old, Number, Pairs, Done}
 pub use Rattle.dash_shard.specs.declared.error.ConstructError.{ConstructError}
 pub use Rattle.dash_shard.specs.declared.error.ConstructError.TheVariants.{CapacityOverflow, Memory, Parallelism, ShardAmount}
+pub use Rattle.dash_ref.specs.Part.{IsPart, field_is_part, payload_is_part, with_payload}
 pub use Rattle.dash_ref.specs.Ref.{RefState, Stands, pair_of}
 pub use Rattle.dash_ref.specs.RefMut.{RefMutState, GetsMut, stored, rewritten}
 pub use Rattle.dash_ref.specs.Entry.{OccupiedOf, VacantOf, Puts}
 pub use Rattle.dash_ref.specs.EntryCases.{Entry, MatchEntry, IsEntryOf}
 pub use Rattle.dash_ref.specs.declared.mapref.entry.EntryCase.TheVariants.{Occupied, Vacant}
 pub use Rattle.dash_map.specs.Alone.{AloneState, contents, IsAlone, KeepsRoom, ReservesAlone, TakesAlone, TakesAloneBy, keys_in, len_in, room_in}
+pub use Rattle.dash_map.specs.AllPairs.{AltersAllAlone, ClearsAlone, RetainsAlone, ShrinksAlone}
+pub use Rattle.dash_map.specs.Amounts.{IsDefault, IsParallelism}
 pub use Rattle.dash_map.specs.Behind.{AreBehind, LeavesShard, LeavesShards, LeftShard, LeftShards, SawAt, SawShard, SawShards, IsShardOf, StandsAt, Removes, RemovesBy, AltersBy}
+pub use Rattle.dash_map.specs.Folds.{FoldsPair, FoldsPairs, MayFold, MayVisit, VisitsPair, VisitsPairs}
 pub use Rattle.dash_map.specs.Gets.{IsGot, IsGotMut, IsGotEntry}
 pub use Rattle.dash_map.specs.Lends.{with_value_at}
 pub use Rattle.dash_map.specs.Walking.{IterState, StepsOn, GivesPair, FindsEnd, at_start}
@@ -26,4 +32,4 @@ pub use Rattle.dash_map.specs.Copies.{CopiesShard, CopiesAlone}
 pub use Rattle.dash_map.specs.Extend.{Extends, ExtendsBehind, Gains, Gave, HasNoRoom, IsRefusedAmong, IsRefusedOf, InsertsEach, MadeOf, NotMade, Overfills, ParExtends, ParExtendsBehind, PutsAll, PutsEachBehind, PutsFront, first_with_last}
 pub use Rattle.dash_map.specs.Pairs.{CopiesPairs}
 pub use Rattle.dash_map.specs.Parallel.{MayMap, Maps, MapsEach, MapsPairs, MayWrite, Writes}
-pub use Rattle.dashmap.specs.Set.{stood, member, inserted, keys_of, members, of_members, CopiesKeys, MapsKeys, MayMapKey}
+pub use Rattle.dashmap.specs.Set.{stood, member, inserted, keys_of, members, of_members, CopiesKeys, FoldsKey, FoldsKeys, MapsKeys, MayFoldKeys, MayMapKey, MayVisitKeys, VisitsKey, VisitsKeys}

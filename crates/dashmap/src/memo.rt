@@ -33,6 +33,13 @@ impl From<AllocError> for MemoRefused {
     }
 }
 
+/// So that `memo.ask(rt, &key)?` converts.
+impl From<MemoRefused> for AllocError {
+    fn from(_: MemoRefused) -> Self {
+        AllocError
+    }
+}
+
 /// What computes the value of a key. Up to alike that depends on the rule's type and the key alone: a rule may carry counters.
 pub trait Rule<K: KeptKey, V: Kept> {
     // The value of a key, up to alike.

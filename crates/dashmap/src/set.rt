@@ -1,5 +1,5 @@
 //! A set that threads share: a map to unit.
-ghost use Rattle.std.specs.Prelude.{◌≡◌, ◌<◌, ◌∷◌, [], ◌==◌, ◌↔◌, length, IsTrue, IfSome, IfOk, IfErr, IsErrOf, is_some};
+ghost use Rattle.std.specs.Prelude.{ℕ, ◌≡◌, ◌<◌, ◌∷◌, [], ◌==◌, ◌↔◌, length, IsTrue, IfSome, IfOk, IfErr, IsErrOf, is_some};
 ghost use Rattle.dash_shard.specs.Hashing.{by, HashAlike, hash_of, route_of_hash, route_by};
 ghost use Rattle.dash_shard.specs.Errors.{IsOneOf};
 ghost use Rattle.dash_shard.specs.Held.{Inserts};
@@ -12,7 +12,7 @@ ghost use Rattle.dash_map.specs.Behind.{CallableOnPairs, LeavesShard, LeavesShar
 ghost use Rattle.dash_map.specs.Gets.{IsGot};
 ghost use Rattle.dash_map.specs.Locks.{IsMap};
 ghost use Rattle.dash_map.specs.Walking.{at_start};
-ghost use Rattle.dashmap.specs.Set.{AnsweredKey, CalledAtKey, CopiesKeys, MayAskKey, TakesKey, inserted, keys_of, member};
+ghost use Rattle.dashmap.specs.Set.{AnsweredKey, CalledAtKey, CopiesKeys, FoldsKeys, MayAskKey, MayFoldKeys, MayVisitKeys, TakesKey, VisitsKeys, inserted, keys_of, member};
 
 use crate::iter_set::{Iter, OwningIter};
 use crate::setref::one::Ref;
@@ -31,6 +31,7 @@ use std::hash::{BuildHasher, Hash};
 use std::marker::Model;
 use std::rt::Clock;
 use std::sync::Wait;
+use std::thread::Threads;
 
 mod alone;
 mod extend;
@@ -62,14 +63,23 @@ impl<K: Eq + Hash, S: BuildHasher> Keyed for DashSet<K, S> {
 impl<K: Eq + Hash + Drop> DashSet<K, FixedState> {
     /// A set with no keys and the default hasher, of the default number of shards for so many processors.
     ///
-    /// It is refused where the parallelism is 0 or above 2^61 (6), then where there is no memory (8). The original reads the parallelism
-    /// from the system.
+    /// It is refused where the parallelism is 0 or above 2^61 (6), then where there is no memory (8). `of` asks the system for the number,
+    /// as the original does.
     pub fn new(alloc: Global, parallelism: usize) -> Result<Self, ConstructError>
         ensures amount { IfOk result (λ s. IsDefault parallelism s.amount) }
         ensures bad_parallelism { IsErrOf result Parallelism ↔ (IsParallelism parallelism → ⊥) }
         ensures kinds { IfErr result (IsOneOf (Parallelism ∷ Memory ∷ [])) }
     {
         Self::with_hasher(alloc, FixedState, parallelism)
+    }
+
+    /// As `new`, by the allocator of `rt`, for as many processors as the system says, as the map's `of`.
+    pub fn of<R: Threads + AllocGlobal>(rt: &R) -> Result<Self, ConstructError>
+        ensures amount { IfOk result (λ s. (processors : ℕ) × IsDefault processors s.amount) }
+        ensures kinds { IfErr result (IsOneOf (Parallelism ∷ Memory ∷ [])) }
+    {
+        let inner = DashMap::of(rt)?;
+        Ok(DashSet { inner })
     }
 
     /// As `new`, with room for so many keys if they spread evenly. Where the capacity can't be rounded up it is refused too (7).
@@ -259,6 +269,39 @@ impl<K: Eq + Hash, S: BuildHasher> DashSet<K, S> {
             |key: &K, _: &mut ()| -> bool
                 requires { F.pre f key }
                 ensures { F.step f.entry key.entry result f.exit }
+            { f(key) },
+        );
+    }
+
+    /// What `f` makes of `first` and the keys, called at each in turn with what it made before, by rising shard and in each by rising slot.
+    /// It waits until no writer has a shard, for one shard after the other, and holds each for reading while `f` runs over its keys. It
+    /// takes no memory, and can't be refused. The original has no such call.
+    #[inline]
+    pub fn fold<R: Wait + Clock, T, F: FnMut(T, &K) -> T>(&self, rt: &R, first: T, mut f: F) -> T
+        requires { MayFoldKeys F.FnMut f first }
+        ensures { SawShards ⟦<Self as Keyed>⟧.by self.now (λ a. FoldsKeys F.FnMut f first (keys_of (contents a)) result) }
+    {
+        self.inner.fold(
+            rt,
+            first,
+            |folded: T, key: &K, _: &()| -> T
+                requires { F.pre f folded key }
+                ensures { F.step f.entry folded key.entry result f.exit }
+            { f(folded, key) },
+        )
+    }
+
+    /// Calls `f` at each key. It waits and holds as `fold` does.
+    #[inline]
+    pub fn for_each<R: Wait + Clock, F: FnMut(&K)>(&self, rt: &R, mut f: F)
+        requires { MayVisitKeys F.FnMut f }
+        ensures { SawShards ⟦<Self as Keyed>⟧.by self.now (λ a. VisitsKeys F.FnMut f (keys_of (contents a))) }
+    {
+        self.inner.for_each(
+            rt,
+            |key: &K, _: &()|
+                requires { F.pre f key }
+                ensures { F.step f.entry key.entry tt f.exit }
             { f(key) },
         );
     }
