@@ -5,5 +5,6 @@ mod memo;
 mod names;
 mod pages;
 mod parallel;
+mod sessions;
 mod set;
 mod words;

@@ -3,5 +3,6 @@
 
 pub mod names;
 pub mod pages;
+pub mod sessions;
 pub mod tally;
 pub mod words;
