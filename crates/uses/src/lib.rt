@@ -3,5 +3,6 @@
 
 pub mod names;
 pub mod pages;
+pub mod stays;
 pub mod tally;
 pub mod words;
