@@ -4,5 +4,6 @@
 pub mod names;
 pub mod pages;
 pub mod sessions;
+pub mod stays;
 pub mod tally;
 pub mod words;
