@@ -1,12 +1,7 @@
 //! `dashcheck` takes a script of steps on a recorded map and prints each reply, lets threads take steps on one, or lets them ask a cache.
 #![tactic(auto)]
 
-pub mod command;
-mod memo;
-#[cfg(test)]
-mod tests;
-
-use command::{exit_code, refuse_memory, run_words};
+use dash_command::command::{exit_code, refuse_memory, run_words};
 use std::process::ExitCode;
 use std::{env, io};
 

@@ -2,7 +2,7 @@
 use Rattle.std.proofs.Common.{◌≡◌, ℕ, ◌<◌, ◌^◌, List, [], ◌∷◌, length, get_or, map, refl, ap, sym, subst, ◌∙◌, arith}
 use Rattle.std.specs.Fmt.{decimal}
 use Rattle.std.proofs.lemmas.Fmt.{decimal_injective}
-use Rattle.dashcheck.specs.Words.{IsSized}
+use Rattle.dash_command.specs.Words.{IsSized}
 
 module _ {A B : Type 0} (f : A → B) where
   -- its words are the first

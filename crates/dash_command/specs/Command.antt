@@ -1,7 +1,7 @@
 -- The command line.
 use Rattle.std.specs.Prelude.{◌≡◌, ◌⊎◌, ℕ, List, [], ◌∷◌, codes, map, String, string_bytes}
-use Rattle.dashcheck.specs.Memo.{IsMemo}
-use Rattle.dashcheck.specs.Words.{IsThreads}
+use Rattle.dash_command.specs.Memo.{IsMemo}
+use Rattle.dash_command.specs.Words.{IsThreads}
 
 -- the words, as bytes, are the one word `script`
 abbrev pub IsScript : List (List ℕ) → Type 0

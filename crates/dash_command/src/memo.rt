@@ -1,9 +1,9 @@
 //! `dashcheck memo`: threads that ask one cache for the same values, and how many of these were computed.
 ghost use Rattle.std.specs.Prelude.{◌≡◌, ◌≢◌, ℕ, ◌*◌, ◌+◌, ◌%◌, ◌^◌, ◌<◌, ◌≤◌, ◌==◌, ◌∷◌, ◌++◌, [], IfOk, IfErr, OnOk, length, slice_index_or, if◌then◌else◌};
 ghost use Rattle.std.specs.Io.KnownBytes.{Appends};
-ghost use Rattle.dashcheck.specs.Memo.{SaysAllRight, SaysMemoRefusal, memo_refusal, tally_lines, value_of};
+ghost use Rattle.dash_command.specs.Memo.{SaysAllRight, SaysMemoRefusal, memo_refusal, tally_lines, value_of};
 ghost use Rattle.dash_script.specs.Threads.{IsSize};
-ghost use Rattle.dashcheck.specs.inner.Memo.{AreAllRight, EachAllRight};
+ghost use Rattle.dash_command.specs.inner.Memo.{AreAllRight, EachAllRight};
 
 use dash_script::status::Status;
 use dashmap::Memo;
@@ -34,7 +34,7 @@ pub enum Refusal {
 
 impl fmt::Display for Refusal {
     ghost use Rattle.std.specs.Prelude.{Some};
-    ghost use Rattle.dashcheck.specs.Memo.{memo_refusal};
+    ghost use Rattle.dash_command.specs.Memo.{memo_refusal};
 
     ghost output = { λ refusal. Some (memo_refusal refusal) };
 
@@ -55,7 +55,7 @@ struct Square<'a> {
 impl Rule<u64, u64> for Square<'_> {
     ghost use Rattle.std.proofs.Common.{arith};
     ghost use Rattle.std.proofs.lemmas.Bool.Decides.{nat_tests};
-    ghost use Rattle.dashcheck.specs.Memo.{value_of};
+    ghost use Rattle.dash_command.specs.Memo.{value_of};
 
     ghost value_of = { value_of };
 

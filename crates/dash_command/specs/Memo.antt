@@ -2,9 +2,9 @@
 use Rattle.std.specs.Prelude.{ℕ, ◌+◌, ◌*◌, ◌%◌, ◌^◌, ◌++◌, List, [], ◌∷◌, Option, codes}
 use Rattle.std.specs.Fmt.{decimal}
 use Rattle.std.specs.Io.KnownBytes.{Appends}
-use Rattle.dashcheck.specs.Words.{IsSized}
-use Rattle.dashcheck.specs.declared.memo.Refusal.{Refusal}
-use Rattle.dashcheck.specs.declared.memo.Refusal.TheVariants.{Cache, Answer}
+use Rattle.dash_command.specs.Words.{IsSized}
+use Rattle.dash_command.specs.declared.memo.Refusal.{Refusal}
+use Rattle.dash_command.specs.declared.memo.Refusal.TheVariants.{Cache, Answer}
 
 -- the words are `memo C N`, with such numbers
 abbrev pub IsMemo : List (List ℕ) → ℕ → ℕ → Type 0

@@ -4,9 +4,9 @@ use Rattle.std.proofs.lemmas.Slice.Eq.{slice_eq-Decides}
 use Rattle.std.proofs.lemmas.Bool.{not-false}
 use Rattle.std.proofs.lemmas.Bool.Decides.{Decides-eqb}
 use Rattle.std.proofs.lemmas.List.{length-map}
-use Rattle.dashcheck.proofs.OneWord.{three, same-size, starts}
-use Rattle.dashcheck.proofs.command.size.Goals.{then-words-ne3-via-then-words-ne3, then-words-ne3-via-else-words-ne3+then-ne, then-callers-eq0-via-then-callers-eq0, then-callers-eq0-via-else-callers-eq0+then-callers-gt64, then-callers-eq0-via-else-callers-eq0+else-callers-gt64+then-steps-gt10000}
-use Rattle.dashcheck.proofs.command.size.Goals as goal
+use Rattle.dash_command.proofs.OneWord.{three, same-size, starts}
+use Rattle.dash_command.proofs.command.size.Goals.{then-words-ne3-via-then-words-ne3, then-words-ne3-via-else-words-ne3+then-ne, then-callers-eq0-via-then-callers-eq0, then-callers-eq0-via-else-callers-eq0+then-callers-gt64, then-callers-eq0-via-else-callers-eq0+else-callers-gt64+then-steps-gt10000}
+use Rattle.dash_command.proofs.command.size.Goals as goal
 
 pub returns-then-words-ne3-clause-none : goal.returns-then-words-ne3-clause-none
 returns-then-words-ne3-clause-none c d m words =

@@ -2,12 +2,12 @@
 ghost use Rattle.std.specs.Prelude.{◌≡◌, ◌↔◌, ℕ, ◌*◌, ◌++◌, ◌∷◌, [], ◌⊎◌, IsTrue, IfSome, IfNone, IfOk, OnOk, OnErr, true, false};
 ghost use Rattle.std.specs.Io.KnownBytes.{Appends};
 ghost use Rattle.dash_script.specs.Status.{code_of};
-ghost use Rattle.dashcheck.specs.Command.{ForMemo, ForThreads, IsScript, IsCommand, in_bytes, usage};
-ghost use Rattle.dashcheck.specs.inner.Command.{Asks};
-ghost use Rattle.dashcheck.specs.Memo.{SaysAllRight, SaysMemoRefusal};
+ghost use Rattle.dash_command.specs.Command.{ForMemo, ForThreads, IsScript, IsCommand, in_bytes, usage};
+ghost use Rattle.dash_command.specs.inner.Command.{Asks};
+ghost use Rattle.dash_command.specs.Memo.{SaysAllRight, SaysMemoRefusal};
 ghost use Rattle.dash_script.specs.Script.{TakesAll, Refuses, stop_text};
 ghost use Rattle.dash_script.specs.Threads.{IsJudged, SaysRefusal, verdict_lines};
-ghost use Rattle.dashcheck.specs.Words.{IsSized};
+ghost use Rattle.dash_command.specs.Words.{IsSized};
 
 use crate::memo;
 use dash_history::alone::RecAlone;

@@ -1,10 +1,10 @@
 -- What the words of the command line ask for.
 use Rattle.std.specs.Prelude.{ℕ, List, codes}
-use Rattle.dashcheck.specs.Memo.{IsMemo}
-use Rattle.dashcheck.specs.Words.{IsThreads}
-use Rattle.dashcheck.specs.declared.command.Command.{Command}
-use Rattle.dashcheck.specs.declared.command.Command.TheVariants.{Script, Threads, Memo}
-use Rattle.dashcheck.specs.Command.{IsScript}
+use Rattle.dash_command.specs.Memo.{IsMemo}
+use Rattle.dash_command.specs.Words.{IsThreads}
+use Rattle.dash_command.specs.declared.command.Command.{Command}
+use Rattle.dash_command.specs.declared.command.Command.TheVariants.{Script, Threads, Memo}
+use Rattle.dash_command.specs.Command.{IsScript}
 
 -- the words of the commands
 abbrev pub script : List ℕ

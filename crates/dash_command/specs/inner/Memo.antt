@@ -1,7 +1,7 @@
 -- What threads were answered.
 use Rattle.std.specs.Prelude.{◌≡◌, ◌<◌, ℕ, List, length, IfOk, Result, slice_index_or}
 use Rattle.dashmap.specs.declared.memo.MemoRefused.{MemoRefused}
-use Rattle.dashcheck.specs.declared.memo.Tally.{Tally}
+use Rattle.dash_command.specs.declared.memo.Tally.{Tally}
 
 -- so many answers, and all are right
 pub record AreAllRight (n : ℕ) (tally : Tally) : Type 0 where

@@ -1,9 +1,9 @@
 use Rattle.std.proofs.Common.{[], ◌∷◌, string_bytes, ap, sym, ◌∙◌}
 use Rattle.std.proofs.lemmas.Slice.Eq.{slice_eq-Decides}
 use Rattle.std.proofs.lemmas.Bool.Decides.{Decides-eqb}
-use Rattle.dashcheck.specs.inner.Command.{script}
-use Rattle.dashcheck.proofs.OneWord.{only, first-word}
-use Rattle.dashcheck.proofs.command.is_script.Goals as goal
+use Rattle.dash_command.specs.inner.Command.{script}
+use Rattle.dash_command.proofs.OneWord.{only, first-word}
+use Rattle.dash_command.proofs.command.is_script.Goals as goal
 
 pub returns-then-words-eq1 : goal.returns-then-words-eq1
 returns-then-words-eq1 c =

@@ -3,12 +3,12 @@ use Rattle.std.specs.Prelude.{◌⊎◌, Option}
 use Rattle.std.specs.Io.KnownBytes.{Appends}
 use Rattle.dash_shard.specs.declared.hash.PlaceState.{PlaceState}
 use Rattle.dash_steps.specs.Takes.{Known}
-use Rattle.dashcheck.specs.inner.Command.{Asks}
-use Rattle.dashcheck.specs.Memo.{SaysAllRight}
-use Rattle.dashcheck.specs.Words.{IsThreads}
+use Rattle.dash_command.specs.inner.Command.{Asks}
+use Rattle.dash_command.specs.Memo.{SaysAllRight}
+use Rattle.dash_command.specs.Words.{IsThreads}
 use Rattle.dash_script.specs.Threads.{IsJudged, SaysRefusal, verdict_lines}
-use Rattle.dashcheck.proofs.OneWord.{at-size}
-use Rattle.dashcheck.proofs.command.run_words.Goals as goal
+use Rattle.dash_command.proofs.OneWord.{at-size}
+use Rattle.dash_command.proofs.command.run_words.Goals as goal
 
 legal-size : {w : Known ℕ ℕ (Unit {0}) PlaceState} (words : List (List ℕ)) (c n d m : ℕ) → IsThreads words c n → IsThreads words d m → IsJudged w c n true → IsJudged w d m true
 legal-size {w} words c n d m one other h = at-size (λ i k. IsJudged w i k true) words _ c n d m one other h

@@ -1,5 +1,5 @@
 //! What `dashcheck` prints, where writes succeed and where they fail.
-use crate::command::{exit_code, refuse_memory, run_words};
+use dash_command::command::{exit_code, refuse_memory, run_words};
 use std::alloc::{AllocError, Global};
 use std::fmt;
 use std::io::{self, Read, Write};
