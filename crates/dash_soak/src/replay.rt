@@ -8,6 +8,7 @@ use crate::call::{Call, Tally};
 use crate::random::mixed;
 use crate::worker::Log;
 use dash_history::alone::RecAlone;
+use dash_history::gather::At;
 use dash_script::change::Change;
 use dash_shard::hash::PlaceState;
 use dash_steps::step::{Reply, ShardStep};
@@ -40,38 +41,39 @@ pub fn replay(
     let ats = alone.gather(logs)?;
     let came = Answer::Number(ats.len() as u64);
     judge(Call::Gather, 0, Answer::Number(wanted), came)?;
+    let plain = replay_steps(alloc, alone, &ats, tally)?;
+    let pairs = alone.pairs()?;
+    let wanted = Answer::Number(weigh_plain(&plain, 0, 1));
+    let came = Answer::Number(weigh(pairs.as_slice()));
+    judge(Call::Replay, KEYS, wanted, came)?;
+    Ok(())
+}
+
+// Takes the steps at these places on a plain map, and judges the reply of each.
+fn replay_steps(
+    alloc: Global,
+    alone: &Alone,
+    ats: &[At],
+    tally: &mut Tally,
+) -> Result<Plain, Failure> {
     let mut plain = HashMap::new(alloc);
     let mut parts = 0;
-    for at in &ats {
-        let is_there = at.shard < alone.shard_count();
-        let found = if is_there {
-            alone.entry_at(at.shard, at.place)
-        } else {
-            None
+    for at in ats {
+        let found = match at.shard < alone.shard_count() {
+            true => alone.entry_at(at.shard, at.place),
+            false => None,
         };
         let Some(record) = found else {
             judge(Call::Replay, at.stamp, Answer::Truth(true), Answer::Nothing)?;
-            return Ok(());
+            break;
         };
-        tally.count(call_of(&record.step));
+        let call = call_of(&record.step);
+        tally.count(call);
         parts = judge_part(&record.step, parts)?;
         let wanted = take(&mut plain, &record.step)?;
-        judge(
-            call_of(&record.step),
-            key_of(&record.step),
-            wanted,
-            answer_of(&record.reply),
-        )?;
+        judge(call, key_of(&record.step), wanted, answer_of(&record.reply))?;
     }
-    let pairs = alone.pairs()?;
-    let wanted = Answer::Number(weigh_plain(&plain, 0, 1));
-    judge(
-        Call::Replay,
-        KEYS,
-        wanted,
-        Answer::Number(weigh(pairs.as_slice())),
-    )?;
-    Ok(())
+    Ok(plain)
 }
 
 // Judges whether the parts of a whole step stand side by side, and answers the part that is to come.
