@@ -7,4 +7,5 @@ mod pages;
 mod parallel;
 mod sessions;
 mod set;
+mod stays;
 mod words;
