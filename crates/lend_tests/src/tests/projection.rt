@@ -1,8 +1,8 @@
 //! References that are mapped to a part of their value.
-use crate::parts::{Left, Payload, Sides};
+use crate::parts::{Left, Sides};
 use crate::tests::checks::{is, prints};
 use crate::tests::maps::{map_of, put};
-use dash_ref::mapref::one::Compose;
+use dash_ref::mapref::one::{Compose, First, Payload, Second};
 use std::convert::AsRef;
 
 #[test]
@@ -58,4 +58,15 @@ fn a_part_that_is_not_there(rt: HostRuntime) {
     drop(left);
     let found = map.get(&rt, &1).expect(&rt, "no pair");
     is(&rt, found.value(), &Some(Sides { left: 9, right: 4 }));
+}
+
+#[test]
+fn the_parts_of_a_pair(rt: HostRuntime) {
+    let map = map_of(&rt, rt.alloc(), [(1, (3u64, 4u64))]);
+    let mut second = map.get_mut(&rt, &1).expect(&rt, "no pair").map(Second);
+    *second = 9;
+    drop(second);
+    let found = map.get(&rt, &1).expect(&rt, "no pair");
+    is(&rt, *found, (3, 9));
+    is(&rt, *found.map(First), 3);
 }

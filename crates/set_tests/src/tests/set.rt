@@ -7,6 +7,7 @@ use std::alloc::Global;
 use std::process::Abort;
 use std::rt::Clock;
 use std::sync::Wait;
+use std::thread;
 
 type Keys = DashSet<u64>;
 
@@ -143,4 +144,35 @@ fn of_one_owner(rt: HostRuntime) {
     assert!(rt; set.is_empty());
     let set = AloneSet::<u64, FixedState>::from_iter(rt.alloc(), 0..3, 1).expect(&rt, "refused");
     is(&rt, set.into_iter().last().is_some(), true);
+}
+
+#[test]
+fn folds_beside_a_reference(rt: HostRuntime) {
+    let set = set_of_four(&rt, rt.alloc());
+    for key in [3, 6, 1] {
+        assert!(rt; set.insert(&rt, key) == Ok(true));
+    }
+    let found = set.get(&rt, &6).expect(&rt, "no key");
+    let digits = set.fold(
+        &rt,
+        0u64,
+        |digits, key| digits.wrapping_mul(10).wrapping_add(*key),
+    );
+    is(&rt, digits, 163);
+    let (mut count, mut sum) = (0u64, 0u64);
+    set.for_each(&rt, |key| {
+        count = count.saturating_add(1);
+        sum = sum.saturating_add(*key);
+    });
+    is(&rt, (count, sum, *found), (3, 10, 6));
+}
+
+#[test]
+fn asks_the_system_for_its_processors(rt: HostRuntime) {
+    let set = DashSet::<u64>::of(&rt).expect(&rt, "refused");
+    let processors = thread::available_parallelism(&rt)
+        .expect(&rt, "unknown")
+        .get();
+    let told = Keys::new(rt.alloc(), processors).expect(&rt, "refused");
+    is(&rt, set.shards().len(), told.shards().len());
 }
