@@ -3,7 +3,7 @@
 #
 # usage: bench/run.sh [WORK..]     with no WORK: all of them
 #
-# It wants Debian's package librust-dashmap-dev, cargo, and rt. It proves and builds `dash_bench`, builds the Rust program offline from
+# It wants Debian's packages librust-dashmap-dev and librust-bstr-dev, cargo, and rt. It proves and builds `dash_bench`, builds the Rust program offline from
 # Debian's packages, runs both by turns, five times each, takes the best of each, and ends with status 1 where two checksums differ.
 set -euo pipefail
 top=$(CDPATH='' cd -- "$(dirname -- "$0")/.." && pwd)
