@@ -1,6 +1,6 @@
 //! The core of a reader-writer lock: its word, a value in place beside it, the holds that a take of it gives, and where waiters sleep.
 //!
-//! `RwLock` and its guards, over this, stand in `dash_shard::lock`, which gives `word`, `Tagged` and `Lendable` again. `cell`, `hold` and
+//! `RwLock` and its guards, over this, stand in `dash_held::lock`, which gives `word`, `Tagged` and `Lendable` again. `cell`, `hold` and
 //! `sleepers` are for the crates here alone.
 #![tactic(auto)]
 

@@ -8,7 +8,7 @@ use Rattle.dash_shard.specs.Held.{FitsTag}
 use Rattle.dash_lock.specs.Lock.{FoundBehind, LeftBehind}
 use Rattle.dash_shard.specs.inner.Rows.{Moved}
 use Rattle.dash_shard.specs.Shard.{ShardState, IsTagged}
-use Rattle.dash_shard.specs.declared.shard.held.ShardTag.{ShardTag}
+use Rattle.dash_shard.specs.declared.shard.tag.ShardTag.{ShardTag}
 use Rattle.dash_shard.proofs.Rows.{moved-length, moved-from, moved-to}
 use Rattle.dash_map.specs.Alone.{AloneState, IsAlone}
 use Rattle.dash_map.specs.Map.{MapState}

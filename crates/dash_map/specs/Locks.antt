@@ -4,7 +4,7 @@ use Rattle.crossbeam_utils.specs.declared.cache_padded.CachePadded.{CachePadded}
 use Rattle.crossbeam_utils.specs.Padded.{padded_value}
 use Rattle.dash_shard.specs.Hashing.{IsAmount}
 use Rattle.dash_shard.specs.Shard.{EachAt}
-use Rattle.dash_shard.specs.declared.shard.held.ShardTag.{ShardTag}
+use Rattle.dash_shard.specs.declared.shard.tag.ShardTag.{ShardTag}
 use Rattle.dash_map.specs.Map.{MapState}
 
 module _ {S : Type 0} where

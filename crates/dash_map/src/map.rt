@@ -11,7 +11,7 @@ use crossbeam_utils::CachePadded;
 use dash_shard::error::ConstructError;
 use dash_shard::hash::{FixedState, determine_shard};
 use dash_shard::keyed::Keyed;
-use dash_shard::lock::RwLock;
+use dash_held::lock::RwLock;
 use dash_shard::row::Row;
 use dash_shard::shard::Shard;
 use std::alloc::Global;

@@ -5,7 +5,7 @@ use Rattle.dash_shard.specs.Contents.{at, EachOnce}
 use Rattle.dash_shard.specs.Steps.{Insert, Old}
 use Rattle.dash_shard.specs.Shard.{ShardState, slot, pairs, shard_len, HasKey, SameShard, IsTagged, TakesStep, StaysPut}
 use Rattle.dash_shard.specs.declared.shard.InsertRefused.{InsertRefused}
-use Rattle.dash_shard.specs.declared.shard.held.ShardTag.{ShardTag}
+use Rattle.dash_shard.specs.declared.shard.tag.ShardTag.{ShardTag}
 
 -- all that an insert promises: the room stays but for a new key in a full shard, and never falls; a refusal hands the pair back
 pub record Inserts {K V S : Type 0} (eq : K → K → Bool) (old new : ShardState K V S) (key : K) (value : V) (result : Result (Option V) (InsertRefused K V)) : Type 0 where

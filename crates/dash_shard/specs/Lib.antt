@@ -5,7 +5,6 @@ pub mod Shard
 pub mod Search
 pub mod Held
 pub mod Puts
-pub mod Guarded
 pub mod Closures
 pub mod Errors
 pub mod Each

@@ -1,11 +1,9 @@
 -- What only proofs, invariants and the contracts of private functions use.
 pub mod Codes
 pub mod Gives
-pub mod IsHold
 pub mod Keys
 pub mod Rows
 pub mod Steps
 pub mod Table
 pub mod Walks
-pub mod Lending
 pub mod Marks

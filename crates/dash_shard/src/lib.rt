@@ -4,6 +4,5 @@
 pub mod error;
 pub mod hash;
 pub mod keyed;
-pub mod lock;
 pub mod row;
 pub mod shard;

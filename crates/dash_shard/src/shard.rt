@@ -26,11 +26,11 @@ use thiserror::Error;
 
 mod all_pairs;
 mod group;
-pub mod held;
 pub mod lanes;
 pub mod part;
 mod positions;
 mod table;
+pub mod tag;
 
 /// One shard of a map, as the original's table behind a lock: pairs with distinct keys that all go to the shard's number.
 ///
@@ -172,9 +172,9 @@ impl<K: Eq + Hash, V, S: BuildHasher> Shard<K, V, S> {
         self.table.allocator()
     }
 
-    // The hash of a key, by the shard's hasher.
+    /// The hash of a key, by the shard's hasher, for the calls that take one.
     #[inline(always)]
-    fn hash_one(&self, key: &K) -> u64
+    pub fn hash_one(&self, key: &K) -> u64
         ensures { result ≡ ⟦<Self as Keyed>⟧.by.hash self.now.hasher key.now }
     {
         self.hasher.hash_one(key)

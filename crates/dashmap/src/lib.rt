@@ -61,9 +61,9 @@ pub mod keyed {
 
 /// The lock of a shard.
 pub mod lock {
-    pub use dash_shard::lock::raw::{ExclusiveHold, RawRwLock, SharedHold};
-    pub use dash_shard::lock::word::{LockEvent, LockWord, Mark};
-    pub use dash_shard::lock::{RwLock, RwLockReadGuard, RwLockWriteGuard};
+    pub use dash_held::lock::raw::{ExclusiveHold, RawRwLock, SharedHold};
+    pub use dash_held::lock::word::{LockEvent, LockWord, Mark};
+    pub use dash_held::lock::{RwLock, RwLockReadGuard, RwLockWriteGuard};
 }
 
 /// References into a map, each of which holds a shard.
@@ -101,7 +101,7 @@ pub mod run {
 /// One shard of a map.
 pub mod shard {
     pub use dash_shard::shard::Shard;
-    pub use dash_shard::shard::held::ShardMut;
+    pub use dash_held::held::ShardMut;
 }
 
 /// What is generic in a map that threads share.

@@ -24,7 +24,7 @@ use dash_map::waiting::Waiting;
 use dash_shard::error::ConstructError;
 use dash_shard::hash::FixedState;
 use dash_shard::keyed::Keyed;
-use dash_shard::lock::RwLock;
+use dash_held::lock::RwLock;
 use dash_shard::shard::Shard;
 use std::alloc::{AllocError, Global};
 use std::hash::{BuildHasher, Hash};

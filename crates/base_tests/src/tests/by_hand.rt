@@ -3,9 +3,9 @@ ghost use Rattle.std.specs.Prelude.{◌<◌};
 
 use crate::tests::checks::is;
 use dash_shard::hash::{PlaceState, is_shard_amount};
-use dash_shard::lock::RwLock;
+use dash_held::lock::RwLock;
 use dash_shard::shard::Shard;
-use dash_shard::shard::held::ShardTag;
+use dash_shard::shard::tag::ShardTag;
 use std::alloc::Global;
 use std::fmt;
 use std::hash::{BuildHasher, Hash};

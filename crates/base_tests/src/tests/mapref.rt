@@ -3,7 +3,7 @@ use crate::tests::by_hand::lock_of_one;
 use crate::tests::checks::{is, prints};
 use dash_ref::mapref::one::Ref;
 use dash_shard::hash::PlaceState;
-use dash_shard::lock::RwLock;
+use dash_held::lock::RwLock;
 use dash_shard::shard::Shard;
 use std::hash::BuildHasher;
 use std::rt::Clock;

@@ -16,7 +16,7 @@ use super::whole::Member;
 use super::{CallerLog, RecShard, RecordFault};
 use crate::known::Recorded;
 use dash_kept::{Kept, KeptKey};
-use dash_shard::lock::{RwLockWriteGuard, Tagged};
+use dash_held::lock::{RwLockWriteGuard, Tagged};
 use dash_steps::action::KeptAction;
 use dash_steps::step::{Record, Reply, ShardStep, Whole};
 use std::alloc::{AllocError, Global};

@@ -22,7 +22,7 @@ use core::mem::replace_with;
 use crossbeam_utils::CachePadded;
 use dash_kept::{Kept, KeptKey};
 use dash_shard::error::ConstructError;
-use dash_shard::lock::RwLock;
+use dash_held::lock::RwLock;
 use dash_shard::row::Row;
 use dash_steps::action::KeptAction;
 use dash_steps::step::{Record, ShardStep};

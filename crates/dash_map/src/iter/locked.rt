@@ -11,7 +11,7 @@ use crate::map::DashMap;
 use crate::t::Map;
 use dash_ref::mapref::multiple::RefMulti;
 use dash_shard::keyed::Keyed;
-use dash_shard::lock::RwLockReadGuard;
+use dash_held::lock::RwLockReadGuard;
 use dash_shard::shard::Shard;
 use std::alloc::AllocError;
 use std::hash::{BuildHasher, Hash};

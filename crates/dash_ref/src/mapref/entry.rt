@@ -12,7 +12,7 @@ ghost use Rattle.dash_shard.specs.Shard.{Routes, IsShard};
 use crate::mapref::one::RefMut;
 use dash_kept::KeptKey;
 use dash_shard::keyed::Keyed;
-use dash_shard::shard::held::ShardMut;
+use dash_held::held::ShardMut;
 pub use occupied::OccupiedEntry;
 use std::alloc::AllocError;
 use std::fmt::{self, Debug};

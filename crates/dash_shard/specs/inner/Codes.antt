@@ -1,8 +1,7 @@
--- How the logic numbers what contracts see of a shard and of a guard.
+-- How the logic numbers what contracts see of a shard.
 use Rattle.std.specs.Prelude.{ℕ, List, Option, refl}
 use Rattle.std.specs.Coded.{Coded, code_by, coded×, coded_ℕ, coded_list, coded_option}
 use Rattle.dash_shard.specs.Shard.{ShardState}
-use Rattle.dash_shard.specs.Guarded.{Guarded}
 
 abbrev pub shard_code : {K V S : Type 0} → Coded K → Coded V → Coded S → Coded (ShardState K V S)
 shard_code {K} {V} {S} k v s =
@@ -11,6 +10,3 @@ shard_code {K} {V} {S} k v s =
     (λ p. (p.slots, (p.number, (p.amount, (p.hasher, p.capacity)))))
     (λ t. record { slots = t.0; number = t.1.0; amount = t.1.1.0; hasher = t.1.1.1.0; capacity = t.1.1.1.1 })
     (λ _. refl)
-
-abbrev pub guarded_code : {G X : Type 0} → Coded G → Coded X → Coded (Guarded G X)
-guarded_code {G} {X} g x = code_by (G × X) (coded× g x) (λ s. (s.tag, s.value)) (λ p. record { tag = p.0; value = p.1 }) (λ _. refl)

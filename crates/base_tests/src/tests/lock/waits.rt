@@ -1,7 +1,7 @@
 //! Threads that wait for a lock get it, asleep or not.
 use crate::tests::checks::is;
-use dash_shard::lock::raw::RawRwLock;
-use dash_shard::lock::{RwLock, Tagged};
+use dash_held::lock::raw::RawRwLock;
+use dash_held::lock::{RwLock, Tagged};
 use std::rt::Clock;
 use std::sync::Wait;
 use std::thread::{self, Threads};

@@ -2,9 +2,9 @@
 use crate::tests::by_hand::lock_of_one;
 use crate::tests::checks::is;
 use dash_shard::hash::PlaceState;
-use dash_shard::lock::RwLock;
+use dash_held::lock::RwLock;
 use dash_shard::shard::Shard;
-use dash_shard::shard::held::ShardMut;
+use dash_held::held::ShardMut;
 use std::mem;
 use std::process::Abort;
 

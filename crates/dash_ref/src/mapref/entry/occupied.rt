@@ -12,10 +12,10 @@ ghost use Rattle.dash_ref.specs.Entry.{MayModify, Modified, revalued};
 
 use crate::mapref::one::{HeldRef, RefMut};
 use dash_shard::keyed::Lender;
-use dash_shard::lock::RwLock;
+use dash_held::lock::RwLock;
 use dash_shard::shard::Shard;
-use dash_shard::shard::held::ShardMut;
-use dash_shard::shard::held::holds::{Holds, Writing};
+use dash_held::held::ShardMut;
+use dash_held::held::holds::{Holds, Writing};
 use std::hash::{BuildHasher, Hash};
 use std::marker::Model;
 use std::mem;

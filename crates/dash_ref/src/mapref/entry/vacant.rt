@@ -11,7 +11,7 @@ use super::{InsertEntryRefused, OccupiedEntry};
 use crate::mapref::one::RefMut;
 use dash_kept::KeptKey;
 use dash_shard::keyed::Keyed;
-use dash_shard::shard::held::ShardMut;
+use dash_held::held::ShardMut;
 use std::hash::{BuildHasher, Hash};
 use std::marker::Model;
 

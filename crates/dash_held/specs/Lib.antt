@@ -1,0 +1,2 @@
+pub mod Guarded
+pub mod inner

@@ -1,0 +1,157 @@
+//! A held shard's calls by slot.
+ghost use Rattle.std.specs.Prelude.{◌≡◌, ◌+◌, ◌-◌, ◌^◌, ◌<◌, IsSome, IfSome, IfOk, IfErr, Some, None};
+ghost use Rattle.std.specs.Map.Iter.{deref_pair};
+ghost use Rattle.core.specs.Result.{result_ok};
+ghost use Rattle.dash_shard.specs.Hashing.{by};
+ghost use Rattle.dash_shard.specs.Contents.{at};
+ghost use Rattle.dash_shard.specs.Shard.{slot, pairs, shard_len, HasKey, IsNextTaken, Routes, IsShard, SameShard, TakesInPlace, TakesAt};
+ghost use Rattle.dash_shard.specs.Held.{Finds, Replaces, Reserves};
+ghost use Rattle.dash_shard.specs.inner.Table.{IsPlaceFor, MayTake};
+ghost use Rattle.dash_shard.specs.Steps.{Insert, Remove, Old, Pair};
+
+use super::holds::Holds;
+use super::{HeldShard, ShardMut};
+use dash_shard::error::TryReserveError;
+use dash_shard::keyed::Keyed;
+use dash_shard::shard::Shard;
+use std::hash::{BuildHasher, Hash};
+
+impl<K: Eq + Hash, V, S: BuildHasher, H: Holds<Key = K, Value = V, State = S>> HeldShard<
+    K,
+    V,
+    S,
+    H,
+> {
+    /// The slot of the pair whose key equals `key`, for `at`. It is good while the shard isn't changed.
+    #[inline]
+    pub fn position_of(&self, key: &K) -> Option<usize>
+        ensures finds { Finds K.eq self.now key.now result }
+        ensures lawful { IsShard ⟦<Self as Keyed>⟧.by self.now }
+    {
+        self.position_of_hashed(self.shard().hash_one(key), key)
+    }
+
+    /// As `position_of`, for a caller who has the key's hash.
+    #[inline]
+    pub fn position_of_hashed(&self, hash: u64, key: &K) -> Option<usize>
+        requires { hash ≡ ⟦<Self as Keyed>⟧.by.hash self.now.hasher key.now }
+        ensures finds { Finds K.eq self.now key.now result }
+        ensures lawful { IsShard ⟦<Self as Keyed>⟧.by self.now }
+    {
+        self.shard().position_of_hashed(hash, key)
+    }
+
+    /// As `position_of_hashed`, or else the free slot for a pair of this key, where there is room. For the crates here alone.
+    #[inline]
+    pub fn find_or_place(&self, hash: u64, key: &K) -> Result<usize, usize>
+        requires { hash ≡ ⟦<Self as Keyed>⟧.by.hash self.now.hasher key.now }
+        ensures finds { Finds K.eq self.now key.now (result_ok result) }
+        ensures place { IfErr result (MayTake self.now hash) }
+        ensures lawful { IsShard ⟦<Self as Keyed>⟧.by self.now }
+    {
+        self.shard().find_or_place(hash, key)
+    }
+
+    /// The pair of a taken slot, without a look at any other.
+    #[inline]
+    pub fn at(&self, position: usize) -> (&K, &V)
+        requires { IsSome (slot self.now.slots position) }
+        ensures pair { slot self.now.slots position ≡ Some (deref_pair result) }
+        ensures lawful { IsShard ⟦<Self as Keyed>⟧.by self.now }
+    {
+        self.shard().at(position)
+    }
+
+    /// The lowest taken slot not below `position`, for `at`: a walk over the pairs goes on behind it. There is a number above it.
+    #[inline]
+    pub fn next_taken(&self, position: usize) -> Option<usize>
+        ensures next { IsNextTaken self.now.slots position result }
+        ensures below { IfSome result (λ i. i < 2 ^ 64 - 1) }
+        ensures lawful { IsShard ⟦<Self as Keyed>⟧.by self.now }
+    {
+        self.shard().next_taken(position)
+    }
+}
+
+impl<K: Eq + Hash, V, S: BuildHasher> ShardMut<'_, K, V, S> {
+    /// Puts a pair whose key is new in room that is there, and answers its slot. It takes no memory, and can't be refused.
+    #[inline]
+    pub fn insert_new(&mut self, key: K, value: V) -> usize
+    where
+        K: Drop,
+        V: Drop,
+        requires route { Routes ⟦<Self as Keyed>⟧.by self.old key }
+        requires absent { at K.eq (pairs self.old) key ≡ None }
+        requires room { shard_len self.old < self.old.capacity }
+        ensures inserts { TakesInPlace K.eq self.old self.new (Insert key value) (Old None) }
+        ensures slot { slot self.new.slots result ≡ Some (key, value) }
+        ensures len { shard_len self.new ≡ shard_len self.old + 1 }
+        ensures lawful { IsShard ⟦<Self as Keyed>⟧.by self.new }
+    {
+        self.hold.change(|shard| shard.insert_new(key, value))
+    }
+
+    /// The free slot that a search found for a new key, or another in room that is made, where there was none. For the crates here alone.
+    ///
+    /// Takes memory where the shard is full, and is refused (11) only then.
+    #[inline]
+    pub fn make_place(&mut self, hash: u64, free: usize) -> Result<usize, TryReserveError>
+        requires { MayTake self.old hash free }
+        ensures reserves { Reserves K.eq 1 self.old self.new result }
+        ensures place { IfOk result (IsPlaceFor self.new hash) }
+        ensures lawful { IsShard ⟦<Self as Keyed>⟧.by self.new }
+    {
+        self.hold.change(|shard| shard.make_place(hash, free))
+    }
+
+    /// As `insert_new`, for a caller who has the key's hash and a free slot for it. For the crates here alone.
+    #[inline]
+    pub fn insert_new_at(&mut self, free: usize, hash: u64, key: K, value: V)
+    where
+        K: Drop,
+        V: Drop,
+        requires hash { hash ≡ ⟦<Self as Keyed>⟧.by.hash self.old.hasher key }
+        requires route { Routes ⟦<Self as Keyed>⟧.by self.old key }
+        requires absent { at K.eq (pairs self.old) key ≡ None }
+        requires room { shard_len self.old < self.old.capacity }
+        requires place { IsPlaceFor self.old hash free }
+        ensures inserts { TakesInPlace K.eq self.old self.new (Insert key value) (Old None) }
+        ensures slot { slot self.new.slots free ≡ Some (key, value) }
+        ensures len { shard_len self.new ≡ shard_len self.old + 1 }
+        ensures lawful { IsShard ⟦<Self as Keyed>⟧.by self.new }
+    {
+        self.hold
+            .change(|shard| shard.insert_new_at(free, hash, key, value));
+    }
+
+    /// Puts a pair in the slot of the one with an equal key, and answers that one: the new key is stored too. It makes no look-up, takes
+    /// no memory, and can't be refused.
+    #[inline]
+    pub fn replace_at(&mut self, position: usize, key: K, value: V) -> (K, V)
+    where
+        K: Drop,
+        V: Drop,
+        requires { HasKey K.eq self.old key position }
+        ensures replaces { Replaces K.eq self.old self.new position key value result }
+        ensures lawful { IsShard ⟦<Self as Keyed>⟧.by self.new }
+    {
+        self.hold
+            .change(|shard| shard.replace_at(position, key, value))
+    }
+
+    /// Takes the pair of a taken slot out, and answers it. It makes no look-up, takes no memory, and can't be refused.
+    #[inline]
+    pub fn remove_at(&mut self, position: usize) -> (K, V)
+    where
+        K: Drop,
+        V: Drop,
+        requires { IsSome (slot self.old.slots position) }
+        ensures removes { TakesAt K.eq self.old self.new position Remove (Pair (Some result)) }
+        ensures pair { slot self.old.slots position ≡ Some result }
+        ensures stays { SameShard self.old self.new }
+        ensures len { shard_len self.old ≡ shard_len self.new + 1 }
+        ensures lawful { IsShard ⟦<Self as Keyed>⟧.by self.new }
+    {
+        self.hold.change(|shard| shard.remove_at(position))
+    }
+}
