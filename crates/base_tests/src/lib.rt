@@ -1,9 +1,10 @@
-//! The tests of `dash_slots`, `dash_kept`, `dash_shard`, `dash_steps`, `dash_history` and `dash_ref`, over their public items alone.
+//! The tests of `dash_slots`, `dash_kept`, `dash_shard`, `dash_held`, `dash_steps` and `dash_ref`, over their public items alone.
 //!
 //! They stand in a crate of their own, so that each library is proved once, without them.
-//! `values` has keys and values that tests of maps use too.
+//! `checks` and `values` are for all crates of tests.
 #![tactic(auto)]
 
+pub mod checks;
 #[cfg(test)]
 mod tests;
 pub mod values;

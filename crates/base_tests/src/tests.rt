@@ -1,11 +1,9 @@
 //! The tests, in modules that are named as those that they test.
 mod by_hand;
-mod checks;
 mod hash;
 mod kept;
 mod lock;
 mod mapref;
-mod record;
 mod shard;
 mod slots;
 mod step;

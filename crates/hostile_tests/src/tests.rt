@@ -1,6 +1,3 @@
 //! The tests, by what is hostile.
-mod checks;
 mod constructors;
-mod history;
 mod keys;
-mod logs;

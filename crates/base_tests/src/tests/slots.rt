@@ -1,5 +1,5 @@
 //! Rows of slots, each empty or with a value.
-use crate::tests::checks::is;
+use crate::checks::is;
 use dash_slots::Slots;
 
 #[test]

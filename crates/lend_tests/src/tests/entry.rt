@@ -1,5 +1,5 @@
 //! Entries of a map that threads share, as worked by hand.
-use crate::tests::checks::is;
+use base_tests::checks::is;
 use crate::tests::maps::{map_of, put};
 use base_tests::values::Noted;
 use dash_map::map::DashMap;

@@ -1,5 +1,5 @@
 //! Views of a map that nobody writes any more.
-use crate::tests::checks::is;
+use base_tests::checks::is;
 use crate::tests::maps::{map_of, put};
 
 #[test]

@@ -1,5 +1,5 @@
 //! Calls of a map of one owner, as worked by hand.
-use crate::tests::checks::is;
+use base_tests::checks::is;
 use crate::tests::maps::map_of_four;
 use dash_map::alone::Alone;
 use dash_map::map::DashMap;

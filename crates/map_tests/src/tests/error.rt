@@ -1,5 +1,5 @@
 //! The texts of all refusals, and those that pass as want of memory.
-use crate::tests::checks::{is, prints};
+use base_tests::checks::{is, prints};
 use crate::tests::maps::map_of_four;
 use dash_history::gather::GatherError;
 use dash_history::record::RecordFault;

@@ -1,5 +1,5 @@
 //! Amounts, capacities and routes of a map, as worked by hand.
-use crate::tests::checks::is;
+use base_tests::checks::is;
 use crate::tests::maps::map_of_four;
 use dash_map::map::DashMap;
 use dash_map::t::Map as _;

@@ -1,5 +1,5 @@
 //! Runs and lists that several workers share, as worked by hand.
-use crate::tests::checks::{is, prints};
+use base_tests::checks::{is, prints};
 use crate::tests::maps::{map_of_four, put};
 use dash_map::parallel::run::{Gate, ParOutcome};
 use dash_map::run::Fault;

@@ -1,6 +1,6 @@
 //! One shard behind its lock, as worked by hand.
 use crate::tests::by_hand::lock_of_one;
-use crate::tests::checks::is;
+use crate::checks::is;
 use dash_shard::hash::PlaceState;
 use dash_held::lock::RwLock;
 use dash_shard::shard::Shard;

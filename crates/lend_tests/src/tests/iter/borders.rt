@@ -1,7 +1,7 @@
 //! A walk that comes to the end of a shard takes the next hold before it gives up the old one.
 //!
 //! One thread has the next shard, and another one walks. They wait for one another by what is held, and no longer than they have turns.
-use crate::tests::checks::is;
+use base_tests::checks::is;
 use crate::tests::maps::{Places, is_held, three_pairs};
 use std::alloc::Global;
 use std::process::Abort;

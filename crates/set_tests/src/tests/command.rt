@@ -1,7 +1,7 @@
 //! What `dashcheck` prints, where writes succeed and where they fail.
+use base_tests::checks::is;
 use dash_command::command::{exit_code, refuse_memory, run_words};
 use std::alloc::{AllocError, Global};
-use std::fmt;
 use std::io::{self, Read, Write};
 use std::process::Abort;
 use std::rt::Clock;
@@ -37,11 +37,6 @@ fn words(alloc: Global, line: &str) -> Result<Vec<String>, AllocError> {
         words.push(word.to_string(alloc)?)?;
     }
     Ok(words)
-}
-
-// Ends the test where what was found isn't what is wanted.
-fn is<T: PartialEq + fmt::Debug + Drop>(rt: &impl Abort, found: T, wanted: T) {
-    assert_eq!(rt; found, wanted);
 }
 
 // What a run left on its outputs, and the exit status.

@@ -1,8 +1,9 @@
-//! Steps of two callers: counts that miss or double pairs, and the last stamp that there is.
-use crate::tests::checks::is;
+//! Steps of two callers: counts that miss or double pairs, the last stamp that there is, and numbers of callers that aren't lawful.
+use base_tests::checks::is;
 use dash_history::gather::At;
 use dash_history::record::map::RecordedMap;
 use dash_history::record::{CallerLog, RecordFault};
+use dash_shard::error::ConstructError;
 use dash_shard::hash::PlaceState;
 use dash_steps::step::{Reply, ShardStep};
 use std::alloc::Global;
@@ -104,4 +105,23 @@ fn a_shard_with_the_last_stamp_takes_no_step(rt: HostRuntime) {
         history.expect(&rt, "refused").as_slice(),
         &[at(1, 0, 0, 1), at(u64::MAX, 1, 0, 0)],
     );
+}
+
+// A bad amount is refused before a bad number of callers.
+#[test]
+fn amounts_and_callers(rt: HostRuntime) {
+    for (amount, callers, error) in [
+        (3, 0, ConstructError::ShardAmount),
+        (4, 0, ConstructError::Callers),
+        (4, 65_537, ConstructError::Callers),
+    ] {
+        let refused = Map::new(rt.alloc(), PlaceState, amount, callers).err();
+        is(
+            &rt,
+            (amount, callers, refused),
+            (amount, callers, Some(error)),
+        );
+    }
+    let (map, logs) = Map::new(rt.alloc(), PlaceState, 4, 65_536).expect(&rt, "refused");
+    is(&rt, (map.callers(), logs.len()), (65_536, 65_536));
 }
