@@ -1,6 +1,5 @@
 mod AloneWalks
 pub mod Answering
-mod Copying
 mod CopyingMaps
 mod Listing
 mod Distincts

@@ -2,12 +2,8 @@
 use Rattle.std.proofs.Common.{◌≡◌, ℕ, zero, suc, ◌+◌, ◌-◌, ◌<◌, Bool, List, [], ◌∷◌, ◌++◌, Option, Some, None, flat_map, map, refl, sym, ap, subst, ◌∙◌, arith, append_assoc, append-nil}
 use Rattle.std.specs.Prelude.{Result, Ok, IfOk}
 use Rattle.std.specs.List.{All, AllZip, range_with_len}
-use Rattle.std.specs.Iterator.{Yields}
-use Rattle.std.specs.Map.Iter.{TakesFirst}
-use Rattle.std.proofs.lemmas.List.{map-append}
-use Rattle.std.proofs.lemmas.List.Elements.{All-nil, All-cons, All-head, All-tail}
 use Rattle.std.specs.Cmp.{IsEquivalence}
-use Rattle.rayon.proofs.ListFacts.{AllZip-append, All-parts}
+use Rattle.rayon.proofs.ListFacts.{AllZip-append}
 use Rattle.rayon.proofs.ToStd.{nat_range-All}
 use Rattle.rayon.specs.Numbers.{nat_range}
 use Rattle.dash_shard.specs.Hashing.{KeyHash}
@@ -20,30 +16,6 @@ use Rattle.dash_map.specs.Map.{MapState}
 use Rattle.dash_map.specs.inner.Parallel.{SawNumber, LeavesNumber}
 use Rattle.dash_map.proofs.Seeing.{IsWhole, SeenSo, seen-none, seen-more, seen-all}
 use Rattle.dash_map.proofs.Leaving.{Going, going-first, going-next, all-altered}
-
-module _ {X A B : Type 0} (shows : A → B) (view : X → List B) where
-  -- items that show, list by list, what is seen at each place, show all of it
-  pub shown-flat : (xs : List X) (parts : List (List A)) → AllZip (λ x part. map shows part ≡ view x) xs parts → map shows (flat_map (λ l. l) parts) ≡ flat_map view xs
-  shown-flat [] [] each = refl
-  shown-flat [] (part ∷ parts) each = absurd each
-  shown-flat (x ∷ xs) [] each = absurd each
-  shown-flat (x ∷ xs) (part ∷ parts) each =
-      map-append shows part (flat_map (λ l. l) parts) ∙ ap (λ l. l ++ map shows (flat_map (λ l. l) parts)) each.0 ∙ ap (λ l. view x ++ l) (shown-flat xs parts each.1)
-
-module _ {A B : Type 0} (shows : A → B) (P : B → Type 0) where
-  -- what is so of all that is left is so of what comes
-  pub comes-so : (xs : List A) (s t : List B) → All P s → Yields (TakesFirst shows) s xs t → All (λ x. P (shows x)) xs
-  comes-so [] s t all steps = All-nil (λ x. P (shows x))
-  comes-so (x ∷ xs) s t all steps =
-      let first = subst (All P) steps.1 all in
-      All-cons (λ x. P (shows x)) x xs (All-head P (shows x) steps.0 first) (comes-so xs steps.0 t (All-tail P (shows x) steps.0 first) steps.2)
-
--- what is so of all items of all lists is so of those of each
-pub All-lists : {X A : Type 0} (P : A → Type 0) (f : X → List A) (xs : List X) → All P (flat_map f xs) → All (λ x. All P (f x)) xs
-All-lists P f [] all = All-nil (λ x. All P (f x))
-All-lists P f (x ∷ xs) all =
-    let parts = All-parts P (f x) (flat_map f xs) all in
-    All-cons (λ x. All P (f x)) x xs parts.0 (All-lists P f xs parts.1)
 
 -- what is so of each result and what is in its `Ok`, where all are `Ok`
 pub AllZip-Ok : {X T : Type 0} (E : Type 0) (R : X → T → Type 0) (xs : List X) (ys : List T) → AllZip (λ x (r : Result T E). IfOk r (R x)) xs (map Ok ys) → AllZip R xs ys

@@ -1,23 +1,12 @@
 -- A copy of a map: the same pairs, each alike its source.
-use Rattle.std.specs.Prelude.{◌≡◌, Bool, IsTrue, length}
-use Rattle.std.specs.Option.{option_eq}
-use Rattle.dash_shard.specs.Contents.{at}
-use Rattle.dash_shard.specs.Shard.{ShardState, pairs, shard_len}
-use Rattle.dash_kept.specs.Alike.{alike_pair}
+use Rattle.std.specs.Prelude.{◌≡◌, Bool, length}
+use Rattle.dash_rows.specs.Copies.{CopiesShard}
 use Rattle.dash_map.specs.Alone.{AloneState, EachShard}
 
 -- by which keys are equal, which keys and values are alike, and which hasher is a clone
 module _ {K V S : Type 0} (eq like_key : K → K → Bool) (like_value : V → V → Bool) (is_clone : S → S → Type 0) where
-  -- t has the pairs of the shard s, each once and alike its source; which slots they have is left open
-  pub record CopiesShard (s t : ShardState K V S) : Type 0 where
-    pub pairs : (j : K) → IsTrue (option_eq (alike_pair like_key like_value) (at eq (pairs s) j) (at eq (pairs t) j))
-    pub len : shard_len t ≡ shard_len s
-    pub number : t.number ≡ s.number
-    pub amount : t.amount ≡ s.amount
-    pub hasher : is_clone s.hasher t.hasher
-
   -- each shard is a copy of the one at its place
   pub record CopiesAlone (old new : AloneState K V S) : Type 0 where
-    pub shards : EachShard CopiesShard old new
+    pub shards : EachShard (CopiesShard eq like_key like_value is_clone) old new
     pub amount : length new.row ≡ length old.row
     pub hasher : is_clone old.hasher new.hasher

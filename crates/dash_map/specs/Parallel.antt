@@ -1,26 +1,13 @@
--- What parallel calls ask of a closure, and say of what it did.
+-- What parallel calls on a map ask of a closure, and say of what it did.
 use Rattle.std.specs.Prelude.{◌≡◌, Bool, List}
 use Rattle.std.specs.Fn.{Shared}
-use Rattle.std.specs.List.{AllZip}
+use Rattle.dash_rows.specs.Parallel.{MapsEach}
 use Rattle.dash_map.specs.Alone.{AloneState, contents}
 use denote.Ref.{Bor, MutBor}
 
-module _ {F K V T : Type 0} (g : Shared F (Bor K × (Bor V × Unit {0})) T) (f : F) where
-  -- f may be called at the pair
-  abbrev pub MayMap : K × V → Type 0
-  MayMap p = (k : Bor K) (v : Bor V) → k.now ≡ p.0 → v.now ≡ p.1 → g.pre f (k, (v, tt))
-
-  -- and may answer t there
-  abbrev pub Maps : K × V → T → Type 0
-  Maps p t = (k : Bor K) × (v : Bor V) × (k.now ≡ p.0) × (v.now ≡ p.1) × g.post f (k, (v, tt)) t
-
-  -- an answer to each of these pairs, in their order
-  abbrev pub MapsEach : List (K × V) → List T → Type 0
-  MapsEach ps answers = AllZip Maps ps answers
-
-  -- an answer to each pair of the map, once, in the order of its shards and slots
-  abbrev pub MapsPairs : {S : Type 0} → List T → AloneState K V S → Type 0
-  MapsPairs answers a = MapsEach (contents a) answers
+-- an answer of f to each pair of the map, once, in the order of its shards and slots
+abbrev pub MapsPairs : {F K V T S : Type 0} → Shared F (Bor K × (Bor V × Unit {0})) T → F → List T → AloneState K V S → Type 0
+MapsPairs g f answers a = MapsEach g f (contents a) answers
 
 module _ {F K V : Type 0} (g : Shared F (Bor K × (MutBor V × Unit {0})) (Unit {0} × (MutBor V × Unit {0}))) where
   -- f may be called at k and v, and may write v

@@ -1,7 +1,6 @@
 -- What only proofs, invariants and the contracts of private functions use.
 pub mod AloneWalk
 pub mod Amounts
-pub mod Copies
 pub mod Parallel
 pub mod Rooms
 pub mod Run

@@ -12,21 +12,19 @@ ghost use Rattle.dash_map.specs.Folds.{FoldsPairs, MayFold, MayVisit, VisitsPair
 ghost use Rattle.dash_shard.specs.Hashing.{HashAlike};
 
 use crate::alone::Alone;
-use crate::copies::copy_shards;
 use crate::map::DashMap;
 use crate::shards::Shards;
 use dash_kept::{Kept, KeptKey};
+use dash_rows::copies::copy_shards;
+pub use dash_rows::view::{Keys, Values, ViewIter};
 use dash_shard::keyed::Keyed;
 use dash_shard::row::Row;
 use dash_shard::shard::Shard;
-pub use iter::{Keys, Values, ViewIter};
 use std::alloc::{AllocError, Global};
 use std::fmt;
 use std::hash::{BuildHasher, Hash};
 use std::marker::Model;
 use thiserror::Error;
-
-mod iter;
 
 /// The pairs of a map, to be read alone: the original's `ReadOnlyView`. Its calls take no lock, wait for nobody and take no memory.
 ///

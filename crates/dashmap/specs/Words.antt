@@ -31,5 +31,6 @@ pub use Rattle.dash_map.specs.WalkingMut.{StepsTo, StepsToEnd}
 pub use Rattle.dash_map.specs.Copies.{CopiesShard, CopiesAlone}
 pub use Rattle.dash_map.specs.Extend.{Extends, ExtendsBehind, Gains, Gave, HasNoRoom, IsRefusedAmong, IsRefusedOf, InsertsEach, MadeOf, NotMade, Overfills, ParExtends, ParExtendsBehind, PutsAll, PutsEachBehind, PutsFront, first_with_last}
 pub use Rattle.dash_map.specs.Pairs.{CopiesPairs}
-pub use Rattle.dash_map.specs.Parallel.{MayMap, Maps, MapsEach, MapsPairs, MayWrite, Writes}
+pub use Rattle.dash_rows.specs.Parallel.{MayMap, Maps, MapsEach}
+pub use Rattle.dash_map.specs.Parallel.{MapsPairs, MayWrite, Writes}
 pub use Rattle.dashmap.specs.Set.{stood, member, inserted, keys_of, members, of_members, CopiesKeys, FoldsKey, FoldsKeys, MapsKeys, MayFoldKeys, MayMapKey, MayVisitKeys, VisitsKey, VisitsKeys}

@@ -7,7 +7,8 @@ use Rattle.dash_shard.specs.Shard.{ShardState, IsShard, pairs}
 use Rattle.dash_shard.specs.inner.Walks.{SweepsShard, altered}
 use Rattle.dash_map.specs.Behind.{IsShardOf}
 use Rattle.dash_map.specs.Map.{MapState}
-use Rattle.dash_map.specs.Parallel.{MapsEach, Writes}
+use Rattle.dash_rows.specs.Parallel.{MapsEach}
+use Rattle.dash_map.specs.Parallel.{Writes}
 use denote.Ref.{Bor, MutBor}
 
 module _ {K V S : Type 0} (h : KeyHash K S) (m : MapState S) (i : ℕ) where

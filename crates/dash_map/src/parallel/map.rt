@@ -1,93 +1,25 @@
 //! Parallel work on the pairs of a map. A thread takes shard after shard.
-ghost use Rattle.std.specs.Prelude.{◌≡◌, ◌<◌, All, IfOk, flat_map, map, true};
+ghost use Rattle.std.specs.Prelude.{◌≡◌, ◌<◌, IfOk, true};
 ghost use Rattle.dash_shard.specs.Hashing.{by};
-ghost use Rattle.dash_shard.specs.Shard.{pairs};
 ghost use Rattle.dash_map.specs.Alone.{contents};
 ghost use Rattle.dash_map.specs.AllPairs.{AltersAllAlone};
 ghost use Rattle.dash_map.specs.Behind.{SawShards, LeavesShards};
-ghost use Rattle.dash_map.specs.Parallel.{MayMap, MapsEach, MapsPairs, MayWrite, Writes};
+ghost use Rattle.dash_rows.specs.Parallel.{MayMap};
+ghost use Rattle.dash_map.specs.Parallel.{MapsPairs, MayWrite, Writes};
 ghost use Rattle.dash_map.specs.inner.Parallel.{MapsNumber, WritesNumber};
 
 use crate::alone::Alone;
 use crate::map::DashMap;
+pub use dash_rows::parallel::OwningIter;
+use dash_rows::parallel::{answers, joined};
 use dash_shard::keyed::Keyed;
-use dash_shard::shard::{self, IntoIter, Shard};
 use rayon::prelude::*;
-use std::alloc::{AllocError, Global};
+use std::alloc::AllocError;
 use std::hash::{BuildHasher, Hash};
 use std::marker::Model;
 use std::rt::Clock;
 use std::sync::Wait;
 use std::thread::Threads;
-
-/// The pairs of a map that ended, by rising shard and in each by rising slot. A contract sees it as their list.
-#[derive(Drop)]
-pub struct OwningIter<K: Eq + Hash, V, S: BuildHasher> {
-    shards: Vec<Shard<K, V, S>>,
-}
-
-impl<K: Eq + Hash, V, S: BuildHasher> Model for OwningIter<K, V, S> {
-    ghost use Rattle.std.specs.Prelude.{List, flat_map};
-    ghost use Rattle.dash_shard.specs.Shard.{pairs};
-
-    ghost Value = { List (K × V) };
-
-    ghost view = { λ it. flat_map pairs it.shards.items };
-}
-
-impl<K: Eq + Hash, V, S: BuildHasher> OwningIter<K, V, S> {
-    #[inline]
-    pub(crate) fn new(shards: Vec<Shard<K, V, S>>) -> Self
-        ensures { result ≡ flat_map pairs shards.items }
-    {
-        OwningIter { shards }
-    }
-}
-
-impl<K: Eq + Hash + Send + Drop, V: Send + Drop, S: BuildHasher + Send + Drop> OwningIter<K, V, S>
-where
-    S::Hasher: Send,
-{
-    /// The pairs in a list. Threads take the shards, and wait for nobody.
-    ///
-    /// Each thread takes memory for a list of its own, and the lists are joined. Where there is none it is refused (4), and all pairs are
-    /// dropped.
-    pub fn collect<R: Threads + Sync>(self, rt: &R) -> Result<Vec<(K, V)>, AllocError>
-        ensures { IfOk result (λ list. list.items ≡ self) }
-    {
-        let alloc = *self.shards.allocator();
-        self.shards
-            .into_par_iter()
-            .with_min_len(1)
-            .flat_map_iter(
-                |shard: Shard<K, V, S>| -> IntoIter<K, V>
-                    ensures { result ≡ pairs shard }
-                { shard.into_iter() },
-            )
-            .collect(rt, alloc)
-    }
-
-    /// The keys alone in a list, as `collect` takes the pairs. It is public for the sets of `dashmap`.
-    pub fn collect_keys<R: Threads + Sync>(self, rt: &R) -> Result<Vec<K>, AllocError>
-        ensures { IfOk result (λ list. list.items ≡ map (λ p. p.0) self) }
-    {
-        let alloc = *self.shards.allocator();
-        self.shards
-            .into_par_iter()
-            .with_min_len(1)
-            .flat_map_iter(
-                |shard: Shard<K, V, S>| -> IntoIter<K, V>
-                    ensures { result ≡ pairs shard }
-                { shard.into_iter() },
-            )
-            .map(
-                |pair: (K, V)| -> K
-                    ensures { result ≡ pair.0 }
-                { pair.0 },
-            )
-            .collect(rt, alloc)
-    }
-}
 
 /// The pairs of a map that threads share, by rising shard and in each by rising slot. A contract sees the map.
 #[derive(Drop)]
@@ -254,33 +186,6 @@ impl<K: Eq + Hash, V, S: BuildHasher> DashMap<K, V, S> {
             { written(f, key, value) },
         );
     }
-}
-
-// What `f` answers to each pair.
-fn answers<K, V, T: Drop, F: Fn(&K, &V) -> T>(
-    alloc: Global,
-    pairs: shard::Iter<'_, K, V>,
-    f: &F,
-) -> Result<Vec<T>, AllocError>
-    requires { All (MayMap F.Fn f.now) pairs }
-    ensures { IfOk result (λ list. MapsEach F.Fn f.now pairs.entry list.items) }
-{
-    let mut answers = Vec::with_capacity(alloc, pairs.len())?;
-    for (key, value) in pairs {
-        answers.push(f(key, value))?;
-    }
-    Ok(answers)
-}
-
-// The items of all lists, one list after the other.
-fn joined<T: Drop>(alloc: Global, lists: Vec<Vec<T>>) -> Result<Vec<T>, AllocError>
-    ensures { IfOk result (λ all. all.items ≡ flat_map (λ list. list.items) lists.items) }
-{
-    let mut all = Vec::new(alloc);
-    for mut list in lists {
-        all.append(&mut list)?;
-    }
-    Ok(all)
 }
 
 // The value as `f` leaves it.

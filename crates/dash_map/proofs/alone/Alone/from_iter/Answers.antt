@@ -2,7 +2,7 @@ use Rattle.std.proofs.Common.{◌≡◌, [], length, sym, ap, subst, ◌∙◌}
 use Rattle.std.specs.Iterator.{IsFinite}
 use Rattle.dash_shard.specs.Hashing.{key_hash}
 use Rattle.dash_map.specs.Alone.{contents}
-use Rattle.dash_map.proofs.Copying.{none-of-length}
+use Rattle.dash_rows.proofs.Copying.{none-of-length}
 use Rattle.dash_map.proofs.Extending.{made-of, none-in}
 use Rattle.dash_map.proofs.Taken.{pair-refused}
 use Rattle.dash_map.proofs.alone.Alone.from_iter.Given.{Over}

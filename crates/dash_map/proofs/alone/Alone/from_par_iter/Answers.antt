@@ -1,6 +1,6 @@
 use Rattle.std.proofs.Common.{length, ap, ◌∙◌}
 use Rattle.dash_shard.specs.Hashing.{key_hash}
-use Rattle.dash_map.proofs.Copying.{none-of-length}
+use Rattle.dash_rows.proofs.Copying.{none-of-length}
 use Rattle.dash_map.proofs.Extending.{made-of, none-in}
 use Rattle.dash_map.specs.Alone.{contents}
 use Rattle.dash_map.proofs.alone.Alone.from_par_iter.Goals as goal

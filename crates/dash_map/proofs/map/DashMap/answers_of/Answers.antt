@@ -1,7 +1,7 @@
 use Rattle.std.proofs.Common.{ap, subst, ◌∙◌}
 use Rattle.rayon.proofs.ListFacts.{IfOk-then}
 use Rattle.dash_shard.specs.Shard.{pairs}
-use Rattle.dash_map.specs.Parallel.{MapsEach}
+use Rattle.dash_rows.specs.Parallel.{MapsEach}
 use Rattle.dash_map.proofs.map.DashMap.answers_of.Goals as goal
 
 pub answers-requires : goal.answers-requires

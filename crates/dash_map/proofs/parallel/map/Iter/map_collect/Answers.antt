@@ -6,7 +6,7 @@ use Rattle.dash_shard.specs.Hashing.{IsAmount, key_hash}
 use Rattle.dash_shard.specs.Shard.{pairs}
 use Rattle.dash_map.specs.Alone.{contents}
 use Rattle.dash_map.specs.Behind.{SawShards}
-use Rattle.dash_map.specs.Parallel.{MayMap, Maps, MapsEach}
+use Rattle.dash_rows.specs.Parallel.{MayMap, Maps, MapsEach}
 use Rattle.dash_map.specs.inner.Parallel.{SawNumber}
 use Rattle.dash_map.proofs.Seeing.{IsWhole}
 use Rattle.dash_map.proofs.Workers.{at-numbers, numbers, AllZip-Ok, all-seen-with}

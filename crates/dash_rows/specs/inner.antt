@@ -1,0 +1,2 @@
+-- What only proofs and the contracts of private functions use.
+pub mod Copies

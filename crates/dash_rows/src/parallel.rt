@@ -1,0 +1,169 @@
+//! Parallel work on the pairs of shards that nobody else has. A thread takes shard after shard.
+ghost use Rattle.std.specs.Prelude.{◌≡◌, All, IfOk, flat_map, map};
+ghost use Rattle.std.specs.Map.Iter.{deref_pair};
+ghost use Rattle.dash_shard.specs.Shard.{pairs};
+ghost use Rattle.dash_rows.specs.Parallel.{MayMap, Maps, MapsEach};
+
+use dash_shard::shard::{self, IntoIter, Shard};
+use rayon::prelude::*;
+use std::alloc::{AllocError, Global};
+use std::hash::{BuildHasher, Hash};
+use std::marker::Model;
+use std::thread::Threads;
+
+/// The pairs of a map that ended, by rising shard and in each by rising slot. A contract sees it as their list.
+#[derive(Drop)]
+pub struct OwningIter<K: Eq + Hash, V, S: BuildHasher> {
+    shards: Vec<Shard<K, V, S>>,
+}
+
+impl<K: Eq + Hash, V, S: BuildHasher> Model for OwningIter<K, V, S> {
+    ghost use Rattle.std.specs.Prelude.{List, flat_map};
+    ghost use Rattle.dash_shard.specs.Shard.{pairs};
+
+    ghost Value = { List (K × V) };
+
+    ghost view = { λ it. flat_map pairs it.shards.items };
+}
+
+impl<K: Eq + Hash, V, S: BuildHasher> OwningIter<K, V, S> {
+    /// The pairs of these shards.
+    #[inline]
+    pub fn new(shards: Vec<Shard<K, V, S>>) -> Self
+        ensures { result ≡ flat_map pairs shards.items }
+    {
+        OwningIter { shards }
+    }
+}
+
+impl<K: Eq + Hash + Send + Drop, V: Send + Drop, S: BuildHasher + Send + Drop> OwningIter<K, V, S>
+where
+    S::Hasher: Send,
+{
+    /// The pairs in a list. Threads take the shards, and wait for nobody.
+    ///
+    /// Each thread takes memory for a list of its own, and the lists are joined. Where there is none it is refused (4), and all pairs are
+    /// dropped.
+    pub fn collect<R: Threads + Sync>(self, rt: &R) -> Result<Vec<(K, V)>, AllocError>
+        ensures { IfOk result (λ list. list.items ≡ self) }
+    {
+        let alloc = *self.shards.allocator();
+        self.shards
+            .into_par_iter()
+            .with_min_len(1)
+            .flat_map_iter(
+                |shard: Shard<K, V, S>| -> IntoIter<K, V>
+                    ensures { result ≡ pairs shard }
+                { shard.into_iter() },
+            )
+            .collect(rt, alloc)
+    }
+
+    /// The keys alone in a list, as `collect` takes the pairs. It is public for the sets of `dashmap`.
+    pub fn collect_keys<R: Threads + Sync>(self, rt: &R) -> Result<Vec<K>, AllocError>
+        ensures { IfOk result (λ list. list.items ≡ map (λ p. p.0) self) }
+    {
+        let alloc = *self.shards.allocator();
+        self.shards
+            .into_par_iter()
+            .with_min_len(1)
+            .flat_map_iter(
+                |shard: Shard<K, V, S>| -> IntoIter<K, V>
+                    ensures { result ≡ pairs shard }
+                { shard.into_iter() },
+            )
+            .map(
+                |pair: (K, V)| -> K
+                    ensures { result ≡ pair.0 }
+                { pair.0 },
+            )
+            .collect(rt, alloc)
+    }
+}
+
+/// The pairs of a view, by rising shard and in each by rising slot. A contract sees it as their list.
+#[derive(Drop)]
+pub struct Iter<'a, K: Eq + Hash, V, S: BuildHasher> {
+    shards: &'a Vec<Shard<K, V, S>>,
+}
+
+impl<'a, K: Eq + Hash, V, S: BuildHasher> Model for Iter<'a, K, V, S> {
+    ghost use Rattle.std.specs.Prelude.{List, flat_map};
+    ghost use Rattle.dash_shard.specs.Shard.{pairs};
+
+    ghost Value = { List (K × V) };
+
+    ghost view = { λ it. flat_map pairs it.shards.now.items };
+}
+
+impl<'a, K: Eq + Hash, V, S: BuildHasher> Iter<'a, K, V, S> {
+    /// The pairs of these shards.
+    #[inline]
+    pub fn new(shards: &'a Vec<Shard<K, V, S>>) -> Self
+        ensures { result ≡ flat_map pairs shards.now.items }
+    {
+        Iter { shards }
+    }
+}
+
+impl<K: Eq + Hash + Sync, V: Sync, S: BuildHasher + Sync> Iter<'_, K, V, S>
+where
+    S::Hasher: Sync,
+{
+    /// What `f` answers to each pair, in the order of the pairs. Threads take shards, and wait for nobody.
+    ///
+    /// Each thread takes memory for a list of its own, and the lists are joined. Where there is none it is refused (4), and the answers
+    /// are dropped.
+    pub fn map_collect<R: Threads + Sync, T: Send + Drop, F: Fn(&K, &V) -> T + Sync>(
+        self,
+        rt: &R,
+        f: F,
+    ) -> Result<Vec<T>, AllocError>
+        requires { All (MayMap F.Fn f) self }
+        ensures { IfOk result (λ answers. MapsEach F.Fn f self.entry answers.items) }
+    {
+        let shards = self.shards;
+        shards
+            .par_iter()
+            .with_min_len(1)
+            .flat_map_iter(
+                |shard: &Shard<K, V, S>| -> shard::Iter<'_, K, V>
+                    ensures { result ≡ pairs shard.now }
+                { shard.iter() },
+            )
+            .map(
+                |pair: (&K, &V)| -> T
+                    requires { MayMap F.Fn f (deref_pair pair) }
+                    ensures { Maps F.Fn f (deref_pair pair.entry) result }
+                { f(pair.0, pair.1) },
+            )
+            .collect(rt, *shards.allocator())
+    }
+}
+
+/// What `f` answers to each pair of a shard. It takes memory for the list, and is refused (4) where there is none.
+pub fn answers<K, V, T: Drop, F: Fn(&K, &V) -> T>(
+    alloc: Global,
+    pairs: shard::Iter<'_, K, V>,
+    f: &F,
+) -> Result<Vec<T>, AllocError>
+    requires { All (MayMap F.Fn f.now) pairs }
+    ensures { IfOk result (λ list. MapsEach F.Fn f.now pairs.entry list.items) }
+{
+    let mut answers = Vec::with_capacity(alloc, pairs.len())?;
+    for (key, value) in pairs {
+        answers.push(f(key, value))?;
+    }
+    Ok(answers)
+}
+
+/// The items of all lists, one list after the other. It takes memory for them, and is refused (4) where there is none.
+pub fn joined<T: Drop>(alloc: Global, lists: Vec<Vec<T>>) -> Result<Vec<T>, AllocError>
+    ensures { IfOk result (λ all. all.items ≡ flat_map (λ list. list.items) lists.items) }
+{
+    let mut all = Vec::new(alloc);
+    for mut list in lists {
+        all.append(&mut list)?;
+    }
+    Ok(all)
+}
