@@ -6,11 +6,10 @@
 //!   call on that shard from the same thread then deadlocks, unless both only read. The `try_` calls wait for nobody.
 //! - *Who allocates.* Constructors, `insert` and `entry` of a new key in a full shard, `try_reserve` and `into_inner`. Each answers a
 //!   `Result`, and what is refused comes back. Look-ups take no memory.
-//! - *How many shards.* `of` asks the system for its processors, and `new` is told; they take four for each, rounded up to a power of two. More shards means less waiting, and some
-//!   cache lines each; a map of few keys does with two.
+//! - *How many shards.* `of` asks the system for its processors, and `new` is told; they take four for each, rounded up to a power of
+//!   two. More shards means less waiting, and some cache lines each; a map of few keys does with two.
 //! - *Which hasher.* `FixedState` is fast and always the same. Where keys come from strangers hand std's `RandomState` to
-//! `with_hasher`, or
-//!   somebody may choose keys that all go to one shard and one group of slots.
+//!   `with_hasher`, or somebody may choose keys that all go to one shard and one group of slots.
 #![tactic(auto)]
 
 pub use dash_kept::{Kept, KeptKey};
