@@ -1,4 +1,5 @@
 //! Why a map or a shard can't be made, or can't grow.
+use std::alloc::AllocError;
 use thiserror::Error;
 
 /// Why a map or a shard can't be made. Nothing is made then.
@@ -25,3 +26,10 @@ pub enum ConstructError {
 #[derive(Clone, Copy, Debug, PartialEq, Eq, Error)]
 #[error("no memory (11)")]
 pub struct TryReserveError {}
+
+/// So that `map.try_reserve(100)?` converts.
+impl From<TryReserveError> for AllocError {
+    fn from(_: TryReserveError) -> Self {
+        AllocError
+    }
+}

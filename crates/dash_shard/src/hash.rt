@@ -114,7 +114,7 @@ impl BuildHasher for ZeroState {
 
 /// The hasher by which key `k` goes to shard `k` modulo the amount: a written number of 64 bits makes the hash
 /// `k * 2^55`, wrapped, so that its low bits choose the shard. For tests and worked examples: it spreads keys over shards alone.
-#[derive(Clone, Copy)]
+#[derive(Clone, Copy, Default)]
 pub struct PlaceState;
 
 /// What `PlaceState` builds.
