@@ -28,7 +28,8 @@ pub use Rattle.dash_map.specs.Walking.{IterState, StepsOn, GivesPair, FindsEnd, 
 pub use Rattle.dash_ref.specs.Multi.{lent_pair, lent_value, with_lent_value}
 pub use Rattle.dash_map.specs.AloneWalk.{walked, loan_of, passed, to_come, Passes, Passed, PassesAlong, LeavesEach}
 pub use Rattle.dash_map.specs.WalkingMut.{StepsTo, StepsToEnd}
-pub use Rattle.dash_map.specs.Copies.{CopiesShard, CopiesAlone}
+pub use Rattle.dash_rows.specs.Copies.{CopiesShard}
+pub use Rattle.dash_map.specs.Copies.{CopiesAlone}
 pub use Rattle.dash_map.specs.Extend.{Extends, ExtendsBehind, Gains, Gave, HasNoRoom, IsRefusedAmong, IsRefusedOf, InsertsEach, MadeOf, NotMade, Overfills, ParExtends, ParExtendsBehind, PutsAll, PutsEachBehind, PutsFront, first_with_last}
 pub use Rattle.dash_map.specs.Pairs.{CopiesPairs}
 pub use Rattle.dash_rows.specs.Parallel.{MayMap, Maps, MapsEach}
