@@ -16,12 +16,12 @@ ghost use Rattle.dash_map.specs.Walking.{at_start};
 
 use crate::iter::{Iter, IterMut};
 use crate::map::DashMap;
+use dash_held::held::ShardMut;
+use dash_held::lock::RwLockReadGuard;
 use dash_ref::mapref::entry::{Entry, EntryRefused, TryEntryRefused};
 use dash_ref::mapref::one::{Ref, RefMut};
 use dash_ref::try_result::TryResult;
 use dash_shard::keyed::Keyed;
-use dash_held::lock::RwLockReadGuard;
-use dash_held::held::ShardMut;
 use dash_shard::shard::{InsertRefused, Shard};
 use std::alloc::AllocError;
 use std::hash::{BuildHasher, Hash};

@@ -99,8 +99,8 @@ pub mod run {
 
 /// One shard of a map.
 pub mod shard {
-    pub use dash_shard::shard::Shard;
     pub use dash_held::held::ShardMut;
+    pub use dash_shard::shard::Shard;
 }
 
 /// What is generic in a map that threads share.

@@ -2,8 +2,8 @@
 ghost use Rattle.std.specs.Prelude.{◌<◌};
 
 use crate::checks::is;
-use dash_shard::hash::{PlaceState, is_shard_amount};
 use dash_held::lock::RwLock;
+use dash_shard::hash::{PlaceState, is_shard_amount};
 use dash_shard::shard::Shard;
 use dash_shard::shard::tag::ShardTag;
 use std::alloc::Global;

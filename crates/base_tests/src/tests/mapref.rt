@@ -1,9 +1,9 @@
 //! References into one shard behind its lock, as worked by hand.
-use crate::tests::by_hand::lock_of_one;
 use crate::checks::{is, prints};
+use crate::tests::by_hand::lock_of_one;
+use dash_held::lock::RwLock;
 use dash_ref::mapref::one::Ref;
 use dash_shard::hash::PlaceState;
-use dash_held::lock::RwLock;
 use dash_shard::shard::Shard;
 use std::hash::BuildHasher;
 use std::rt::Clock;

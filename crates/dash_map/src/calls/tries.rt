@@ -6,12 +6,12 @@ ghost use Rattle.dash_map.specs.Gets.{IsGot, IsGotMut};
 ghost use Rattle.dash_map.specs.Tries.{UnlessLocked};
 
 use crate::map::DashMap;
+use dash_held::held::ShardMut;
+use dash_held::lock::RwLockReadGuard;
 use dash_ref::mapref::one::{Ref, RefMut};
 use dash_ref::try_result::TryResult;
 use dash_shard::keyed::Keyed;
-use dash_held::lock::RwLockReadGuard;
 use dash_shard::shard::Shard;
-use dash_held::held::ShardMut;
 use std::hash::{BuildHasher, Hash};
 
 impl<K: Eq + Hash, V, S: BuildHasher> DashMap<K, V, S> {

@@ -9,9 +9,9 @@ ghost use Rattle.dash_map.specs.inner.Walking.{IsWalk, GivesHere};
 
 use crate::map::DashMap;
 use crate::t::Map;
+use dash_held::lock::RwLockReadGuard;
 use dash_ref::mapref::multiple::RefMulti;
 use dash_shard::keyed::Keyed;
-use dash_held::lock::RwLockReadGuard;
 use dash_shard::shard::Shard;
 use std::alloc::AllocError;
 use std::hash::{BuildHasher, Hash};

@@ -16,12 +16,12 @@ ghost use Rattle.dash_map.specs.inner.WalkingMut.{GoesHere};
 
 use crate::map::DashMap;
 use crate::t::Map;
-use dash_ref::mapref::multiple::RefMutMulti;
-use dash_shard::keyed::{Keyed, Lender};
-use dash_held::lock::RwLock;
-use dash_shard::shard::Shard;
 use dash_held::held::holds::{Holds, Writing};
 use dash_held::held::{HeldShard, ShardMut};
+use dash_held::lock::RwLock;
+use dash_ref::mapref::multiple::RefMutMulti;
+use dash_shard::keyed::{Keyed, Lender};
+use dash_shard::shard::Shard;
 use std::hash::{BuildHasher, Hash};
 use std::marker::Model;
 use std::mem;

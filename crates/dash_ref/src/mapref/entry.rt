@@ -10,9 +10,9 @@ ghost use Rattle.dash_lock.specs.Lock.{LeftBehind};
 ghost use Rattle.dash_shard.specs.Shard.{Routes, IsShard};
 
 use crate::mapref::one::RefMut;
+use dash_held::held::ShardMut;
 use dash_kept::KeptKey;
 use dash_shard::keyed::Keyed;
-use dash_held::held::ShardMut;
 pub use occupied::OccupiedEntry;
 use std::alloc::AllocError;
 use std::fmt::{self, Debug};

@@ -1,10 +1,10 @@
 //! One shard behind its lock, as worked by hand.
-use crate::tests::by_hand::lock_of_one;
 use crate::checks::is;
-use dash_shard::hash::PlaceState;
-use dash_held::lock::RwLock;
-use dash_shard::shard::Shard;
+use crate::tests::by_hand::lock_of_one;
 use dash_held::held::ShardMut;
+use dash_held::lock::RwLock;
+use dash_shard::hash::PlaceState;
+use dash_shard::shard::Shard;
 use std::mem;
 use std::process::Abort;
 

@@ -11,11 +11,11 @@ ghost use Rattle.dash_ref.specs.RefMut.{stored};
 ghost use Rattle.dash_ref.specs.Entry.{MayModify, Modified, revalued};
 
 use crate::mapref::one::{HeldRef, RefMut};
-use dash_shard::keyed::Lender;
-use dash_held::lock::RwLock;
-use dash_shard::shard::Shard;
 use dash_held::held::ShardMut;
 use dash_held::held::holds::{Holds, Writing};
+use dash_held::lock::RwLock;
+use dash_shard::keyed::Lender;
+use dash_shard::shard::Shard;
 use std::hash::{BuildHasher, Hash};
 use std::marker::Model;
 use std::mem;

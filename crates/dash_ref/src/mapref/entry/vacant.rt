@@ -9,9 +9,9 @@ ghost use Rattle.dash_ref.specs.Entry.{Puts, PutsCopy};
 
 use super::{InsertEntryRefused, OccupiedEntry};
 use crate::mapref::one::RefMut;
+use dash_held::held::ShardMut;
 use dash_kept::KeptKey;
 use dash_shard::keyed::Keyed;
-use dash_held::held::ShardMut;
 use std::hash::{BuildHasher, Hash};
 use std::marker::Model;
 

@@ -11,11 +11,11 @@ ghost use Rattle.dash_ref.specs.Ref.{Stands};
 ghost use Rattle.dash_ref.specs.RefMut.{stored, rewritten, GetsMut};
 
 use super::Ref;
-use dash_shard::keyed::{Keyed, Lender};
-use dash_held::lock::RwLock;
-use dash_shard::shard::Shard;
 use dash_held::held::holds::{Holds, Writing};
 use dash_held::held::{HeldShard, ShardMut};
+use dash_held::lock::RwLock;
+use dash_shard::keyed::{Keyed, Lender};
+use dash_shard::shard::Shard;
 pub use mapped::MappedRefMut;
 use std::fmt;
 use std::hash::{BuildHasher, Hash};

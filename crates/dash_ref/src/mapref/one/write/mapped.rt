@@ -7,11 +7,11 @@ ghost use Rattle.dash_ref.specs.RefMut.{stored, part_in, with_part};
 
 use super::{HeldRef, RefMut};
 use crate::mapref::one::projection::{Compose, Projection};
-use dash_shard::keyed::Lender;
-use dash_held::lock::RwLock;
-use dash_shard::shard::Shard;
 use dash_held::held::ShardMut;
 use dash_held::held::holds::{Holds, Writing};
+use dash_held::lock::RwLock;
+use dash_shard::keyed::Lender;
+use dash_shard::shard::Shard;
 use std::fmt;
 use std::hash::{BuildHasher, Hash};
 use std::marker::Model;
