@@ -1,5 +1,5 @@
 -- What each shard takes of its own steps is a run of the map, in each order that keeps those of the shards.
-use Rattle.std.proofs.Common.{◌≡◌, ◌≢◌, ℕ, ◌<◌, ◌≤◌, ◌==◌, cond, Bool, true, false, List, [], ◌∷◌, ◌++◌, length, map, flat_map, get_or, slice_get, slice_set, Option, Some, None, All, replicate, zero, suc, take, drop, refl, sym, ap, ap₂, subst, ◌∙◌, inl, inr, ⊎_elim, arith, eq-eqb, ne_eqb}
+use Rattle.std.proofs.Common.{◌≡◌, ℕ, ◌<◌, ◌≤◌, ◌==◌, cond, Bool, true, false, List, [], ◌∷◌, ◌++◌, length, map, flat_map, get_or, slice_get, slice_set, Option, Some, None, All, replicate, zero, suc, take, drop, refl, sym, ap, ap₂, subst, ◌∙◌, inl, inr, ⊎_elim, arith, eq-eqb, ne_eqb}
 use Rattle.std.specs.List.{Any, zip}
 use Rattle.std.specs.Cmp.{IsEquivalence}
 use Rattle.std.specs.Prelude.{IsSome, ◌↔◌, ◌⊎◌}

@@ -1,5 +1,5 @@
 -- What workers did side by side, told as one walk along the shards.
-use Rattle.std.proofs.Common.{◌≡◌, ℕ, zero, suc, ◌+◌, ◌-◌, ◌<◌, Bool, List, [], ◌∷◌, ◌++◌, Option, Some, None, flat_map, map, refl, sym, ap, subst, ◌∙◌, arith, append_assoc, append-nil}
+use Rattle.std.proofs.Common.{◌≡◌, ℕ, zero, suc, ◌+◌, ◌-◌, ◌<◌, Bool, List, [], ◌∷◌, ◌++◌, Option, Some, None, flat_map, map, refl, sym, subst, arith, append_assoc, append-nil}
 use Rattle.std.specs.Prelude.{Result, Ok, IfOk}
 use Rattle.std.specs.List.{All, AllZip, range_with_len}
 use Rattle.std.specs.Cmp.{IsEquivalence}
