@@ -8,78 +8,46 @@ ghost use Rattle.dash_shard.specs.Hashing.{HashAlike};
 
 mod calls;
 mod recorded;
+mod steps;
 
-use calls::{CALLS, WAYS};
 use dash_history::known::Recorded as Known;
-use dash_history::record::map::RecordedMap;
-use dash_shard::error::ConstructError;
 use dash_shard::hash::{PlaceState, ZeroState};
-use recorded::{Log, Map, Recorded};
+use recorded::{Map, Recorded};
 use refusing::trial::Outcome;
-use refusing::words::{named, words};
+use refusing::words::word;
 use std::alloc::Global;
+use std::env::Env;
 use std::hash::BuildHasher;
 use std::io;
 use std::rt::Clock;
 use std::sync::Wait;
 
 fn main(rt: HostRuntime) -> io::Result<()> {
-    let outcome = match words(&rt) {
-        Ok(words) => match named(&words, 1, &[("place", false), ("zero", true)]) {
-            Some(zero) if zero => trial(&rt, rt.alloc(), ZeroState, &words),
-            Some(_) => trial(&rt, rt.alloc(), PlaceState, &words),
-            None => Outcome::Wrong("no such hasher"),
-        },
-        Err(_) => Outcome::Setup,
-    };
+    let outcome = tried(&rt).unwrap_or(Outcome::Setup);
     println!(rt; "{outcome}")
 }
 
-// Tries the call that the words name.
-fn trial<R, S>(rt: &R, alloc: Global, hasher: S, words: &[String]) -> Outcome
+// Tries the call that the words name, with the hasher that they name.
+fn tried<R: Env + AllocGlobal + Wait + Clock>(rt: &R) -> io::Result<Outcome> {
+    let call = word(rt, 1)?;
+    let hasher = word(rt, 2)?;
+    let way = word(rt, 3)?;
+    Ok(match hasher.as_str() {
+        "place" => trial(rt, rt.alloc(), PlaceState, &call, &way),
+        "zero" => trial(rt, rt.alloc(), ZeroState, &call, &way),
+        _ => Outcome::Wrong("no such hasher"),
+    })
+}
+
+// Tries a call with this hasher.
+fn trial<R, S>(rt: &R, alloc: Global, hasher: S, call: &str, way: &str) -> Outcome
 where
     R: Wait + Clock,
     S: BuildHasher + Clone + Copy + Drop,
     requires { (s t : S) → S.is_clone s t → HashAlike ⟦<Map<S> as Known>⟧.known.keys s t }
 {
-    let Some(call) = named(words, 0, &CALLS) else {
-        return new(alloc, hasher);
-    };
-    let Some(way) = named(words, 2, &WAYS) else {
-        return Outcome::Wrong("no such way");
-    };
-    let Ok(made) = make(alloc, hasher) else {
-        return Outcome::Setup;
-    };
-    match Recorded::begin(rt, alloc, made, way) {
-        Ok(mut recorded) => recorded.trial(rt, call),
+    match Recorded::begin(rt, alloc, hasher) {
+        Ok(mut recorded) => recorded.trial(rt, call, way),
         Err(_) => Outcome::Setup,
     }
-}
-
-// Makes a map of four shards and two callers.
-fn make<S: BuildHasher + Clone + Drop>(
-    alloc: Global,
-    hasher: S,
-) -> Result<(Map<S>, Vec<Log>), ConstructError>
-    requires { (s t : S) → S.is_clone s t → HashAlike ⟦<Map<S> as Known>⟧.known.keys s t }
-{
-    RecordedMap::new(alloc, hasher, 4, 2)
-}
-
-// `new`: where it is refused (8) nothing is made.
-fn new<S: BuildHasher + Clone + Copy + Drop>(alloc: Global, hasher: S) -> Outcome
-    requires { (s t : S) → S.is_clone s t → HashAlike ⟦<Map<S> as Known>⟧.known.keys s t }
-{
-    let mut outcome = Outcome::Answered;
-    for _ in 0..2 {
-        match make(alloc, hasher) {
-            Ok(_) => return outcome,
-            Err(ConstructError::Memory) => {
-                outcome = Outcome::Refused("ConstructError::Memory (8)");
-            }
-            Err(_) => return Outcome::Wrong("another refusal"),
-        }
-    }
-    Outcome::Wrong("refused twice")
 }

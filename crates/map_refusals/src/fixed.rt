@@ -1,14 +1,14 @@
 //! Calls that make a map, a set or a cache with the default hasher. Where one is refused nothing is made.
 
 use crate::caches::Echo;
-use crate::making::{made, not_made};
-use crate::maps::has;
+use crate::maps::{Map, has};
 use crate::sets::{keys_from, set_has};
-use dashmap::error::FromRefused;
+use dashmap::error::{ConstructError, FromRefused};
 use dashmap::{DashMap, DashSet, Memo};
 use refusing::keys::{FULL, Key, Value, pairs_from};
-use refusing::trial::{Ended, Outcome};
+use refusing::trial::Ended;
 use std::alloc::{AllocError, Global};
+use std::hash::BuildHasher;
 use std::rt::Clock;
 use std::sync::Wait;
 use std::thread::Threads;
@@ -16,138 +16,101 @@ use std::thread::Threads;
 // So many pairs get room for `FULL` in each of four shards. One of these gets more.
 const LIST: u64 = 4 * FULL;
 
-/// A call that makes something.
-#[derive(Clone, Copy)]
-pub enum Call {
-    New,
-    Default,
-    WithCapacity,
-    WithShardAmount,
-    WithCapacityAndShardAmount,
-    FromPairs,
-    FromIter,
-    FromParIter,
-    SetNew,
-    SetWithCapacity,
-    SetFromIter,
-    SetFromParIter,
-    MemoNew,
-}
-
-/// The calls by their names.
-pub const CALLS: [(&str, Call); 13] = [
-    ("new", Call::New),
-    ("default", Call::Default),
-    ("with_capacity", Call::WithCapacity),
-    ("with_shard_amount", Call::WithShardAmount),
-    (
-        "with_capacity_and_shard_amount",
-        Call::WithCapacityAndShardAmount,
-    ),
-    ("from_pairs", Call::FromPairs),
-    ("from_iter", Call::FromIter),
-    ("from_par_iter", Call::FromParIter),
-    ("set_new", Call::SetNew),
-    ("set_with_capacity", Call::SetWithCapacity),
-    ("set_from_iter", Call::SetFromIter),
-    ("set_from_par_iter", Call::SetFromParIter),
-    ("memo_new", Call::MemoNew),
-];
-
-/// Takes a call, and where it is refused takes it again.
-pub fn trial<R: Threads + Wait + Clock + Sync>(rt: &R, alloc: Global, call: Call) -> Outcome {
-    let mut outcome = Outcome::Answered;
-    for _ in 0..2 {
-        let Ok(ended) = take(rt, alloc, call) else {
-            return outcome.without_memory();
-        };
-        match outcome.after(ended, true) {
-            Ok(next) => outcome = next,
-            Err(over) => return over,
-        }
-    }
-    Outcome::Wrong("refused twice")
-}
-
-fn take<R: Threads + Wait + Clock + Sync>(
-    rt: &R,
-    alloc: Global,
-    call: Call,
-) -> Result<Ended, AllocError> {
+/// How a call with the default hasher ended.
+pub fn take_fixed<R>(rt: &R, alloc: Global, call: &str) -> Result<Ended, AllocError>
+where
+    R: Threads + Wait + Clock + Sync,
+{
     Ok(match call {
-        Call::New => made(rt, alloc, DashMap::new(alloc, 1)),
-        Call::Default => made(rt, alloc, DashMap::default(alloc, 1)),
-        Call::WithCapacity => made(rt, alloc, DashMap::with_capacity(alloc, 20, 1)),
-        Call::WithShardAmount => made(rt, alloc, DashMap::with_shard_amount(alloc, 4)),
-        Call::WithCapacityAndShardAmount => {
-            made(
-                rt,
-                alloc,
-                DashMap::with_capacity_and_shard_amount(alloc, 20, 4),
-            )
+        "new" => made(rt, alloc, 0, DashMap::new(alloc, 1)),
+        "default" => made(rt, alloc, 0, DashMap::default(alloc, 1)),
+        "with_capacity" => made(rt, alloc, 0, DashMap::with_capacity(alloc, 20, 1)),
+        "with_shard_amount" => made(rt, alloc, 0, DashMap::with_shard_amount(alloc, 4)),
+        "with_capacity_and_shard_amount" => {
+            let map = DashMap::with_capacity_and_shard_amount(alloc, 20, 4);
+            made(rt, alloc, 0, map)
         }
-        Call::FromPairs | Call::FromIter | Call::FromParIter => {
-            return from_list(rt, alloc, call);
-        }
-        Call::MemoNew => match Memo::<Key, Key, Echo>::new(alloc, Echo, 1) {
-            Ok(cache) => Ended::answered(0, cache.len(rt) == 0),
+        "set_new" => set_made(rt, alloc, 0, DashSet::new(alloc, 1)),
+        "set_with_capacity" => set_made(rt, alloc, 0, DashSet::with_capacity(alloc, 20, 1)),
+        "memo_new" => match Memo::<Key, Key, Echo>::new(alloc, Echo, 1) {
+            Ok(cache) => Ended::answered(FULL, cache.len(rt) == 0),
             Err(refused) => not_made(refused),
         },
-        _ => return set_of_list(rt, alloc, call),
+        _ => return take_list(rt, alloc, call),
     })
 }
 
-// A map of a list: refused by 8, or by 12 at a pair.
-fn from_list<R: Threads + Wait + Clock + Sync>(
-    rt: &R,
-    alloc: Global,
-    call: Call,
-) -> Result<Ended, AllocError> {
-    let list = pairs_from(alloc, 0, LIST)?;
-    let made: Result<DashMap<Key, Value>, FromRefused<Key, Value>> = match call {
-        Call::FromPairs => DashMap::from_pairs(alloc, list, 1),
-        Call::FromIter => DashMap::from_iter(alloc, list, 1),
-        _ => match DashMap::from_par_iter(rt, alloc, list, 1, 2) {
-            Ok(map) => Ok(map),
-            Err(refused) => Err(FromRefused::Construct(refused)),
+// How a call ended that makes a map or a set of a list.
+fn take_list<R>(rt: &R, alloc: Global, call: &str) -> Result<Ended, AllocError>
+where
+    R: Threads + Wait + Clock + Sync,
+{
+    let (pairs, keys) = (pairs_from(alloc, 0, LIST)?, keys_from(alloc, 0, LIST)?);
+    Ok(match call {
+        "from_pairs" => made_of(rt, alloc, DashMap::from_pairs(alloc, pairs, 1)),
+        "from_iter" => made_of(rt, alloc, DashMap::from_iter(alloc, pairs, 1)),
+        "from_par_iter" => {
+            let map = DashMap::<Key, Value>::from_par_iter(rt, alloc, pairs, 1, 2);
+            made(rt, alloc, LIST, map)
+        }
+        "set_from_iter" => match DashSet::from_iter(alloc, keys, 1) {
+            Ok(set) => set_made(rt, alloc, LIST, Ok(set)),
+            Err(refused) => not_made_of(refused),
         },
-    };
-    Ok(match made {
-        Ok(map) => Ended::answered(LIST, has(rt, alloc, &map, LIST)),
-        Err(FromRefused::Construct(refused)) => not_made(refused),
-        Err(FromRefused::Pair(_pair)) => Ended::refused("FromRefused::Pair (12)", 0, true),
+        "set_from_par_iter" => {
+            let set = DashSet::from_par_iter(rt, alloc, keys, 1, 2);
+            set_made(rt, alloc, LIST, set)
+        }
+        _ => Ended::unknown(FULL),
     })
 }
 
-// A set of a list, or of nothing: refused by 8, or by 12 at a key.
-fn set_of_list<R: Threads + Wait + Clock + Sync>(
+// What a constructor of a list shows: it is refused by 8, or at a pair (12).
+fn made_of<R: Wait + Clock>(
     rt: &R,
     alloc: Global,
-    call: Call,
-) -> Result<Ended, AllocError> {
-    let list = keys_from(alloc, 0, LIST)?;
-    let made: Result<DashSet<Key>, FromRefused<Key, ()>> = match call {
-        Call::SetFromIter => DashSet::from_iter(alloc, list, 1),
-        Call::SetFromParIter => match DashSet::from_par_iter(rt, alloc, list, 1, 2) {
-            Ok(set) => Ok(set),
-            Err(refused) => Err(FromRefused::Construct(refused)),
-        },
-        Call::SetNew => match DashSet::new(alloc, 1) {
-            Ok(set) => Ok(set),
-            Err(refused) => Err(FromRefused::Construct(refused)),
-        },
-        _ => match DashSet::with_capacity(alloc, 20, 1) {
-            Ok(set) => Ok(set),
-            Err(refused) => Err(FromRefused::Construct(refused)),
-        },
-    };
-    let keys = match call {
-        Call::SetFromIter | Call::SetFromParIter => LIST,
-        _ => 0,
-    };
-    Ok(match made {
-        Ok(set) => Ended::answered(keys, set_has(rt, alloc, &set, keys)),
-        Err(FromRefused::Construct(refused)) => not_made(refused),
-        Err(FromRefused::Pair(_pair)) => Ended::refused("FromRefused::Pair (12)", 0, true),
-    })
+    map: Result<DashMap<Key, Value>, FromRefused<Key, Value>>,
+) -> Ended {
+    match map {
+        Ok(map) => made(rt, alloc, LIST, Ok(map)),
+        Err(refused) => not_made_of(refused),
+    }
+}
+
+fn not_made_of<K: Drop, V: Drop>(refused: FromRefused<K, V>) -> Ended {
+    match refused {
+        FromRefused::Construct(refused) => not_made(refused),
+        FromRefused::Pair(_) => Ended::refused("FromRefused::Pair (12)", FULL, true),
+    }
+}
+
+/// What a constructor shows that puts so many pairs into its map: it is refused by 8.
+pub fn made<R: Wait + Clock, S: BuildHasher + Drop>(
+    rt: &R,
+    alloc: Global,
+    pairs: u64,
+    map: Result<Map<S>, ConstructError>,
+) -> Ended {
+    match map {
+        Ok(map) => Ended::answered(FULL, has(rt, alloc, &map, pairs)),
+        Err(refused) => not_made(refused),
+    }
+}
+
+// The same of a set.
+fn set_made<R: Wait + Clock>(
+    rt: &R,
+    alloc: Global,
+    keys: u64,
+    set: Result<DashSet<Key>, ConstructError>,
+) -> Ended {
+    match set {
+        Ok(set) => Ended::answered(FULL, set_has(rt, alloc, &set, keys)),
+        Err(refused) => not_made(refused),
+    }
+}
+
+fn not_made(refused: ConstructError) -> Ended {
+    let lawful = refused == ConstructError::Memory;
+    Ended::refused("ConstructError::Memory (8)", FULL, lawful)
 }

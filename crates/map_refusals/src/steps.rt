@@ -1,9 +1,9 @@
 //! Lists of steps, taken one after the other or by two workers.
 
-use crate::maps::OnMap;
+use crate::maps::Tried;
 use dashmap::run::{Fault, RunOutcome, ShardStep};
-use refusing::keys::{FULL, Key, Value, bare, key_of, value_of};
-use refusing::trial::Ended;
+use refusing::keys::{FULL, Key, Value, bare, pair_of};
+use refusing::trial::{Ended, needed};
 use std::alloc::{AllocError, Global};
 use std::hash::BuildHasher;
 use std::rt::Clock;
@@ -17,17 +17,18 @@ const INSERT: usize = 3;
 
 // Steps on shard 0: reads that take memory before and after an insert that does.
 fn steps(alloc: Global) -> Result<Vec<ShardStep<Key, Value>>, AllocError> {
-    let insert = ShardStep::Insert(key_of(alloc, FULL)?, value_of(alloc, FULL)?);
-    let mut steps = Vec::with_capacity(alloc, STEPS)?;
-    steps.push(ShardStep::Get(bare(alloc, 0)))?;
-    steps.push(ShardStep::Read(0))?;
-    steps.push(insert)?;
-    steps.push(ShardStep::Get(bare(alloc, FULL)))?;
-    steps.push(ShardStep::Count(0))?;
-    Ok(steps)
+    let (key, value) = pair_of(alloc, FULL)?;
+    let steps = [
+        ShardStep::Get(bare(alloc, 0)),
+        ShardStep::Read(0),
+        ShardStep::Insert(key, value),
+        ShardStep::Get(bare(alloc, FULL)),
+        ShardStep::Count(0),
+    ];
+    needed(Vec::from_array(alloc, steps))
 }
 
-impl<S: BuildHasher + Drop> OnMap<S> {
+impl<S: BuildHasher + Drop> Tried<S> {
     /// `run`: where a step is refused (14) the steps before it were taken, and it comes back with those behind.
     pub fn run(&mut self) -> Result<Ended, AllocError> {
         let RunOutcome { replies, stopped } = self.map.run(steps(self.alloc)?);
@@ -43,7 +44,7 @@ impl<S: BuildHasher + Drop> OnMap<S> {
     }
 }
 
-impl<S: BuildHasher + Send + Sync + Drop> OnMap<S>
+impl<S: BuildHasher + Send + Sync + Drop> Tried<S>
 where
     S::Hasher: Send,
 {

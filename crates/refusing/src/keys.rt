@@ -75,17 +75,26 @@ pub fn is_list_of(list: &Value, number: u64) -> bool {
     list.len() == 1 && list.first() == Some(&number)
 }
 
+/// Whether this is the key of this number.
+pub fn is_key_of(key: &Key, number: u64) -> bool {
+    number_of(key) == number && is_list_of(&key.note, number)
+}
+
 /// Whether this key and this value are those of this number.
 pub fn is_pair_of(key: &Key, value: &Value, number: u64) -> bool {
-    number_of(key) == number && is_list_of(&key.note, number) && is_list_of(value, number)
+    is_key_of(key, number) && is_list_of(value, number)
+}
+
+/// The key and the value of this number.
+pub fn pair_of(alloc: Global, number: u64) -> Result<(Key, Value), AllocError> {
+    Ok((key_of(alloc, number)?, value_of(alloc, number)?))
 }
 
 /// The pairs of the numbers from `first` on, so many.
 pub fn pairs_from(alloc: Global, first: u64, count: u64) -> Result<Vec<(Key, Value)>, AllocError> {
     let mut pairs = Vec::new(alloc);
     for step in 0..count {
-        let number = first.wrapping_add(step);
-        pairs.push((key_of(alloc, number)?, value_of(alloc, number)?))?;
+        pairs.push(pair_of(alloc, first.wrapping_add(step))?)?;
     }
     Ok(pairs)
 }
