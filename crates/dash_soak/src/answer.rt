@@ -1,40 +1,32 @@
 //! What a call answers, and whether it is right.
 ghost use Rattle.std.specs.Prelude.{◌≡◌, ◌↔◌, Ok, IfErr};
 
-use crate::call::{Call, name};
-use std::fmt;
+use crate::call::Call;
+use dash_history::record::RecordFault;
+use dashmap::hash::FixedState;
+use dashmap::mapref::one::{Ref, RefMut};
 
 /// What a call answered, or has to answer.
-#[derive(Clone, Copy, PartialEq, Eq)]
+#[derive(Clone, Copy, Debug, PartialEq, Eq)]
 pub enum Answer {
     Nothing,
     Number(u64),
     Pair(u64, u64),
     Truth(bool),
-    /// At least this number.
-    From(u64),
+    /// Somebody has the shard, and the call waits for nobody.
     Locked,
-    NoMemory,
-    /// Another refusal, by its number.
-    Refused(u64),
+    /// It was refused for another reason.
+    Refused(RecordFault),
 }
 
-impl fmt::Display for Answer {
-    fn fmt<W: fmt::Write>(&self, f: &mut fmt::Formatter<W>) -> fmt::Result {
-        match *self {
-            Answer::Nothing => write!(f, "nothing"),
-            Answer::Number(number) => write!(f, "{number}"),
-            Answer::Pair(key, value) => write!(f, "{key}:{value}"),
-            Answer::Truth(truth) => write!(f, "{truth}"),
-            Answer::From(number) => write!(f, "at least {number}"),
-            Answer::Locked => write!(f, "locked"),
-            Answer::NoMemory => write!(f, "no memory"),
-            Answer::Refused(number) => write!(f, "refusal {number}"),
-        }
-    }
-}
+/// The answer of a call that got no memory.
+pub const NO_MEMORY: Answer = Answer::Refused(RecordFault::Memory);
+
+/// What a call did: its kind, what it had to answer, what it answered, and what it has to leave at its key.
+pub type Done = (Call, Answer, Answer, Option<u64>);
 
 impl Answer {
+    /// A number, or nothing.
     #[inline]
     pub fn number(found: Option<u64>) -> Answer {
         match found {
@@ -43,12 +35,37 @@ impl Answer {
         }
     }
 
+    /// A pair, or nothing.
     #[inline]
     pub fn pair(found: Option<(u64, u64)>) -> Answer {
         match found {
             Some((key, value)) => Answer::Pair(key, value),
             None => Answer::Nothing,
         }
+    }
+
+    /// The pair of a key with what stands there, or nothing.
+    #[inline]
+    pub fn at(key: u64, stood: Option<u64>) -> Answer {
+        match stood {
+            Some(value) => Answer::Pair(key, value),
+            None => Answer::Nothing,
+        }
+    }
+
+    /// The pair of a reference, or nothing.
+    #[inline]
+    pub fn told(found: Option<Ref<'_, u64, u64, FixedState>>) -> Answer {
+        match found {
+            Some(found) => Answer::Pair(*found.key(), *found.value()),
+            None => Answer::Nothing,
+        }
+    }
+
+    /// The pair of a reference that writes.
+    #[inline]
+    pub fn told_mut(found: RefMut<'_, u64, u64, FixedState>) -> Answer {
+        Answer::Pair(*found.key(), *found.value())
     }
 }
 
@@ -61,16 +78,12 @@ pub struct Wrong {
     pub came: Answer,
 }
 
-impl fmt::Display for Wrong {
-    fn fmt<W: fmt::Write>(&self, f: &mut fmt::Formatter<W>) -> fmt::Result {
-        write!(f, "{} of {}: ", name(self.call), self.key)?;
-        write!(f, "wanted {}, came {}", self.wanted, self.came)
-    }
-}
+/// Nothing, or the first wrong answer.
+pub type Judged = Result<(), Wrong>;
 
 /// Whether a call answered what it has to.
 #[inline]
-pub fn judge(call: Call, key: u64, wanted: Answer, came: Answer) -> Result<(), Wrong>
+pub fn judge(call: Call, key: u64, wanted: Answer, came: Answer) -> Judged
     ensures right { result ≡ Ok tt ↔ (wanted ≡ came) }
     ensures wrong { IfErr result (λ w. w ≡ record { call = call; key = key; wanted = wanted; came = came }) }
 {
@@ -83,4 +96,14 @@ pub fn judge(call: Call, key: u64, wanted: Answer, came: Answer) -> Result<(), W
         wanted,
         came,
     })
+}
+
+/// What is wrong where a call got no memory.
+pub fn no_memory(call: Call) -> Wrong {
+    Wrong {
+        call,
+        key: 0,
+        wanted: Answer::Nothing,
+        came: NO_MEMORY,
+    }
 }

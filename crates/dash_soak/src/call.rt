@@ -1,7 +1,10 @@
 //! The kinds of calls, and how many of each were taken.
 
-/// A kind of call. `CALLS` says how each is named.
-#[derive(Clone, Copy, PartialEq, Eq)]
+/// How many counters all threads share.
+pub const COUNTERS: usize = 16;
+
+/// A kind of call.
+#[derive(Clone, Copy)]
 pub enum Call {
     Insert,
     Get,
@@ -18,7 +21,6 @@ pub enum Call {
     Locked,
     Downgrade,
     Entry,
-    OccupiedGet,
     OccupiedGetMut,
     OccupiedInsert,
     OccupiedRemove,
@@ -46,7 +48,6 @@ pub enum Call {
     CountGetMut,
     CountAlter,
     CountTryGetMut,
-    CountRemoveIfMut,
     CountGet,
     SetInsert,
     SetRemove,
@@ -65,7 +66,6 @@ pub enum Call {
     TryCloneAll,
     RefusedStep,
     Gather,
-    Replay,
     ReplayGet,
     ReplayContains,
     ReplayInsert,
@@ -83,108 +83,100 @@ pub enum Call {
     TryReserve,
 }
 
-/// The kinds, in their order, with their names.
-pub const CALLS: [(Call, &str); 78] = [
-    (Call::Insert, "insert"),
-    (Call::Get, "get"),
-    (Call::GetMut, "get_mut"),
-    (Call::Remove, "remove"),
-    (Call::RemoveIf, "remove_if"),
-    (Call::RemoveIfMut, "remove_if_mut"),
-    (Call::Alter, "alter"),
-    (Call::View, "view"),
-    (Call::ContainsKey, "contains_key"),
-    (Call::TryGet, "try_get"),
-    (Call::TryGetMut, "try_get_mut"),
-    (Call::TryEntry, "try_entry"),
-    (Call::Locked, "try_ forms that found it locked"),
-    (Call::Downgrade, "downgrade"),
-    (Call::Entry, "entry"),
-    (Call::OccupiedGet, "OccupiedEntry::get"),
-    (Call::OccupiedGetMut, "OccupiedEntry::get_mut"),
-    (Call::OccupiedInsert, "OccupiedEntry::insert"),
-    (Call::OccupiedRemove, "OccupiedEntry::remove"),
-    (Call::OccupiedRemoveEntry, "OccupiedEntry::remove_entry"),
-    (Call::OccupiedReplaceEntry, "OccupiedEntry::replace_entry"),
-    (Call::OrInsert, "or_insert"),
-    (Call::OrInsertWith, "or_insert_with"),
-    (Call::OrDefault, "or_default"),
-    (Call::OrTryInsertWith, "or_try_insert_with"),
-    (Call::AndModify, "and_modify"),
-    (Call::EntryInsert, "Entry::insert"),
-    (Call::IntoKey, "into_key"),
-    (Call::Iter, "iter"),
-    (Call::IterEnded, "iter, ended early"),
-    (Call::IterMut, "iter_mut"),
-    (Call::Retain, "retain"),
-    (Call::AlterAll, "alter_all"),
-    (Call::ShrinkToFit, "shrink_to_fit"),
-    (Call::Len, "len"),
-    (Call::IsEmpty, "is_empty"),
-    (Call::Capacity, "capacity"),
-    (Call::Pairs, "pairs"),
-    (Call::Clone, "clone"),
-    (Call::CountEntry, "shared entry"),
-    (Call::CountGetMut, "shared get_mut"),
-    (Call::CountAlter, "shared alter"),
-    (Call::CountTryGetMut, "shared try_get_mut"),
-    (Call::CountRemoveIfMut, "shared remove_if_mut"),
-    (Call::CountGet, "shared get"),
-    (Call::SetInsert, "set insert"),
-    (Call::SetRemove, "set remove"),
-    (Call::SetRemoveIf, "set remove_if"),
-    (Call::SetContains, "set contains"),
-    (Call::SetGet, "set get"),
-    (Call::SetIter, "set iter"),
-    (Call::SetRetain, "set retain"),
-    (Call::SetLen, "set len"),
-    (Call::SetShrink, "set shrink_to_fit"),
-    (Call::Apply, "recorded apply"),
-    (Call::TryApply, "recorded try_apply"),
-    (Call::CountAll, "recorded count_all"),
-    (Call::CloneAll, "recorded clone_all"),
-    (Call::TryCountAll, "recorded try_count_all"),
-    (Call::TryCloneAll, "recorded try_clone_all"),
-    (Call::RefusedStep, "recorded steps that must be refused"),
-    (Call::Gather, "gather"),
-    (Call::Replay, "replay"),
-    (Call::ReplayGet, "replayed get"),
-    (Call::ReplayContains, "replayed contains"),
-    (Call::ReplayInsert, "replayed insert"),
-    (Call::ReplayRemove, "replayed remove"),
-    (Call::ReplayRemoveIf, "replayed remove_if"),
-    (Call::ReplayRemoveIfMut, "replayed remove_if_mut"),
-    (Call::ReplayAlter, "replayed alter"),
-    (Call::ReplayRead, "replayed read"),
-    (Call::ReplayCount, "replayed count"),
-    (Call::ReplayAlterAll, "replayed alter_all"),
-    (Call::ReplayRetain, "replayed retain"),
-    (Call::ReplayCountPart, "replayed count_part"),
-    (Call::ReplayReadPart, "replayed read_part"),
-    (Call::Clear, "clear"),
-    (Call::TryReserve, "try_reserve"),
+/// How the kinds are named, in their order.
+pub const NAMES: [&str; 75] = [
+    "insert",
+    "get",
+    "get_mut",
+    "remove",
+    "remove_if",
+    "remove_if_mut",
+    "alter",
+    "view",
+    "contains_key",
+    "try_get",
+    "try_get_mut",
+    "try_entry",
+    "try_ forms that found it locked",
+    "downgrade",
+    "entry",
+    "OccupiedEntry::get_mut",
+    "OccupiedEntry::insert",
+    "OccupiedEntry::remove",
+    "OccupiedEntry::remove_entry",
+    "OccupiedEntry::replace_entry",
+    "or_insert",
+    "or_insert_with",
+    "or_default",
+    "or_try_insert_with",
+    "and_modify",
+    "Entry::insert",
+    "into_key",
+    "iter",
+    "iter, ended early",
+    "iter_mut",
+    "retain",
+    "alter_all",
+    "shrink_to_fit",
+    "len",
+    "is_empty",
+    "capacity",
+    "pairs",
+    "clone",
+    "shared entry",
+    "shared get_mut",
+    "shared alter",
+    "shared try_get_mut",
+    "shared get",
+    "set insert",
+    "set remove",
+    "set remove_if",
+    "set contains",
+    "set get",
+    "set iter",
+    "set retain",
+    "set len",
+    "set shrink_to_fit",
+    "recorded apply",
+    "recorded try_apply",
+    "recorded count_all",
+    "recorded clone_all",
+    "recorded try_count_all",
+    "recorded try_clone_all",
+    "recorded steps that must be refused",
+    "gather",
+    "replayed get",
+    "replayed contains",
+    "replayed insert",
+    "replayed remove",
+    "replayed remove_if",
+    "replayed remove_if_mut",
+    "replayed alter",
+    "replayed read",
+    "replayed count",
+    "replayed alter_all",
+    "replayed retain",
+    "replayed count_part",
+    "replayed read_part",
+    "clear",
+    "try_reserve",
 ];
 
-/// The kind's name.
-pub fn name(call: Call) -> &'static str {
-    for (kind, name) in &CALLS {
-        if *kind == call {
-            return name;
-        }
-    }
-    "call"
-}
-
-/// How many calls of each kind were taken.
+/// How many calls of each kind were taken, and how many pairs a map had at most.
 #[derive(Clone, Copy)]
 pub struct Tally {
-    counts: [u64; CALLS.len()],
+    pub counts: [u64; NAMES.len()],
+    pub most: u64,
+    /// What was added to each counter.
+    pub added: [u64; COUNTERS],
 }
 
 impl Tally {
     pub fn new() -> Tally {
         Tally {
-            counts: [0; CALLS.len()],
+            counts: [0; NAMES.len()],
+            most: 0,
+            added: [0; COUNTERS],
         }
     }
 
@@ -192,19 +184,23 @@ impl Tally {
     #[inline]
     pub fn count(&mut self, call: Call) {
         if let Some(count) = self.counts.get_mut(call as usize) {
-            *count = count.saturating_add(1);
+            *count = count.wrapping_add(1);
         }
     }
 
-    /// How many there are of the kind at a place in `CALLS`.
-    pub fn at(&self, place: usize) -> u64 {
-        self.counts.get(place).copied().unwrap_or(0)
+    /// What was added to a counter.
+    pub fn added(&self, counter: usize) -> u64 {
+        self.added.get(counter).copied().unwrap_or(0)
     }
 
     /// The calls of another tally too.
     pub fn add(&mut self, other: &Tally) {
         for (count, more) in self.counts.iter_mut().zip(&other.counts) {
-            *count = count.saturating_add(*more);
+            *count = count.wrapping_add(*more);
         }
+        for (added, more) in self.added.iter_mut().zip(&other.added) {
+            *added = added.wrapping_add(*more);
+        }
+        self.most = self.most.max(other.most);
     }
 }

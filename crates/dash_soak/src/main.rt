@@ -1,29 +1,29 @@
-//! `dash_soak minutes N THREADS` lets threads take random calls on one map, one recorded map and one set for so many minutes, and
-//! judges each answer. `dash_soak rounds N THREADS` does so for a number of short rounds, and prints the same whatever the schedule.
+//! `dash_soak minutes N THREADS [SEED]` lets threads take random calls on one map, one recorded map and one set for so many minutes, and
+//! judges each answer. `dash_soak rounds N THREADS [SEED]` does so for a number of short rounds, and prints the same whatever the
+//! schedule.
 //!
 //! It ends with status 1 at the first wrong answer, and names it.
 #![tactic(auto)]
 
 mod answer;
 mod call;
+mod list;
 mod random;
 mod replay;
 mod round;
 mod worker;
 
-use answer::Wrong;
-use call::CALLS;
-use dash_history::gather::GatherError;
-use dashmap::error::ConstructError;
+use answer::{Judged, Wrong};
+use call::NAMES;
 use round::Soak;
-use std::alloc::{AllocError, Global};
+use std::alloc::Global;
 use std::io::Eprint;
 use std::process::ExitCode;
 use std::rt::Clock;
 use std::sync::Wait;
 use std::thread::Threads;
 use std::time::Instant;
-use std::{env, fmt, io};
+use std::{env, io};
 
 const USAGE: &str = "usage: dash_soak minutes|rounds N THREADS [SEED]";
 
@@ -36,151 +36,112 @@ const RECORDS: usize = 100_000;
 /// The same, in a short round.
 const SHORT_RECORDS: usize = 10_000;
 
-/// Why a soak ended before its time.
-#[derive(Clone, Copy)]
-pub enum Failure {
-    Wrong(Wrong),
-    /// The logs don't match the histories.
-    Mismatch,
-    Memory,
-    Clock,
-}
-
-impl fmt::Display for Failure {
-    fn fmt<W: fmt::Write>(&self, f: &mut fmt::Formatter<W>) -> fmt::Result {
-        match *self {
-            Failure::Wrong(wrong) => write!(f, "wrong answer: {wrong}"),
-            Failure::Mismatch => write!(
-                f,
-                "wrong answer: gather of all logs: wanted a history, came mismatch (22)"
-            ),
-            Failure::Memory => write!(f, "no memory"),
-            Failure::Clock => write!(f, "no clock"),
-        }
-    }
-}
-
-impl From<Wrong> for Failure {
-    fn from(wrong: Wrong) -> Failure {
-        Failure::Wrong(wrong)
-    }
-}
-
-impl From<GatherError> for Failure {
-    fn from(refused: GatherError) -> Failure {
-        match refused {
-            GatherError::Mismatch => Failure::Mismatch,
-            GatherError::Memory => Failure::Memory,
-        }
-    }
-}
-
-impl From<AllocError> for Failure {
-    fn from(_: AllocError) -> Failure {
-        Failure::Memory
-    }
-}
-
-impl From<ConstructError> for Failure {
-    fn from(_: ConstructError) -> Failure {
-        Failure::Memory
-    }
-}
-
-impl From<io::Error> for Failure {
-    fn from(_: io::Error) -> Failure {
-        Failure::Clock
-    }
-}
-
-// What a command line asks for.
+// What a command line asks for: a number of minutes, or of short rounds.
 #[derive(Clone, Copy)]
 struct Asked {
-    minutes: Option<u64>,
-    rounds: u64,
+    in_minutes: bool,
+    number: u64,
     threads: u64,
     seed: u64,
 }
 
 fn main(rt: HostRuntime) -> io::Result<ExitCode> {
-    let mut words = Vec::new(rt.alloc());
-    for word in env::args(&rt)?.skip(1) {
-        words.push(word)?;
+    let words: Vec<String> = env::args(&rt)?.collect(rt.alloc())?;
+    if let Some(asked) = parse(&words) {
+        return soak(&rt, rt.alloc(), asked);
     }
-    let Some(asked) = parse(words.as_slice()) else {
-        eprintln!(rt; "{USAGE}")?;
-        return Ok(ExitCode::from(2));
-    };
+    eprintln!(rt; "{USAGE}")?;
+    Ok(ExitCode::from(2))
+}
+
+// Takes rounds for as long as is asked, or until an answer is wrong, and prints what was done and found.
+fn soak<R: Threads + Wait + Clock + Sync + Print + Eprint>(
+    rt: &R,
+    alloc: Global,
+    asked: Asked,
+) -> io::Result<ExitCode> {
     println!(rt; "seed {}, threads {}", asked.seed, asked.threads)?;
-    let Ok(mut soak) = Soak::new(rt.alloc(), asked.threads, asked.seed) else {
-        println!(rt; "no memory")?;
-        return Ok(ExitCode::from(1));
-    };
-    if let Err(failure) = run(&rt, rt.alloc(), &mut soak, asked) {
-        println!(rt; "{failure}")?;
+    let mut soak = Soak::new(alloc, asked.threads, asked.seed)?;
+    if let Err(wrong) = run(rt, alloc, &mut soak, asked)? {
+        tell_wrong(rt, wrong)?;
         return Ok(ExitCode::from(1));
     }
-    if asked.minutes.is_some() {
-        tell(&rt, &soak)?;
+    if asked.in_minutes {
+        tell(rt, &soak)?;
     }
     println!(rt; "no wrong answer")?;
     Ok(ExitCode::from(0))
 }
 
-// Takes rounds for as long as is asked.
+// Takes the rounds.
 fn run<R: Threads + Wait + Clock + Sync>(
     rt: &R,
     alloc: Global,
     soak: &mut Soak,
     asked: Asked,
-) -> Result<(), Failure> {
-    let Some(minutes) = asked.minutes else {
-        for _ in 0..asked.rounds {
-            soak.round(rt, alloc, SHORT_RECORDS)?;
-        }
-        return Ok(());
-    };
+) -> io::Result<Judged> {
     let start = Instant::now(rt)?;
     for _ in rt.forever() {
-        if start.elapsed(rt)?.as_secs() >= minutes.saturating_mul(60) {
+        let (done, records) = if asked.in_minutes {
+            (start.elapsed(rt)?.as_secs() / 60, RECORDS)
+        } else {
+            (soak.rounds, SHORT_RECORDS)
+        };
+        if done >= asked.number {
             break;
         }
-        soak.round(rt, alloc, RECORDS)?;
+        if let Err(wrong) = soak.round(rt, alloc, records) {
+            return Ok(Err(wrong));
+        }
     }
-    Ok(())
+    Ok(Ok(()))
 }
 
-// Prints what was done.
+// Prints how many calls of each kind were taken.
 fn tell(rt: &(impl Print + Eprint), soak: &Soak) -> io::Result<()> {
-    let tally = soak.tally();
-    for (place, (_, name)) in CALLS.iter().enumerate() {
-        println!(rt; "{name}: {}", tally.at(place))?;
+    for (name, count) in NAMES.iter().zip(&soak.tally.counts) {
+        println!(rt; "{name}: {count}")?;
     }
-    println!(rt; "rounds {}, most pairs at once {}", soak.rounds, soak.most)
+    println!(rt;
+        "rounds {}, most pairs at once {}",
+        soak.rounds, soak.tally.most
+    )
 }
 
-// What the words ask for.
+// Prints a wrong answer.
+fn tell_wrong(rt: &(impl Print + Eprint), wrong: Wrong) -> io::Result<()> {
+    let Wrong {
+        call,
+        key,
+        wanted,
+        came,
+    } = wrong;
+    let name = NAMES.get(call as usize).unwrap_or(&"call");
+    println!(rt; "wrong answer: {name} of {key}: wanted {wanted:?}, came {came:?}")
+}
+
+// What the words of a command line ask for. The first one is the program's name.
 fn parse(words: &[String]) -> Option<Asked> {
-    if words.len() != 3 && words.len() != 4 {
+    if words.len() != 4 && words.len() != 5 {
         return None;
     }
-    let number = words[1].as_str().parse::<u64>().ok()?;
-    let minutes = match words[0].as_str() {
-        "minutes" => Some(number),
-        "rounds" => None,
+    let in_minutes = match words[1].as_str() {
+        "minutes" => true,
+        "rounds" => false,
         _ => return None,
     };
-    let threads = words[2].as_str().parse::<u64>().ok()?;
+    let number = words[2].as_str().parse::<u64>().ok()?;
+    let threads = words[3].as_str().parse::<u64>().ok()?;
     if threads == 0 || threads > MOST_THREADS {
         return None;
     }
-    let seed = match words.get(3) {
+    let seed = match words.get(4) {
         Some(word) => word.as_str().parse::<u64>().ok()?,
         None => 1,
     };
     Some(Asked {
-        minutes,
-        rounds: number,
+        in_minutes,
+        number,
         threads,
         seed,
     })

@@ -1,12 +1,9 @@
 //! A round: threads take calls till enough steps are recorded, and then all that they left is judged.
 
-use crate::Failure;
-use crate::answer::{Answer, Wrong, judge};
-use crate::call::{Call, Tally};
+use crate::answer::{Answer, Judged, Wrong, judge, no_memory};
+use crate::call::{COUNTERS, Call, Tally};
 use crate::replay::{SHARDS, replay};
-use crate::worker::{
-    COUNTERS, Log, Map, OWNERS, Recording, Set, Shared, Worker, counter_key, owner, told,
-};
+use crate::worker::{Log, Map, OWNERS, Recording, Set, Shared, Worker, counter_key};
 use dash_shard::hash::PlaceState;
 use std::alloc::{AllocError, Global};
 use std::rt::Clock;
@@ -22,36 +19,28 @@ pub struct Soak {
     shared: Shared,
     workers: Vec<Worker>,
     pub rounds: u64,
-    // What was done between the calls of the threads.
-    tally: Tally,
-    /// The most pairs at once.
-    pub most: u64,
+    pub tally: Tally,
 }
 
 impl Soak {
     /// A map and a set of sixteen shards, and idle threads.
-    pub fn new(alloc: Global, threads: u64, seed: u64) -> Result<Soak, Failure> {
-        let workers = idle_workers(alloc, threads, seed)?;
-        let shared = Shared {
-            map: Map::with_shard_amount(alloc, 16)?,
-            set: Set::new(alloc, 4)?,
+    pub fn new(alloc: Global, threads: u64, seed: u64) -> Result<Soak, AllocError> {
+        let mut workers = Vec::new(alloc);
+        for index in 1..=threads {
+            workers.push(Worker::new(alloc, index, seed)?)?;
+        }
+        let Ok(map) = Map::with_shard_amount(alloc, 16) else {
+            return Err(AllocError);
+        };
+        let Ok(set) = Set::new(alloc, 4) else {
+            return Err(AllocError);
         };
         Ok(Soak {
-            shared,
+            shared: Shared { map, set },
             workers,
             rounds: 0,
             tally: Tally::new(),
-            most: 0,
         })
-    }
-
-    /// How many calls of each kind were taken.
-    pub fn tally(&self) -> Tally {
-        let mut tally = self.tally;
-        for worker in &self.workers {
-            tally.add(&worker.tally);
-        }
-        tally
     }
 
     /// Takes a round, which ends when so many steps are recorded, and judges it.
@@ -62,27 +51,18 @@ impl Soak {
         rt: &R,
         alloc: Global,
         records: usize,
-    ) -> Result<(), Failure> {
-        self.put_counters(rt)?;
-        let recording = self.work(rt, alloc, records)?;
-        self.judge_workers()?;
-        let logs = self.logs(alloc)?;
-        self.judge_sums(rt)?;
-        self.judge_pairs(rt)?;
-        self.judge_keys(rt)?;
-        self.rounds = self.rounds.saturating_add(1);
-        self.end_round(rt)?;
-        replay(alloc, &recording.alone(), logs.as_slice(), &mut self.tally)
-    }
-
-    fn put_counters<R: Wait + Clock>(&mut self, rt: &R) -> Result<(), Failure> {
+    ) -> Judged {
         for counter in 0..COUNTERS {
-            match self.shared.map.entry(rt, counter_key(counter)) {
-                Ok(entry) => drop(entry.or_insert(0)),
-                Err(_) => return Err(Failure::Memory),
+            let (key, stood) = (counter_key(counter), self.tally.added(counter));
+            if self.shared.map.insert(rt, key, stood).is_err() {
+                return Err(no_memory(Call::Insert));
             }
         }
-        Ok(())
+        let recording = self.work(rt, alloc, records)?;
+        self.judge_history(alloc, recording)?;
+        self.judge_workers(rt)?;
+        self.judge_sums(rt)?;
+        self.end_round(rt)
     }
 
     // Lets the threads work on the map, the set and a new recorded map.
@@ -91,9 +71,12 @@ impl Soak {
         rt: &R,
         alloc: Global,
         records: usize,
-    ) -> Result<Recording, Failure> {
+    ) -> Result<Recording, Wrong> {
         let threads = self.workers.len().clamp(1, OWNERS as usize);
-        let (recording, logs) = Recording::new(alloc, PlaceState, SHARDS, threads as u32)?;
+        let shards = SHARDS as usize;
+        let Ok((recording, logs)) = Recording::new(alloc, PlaceState, shards, threads as u32) else {
+            return Err(no_memory(Call::Apply));
+        };
         for (worker, log) in self.workers.iter_mut().zip(logs) {
             worker.log = Some(log);
         }
@@ -104,15 +87,45 @@ impl Soak {
         Ok(recording)
     }
 
-    // Judges whether a thread got a wrong answer.
-    fn judge_workers(&mut self) -> Result<(), Failure> {
-        for worker in &self.workers {
+    // Judges whether a thread got a wrong answer, and lets each look at all that is left of its own.
+    fn judge_workers<R: Wait + Clock>(&mut self, rt: &R) -> Judged {
+        for worker in &mut self.workers {
+            worker.look(rt, &self.shared);
             if let Some(wrong) = worker.wrong {
-                return Err(Failure::Wrong(wrong));
+                return Err(wrong);
             }
-            self.most = self.most.max(worker.most);
+            self.tally.add(&worker.tally);
+            worker.tally = Tally::new();
         }
         Ok(())
+    }
+
+    // Judges the counters, and how many pairs and keys there are.
+    fn judge_sums<R: Wait + Clock>(&mut self, rt: &R) -> Judged {
+        for counter in 0..COUNTERS {
+            let key = counter_key(counter);
+            let wanted = Answer::Pair(key, self.tally.added(counter));
+            let came = Answer::told(self.shared.map.get(rt, &key));
+            self.tally.count(Call::CountGet);
+            judge(Call::CountGet, key, wanted, came)?;
+        }
+        let (mut pairs, mut keys) = (COUNTERS as u64, 0u64);
+        for worker in &self.workers {
+            pairs = pairs.wrapping_add(worker.own.sums(0, 1).0);
+            keys = keys.wrapping_add(worker.own_set.sums(0, 1).0);
+        }
+        let came = Answer::Number(self.shared.map.len(rt) as u64);
+        judge(Call::Len, 0, Answer::Number(pairs), came)?;
+        let came = Answer::Number(self.shared.set.len(rt) as u64);
+        judge(Call::SetLen, 0, Answer::Number(keys), came)
+    }
+
+    // Judges the history of the recorded map.
+    fn judge_history(&mut self, alloc: Global, recording: Recording) -> Judged {
+        let Ok(logs) = self.logs(alloc) else {
+            return Err(no_memory(Call::Gather));
+        };
+        replay(alloc, &recording.alone(), logs.as_slice(), &mut self.tally)
     }
 
     // The logs of the threads.
@@ -126,100 +139,22 @@ impl Soak {
         Ok(logs)
     }
 
-    // Judges the counters, and how many pairs and keys there are.
-    fn judge_sums<R: Wait + Clock>(&mut self, rt: &R) -> Result<(), Wrong> {
-        for counter in 0..COUNTERS {
-            let mut wanted: u64 = 0;
-            for worker in &self.workers {
-                wanted = wanted.wrapping_add(worker.added(counter));
-            }
-            let key = counter_key(counter);
-            let came = told(self.shared.map.get(rt, &key));
-            judge(Call::CountGet, key, Answer::Pair(key, wanted), came)?;
-        }
-        let (mut pairs, mut keys) = (COUNTERS as u64, 0);
-        for worker in &self.workers {
-            pairs = pairs.wrapping_add(worker.len());
-            keys = worker.set_len().wrapping_add(keys);
-        }
-        let came = self.shared.map.len(rt) as u64;
-        self.most = self.most.max(came);
-        judge(Call::Len, 0, Answer::Number(pairs), Answer::Number(came))?;
-        let came = self.shared.set.len(rt) as u64;
-        judge(Call::SetLen, 0, Answer::Number(keys), Answer::Number(came))
-    }
-
-    // Judges each pair of the map.
-    fn judge_pairs<R: Wait + Clock>(&self, rt: &R) -> Result<(), Wrong> {
-        for found in self.shared.map.iter(rt) {
-            let Ok(found) = found else {
-                return judge(Call::Iter, 0, Answer::Nothing, Answer::NoMemory);
-            };
-            let key = *found.key();
-            if let Some(worker) = self.workers.get(owner(key) as usize) {
-                let came = Answer::Pair(key, *found.value());
-                judge(Call::Iter, key, worker.at(key), came)?;
-            }
-        }
-        Ok(())
-    }
-
-    // Judges each key of the set.
-    fn judge_keys<R: Wait + Clock>(&self, rt: &R) -> Result<(), Wrong> {
-        for found in self.shared.set.iter(rt) {
-            let Ok(found) = found else {
-                return judge(Call::SetIter, 0, Answer::Nothing, Answer::NoMemory);
-            };
-            let key = *found.key();
-            let is_in = match self.workers.get(owner(key) as usize) {
-                Some(worker) => worker.is_in_set(key),
-                None => false,
-            };
-            judge(
-                Call::SetIter,
-                key,
-                Answer::Truth(true),
-                Answer::Truth(is_in),
-            )?;
-        }
-        Ok(())
-    }
-
     // Makes room between two rounds, and after some of them clears the map and the set.
-    fn end_round<R: Wait + Clock>(&mut self, rt: &R) -> Result<(), Failure> {
+    fn end_round<R: Wait + Clock>(&mut self, rt: &R) -> Judged {
+        self.rounds = self.rounds.wrapping_add(1);
+        if self.rounds % CLEARED_AFTER == 0 {
+            self.tally.count(Call::Clear);
+            self.shared.map.clear(rt);
+            self.shared.set.clear(rt);
+            for worker in &mut self.workers {
+                worker.own.clear();
+                worker.own_set.clear();
+            }
+        }
         self.tally.count(Call::TryReserve);
-        if self.shared.map.try_reserve(1000).is_err() {
-            return Err(Failure::Memory);
+        match self.shared.map.try_reserve(1000) {
+            Ok(()) => Ok(()),
+            Err(_) => Err(no_memory(Call::TryReserve)),
         }
-        if self.rounds % CLEARED_AFTER != 0 {
-            return Ok(());
-        }
-        self.tally.count(Call::Clear);
-        self.shared.map.clear(rt);
-        self.shared.set.clear(rt);
-        for worker in &mut self.workers {
-            worker.forget();
-        }
-        let left = self
-            .shared
-            .map
-            .len(rt)
-            .saturating_add(self.shared.set.len(rt));
-        judge(
-            Call::Clear,
-            0,
-            Answer::Number(0),
-            Answer::Number(left as u64),
-        )?;
-        Ok(())
     }
-}
-
-// Threads that have done nothing yet.
-fn idle_workers(alloc: Global, threads: u64, seed: u64) -> Result<Vec<Worker>, AllocError> {
-    let mut workers = Vec::new(alloc);
-    for index in 0..threads {
-        workers.push(Worker::new(alloc, index, seed)?)?;
-    }
-    Ok(workers)
 }

@@ -1,154 +1,113 @@
 //! Walks, and calls on all pairs, of which the thread changes its own alone.
 
-use super::held::Held;
-use super::{COUNTERS, Draw, Map, OWNERS, Shared, Worker, changed, goes, owner};
-use crate::answer::{Answer, Wrong};
-use crate::call::Call;
+use super::{Draw, Map, OWNERS, Set, Shared, Worker, goes, owner, parted, raise, raised};
+use crate::answer::{Answer, Judged, judge, no_memory};
+use crate::call::{COUNTERS, Call};
+use crate::list::{List, weight};
+use std::alloc::AllocError;
 use std::rt::Clock;
 use std::sync::Wait;
 
-// The pairs of this thread's own that a walk gave: how many, and the sum of their keys.
-#[derive(Clone, Copy)]
-struct Seen {
-    count: u64,
-    sum: u64,
-}
-
 impl Worker {
     // A call that looks at all shards, or at some pairs.
-    pub(super) fn take_all<R: Wait + Clock>(
-        &mut self,
-        rt: &R,
-        shared: &Shared,
-        draw: Draw,
-    ) -> Result<(), Wrong> {
-        let map = &shared.map;
+    pub fn take_look<R: Wait + Clock>(&mut self, rt: &R, shared: &Shared, draw: Draw) -> Judged {
+        let (map, set) = (&shared.map, &shared.set);
+        let own = self.own.sums(0, 1).0;
         match draw.kind {
-            0..=9 => self.take_early_end(rt, map, draw),
-            10..=12 => {
+            0..=7 => self.walk(rt, map, draw.other % 512),
+            8 | 9 => {
                 let came = map.len(rt) as u64;
-                self.most = self.most.max(came);
-                let from = self.len().saturating_add(COUNTERS as u64);
-                self.judge_from(Call::Len, 0, from, came)
+                self.tally.most = self.tally.most.max(came);
+                self.judge_least(Call::Len, own.wrapping_add(COUNTERS as u64), came)
             }
-            13 => {
+            10 => self.judge_least(Call::Capacity, own, map.capacity(rt) as u64),
+            11 => {
+                let own = self.own_set.sums(0, 1).0;
+                self.judge_least(Call::SetLen, own, set.len(rt) as u64)
+            }
+            12 | 13 => {
                 let came = Answer::Truth(map.is_empty(rt));
                 self.judge(Call::IsEmpty, 0, Answer::Truth(false), came)
             }
             14 => {
-                let came = map.capacity(rt) as u64;
-                self.judge_from(Call::Capacity, 0, self.len(), came)
-            }
-            _ => {
                 map.shrink_to_fit(rt);
                 self.tally.count(Call::ShrinkToFit);
                 Ok(())
             }
+            _ => {
+                set.shrink_to_fit(rt);
+                self.tally.count(Call::SetShrink);
+                Ok(())
+            }
         }
     }
 
-    // A walk that ends early, after calls beside its last pair that wait for nobody.
-    fn take_early_end<R: Wait + Clock>(
-        &mut self,
-        rt: &R,
-        map: &Map,
-        draw: Draw,
-    ) -> Result<(), Wrong> {
-        let mut left = draw.other % 512;
-        for found in map.iter(rt) {
-            let Ok(found) = found else {
-                return self.judge(Call::IterEnded, 0, Answer::Nothing, Answer::NoMemory);
-            };
-            self.see(Call::IterEnded, *found.key(), *found.value())?;
-            if left == 0 {
-                let shard = map.determine_map(found.key());
-                self.tally.count(Call::IterEnded);
-                return self.take_beside(map, draw, Held::Reading(shard));
-            }
-            left = left.saturating_sub(1);
-        }
-        Ok(())
+    // Judges a number, which is to be this one or greater.
+    fn judge_least(&mut self, call: Call, least: u64, came: u64) -> Judged {
+        let wanted = Answer::Number(came.max(least));
+        self.judge(call, 0, wanted, Answer::Number(came))
     }
 
     // A call on all pairs.
-    pub(super) fn take_walk<R: Wait + Clock>(
-        &mut self,
-        rt: &R,
-        map: &Map,
-        draw: Draw,
-    ) -> Result<(), Wrong> {
+    pub fn take_walk<R: Wait + Clock>(&mut self, rt: &R, shared: &Shared, draw: Draw) -> Judged {
+        let map = &shared.map;
         match draw.kind {
-            0..=3 => self.walk(rt, map),
-            4..=6 => self.walk_writing(rt, map),
-            7..=11 => {
-                self.change_all(rt, map, draw.kind < 9);
+            0..=2 => self.walk(rt, map, 0),
+            3..=5 => self.walk_writing(rt, map),
+            6 | 7 => self.see_copies(Call::Pairs, map.pairs(rt)),
+            8 | 9 => self.see_copies(Call::Clone, copies(rt, map)),
+            10 | 11 => {
+                self.alter_all(rt, map);
                 Ok(())
             }
             12 | 13 => {
-                let Ok(pairs) = map.pairs(rt) else {
-                    return self.judge(Call::Pairs, 0, Answer::Nothing, Answer::NoMemory);
-                };
-                self.see_all(Call::Pairs, pairs.as_slice())
+                self.retain(rt, map);
+                Ok(())
             }
             _ => {
-                let Ok(copy) = map.clone(rt) else {
-                    return self.judge(Call::Clone, 0, Answer::Nothing, Answer::NoMemory);
-                };
-                let Ok(pairs) = copy.pairs(rt) else {
-                    return self.judge(Call::Clone, 0, Answer::Nothing, Answer::NoMemory);
-                };
-                self.see_all(Call::Clone, pairs.as_slice())
+                self.retain_keys(rt, &shared.set);
+                self.walk_set(rt, &shared.set)
             }
         }
     }
 
-    // Changes all pairs of its own, and if asked to keeps some of them.
-    fn change_all<R: Wait + Clock>(&mut self, rt: &R, map: &Map, takes_out: bool) {
-        let me = self.index;
-        if takes_out {
-            map.retain(rt, |key, value| {
-                if owner(*key) != me {
-                    return true;
-                }
-                *value = changed(*value);
-                !goes(*value)
-            });
-        } else {
-            map.alter_all(
-                rt,
-                |key, value| if owner(*key) == me {
-                    changed(value)
-                } else {
-                    value
-                },
-            );
-        }
-        for own in &mut self.own {
-            *own = own.map(changed).filter(|value| !takes_out || !goes(*value));
-        }
-        self.tally.count(if takes_out {
-            Call::Retain
-        } else {
-            Call::AlterAll
-        });
-    }
-
-    fn walk<R: Wait + Clock>(&mut self, rt: &R, map: &Map) -> Result<(), Wrong> {
-        let mut seen = Seen { count: 0, sum: 0 };
+    /// A walk over the map. It ends early after so many pairs, if there are as many, and calls that wait for nobody beside the last.
+    pub fn walk<R: Wait + Clock>(&mut self, rt: &R, map: &Map, mut pairs: u64) -> Judged {
         for found in map.iter(rt) {
             let Ok(found) = found else {
-                return self.judge(Call::Iter, 0, Answer::Nothing, Answer::NoMemory);
+                return Err(no_memory(Call::Iter));
             };
-            if self.see(Call::Iter, *found.key(), *found.value())? {
-                seen.add(*found.key());
+            let key = *found.key();
+            let stood = self.own.at(key / OWNERS);
+            self.see(Call::Iter, key, *found.value(), stood);
+            pairs = pairs.wrapping_sub(1);
+            if pairs == 0 {
+                self.tally.count(Call::IterEnded);
+                let draw = self.draw();
+                self.take_tries(map, key, true, draw);
+                self.seen = 0;
+                return Ok(());
             }
         }
-        self.judge_seen(Call::Iter, seen)
+        self.judge_own(Call::Iter)
+    }
+
+    /// A walk over the set.
+    pub fn walk_set<R: Wait + Clock>(&mut self, rt: &R, set: &Set) -> Judged {
+        for found in set.iter(rt) {
+            let Ok(found) = found else {
+                return Err(no_memory(Call::SetIter));
+            };
+            let key = *found.key();
+            let stood = self.own_set.at(key / OWNERS);
+            self.see(Call::SetIter, key, key, stood);
+        }
+        let (_, wanted) = self.own_set.sums(0, 1);
+        self.judge_seen(Call::SetIter, wanted)
     }
 
     // A walk that writes each value of its own.
-    fn walk_writing<R: Wait + Clock>(&mut self, rt: &R, map: &Map) -> Result<(), Wrong> {
-        let mut seen = Seen { count: 0, sum: 0 };
+    fn walk_writing<R: Wait + Clock>(&mut self, rt: &R, map: &Map) -> Judged {
         let mut walk = map.iter_mut(rt);
         for _ in rt.forever() {
             if !walk.advance() {
@@ -156,58 +115,110 @@ impl Worker {
             }
             let mut found = walk.item_mut();
             let (key, value) = (*found.key(), *found.value());
-            if self.see(Call::IterMut, key, value)? {
-                seen.add(key);
-                *found.value_mut() = changed(value);
-                self.set_value((key / OWNERS) as usize, Some(changed(value)));
+            let stood = self.own.at(key / OWNERS);
+            self.see(Call::IterMut, key, value, stood);
+            if owner(key) == self.index {
+                raise(found.value_mut());
             }
         }
-        self.judge_seen(Call::IterMut, seen)
+        let judged = self.judge_own(Call::IterMut);
+        self.raise_own();
+        judged
     }
 
-    // Judges all pairs of a list.
-    fn see_all(&mut self, call: Call, pairs: &[(u64, u64)]) -> Result<(), Wrong> {
-        let mut seen = Seen { count: 0, sum: 0 };
-        for (key, value) in pairs {
-            if self.see(call, *key, *value)? {
-                seen.add(*key);
-            }
-        }
-        self.judge_seen(call, seen)
-    }
-
-    // Judges a pair that a call gave, and says whether it is of its own: such a one is known, and another's value names its thread.
-    fn see(&self, call: Call, key: u64, value: u64) -> Result<bool, Wrong> {
-        let is_own = owner(key) == self.index;
-        let is_lawful = owner(key) == OWNERS - 1 || value == 0 || owner(value) == owner(key);
-        let wanted = if is_own {
-            self.pair((key / OWNERS) as usize)
-        } else if is_lawful {
-            Answer::Pair(key, value)
-        } else {
-            Answer::Pair(key, owner(key))
+    // Judges copies of all pairs.
+    fn see_copies(&mut self, call: Call, copies: Result<Vec<(u64, u64)>, AllocError>) -> Judged {
+        let Ok(copies) = copies else {
+            return Err(no_memory(call));
         };
-        crate::answer::judge(call, key, wanted, Answer::Pair(key, value))?;
-        Ok(is_own)
+        for (key, value) in &copies {
+            let stood = self.own.at(*key / OWNERS);
+            self.see(call, *key, *value, stood);
+        }
+        self.judge_own(call)
     }
 
-    // Judges whether a walk gave each pair of its own once.
-    fn judge_seen(&mut self, call: Call, seen: Seen) -> Result<(), Wrong> {
-        let mut own = Seen { count: 0, sum: 0 };
-        for (number, value) in self.own.iter().enumerate() {
-            if value.is_some() {
-                own.add(self.key(number));
+    // Judges a pair that a walk gave, and notes what is wrong. One of the thread's own is known, and is weighed. Another's value names
+    // its thread, or nobody.
+    fn see(&mut self, call: Call, key: u64, value: u64, stood: Option<u64>) {
+        let came = Answer::Pair(key, value);
+        if owner(key) == self.index {
+            self.seen = self.seen.wrapping_add(weight(key / OWNERS, value));
+            self.note(judge(call, key, Answer::at(key, stood), came));
+        } else if owner(value) != 0 && owner(value) != owner(key) {
+            self.note(judge(call, key, Answer::Pair(key, owner(key)), came));
+        }
+    }
+
+    // Judges whether a walk saw each pair of its own once, by what they weigh.
+    fn judge_seen(&mut self, call: Call, wanted: u64) -> Judged {
+        let came = Answer::Number(self.seen);
+        self.seen = 0;
+        self.judge(call, self.index, Answer::Number(wanted), came)
+    }
+
+    // The same of the map.
+    fn judge_own(&mut self, call: Call) -> Judged {
+        let (_, wanted) = self.own.sums(0, 1);
+        self.judge_seen(call, wanted)
+    }
+
+    // All values of its own were raised.
+    fn raise_own(&mut self) {
+        for value in &mut self.own.values {
+            if let Some(value) = value {
+                raise(value);
             }
         }
-        let wanted = Answer::Pair(own.count, own.sum);
-        self.judge(call, self.index, wanted, Answer::Pair(seen.count, seen.sum))
+    }
+
+    // Changes all values of its own.
+    fn alter_all<R: Wait + Clock>(&mut self, rt: &R, map: &Map) {
+        self.tally.count(Call::AlterAll);
+        let me = self.index;
+        map.alter_all(
+            rt,
+            |key, value| if owner(*key) == me {
+                raised(value)
+            } else {
+                value
+            },
+        );
+        self.raise_own();
+    }
+
+    // Changes all values of its own, and keeps some of them.
+    fn retain<R: Wait + Clock>(&mut self, rt: &R, map: &Map) {
+        self.tally.count(Call::Retain);
+        let me = self.index;
+        map.retain(rt, |key, value| {
+            if owner(*key) != me {
+                return true;
+            }
+            raise(value);
+            !goes(*value)
+        });
+        self.raise_own();
+        part_all(&mut self.own);
+    }
+
+    // Keeps some keys of its own.
+    fn retain_keys<R: Wait + Clock>(&mut self, rt: &R, set: &Set) {
+        self.tally.count(Call::SetRetain);
+        let me = self.index;
+        set.retain(rt, |key| owner(*key) != me || !goes(*key));
+        part_all(&mut self.own_set);
     }
 }
 
-impl Seen {
-    #[inline]
-    fn add(&mut self, key: u64) {
-        self.count = self.count.saturating_add(1);
-        self.sum = self.sum.wrapping_add(key);
+// What goes of a list is gone.
+fn part_all(list: &mut List) {
+    for value in &mut list.values {
+        *value = parted(*value).1;
     }
+}
+
+// The pairs of a copy of the map.
+fn copies<R: Wait + Clock>(rt: &R, map: &Map) -> Result<Vec<(u64, u64)>, AllocError> {
+    map.clone(rt)?.pairs(rt)
 }
