@@ -1,3 +1,4 @@
 //! The tests, by what is hostile.
+mod checks;
 mod constructors;
 mod keys;

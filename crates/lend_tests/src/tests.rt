@@ -1,4 +1,5 @@
 //! The tests, in modules that are named as those that they test.
+mod checks;
 mod entry;
 mod iter;
 mod maps;

@@ -1,7 +1,7 @@
 //! Shards by hand. By `PlaceState` the key k of four shards goes to shard k modulo 4, so 1, 5 and 9 go to shard 1.
 ghost use Rattle.std.specs.Prelude.{◌<◌};
 
-use crate::checks::is;
+use crate::tests::checks::is;
 use dash_held::lock::RwLock;
 use dash_shard::hash::{PlaceState, is_shard_amount};
 use dash_shard::shard::Shard;

@@ -2,8 +2,8 @@
 ghost use Rattle.std.specs.Prelude.{◌≡◌, IfOk};
 ghost use Rattle.dash_shard.specs.Hashing.{by, HashAlike};
 
-use crate::checks::is;
 use crate::tests::by_hand::{new_shard, put};
+use crate::tests::checks::is;
 use dash_shard::hash::{FixedState, PlaceState, ZeroState, determine_shard, is_shard_amount};
 use std::alloc::{AllocError, Global};
 use std::hash::{BuildHasher, Hash, Hasher, RandomState};

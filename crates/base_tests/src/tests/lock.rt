@@ -2,7 +2,7 @@
 ghost use Rattle.std.specs.Prelude.{◌≡◌, ◌<◌, IfOk};
 ghost use Rattle.std.specs.Arc.{arc_value};
 
-use crate::checks::is;
+use crate::tests::checks::is;
 use dash_held::lock::{RwLock, Tagged};
 use std::alloc::{AllocError, Global};
 use std::mem;

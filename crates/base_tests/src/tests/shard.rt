@@ -1,6 +1,6 @@
 //! One shard's calls, as worked by hand.
-use crate::checks::is;
 use crate::tests::by_hand::{new_shard, put, remove, shard_one};
+use crate::tests::checks::is;
 use crate::values::Noted;
 use dash_shard::hash::PlaceState;
 use dash_shard::shard::Shard;

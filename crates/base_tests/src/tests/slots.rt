@@ -1,5 +1,5 @@
 //! Rows of slots, each empty or with a value.
-use crate::checks::is;
+use crate::tests::checks::is;
 use dash_slots::Slots;
 
 #[test]

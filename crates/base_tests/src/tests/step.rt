@@ -1,5 +1,5 @@
 //! Copies of steps and replies, and the shards of steps.
-use crate::checks::{is, prints};
+use crate::tests::checks::{is, prints};
 use dash_shard::hash::{PlaceState, is_shard_amount};
 use dash_steps::step::{Reply, ShardStep};
 

@@ -1,5 +1,5 @@
 //! A recorded map's refusals, its stamps and its replies, as worked by hand.
-use base_tests::checks::{is, prints};
+use crate::tests::checks::{is, prints};
 use dash_history::alone::RecAlone;
 use dash_history::record::{CallerLog, RecordFault};
 use dash_shard::error::ConstructError;

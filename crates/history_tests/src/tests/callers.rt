@@ -1,5 +1,5 @@
 //! Steps of two callers: counts that miss or double pairs, the last stamp that there is, and numbers of callers that aren't lawful.
-use base_tests::checks::is;
+use crate::tests::checks::is;
 use dash_history::gather::At;
 use dash_history::record::map::RecordedMap;
 use dash_history::record::{CallerLog, RecordFault};

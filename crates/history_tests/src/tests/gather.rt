@@ -1,6 +1,6 @@
 //! Merging and gathering, as worked by hand: logs that match the histories, and logs that don't.
 use super::map::{Alone, Log, Map, apply, four_threads, last_of};
-use base_tests::checks::is;
+use crate::tests::checks::is;
 use base_tests::values::Uncopied;
 use dash_history::alone::RecAlone;
 use dash_history::gather::{At, GatherError, gather};

@@ -1,5 +1,5 @@
 //! A recorded shard behind its lock, as worked by hand.
-use base_tests::checks::{is, prints};
+use crate::tests::checks::{is, prints};
 use dash_history::record::CallerLog;
 use dash_history::record::held::RecShardMut;
 use dash_history::record::map::RecordedMap;

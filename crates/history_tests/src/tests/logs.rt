@@ -1,6 +1,6 @@
 //! Logs that no run of the map gave: each is refused by a mismatch, and nothing changes.
 use crate::tests::callers::{Log, Step, apply, map_of_two};
-use base_tests::checks::is;
+use crate::tests::checks::is;
 use dash_history::alone::RecAlone;
 use dash_history::gather::GatherError;
 use dash_shard::hash::PlaceState;

@@ -1,7 +1,7 @@
 //! A recorded map behind its locks: as worked by hand, shared by threads, and moved out of its locks and back.
 ghost use Rattle.std.specs.Prelude.{◌≡◌, ◌<◌};
 
-use base_tests::checks::{is, prints};
+use crate::tests::checks::{is, prints};
 use dash_history::alone::RecAlone;
 use dash_history::record::CallerLog;
 use dash_history::record::map::RecordedMap;

@@ -1,7 +1,7 @@
 //! Steps that wait for nobody, as worked by hand.
 use super::gather::{is_gathered, map_of_two, three_places};
 use super::map::{Log, Map};
-use base_tests::checks::{is, prints};
+use crate::tests::checks::{is, prints};
 use dash_history::record::RecordFault;
 use dash_steps::step::{Reply, ShardStep};
 use std::process::Abort;

@@ -1,7 +1,7 @@
 //! Whole steps, as worked by hand, and beside threads.
 use super::gather::map_of_two;
 use super::map::{Log, Map, apply};
-use base_tests::checks::{is, prints};
+use crate::tests::checks::{is, prints};
 use dash_history::gather::At;
 use dash_history::record::RecordFault;
 use dash_shard::hash::PlaceState;

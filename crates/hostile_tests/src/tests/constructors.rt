@@ -1,5 +1,5 @@
 //! Amounts and capacities that no memory holds, or that aren't lawful.
-use base_tests::checks::is;
+use crate::tests::checks::is;
 use dashmap::DashMap;
 use dashmap::error::ConstructError;
 

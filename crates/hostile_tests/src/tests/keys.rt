@@ -1,5 +1,5 @@
 //! Keys that are equal but differ, by hashers that spread them and by one that puts all in one place.
-use base_tests::checks::is;
+use crate::tests::checks::is;
 use dash_kept::{Kept, KeptKey};
 use dashmap::hash::{FixedState, PlaceState, ZeroState};
 use dashmap::{Alone, DashMap};

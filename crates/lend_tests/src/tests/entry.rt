@@ -1,6 +1,6 @@
 //! Entries of a map that threads share, as worked by hand.
+use crate::tests::checks::is;
 use crate::tests::maps::{map_of, put};
-use base_tests::checks::is;
 use base_tests::values::Noted;
 use dash_map::map::DashMap;
 use dash_ref::mapref::entry::{Entry, OccupiedEntry, TryEntryRefused, VacantEntry};

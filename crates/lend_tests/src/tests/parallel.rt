@@ -1,6 +1,6 @@
 //! Walks over the pairs of a map and of a view that several workers share.
+use crate::tests::checks::is;
 use crate::tests::maps::{map_of, put};
-use base_tests::checks::is;
 use dash_map::map::DashMap;
 use dash_shard::hash::PlaceState;
 use std::process::Abort;

@@ -1,7 +1,7 @@
 //! References that are mapped to a part of their value.
 use crate::parts::{Left, Sides};
+use crate::tests::checks::{is, prints};
 use crate::tests::maps::{map_of, put};
-use base_tests::checks::{is, prints};
 use dash_ref::mapref::one::{Compose, First, Payload, Second};
 use std::convert::AsRef;
 

@@ -1,6 +1,6 @@
 //! References that may be written, and calls that wait for nobody.
+use crate::tests::checks::{is, prints};
 use crate::tests::maps::{Places, map_of, put};
-use base_tests::checks::{is, prints};
 use dash_map::map::DashMap;
 use dash_ref::mapref::entry::Entry;
 use dash_ref::try_result::TryResult;

@@ -1,6 +1,6 @@
 //! Views of a map that nobody writes any more.
+use crate::tests::checks::is;
 use crate::tests::maps::{map_of, put};
-use base_tests::checks::is;
 
 #[test]
 fn a_view_and_back(rt: HostRuntime) {

@@ -1,6 +1,6 @@
 //! The operators of a map, its shards, and what it prints.
+use crate::tests::checks::{is, prints};
 use crate::tests::maps::{map_of, put};
-use base_tests::checks::{is, prints};
 use dash_map::map::DashMap;
 
 #[test]

@@ -1,6 +1,6 @@
 //! Calls of a map of one owner, as worked by hand.
+use crate::tests::checks::is;
 use crate::tests::maps::map_of_four;
-use base_tests::checks::is;
 use dash_map::alone::Alone;
 use dash_map::map::DashMap;
 use dash_shard::error::TryReserveError;

@@ -1,6 +1,6 @@
 //! The calls of a map that threads share: what is put is found, taken once, and changed in its place.
+use crate::tests::checks::is;
 use crate::tests::maps::{map_of_four, put};
-use base_tests::checks::is;
 use dash_map::map::DashMap;
 use dash_shard::error::TryReserveError;
 use dash_shard::hash::{FixedState, PlaceState, ZeroState};

@@ -1,6 +1,6 @@
 //! The texts of all refusals, and those that pass as want of memory.
+use crate::tests::checks::{is, prints};
 use crate::tests::maps::map_of_four;
-use base_tests::checks::{is, prints};
 use dash_history::gather::GatherError;
 use dash_history::record::RecordFault;
 use dash_map::extend::{ExtendRefused, FromRefused};

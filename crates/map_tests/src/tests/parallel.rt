@@ -1,6 +1,6 @@
 //! Runs and lists that several workers share, as worked by hand.
+use crate::tests::checks::{is, prints};
 use crate::tests::maps::{map_of_four, put};
-use base_tests::checks::{is, prints};
 use dash_map::parallel::run::{Gate, ParOutcome};
 use dash_map::run::Fault;
 use dash_steps::step::ShardStep;

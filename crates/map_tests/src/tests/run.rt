@@ -1,6 +1,6 @@
 //! Runs of a few steps, as worked by hand.
+use crate::tests::checks::{is, prints};
 use crate::tests::maps::{map_of_four, put};
-use base_tests::checks::{is, prints};
 use base_tests::values::Uncopied;
 use dash_kept::Kept;
 use dash_map::alone::Alone;

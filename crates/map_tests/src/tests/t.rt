@@ -1,6 +1,6 @@
 //! Code for any map that threads share, called with a `DashMap`.
+use crate::tests::checks::is;
 use crate::tests::maps::map_of_four;
-use base_tests::checks::is;
 use dash_map::t::Map;
 use dash_ref::mapref::entry::{Entry, TryEntryRefused};
 use dash_shard::hash::PlaceState;

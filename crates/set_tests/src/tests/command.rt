@@ -1,5 +1,5 @@
 //! What `dashcheck` prints, where writes succeed and where they fail.
-use base_tests::checks::is;
+use crate::tests::checks::is;
 use dash_command::command::{exit_code, refuse_memory, run_words};
 use std::alloc::{AllocError, Global};
 use std::io::{self, Read, Write};

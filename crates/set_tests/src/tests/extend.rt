@@ -1,5 +1,5 @@
 //! Lists of pairs that make a map, or are put into one, and the copies that a map gives.
-use base_tests::checks::is;
+use crate::tests::checks::is;
 use base_tests::values::Noted;
 use dashmap::DashMap;
 use dashmap::error::{ConstructError, FromRefused};

@@ -1,5 +1,5 @@
 //! Caches: what is kept, what is computed, and what want of memory does.
-use base_tests::checks::is;
+use crate::tests::checks::is;
 use dashmap::Kept;
 use dashmap::error::ConstructError;
 use dashmap::hash::{FixedState, PlaceState};

@@ -1,5 +1,5 @@
 //! Names that are stored once.
-use base_tests::checks::is;
+use crate::tests::checks::is;
 use dashmap::DashSet;
 use uses::names::intern;
 

@@ -1,5 +1,5 @@
 //! Pages whose lines are counted once.
-use base_tests::checks::is;
+use crate::tests::checks::is;
 use dashmap::Memo;
 use uses::pages::{LineCount, lines_of};
 

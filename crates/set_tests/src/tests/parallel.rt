@@ -1,5 +1,5 @@
 //! Lists that several workers put into a map or a set.
-use base_tests::checks::is;
+use crate::tests::checks::is;
 use dashmap::run::Open;
 use dashmap::{DashMap, DashSet};
 use std::alloc::Global;

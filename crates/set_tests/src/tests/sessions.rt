@@ -1,5 +1,5 @@
 //! Users who log in and are logged out.
-use base_tests::checks::is;
+use crate::tests::checks::is;
 use uses::sessions::{Sessions, expire, last_seen, log_in_all};
 
 #[test]

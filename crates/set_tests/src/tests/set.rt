@@ -1,5 +1,5 @@
 //! Sets that threads share, and of one owner.
-use base_tests::checks::is;
+use crate::tests::checks::is;
 use dashmap::DashSet;
 use dashmap::hash::{FixedState, PlaceState};
 use dashmap::set::AloneSet;

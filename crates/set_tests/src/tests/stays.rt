@@ -1,5 +1,5 @@
 //! Stays in a hotel, with a key and a value of the user's own types.
-use base_tests::checks::is;
+use crate::tests::checks::is;
 use uses::stays::{Room, Stay, Stays, all_nights, list, prolong};
 
 #[test]

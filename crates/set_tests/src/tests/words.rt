@@ -1,5 +1,5 @@
 //! A page whose words two threads count.
-use base_tests::checks::is;
+use crate::tests::checks::is;
 use dashmap::DashMap;
 use std::thread;
 use uses::words::{count, count_words, start_anew};

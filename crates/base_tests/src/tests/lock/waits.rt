@@ -1,5 +1,5 @@
 //! Threads that wait for a lock get it, asleep or not.
-use crate::checks::is;
+use crate::tests::checks::is;
 use dash_held::lock::raw::RawRwLock;
 use dash_held::lock::{RwLock, Tagged};
 use std::rt::Clock;

@@ -1,5 +1,5 @@
 //! The word of a lock and its events, as worked by hand.
-use crate::checks::is;
+use crate::tests::checks::is;
 use dash_held::lock::word::LockEvent::{
     self, ClearWriters, Downgrade, ReleaseExclusive, ReleaseShared, SetMark, TakeExclusive,
     TakeShared,

@@ -1,6 +1,6 @@
 //! One shard behind its lock, as worked by hand.
-use crate::checks::is;
 use crate::tests::by_hand::lock_of_one;
+use crate::tests::checks::is;
 use dash_held::held::ShardMut;
 use dash_held::lock::RwLock;
 use dash_shard::hash::PlaceState;

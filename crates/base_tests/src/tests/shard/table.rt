@@ -1,6 +1,6 @@
 //! The marks of sixteen slots, and what becomes of them where keys come and go.
-use crate::checks::is;
 use crate::tests::by_hand::{new_shard, put, remove};
+use crate::tests::checks::is;
 use dash_shard::hash::{PlaceState, ZeroState};
 use dash_shard::shard::probe;
 

@@ -1,8 +1,8 @@
 //! A walk that comes to the end of a shard takes the next hold before it gives up the old one.
 //!
 //! One thread has the next shard, and another one walks. They wait for one another by what is held, and no longer than they have turns.
+use crate::tests::checks::is;
 use crate::tests::maps::{Places, is_held, three_pairs};
-use base_tests::checks::is;
 use std::alloc::Global;
 use std::process::Abort;
 use std::rt::Clock;

@@ -1,6 +1,6 @@
 //! A walk over a map that threads share: rising shards, each pair once, and which shard it holds.
+use crate::tests::checks::{is, prints};
 use crate::tests::maps::{is_held, map_of, put, three_pairs};
-use base_tests::checks::{is, prints};
 use dash_map::map::DashMap;
 use dash_map::t::Map;
 use std::alloc::{AllocError, Global};

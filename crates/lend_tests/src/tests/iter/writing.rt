@@ -1,6 +1,6 @@
 //! Walks that write: over a map of one owner, and over one that threads share, which show the shard that they hold.
+use crate::tests::checks::is;
 use crate::tests::maps::{map_of, put};
-use base_tests::checks::is;
 use dash_map::alone::Alone;
 use dash_map::map::DashMap;
 use dash_map::t::Map;
