@@ -48,7 +48,7 @@ pub fn copy_shard<K: KeptKey + Drop, V: Kept + Drop, S: BuildHasher + Clone + Dr
     Ok(copy)
 }
 
-/// Copies of these shards, in their order.
+/// Copies of these shards, in their order. It takes memory for their row besides, and is refused (4) where there is none.
 pub fn copy_shards<K: KeptKey + Drop, V: Kept + Drop, S: BuildHasher + Clone + Drop>(
     alloc: Global,
     shards: &[Shard<K, V, S>],
