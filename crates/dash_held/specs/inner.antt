@@ -1,4 +1,2 @@
 -- What only proofs, invariants and the contracts of private functions use.
-pub mod Codes
-pub mod IsHold
 pub mod Lending

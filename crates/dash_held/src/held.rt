@@ -10,13 +10,14 @@ ghost use Rattle.dash_shard.specs.Closures.{MayAsk, Viewed, MayChange, ChangesOn
 ghost use Rattle.dash_shard.specs.Held.{FitsTag, Inserts, Reserves, Loses};
 ghost use Rattle.dash_lock.specs.Lock.{LeftBehind};
 
-use crate::lock::{RwLockReadGuard, RwLockWriteGuard};
+use dash_lock::lock::{RwLockReadGuard, RwLockWriteGuard};
 use dash_shard::error::TryReserveError;
 use dash_shard::keyed::Keyed;
 use dash_shard::shard::{InsertRefused, Shard};
 use holds::{Holds, Wakes, Writing};
 use std::hash::{BuildHasher, Hash};
 use std::marker::{Model, PhantomData};
+use std::ops::Deref;
 
 mod all_pairs;
 pub mod holds;
@@ -26,8 +27,8 @@ mod positions;
 
 /// A shard that is held for writing, as the original's write guard of one shard: the hold ends when it is dropped.
 ///
-/// Calls are those of `Shard`, and change the shard in place. To take or to end a hold takes no memory, and to end one waits for nobody
-/// and can't fail. A contract sees it as the shard.
+/// It is read as a `Shard`, and has the calls of one that change it, which do so in place. To take or to end a hold takes no memory, and
+/// to end one waits for nobody and can't fail. A contract sees it as the shard.
 #[must_use]
 pub struct HeldShard<K: Eq + Hash, V, S: BuildHasher, H: Holds<Key = K, Value = V, State = S>> {
     hold: H,
@@ -64,6 +65,19 @@ impl<K: Eq + Hash, V, S: BuildHasher, H: Holds<Key = K, Value = V, State = S>> K
     ghost by = { by K.Hash S.BuildHasher S.Hasher.Hasher };
 }
 
+/// The shard, to be read.
+impl<K: Eq + Hash, V, S: BuildHasher, H: Holds<Key = K, Value = V, State = S>> Deref
+    for HeldShard<K, V, S, H> {
+    type Target = Shard<K, V, S>;
+
+    ghost deref_gives = { λ held shard. shard ≡ held };
+
+    #[inline(always)]
+    fn deref(&self) -> &Shard<K, V, S> {
+        self.hold.get()
+    }
+}
+
 impl<K: Eq + Hash, V, S: BuildHasher, H: Holds<Key = K, Value = V, State = S>> Drop
     for HeldShard<K, V, S, H> {
     #[inline]
@@ -79,10 +93,19 @@ impl<K: Eq + Hash, V, S: BuildHasher, H: Holds<Key = K, Value = V, State = S>> D
     }
 }
 
-impl<'a, K: Eq + Hash, V, S: BuildHasher> RwLockWriteGuard<'a, Shard<K, V, S>> {
+/// A guard that turns into the shard that it holds.
+pub trait IntoShard {
+    type Shard;
+
     /// The shard that is held, whose calls change it in place.
+    fn shard(self) -> Self::Shard;
+}
+
+impl<'a, K: Eq + Hash, V, S: BuildHasher> IntoShard for RwLockWriteGuard<'a, Shard<K, V, S>> {
+    type Shard = ShardMut<'a, K, V, S>;
+
     #[inline]
-    pub fn shard(self) -> ShardMut<'a, K, V, S>
+    fn shard(self) -> ShardMut<'a, K, V, S>
         ensures value { result ≡ self.entry.value }
         ensures fits { FitsTag ⟦<Shard<K, V, S> as Keyed>⟧.by self.entry.tag result }
     {
@@ -111,96 +134,6 @@ impl<'a, K: Eq + Hash, V, S: BuildHasher> ShardMut<'a, K, V, S> {
     }
 }
 
-impl<K: Eq + Hash, V, S: BuildHasher, H: Holds<Key = K, Value = V, State = S>> HeldShard<
-    K,
-    V,
-    S,
-    H,
-> {
-    // The shard behind the lock.
-    #[inline(always)]
-    fn shard(&self) -> &Shard<K, V, S>
-        ensures { result.now ≡ self.now }
-    {
-        self.hold.get()
-    }
-
-    /// The shard's number among the map's shards.
-    #[inline]
-    pub fn number(&self) -> usize
-        ensures number { result ≡ self.now.number }
-        ensures lawful { IsShard ⟦<Self as Keyed>⟧.by self.now }
-    {
-        self.shard().number()
-    }
-
-    /// How many shards the map has.
-    #[inline]
-    pub fn amount(&self) -> usize
-        ensures amount { result ≡ self.now.amount }
-        ensures lawful { IsShard ⟦<Self as Keyed>⟧.by self.now }
-    {
-        self.shard().amount()
-    }
-
-    /// Whether the key goes to this shard, which the keyed calls ask.
-    #[inline]
-    pub fn routes(&self, key: &K) -> bool
-        ensures { IsTrue result ↔ Routes ⟦<Self as Keyed>⟧.by self.now key.now }
-    {
-        self.shard().routes(key)
-    }
-
-    /// The pair whose key equals `key`.
-    #[inline]
-    pub fn get(&self, key: &K) -> Option<(&K, &V)>
-        ensures pair { RepliesOn K.eq self.now (Get key.now) (Pair (option_map deref_pair result)) }
-        ensures lawful { IsShard ⟦<Self as Keyed>⟧.by self.now }
-    {
-        let position = self.position_of(key)?;
-        Some(self.at(position))
-    }
-
-    /// Whether there is a pair whose key equals `key`.
-    #[inline]
-    pub fn contains_key(&self, key: &K) -> bool
-        ensures found { RepliesOn K.eq self.now (Contains key.now) (Found result) }
-        ensures lawful { IsShard ⟦<Self as Keyed>⟧.by self.now }
-    {
-        self.get(key).is_some()
-    }
-
-    /// What `f` answers on the pair whose key equals `key`.
-    #[inline]
-    pub fn view<R, F: FnOnce(&K, &V) -> R>(&self, key: &K, f: F) -> Option<R>
-        requires { IfSome (at K.eq (pairs self.now) key.now) (MayAsk F.FnOnce f) }
-        ensures viewed { Viewed F.FnOnce f (at K.eq (pairs self.now) key.now) result }
-        ensures lawful { IsShard ⟦<Self as Keyed>⟧.by self.now }
-    {
-        let slot = self.position_of(key)?;
-        let (key, value) = self.at(slot);
-        Some(f(key, value))
-    }
-
-    /// How many pairs there are.
-    #[inline]
-    pub fn len(&self) -> usize
-        ensures len { result ≡ shard_len self.now }
-        ensures within { result ≤ self.now.capacity }
-        ensures lawful { IsShard ⟦<Self as Keyed>⟧.by self.now }
-    {
-        self.shard().len()
-    }
-
-    /// How many pairs there may be before the shard takes memory.
-    #[inline]
-    pub fn capacity(&self) -> usize
-        ensures { result ≡ self.now.capacity }
-    {
-        self.shard().capacity()
-    }
-}
-
 impl<K: Eq + Hash, V, S: BuildHasher> ShardMut<'_, K, V, S> {
     /// Puts the pair, or where an equal key is there the value under the stored key, and answers the old value.
     ///
@@ -214,7 +147,7 @@ impl<K: Eq + Hash, V, S: BuildHasher> ShardMut<'_, K, V, S> {
         ensures inserts { Inserts K.eq self.old self.new key value result }
         ensures lawful { IsShard ⟦<Self as Keyed>⟧.by self.new }
     {
-        let hash = self.shard().hash_one(&key);
+        let hash = self.hash_one(&key);
         self.insert_hashed(hash, key, value)
     }
 
@@ -248,7 +181,7 @@ impl<K: Eq + Hash, V, S: BuildHasher> ShardMut<'_, K, V, S> {
         ensures len { Loses self.old self.new result }
         ensures lawful { IsShard ⟦<Self as Keyed>⟧.by self.new }
     {
-        let hash = self.shard().hash_one(key);
+        let hash = self.hash_one(key);
         self.remove_hashed(hash, key)
     }
 
@@ -273,7 +206,7 @@ impl<K: Eq + Hash, V, S: BuildHasher> ShardMut<'_, K, V, S> {
         ensures len { Loses self.old self.new result }
         ensures lawful { IsShard ⟦<Self as Keyed>⟧.by self.new }
     {
-        let hash = self.shard().hash_one(key);
+        let hash = self.hash_one(key);
         self.remove_if_hashed(hash, key, f)
     }
 
@@ -313,7 +246,7 @@ impl<K: Eq + Hash, V, S: BuildHasher> ShardMut<'_, K, V, S> {
         ensures len { Loses self.old self.new result }
         ensures lawful { IsShard ⟦<Self as Keyed>⟧.by self.new }
     {
-        let hash = self.shard().hash_one(key);
+        let hash = self.hash_one(key);
         self.remove_if_mut_hashed(hash, key, f)
     }
 
@@ -354,7 +287,7 @@ impl<K: Eq + Hash, V, S: BuildHasher> ShardMut<'_, K, V, S> {
         ensures len { shard_len self.new ≡ shard_len self.old }
         ensures lawful { IsShard ⟦<Self as Keyed>⟧.by self.new }
     {
-        let hash = self.shard().hash_one(key);
+        let hash = self.hash_one(key);
         self.alter_hashed(hash, key, f);
     }
 

@@ -1,5 +1,4 @@
-//! The reader-writer lock round each shard of a map, and a shard that is held for writing behind it.
+//! A shard that is held for writing behind its lock.
 #![tactic(auto)]
 
 pub mod held;
-pub mod lock;

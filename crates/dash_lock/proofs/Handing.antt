@@ -4,7 +4,7 @@ use Rattle.dash_lock.proofs.Words.{words}
 use denote.Struct.OwningLaws.{part_out, part_in}
 use denote.Follow.{follows}
 use Rattle.core.proofs.cell.Through.{hands_before}
-use Rattle.dash_lock.specs.declared.Tagged.{Ghosts}
+use Rattle.dash_traits.specs.declared.Tagged.{Ghosts}
 use Rattle.dash_lock.specs.contracts.hold.Hold as hold
 use Rattle.dash_lock.specs.inner.Holding.{Fixed, offset, Inv, kept, writer, hold_owns}
 use Rattle.dash_lock.specs.inner.Lending.{with_held}

@@ -1,7 +1,7 @@
 -- The data fields of a `Hold`. Assumes `Logic`.
 use Rattle.dash_lock.proofs.Walking.{Share, Item, flft, wand, guard, guard_i, ‵, raw, ◌⊛◌, some, later, [], ◌++◌, ◌≡◌, ℕ, T, List, ◌∷◌, refl, ap, ◌∙◌, Ura, ty_ptr, ty_struct, tcons, tnil, Val, vstruct, vcons, vnil, of_list, has_ty, WT, ent, emp, never_e, Lft, Logic, sem, RattleType, Is, NamedLft, ShrRef, Opens, Struct-Copied, Ptr, InBlock, block_ptr, null_ptr, ptr_val, makes_shadow, RawPtr-copy, field_copy, Struct, shape}
 use Rattle.core.specs.contracts.marker.PhantomData as marker
-use Rattle.dash_lock.specs.declared.Tagged.{Ghosts}
+use Rattle.dash_traits.specs.declared.Tagged.{Ghosts}
 use Rattle.dash_lock.specs.inner.Holding.{hold_owns, hold_shares}
 use Rattle.dash_lock.specs.contracts.hold.Hold as hold
 

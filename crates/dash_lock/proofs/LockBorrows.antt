@@ -2,7 +2,7 @@
 use Rattle.dash_lock.proofs.Walking.{[], ℕ, zero, ◌+◌, List, ◌∷◌, Ura, Val, full_share, SProp, sep, ex, ex_i, all_e, upd_i, apply∗, id⊢, Lft, GName, Share, Fml, ftrue, fsep, fseps, fex, fwand, fupd, fdead, fbor, flft, fobs, Logic, sem, ‵, raw, ◌⊛◌, some, ◌$◌, ◌∵◌, !, qed, by, move, keep, drop, use1, use2, split, split3, join, fsplit, fsplit3, fjoin, fjoin3, fpick, fpack, pick, show, assume, suffices, updating, now, done, bor_open, obor_alter, name_new, RattleType, Denots, Lawful, part_of, part_at, cell_at, Struct, u64-laws, Member, row_of, rows_of, parts_at, PartsBack, Struct-parts, shape_of, word, flag, word_out, word_in}
 use Rattle.dash_lock.proofs.Words.{words}
 use Rattle.dash_lock.specs.inner.Holding.{fact, offset, at_home, cell}
-use Rattle.dash_lock.specs.declared.Tagged.{Ghosts}
+use Rattle.dash_traits.specs.declared.Tagged.{Ghosts}
 use Rattle.dash_lock.specs.contracts.cell.Cell as C
 
 -- the borrows of the word and of the value, which u.0 tracks

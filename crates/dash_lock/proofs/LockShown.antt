@@ -2,7 +2,7 @@
 use Rattle.dash_lock.proofs.Walking.{[], ◌++◌, ◌≡◌, ℕ, ◌+◌, List, ◌∷◌, sym, subst, refl, Ura, Ty, full_share, ent, sep, ex, guard, Lft, GName, Incl, Fml, ftrue, fex, fbor, fobs, Incl-trans, meet_⊑_left, Toks, span, Logic, sem, lfts, ‵, raw, ◌⊛◌, some, given, later, ◌$◌, ◌∵◌, !, qed, move, drop, use2, split, split3, join, fjoin, fpack, pick, learn, await, updating, now, done, RattleType, Lawful, part_at, shared_of, nothing, Shares, some_shr_laws, layout, Laws, Member, row_of, Law, Written, Laid, Laid-laws, by_one}
 use denote.Sharing as sharing
 use Rattle.dash_lock.specs.inner.Holding.{offset, cell, seen}
-use Rattle.dash_lock.specs.declared.Tagged.{Ghosts}
+use Rattle.dash_traits.specs.declared.Tagged.{Ghosts}
 use Rattle.dash_lock.specs.declared.cell.Cell as D
 use Rattle.dash_lock.specs.contracts.cell.Cell as C
 use Rattle.dash_lock.specs.contracts.cell.Cell.TheInside as inside

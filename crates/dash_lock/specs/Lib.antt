@@ -1,4 +1,5 @@
+pub mod Guarded
+pub mod KeepsFit
 pub mod Lock
 pub mod LockState
-pub mod KeepsFit
 pub mod inner

@@ -8,8 +8,8 @@ FoundBehind x = Unit {0}
 pub LeftBehind : {X : Type 0} → X → Type 0
 LeftBehind x = Unit {0}
 
--- Both words are closed: no proof unfolds them. These two lemmas show them, and only proofs of this crate cite these, and in `dash_shard` those of
--- `lock.rt` and `holds.rt`: that is kept by hand, since no module is seen by a crate's proofs and by no other crate's.
+-- Both words are closed: no proof unfolds them. These two lemmas show them, and only proofs of this crate cite these, and in `dash_held` those of
+-- `holds.rt`: that is kept by hand, since no module is seen by a crate's proofs and by no other crate's.
 pub found : {X : Type 0} (x : X) → FoundBehind x
 unfolding FoundBehind
 found x = tt

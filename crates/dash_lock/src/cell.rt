@@ -5,7 +5,7 @@ ghost use Rattle.dash_lock.specs.Lock.{FoundBehind, LeftBehind};
 ghost use Rattle.dash_lock.specs.inner.Holding.{lock_owns, lock_shares, IsMark};
 ghost use Rattle.dash_lock.specs.inner.Stays.{StaysAt};
 
-use crate::Tagged;
+use dash_traits::Tagged;
 use std::marker::{Brand, Move, Owns};
 use std::sync::atomic::Ordering::SeqCst;
 use std::sync::atomic::raw;

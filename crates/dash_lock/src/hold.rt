@@ -11,7 +11,7 @@ ghost use Rattle.dash_lock.specs.declared.word.LockEvent.TheVariants.{ReleaseSha
 
 use crate::cell::Cell;
 use crate::word::ONE_READER;
-use crate::{Lendable, Tagged};
+use dash_traits::{Lendable, Tagged};
 use std::marker::{Brand, Model, PhantomData};
 use std::sync::atomic::Ordering::SeqCst;
 use std::sync::atomic::raw;

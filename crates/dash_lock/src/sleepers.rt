@@ -1,7 +1,7 @@
 //! Where a lock's waiters sleep. No proof rests on it.
-use crate::Tagged;
 use crate::cell::Cell;
 use crate::word::{MOST_READERS, ONE_READER, READERS_PARKED, WRITERS_PARKED};
+use dash_traits::Tagged;
 use std::rt::Clock;
 use std::sync::{Condvar, CondvarTimeouts, Mutex, Wait};
 use std::time::Duration;

@@ -24,7 +24,7 @@ use crate::map::{DashMap, Locked};
 use crate::read_only::{Keys, ViewIter};
 use crate::shards::Shards;
 use crossbeam_utils::CachePadded;
-use dash_held::lock::RwLock;
+use dash_lock::lock::RwLock;
 use dash_shard::error::{ConstructError, TryReserveError};
 use dash_shard::hash::is_shard_amount;
 use dash_shard::keyed::Keyed;

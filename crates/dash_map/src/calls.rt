@@ -18,8 +18,8 @@ ghost use Rattle.dash_shard.specs.Steps.{RemoveIf, RemoveIfMut};
 use crate::iter::Iter;
 use crate::map::DashMap;
 use core::mem::replace_with;
-use dash_held::held::ShardMut;
-use dash_held::lock::RwLockReadGuard;
+use dash_held::held::{IntoShard, ShardMut};
+use dash_lock::lock::RwLockReadGuard;
 use dash_ref::mapref::one::{Ref, RefMut};
 use dash_shard::error::TryReserveError;
 use dash_shard::keyed::Keyed;
@@ -60,9 +60,9 @@ impl<K: Eq + Hash, V, S: BuildHasher> DashMap<K, V, S> {
         (hash as u64, self.determine_shard(hash))
     }
 
-    // Waits until no writer has the shard, and holds it for reading.
+    /// Waits until no writer has the shard, and holds it for reading. For the crates here alone.
     #[inline]
-    pub(crate) fn read_shard<R: Wait + Clock>(
+    pub fn read_shard<R: Wait + Clock>(
         &self,
         rt: &R,
         shard: usize,

@@ -12,5 +12,4 @@ pub mod parallel;
 pub mod read_only;
 pub mod run;
 mod shards;
-pub mod t;
 pub mod waiting;

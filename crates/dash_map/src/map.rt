@@ -8,7 +8,7 @@ ghost use Rattle.dash_map.specs.Locks.{IsMap};
 
 use crate::alone::Alone;
 use crossbeam_utils::CachePadded;
-use dash_held::lock::RwLock;
+use dash_lock::lock::RwLock;
 use dash_shard::error::ConstructError;
 use dash_shard::hash::{FixedState, determine_shard};
 use dash_shard::keyed::Keyed;
@@ -234,6 +234,14 @@ impl<K: Eq + Hash, V, S: BuildHasher> DashMap<K, V, S> {
     {
         let DashMap { row, .. } = self;
         row.into_items()
+    }
+
+    /// The number of the shards. For the crates here alone.
+    #[inline]
+    pub fn shard_count(&self) -> usize
+        ensures { result ≡ self.now.amount }
+    {
+        self.row.len()
     }
 
     /// The number of the shard that a key goes to.

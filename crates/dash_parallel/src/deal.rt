@@ -4,7 +4,7 @@ ghost use Rattle.dash_parallel.specs.Lanes.{HasRoom};
 ghost use Rattle.dash_parallel.specs.inner.Lanes.{AreDealt, AreEmpty, AreReady};
 
 use crate::lane::Lane;
-use crate::part::Dealer;
+use dash_traits::Dealer;
 use std::alloc::{AllocError, Global};
 
 /// The lanes of a list of steps, and the numbers of their parts, that of the last step first.

@@ -7,8 +7,8 @@ ghost use Rattle.dash_parallel.specs.inner.Held.{HasRunHeld, IsReadyToHold};
 
 use crate::deal::deal;
 use crate::lane::Lane;
-use crate::part::Dealer;
 use crate::run::outcome;
+use dash_traits::Dealer;
 use std::alloc::AllocError;
 use std::thread::{Threads, for_each_mut};
 

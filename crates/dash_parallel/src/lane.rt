@@ -2,7 +2,7 @@
 ghost use Rattle.std.specs.Prelude.{◌≡◌, ◌≤◌, [], All, vec_len, vec_capacity};
 ghost use Rattle.dash_parallel.specs.Lanes.{HasRun, IsReady, LaneRan, steps_in};
 
-use crate::part::Part;
+use dash_traits::Part;
 
 /// The steps that go to one part, each with its mark, and then their replies. Both stand the last first.
 #[derive(Drop)]

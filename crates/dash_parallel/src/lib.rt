@@ -6,5 +6,4 @@ pub mod gate;
 mod halves;
 pub mod held;
 pub mod lane;
-pub mod part;
 pub mod run;

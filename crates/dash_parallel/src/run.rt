@@ -9,7 +9,7 @@ use crate::deal::{Dealt, deal};
 use crate::gate::Gate;
 use crate::halves::{Work, by_halves};
 use crate::lane::{Lane, run_lane};
-use crate::part::{Dealer, Part};
+use dash_traits::{Dealer, Part};
 use std::alloc::AllocError;
 use std::thread::Threads;
 

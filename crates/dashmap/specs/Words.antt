@@ -24,7 +24,7 @@ pub use Rattle.dash_map.specs.Behind.{AreBehind, LeavesShard, LeavesShards, Left
 pub use Rattle.dash_map.specs.Folds.{FoldsPair, FoldsPairs, MayFold, MayVisit, VisitsPair, VisitsPairs}
 pub use Rattle.dash_map.specs.Gets.{IsGot, IsGotMut, IsGotEntry}
 pub use Rattle.dash_map.specs.Lends.{with_value_at}
-pub use Rattle.dash_map.specs.Walking.{IterState, StepsOn, GivesPair, FindsEnd, at_start}
+pub use Rattle.dash_map.specs.Walking.{IterState, StepsOn, GivesPair, FindsEnd, at_start, steps_left}
 pub use Rattle.dash_ref.specs.Multi.{lent_pair, lent_value, with_lent_value}
 pub use Rattle.dash_map.specs.AloneWalk.{walked, loan_of, passed, to_come, Passes, Passed, PassesAlong, LeavesEach}
 pub use Rattle.dash_map.specs.WalkingMut.{StepsTo, StepsToEnd}
@@ -34,4 +34,4 @@ pub use Rattle.dash_map.specs.Extend.{Extends, ExtendsBehind, Gains, Gave, HasNo
 pub use Rattle.dash_map.specs.Pairs.{CopiesPairs}
 pub use Rattle.dash_rows.specs.Parallel.{MayMap, Maps, MapsEach}
 pub use Rattle.dash_map.specs.Parallel.{MapsPairs, MayWrite, Writes}
-pub use Rattle.dashmap.specs.Set.{stood, member, inserted, keys_of, members, of_members, CopiesKeys, FoldsKey, FoldsKeys, MapsKeys, MayFoldKeys, MayMapKey, MayVisitKeys, VisitsKey, VisitsKeys}
+pub use Rattle.dash_set.specs.Set.{stood, member, inserted, keys_of, members, of_members, CopiesKeys, FoldsKey, FoldsKeys, MapsKeys, MayFoldKeys, MayMapKey, MayVisitKeys, VisitsKey, VisitsKeys}

@@ -2,7 +2,7 @@
 ghost use Rattle.std.specs.Prelude.{◌<◌};
 
 use crate::tests::checks::is;
-use dash_held::lock::RwLock;
+use dash_lock::lock::RwLock;
 use dash_shard::hash::{PlaceState, is_shard_amount};
 use dash_shard::shard::Shard;
 use dash_shard::shard::tag::ShardTag;

@@ -3,7 +3,8 @@ ghost use Rattle.std.specs.Prelude.{◌≡◌, ◌<◌, IfOk};
 ghost use Rattle.std.specs.Arc.{arc_value};
 
 use crate::tests::checks::is;
-use dash_held::lock::{RwLock, Tagged};
+use dash_lock::Tagged;
+use dash_lock::lock::RwLock;
 use std::alloc::{AllocError, Global};
 use std::mem;
 use std::sync::Arc;

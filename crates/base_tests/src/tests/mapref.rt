@@ -1,7 +1,7 @@
 //! References into one shard behind its lock, as worked by hand.
 use crate::tests::by_hand::lock_of_one;
 use crate::tests::checks::{is, prints};
-use dash_held::lock::RwLock;
+use dash_lock::lock::RwLock;
 use dash_ref::mapref::one::Ref;
 use dash_shard::hash::PlaceState;
 use dash_shard::shard::Shard;

@@ -1,4 +1,4 @@
-//! The calls on all pairs of a shard that is held for writing.
+//! The calls that change all pairs of a shard that is held.
 ghost use Rattle.std.specs.Prelude.{◌≡◌, ◌≤◌};
 ghost use Rattle.dash_shard.specs.Hashing.{by};
 ghost use Rattle.std.specs.Map.Calls.{CalledAtPair, TakesPair, CallableOnEachPair};
@@ -7,27 +7,10 @@ ghost use Rattle.dash_shard.specs.Each.{CalledOnPair, TakesOnPair, Clears, Shrin
 ghost use Rattle.dash_shard.specs.inner.Walks.{if_kept, altered, SweepsShard};
 ghost use Rattle.dash_shard.specs.Steps.{Retain, AlterAll};
 
-use super::holds::Holds;
-use super::{HeldShard, ShardMut};
+use super::ShardMut;
 use dash_shard::keyed::Keyed;
-use dash_shard::shard::{Iter, Shard};
+use dash_shard::shard::Shard;
 use std::hash::{BuildHasher, Hash};
-
-impl<K: Eq + Hash, V, S: BuildHasher, H: Holds<Key = K, Value = V, State = S>> HeldShard<
-    K,
-    V,
-    S,
-    H,
-> {
-    /// The pairs, in rising order of slots.
-    #[inline]
-    pub fn iter(&self) -> Iter<'_, K, V>
-        ensures pairs { result ≡ pairs self.now }
-        ensures lawful { IsShard ⟦<Self as Keyed>⟧.by self.now }
-    {
-        self.shard().iter()
-    }
-}
 
 impl<K: Eq + Hash, V, S: BuildHasher> ShardMut<'_, K, V, S> {
     /// Keeps the pairs on which `f` answers yes, each with the value that `f` leaves, and lets the others go.

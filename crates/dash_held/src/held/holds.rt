@@ -8,8 +8,9 @@ ghost use Rattle.dash_lock.specs.Lock.{LeftBehind};
 ghost use Rattle.dash_shard.specs.Shard.{slot, with_value_in};
 ghost use Rattle.dash_held.specs.inner.Lending.{KeepsTag};
 
-use crate::lock::{RwLock, Tagged};
+use dash_lock::Tagged;
 use dash_lock::hold::Hold;
+use dash_lock::lock::RwLock;
 use dash_shard::shard::Shard;
 use dash_shard::shard::tag::ShardTag;
 use std::hash::{BuildHasher, Hash};

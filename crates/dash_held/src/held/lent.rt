@@ -32,7 +32,7 @@ impl<K: Eq + Hash, V, S: BuildHasher, H: Holds<Key = K, Value = V, State = S>> H
         ensures value { option_copied_mut result ≡ option_map (λ p. p.1) (at K.eq (pairs self.old) key.now) }
         ensures lawful { IsShard ⟦<Self as Keyed>⟧.by self.old }
     {
-        let hash = self.shard().hash_one(key);
+        let hash = self.hash_one(key);
         self.get_mut_hashed(hash, key)
     }
 

@@ -4,7 +4,7 @@ ghost use Rattle.dash_shard.specs.Hashing.{by, key_hash};
 ghost use Rattle.dash_shard.specs.Puts.{PutsPair, RoutesAs, routes-stay};
 
 use super::ShardMut;
-use dash_parallel::part::Part;
+use dash_traits::Part;
 use std::hash::{BuildHasher, Hash};
 
 /// As of a shard: the pairs are put into it in place, while it is held.

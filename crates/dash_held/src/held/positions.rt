@@ -1,4 +1,4 @@
-//! A held shard's calls by slot.
+//! A held shard's calls by slot, which change it.
 ghost use Rattle.std.specs.Prelude.{◌≡◌, ◌+◌, ◌-◌, ◌^◌, ◌<◌, IsSome, IfSome, IfOk, IfErr, Some, None};
 ghost use Rattle.std.specs.Map.Iter.{deref_pair};
 ghost use Rattle.core.specs.Result.{result_ok};
@@ -9,69 +9,10 @@ ghost use Rattle.dash_shard.specs.Held.{Finds, Replaces, Reserves};
 ghost use Rattle.dash_shard.specs.inner.Table.{IsPlaceFor, MayTake};
 ghost use Rattle.dash_shard.specs.Steps.{Insert, Remove, Old, Pair};
 
-use super::holds::Holds;
-use super::{HeldShard, ShardMut};
+use super::ShardMut;
 use dash_shard::error::TryReserveError;
 use dash_shard::keyed::Keyed;
-use dash_shard::shard::Shard;
 use std::hash::{BuildHasher, Hash};
-
-impl<K: Eq + Hash, V, S: BuildHasher, H: Holds<Key = K, Value = V, State = S>> HeldShard<
-    K,
-    V,
-    S,
-    H,
-> {
-    /// The slot of the pair whose key equals `key`, for `at`. It is good while the shard isn't changed.
-    #[inline]
-    pub fn position_of(&self, key: &K) -> Option<usize>
-        ensures finds { Finds K.eq self.now key.now result }
-        ensures lawful { IsShard ⟦<Self as Keyed>⟧.by self.now }
-    {
-        self.position_of_hashed(self.shard().hash_one(key), key)
-    }
-
-    /// As `position_of`, for a caller who has the key's hash.
-    #[inline]
-    pub fn position_of_hashed(&self, hash: u64, key: &K) -> Option<usize>
-        requires { hash ≡ ⟦<Self as Keyed>⟧.by.hash self.now.hasher key.now }
-        ensures finds { Finds K.eq self.now key.now result }
-        ensures lawful { IsShard ⟦<Self as Keyed>⟧.by self.now }
-    {
-        self.shard().position_of_hashed(hash, key)
-    }
-
-    /// As `position_of_hashed`, or else the free slot for a pair of this key, where there is room. For the crates here alone.
-    #[inline]
-    pub fn find_or_place(&self, hash: u64, key: &K) -> Result<usize, usize>
-        requires { hash ≡ ⟦<Self as Keyed>⟧.by.hash self.now.hasher key.now }
-        ensures finds { Finds K.eq self.now key.now (result_ok result) }
-        ensures place { IfErr result (MayTake self.now hash) }
-        ensures lawful { IsShard ⟦<Self as Keyed>⟧.by self.now }
-    {
-        self.shard().find_or_place(hash, key)
-    }
-
-    /// The pair of a taken slot, without a look at any other.
-    #[inline]
-    pub fn at(&self, position: usize) -> (&K, &V)
-        requires { IsSome (slot self.now.slots position) }
-        ensures pair { slot self.now.slots position ≡ Some (deref_pair result) }
-        ensures lawful { IsShard ⟦<Self as Keyed>⟧.by self.now }
-    {
-        self.shard().at(position)
-    }
-
-    /// The lowest taken slot not below `position`, for `at`: a walk over the pairs goes on behind it. There is a number above it.
-    #[inline]
-    pub fn next_taken(&self, position: usize) -> Option<usize>
-        ensures next { IsNextTaken self.now.slots position result }
-        ensures below { IfSome result (λ i. i < 2 ^ 64 - 1) }
-        ensures lawful { IsShard ⟦<Self as Keyed>⟧.by self.now }
-    {
-        self.shard().next_taken(position)
-    }
-}
 
 impl<K: Eq + Hash, V, S: BuildHasher> ShardMut<'_, K, V, S> {
     /// Puts a pair whose key is new in room that is there, and answers its slot. It takes no memory, and can't be refused.

@@ -8,8 +8,7 @@ ghost use Rattle.dash_map.specs.Walking.{IterState, StepsOn, IsDone, IsOver, at_
 ghost use Rattle.dash_map.specs.inner.Walking.{IsWalk, GivesHere};
 
 use crate::map::DashMap;
-use crate::t::Map;
-use dash_held::lock::RwLockReadGuard;
+use dash_lock::lock::RwLockReadGuard;
 use dash_ref::mapref::multiple::RefMulti;
 use dash_shard::keyed::Keyed;
 use dash_shard::shard::Shard;
@@ -94,7 +93,7 @@ impl<'a, K: Eq + Hash, V, S: BuildHasher, R> Iter<'a, K, V, S, R> {
         ensures over { IsOver self.new }
     {
         self.current = None;
-        self.shard_i = self.map._shard_count();
+        self.shard_i = self.map.shard_count();
     }
 
     // The next pair of the shard that is held.
@@ -127,7 +126,7 @@ impl<'a, K: Eq + Hash, V, S: BuildHasher, R> Iter<'a, K, V, S, R> {
         ensures last { IsTrue result ↔ (self.now.entered ≡ self.now.base.amount) }
         ensures walk { IsWalk ⟦<Self as Keyed>⟧.by self.now }
     {
-        self.shard_i == self.map._shard_count()
+        self.shard_i == self.map.shard_count()
     }
 }
 
@@ -143,7 +142,7 @@ impl<'a, K: Eq + Hash, V, S: BuildHasher, R: Wait + Clock> Iter<'a, K, V, S, R> 
         ensures refused { OnErr result (IsOver self.new) }
     {
         let map = self.map;
-        let guard = map._yield_read_shard(self.rt, self.shard_i);
+        let guard = map.read_shard(self.rt, self.shard_i);
         match Rc::new(map.row.allocator(), guard) {
             Ok(guard) => {
                 self.current = Some(guard);

@@ -15,10 +15,9 @@ ghost use Rattle.dash_map.specs.inner.Walking.{IsWalk};
 ghost use Rattle.dash_map.specs.inner.WalkingMut.{GoesHere};
 
 use crate::map::DashMap;
-use crate::t::Map;
 use dash_held::held::holds::{Holds, Writing};
 use dash_held::held::{HeldShard, ShardMut};
-use dash_held::lock::RwLock;
+use dash_lock::lock::RwLock;
 use dash_ref::mapref::multiple::RefMutMulti;
 use dash_shard::keyed::{Keyed, Lender};
 use dash_shard::shard::Shard;
@@ -60,7 +59,7 @@ impl<'a, K: Eq + Hash, V, S: BuildHasher> Enters for Writing<'a, K, V, S> {
 
     #[inline]
     fn shard_count(map: &&'a DashMap<K, V, S>) -> usize {
-        map._shard_count()
+        map.shard_count()
     }
 
     #[inline]
@@ -70,7 +69,7 @@ impl<'a, K: Eq + Hash, V, S: BuildHasher> Enters for Writing<'a, K, V, S> {
         shard: usize,
     ) -> ShardMut<'a, K, V, S> {
         let map: &'a DashMap<K, V, S> = *map;
-        map._yield_write_shard(rt, shard)
+        map.shards_mut(rt, shard)
     }
 }
 

@@ -8,7 +8,7 @@ ghost use Rattle.dash_shard.specs.Steps.{Get, Pair};
 ghost use Rattle.dash_shard.specs.Shard.{slot, pairs, IsShard, RepliesOn};
 ghost use Rattle.dash_ref.specs.Ref.{Stands, pair_of};
 
-use dash_held::lock::RwLockReadGuard;
+use dash_lock::lock::RwLockReadGuard;
 use dash_shard::keyed::Keyed;
 use dash_shard::shard::Shard;
 pub use mapped::MappedRef;

@@ -4,7 +4,7 @@ ghost use Rattle.dash_shard.specs.Hashing.{by, key_hash};
 ghost use Rattle.dash_shard.specs.Puts.{PutsPair, RoutesAs, routes-stay};
 
 use super::Shard;
-use dash_parallel::part::Part;
+use dash_traits::Part;
 use std::hash::{BuildHasher, Hash};
 
 impl<K: Eq + Hash + Drop, V: Drop, S: BuildHasher> Part<(K, V), ()> for Shard<K, V, S> {

@@ -6,7 +6,7 @@ ghost use Rattle.dash_shard.specs.Shard.{slot, with_value_in};
 
 use crate::keyed::Keyed;
 use crate::shard::Shard;
-use dash_lock::{Lendable, Tagged};
+use dash_traits::{Lendable, Tagged};
 use std::hash::{BuildHasher, Hash};
 use std::snapshot::Snapshot;
 

@@ -2,8 +2,8 @@
 use crate::tests::checks::is;
 use crate::tests::maps::map_of_four;
 use dash_map::map::DashMap;
-use dash_map::t::Map as _;
 use dash_shard::error::ConstructError;
+use dash_t::Map as _;
 use std::rt::Clock;
 use std::sync::Wait;
 

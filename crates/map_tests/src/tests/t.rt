@@ -1,9 +1,9 @@
 //! Code for any map that threads share, called with a `DashMap`.
 use crate::tests::checks::is;
 use crate::tests::maps::map_of_four;
-use dash_map::t::Map;
 use dash_ref::mapref::entry::{Entry, TryEntryRefused};
 use dash_shard::hash::PlaceState;
+use dash_t::Map;
 use std::hash::BuildHasher;
 use std::process::Abort;
 use std::rt::Clock;

@@ -1,7 +1,8 @@
 //! Threads that wait for a lock get it, asleep or not.
 use crate::tests::checks::is;
-use dash_held::lock::raw::RawRwLock;
-use dash_held::lock::{RwLock, Tagged};
+use dash_lock::Tagged;
+use dash_lock::lock::RwLock;
+use dash_lock::lock::raw::RawRwLock;
 use std::rt::Clock;
 use std::sync::Wait;
 use std::thread::{self, Threads};

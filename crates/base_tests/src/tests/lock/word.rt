@@ -1,11 +1,11 @@
 //! The word of a lock and its events, as worked by hand.
 use crate::tests::checks::is;
-use dash_held::lock::word::LockEvent::{
+use dash_lock::word::LockEvent::{
     self, ClearWriters, Downgrade, ReleaseExclusive, ReleaseShared, SetMark, TakeExclusive,
     TakeShared,
 };
-use dash_held::lock::word::LockWord;
-use dash_held::lock::word::Mark::{Readers, Writers};
+use dash_lock::word::LockWord;
+use dash_lock::word::Mark::{Readers, Writers};
 
 // The word of a writer and no mark: 2^64 - 4.
 const WRITER: u64 = 0xffff_ffff_ffff_fffc;

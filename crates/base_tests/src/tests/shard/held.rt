@@ -1,8 +1,8 @@
 //! One shard behind its lock, as worked by hand.
 use crate::tests::by_hand::lock_of_one;
 use crate::tests::checks::is;
-use dash_held::held::ShardMut;
-use dash_held::lock::RwLock;
+use dash_held::held::{IntoShard, ShardMut};
+use dash_lock::lock::RwLock;
 use dash_shard::hash::PlaceState;
 use dash_shard::shard::Shard;
 use std::mem;

@@ -13,7 +13,7 @@ ghost use Rattle.dash_ref.specs.Entry.{MayModify, Modified, revalued};
 use crate::mapref::one::{HeldRef, RefMut};
 use dash_held::held::ShardMut;
 use dash_held::held::holds::{Holds, Writing};
-use dash_held::lock::RwLock;
+use dash_lock::lock::RwLock;
 use dash_shard::keyed::Lender;
 use dash_shard::shard::Shard;
 use std::hash::{BuildHasher, Hash};

@@ -13,7 +13,7 @@ ghost use Rattle.dash_ref.specs.RefMut.{stored, rewritten, GetsMut};
 use super::Ref;
 use dash_held::held::holds::{Holds, Writing};
 use dash_held::held::{HeldShard, ShardMut};
-use dash_held::lock::RwLock;
+use dash_lock::lock::RwLock;
 use dash_shard::keyed::{Keyed, Lender};
 use dash_shard::shard::Shard;
 pub use mapped::MappedRefMut;

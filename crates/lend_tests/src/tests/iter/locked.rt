@@ -2,7 +2,7 @@
 use crate::tests::checks::{is, prints};
 use crate::tests::maps::{is_held, map_of, put, three_pairs};
 use dash_map::map::DashMap;
-use dash_map::t::Map;
+use dash_t::Map;
 use std::alloc::{AllocError, Global};
 use std::hash::{BuildHasher, Hash};
 use std::rt::Clock;

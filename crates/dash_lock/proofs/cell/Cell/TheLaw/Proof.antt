@@ -5,7 +5,7 @@ use base.Share
 use denote.Sharing.{always}
 use Rattle.dash_lock.specs.LockState.{most}
 use Rattle.dash_lock.specs.inner.Holding.{count, rounds, names, parts, Fixed, Phase, away, shared, cell, begun, state, State, Inv, kept, lock_shares}
-use Rattle.dash_lock.specs.declared.Tagged.{Ghosts}
+use Rattle.dash_traits.specs.declared.Tagged.{Ghosts}
 use Rattle.dash_lock.specs.contracts.cell.Cell as C
 use Rattle.dash_lock.proofs.cell.Cell.TheLaw.Statement.{statement}
 use Rattle.dash_lock.proofs.RoundParts.{parts_in, parts_cut}

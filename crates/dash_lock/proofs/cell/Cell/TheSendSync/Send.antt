@@ -1,6 +1,6 @@
 use denote.RattleType.{RattleType}
 use denote.Param.Send.{IsSend}
-use Rattle.dash_lock.specs.declared.Tagged.{Ghosts}
+use Rattle.dash_traits.specs.declared.Tagged.{Ghosts}
 use Rattle.dash_lock.specs.contracts.cell.Cell.{the_row}
 
 pub send : (T G : RattleType) (g : Ghosts T.Denot G.Denot) → IsSend T → IsSend (the_row T G g)

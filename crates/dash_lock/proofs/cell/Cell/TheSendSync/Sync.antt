@@ -5,7 +5,7 @@ use denote.RattleType.{RattleType}
 use denote.Param.Send.{IsSend, IsSync, part_keyless}
 use Rattle.core.proofs.atomic.Sent.{chain-Keyless}
 use Rattle.dash_lock.specs.inner.Holding.{Fixed, Phase, away, shared, offset, state}
-use Rattle.dash_lock.specs.declared.Tagged.{Ghosts}
+use Rattle.dash_traits.specs.declared.Tagged.{Ghosts}
 use Rattle.dash_lock.specs.contracts.cell.Cell.{the_row}
 
 state_keyless : (R : RattleType) (ok : R.Denot → Type 0) → IsSend R → IsSync R → (b o : ℕ) (t : Fixed R.Denot) (w : ℕ) (p : Phase R.Denot) → Keyless (state R ok b o t w p)

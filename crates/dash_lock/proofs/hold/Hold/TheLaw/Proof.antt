@@ -1,7 +1,7 @@
 -- A `&` to a hold holds what it sees. Assumes `Logic`.
 use Rattle.dash_lock.proofs.Walking.{[], ◌++◌, Incl-trans, meet_⊑_left, meet_⊑_right, RattleType, NamedLft, ShrRef, Laws, copy_shared, RawPtr-field, RawPtr-copy, field_copy, of_Lends}
 use Rattle.core.specs.contracts.marker.PhantomData as P
-use Rattle.dash_lock.specs.declared.Tagged.{Ghosts}
+use Rattle.dash_traits.specs.declared.Tagged.{Ghosts}
 use Rattle.dash_lock.specs.contracts.hold.Hold as C
 use Rattle.dash_lock.proofs.hold.Hold.TheLaw.Statement.{statement}
 use Rattle.dash_lock.proofs.Rounds.{hold_laws, Lends-hold}

@@ -9,7 +9,7 @@ use super::{HeldRef, RefMut};
 use crate::mapref::one::projection::{Compose, Projection};
 use dash_held::held::ShardMut;
 use dash_held::held::holds::{Holds, Writing};
-use dash_held::lock::RwLock;
+use dash_lock::lock::RwLock;
 use dash_shard::keyed::Lender;
 use dash_shard::shard::Shard;
 use std::fmt;

@@ -1,6 +1,0 @@
-use Rattle.dashmap.proofs.set.DashSet.from_iter.Goals as goal
-
-pub returns-clause-made : goal.returns-clause-made
-returns-clause-made g c =
-    let made = c.in_ok-from_iter.ensures.made in
-    (made.0, made.1, made.2, made.3, made.4, (c.in_ok-from_iter.field-0, c.end.ensures.left, made.5))
