@@ -18,6 +18,14 @@ pub fn last_seen<R: Wait + Clock>(rt: &R, sessions: &Sessions) -> u64 {
     sessions.fold(rt, 0, |last: u64, _, seen| last.max(*seen))
 }
 
+/// Notes that everybody was seen now. Waits for one shard after the other, and holds it while it writes.
+pub fn see_all<R: Wait + Clock>(rt: &R, sessions: &Sessions, now: u64) {
+    let mut walk = sessions.iter_mut(rt);
+    while let Some(seen) = walk.next_mut() {
+        *seen = now;
+    }
+}
+
 /// Logs in whom a list names, by four workers. Where memory is refused, some of them are.
 pub fn log_in_all<R: Threads + Sync>(
     rt: &R,

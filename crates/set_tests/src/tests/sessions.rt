@@ -1,6 +1,6 @@
 //! Users who log in and are logged out.
 use crate::tests::checks::is;
-use uses::sessions::{Sessions, expire, last_seen, log_in_all};
+use uses::sessions::{Sessions, expire, last_seen, log_in_all, see_all};
 
 #[test]
 fn who_was_seen_long_ago_is_logged_out(rt: HostRuntime) {
@@ -12,4 +12,10 @@ fn who_was_seen_long_ago_is_logged_out(rt: HostRuntime) {
     expire(&rt, &sessions, 25, 10);
     is(&rt, sessions.len(&rt), 2);
     assert!(rt; !sessions.contains_key(&rt, &1));
+    see_all(&rt, &sessions, 30);
+    is(
+        &rt,
+        sessions.fold(&rt, 0, |sum: u64, _, seen| sum.saturating_add(*seen)),
+        60,
+    );
 }
