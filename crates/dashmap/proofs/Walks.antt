@@ -23,4 +23,4 @@ module _ {K V S : Type 0} where
   lent-nearer h old new lent v w some steps =
       let r = subst (λ o. IfSome o (λ x. StepsLending h old (Some (x.now, w)) new)) some steps in
       subst (λ n. size (steps_left n) < size (steps_left old)) (sym r.left)
-        (subst (λ c. size c < size (steps_left old)) (sym (left-rewritten r.found w)) r.steps.nearer)
+      (subst (λ c. size c < size (steps_left old)) (sym (left-rewritten r.found w)) r.steps.nearer)

@@ -137,7 +137,7 @@ pub mod setref {
 
 /// One shard of a map.
 pub mod shard {
-    pub use dash_held::held::ShardMut;
+    pub use dash_held::held::{IntoShard, ShardMut};
     pub use dash_shard::shard::Shard;
 }
 
