@@ -10,6 +10,9 @@ use Rattle.rayon.proofs.ListFacts.{IfOk-then, AllZip-weaken}
 use Rattle.dash_shard.specs.Shard.{pairs}
 use Rattle.dash_rows.proofs.parallel.OwningIter.collect_keys.Goals as goal
 
+pub collect-requires-clause-ready : goal.collect-requires-clause-ready
+collect-requires-clause-ready g c κs within = λ k d lt. (tt, λ v is s seen. (tt, tt, λ xs t steps k' d' lt'. (tt, λ y answer. tt)))
+
 pub returns : goal.returns
 returns g c =
     let base = ap (λ it. vec_items it.base.base) c.map.ensures.base ∙ ap (λ it. vec_items it.base) c.flat_map_iter.ensures.base ∙ ap vec_items c.with_min_len.ensures.base ∙ c.into_par_iter.ensures in
