@@ -1,11 +1,11 @@
 -- The shards of a recorded map of one owner.
-use Rattle.std.proofs.Common.{◌≡◌, ℕ, ◌<◌, ◌≤◌, List, length, Some, arith, sym, ap, subst, ◌∙◌, inl, inr, get_or, slice_get, slice_set}
+use Rattle.std.proofs.Common.{◌≡◌, ℕ, ◌<◌, ◌≤◌, List, length, Some, arith, sym, ap, subst, ◌∙◌, inl, inr, refl, get_or, option_map, slice_get, slice_set}
 use mathlib.Core.Path.{fun_ext}
 use Rattle.std.specs.Prelude.{⊤}
 use Rattle.std.specs.Option.{option_map_or}
 use Rattle.std.proofs.lemmas.List.{set-get_or}
 use Rattle.std.proofs.lemmas.Bool.{cases_eq}
-use Rattle.std.proofs.lemmas.Option.{slice_get-get_or, slice_get_within, same_Some}
+use Rattle.std.proofs.lemmas.Option.{slice_get-get_or, slice_get-map, slice_get_within, same_Some}
 use Rattle.std.proofs.Math.ListN.{length-set}
 use Rattle.dash_shard.proofs.Rows.{slice_get-set_same, slice_get-set_other}
 use Rattle.dash_shard.specs.Contents.{keys}
@@ -19,8 +19,11 @@ use Rattle.dash_steps.specs.Steps.{step_of}
 use Rattle.dash_steps.specs.inner.Hashed.{OfKey, IsHashBy, HasHash}
 use Rattle.dash_steps.specs.Takes.{Kinds, Known, kinds_at, rules}
 use Rattle.dash_steps.specs.inner.Kinds.{kinds, kinds_of}
-use Rattle.dash_history.specs.History.{RecState, LogState, IsRecorded, Recorded, last_or, shard_of}
-use Rattle.dash_history.specs.Alone.{RecAloneState, IsRecTagged, IsRecAlone, Applied, last_at, kinds_in}
+use Rattle.dash_record.specs.History.{RecState, LogState, IsRecorded, Recorded, last_or, shard_of}
+use Rattle.dash_history.specs.OneHistory.{histories}
+use Rattle.dash_gather.specs.Merge.{record_at}
+use Rattle.dash_history.specs.Alone.{RecAloneState, IsRecAlone, Applied, last_at, kinds_in}
+use Rattle.dash_record.specs.Held.{IsRecTagged}
 
 module _ {K V A S : Type 0} (h : KeyHash K S) where
   pub tagged-moved : (base : S) (n c i : ℕ) (s t : RecState K V A S) → IsRecTagged h base n c i s → SameShard s.shard t.shard → t.callers ≡ s.callers → IsRecTagged h base n c i t
@@ -128,3 +131,10 @@ module _ {K V A S : Type 0} (w : Known K V A S)
   -- the shard was put back as it was
   pub unchanged : (t : RecState K V A S) → t ≡ s → record { hasher = base; callers = c; row = slice_set row p t } ≡ z
   unchanged t e = ap (λ x. record { hasher = base; callers = c; row = slice_set row p x }) (e ∙ read) ∙ ap (λ x. record { hasher = base; callers = c; row = x }) (set-get_or row p s) ∙ view
+
+-- what stands at a place of the map, whose fields are seen
+pub stored-at : {K V A S : Type 0} (base : S) (c : ℕ) (row : List (RecState K V A S)) (z : RecAloneState K V A S) → record { hasher = base; callers = c; row = row } ≡ z → (i p : ℕ) (s : RecState K V A S) → i < length z.row → s ≡ get_or row i s
+    → slice_get s.history p ≡ record_at (histories z) i p
+stored-at base c row z view i p s within is =
+    let there : slice_get row i ≡ Some s = slice_get-get_or row i s (subst (λ a. i < length a.row) (sym view) within) ∙ ap Some (sym is) in
+    subst (λ a. slice_get s.history p ≡ record_at (histories a) i p) view (rw (slice_get-map (λ s. s.history) row i ∙ ap (option_map (λ s. s.history)) there) refl)

@@ -18,9 +18,10 @@ use Rattle.dash_steps.specs.declared.step.Whole.TheVariants as whole
 use Rattle.dash_steps.proofs.AlikeLaws.{chained, reply_equiv}
 use Rattle.dash_kept.proofs.Items.{alike-append}
 use Rattle.dash_history.specs.Alone.{RecAloneState}
-use Rattle.dash_history.specs.History.{LogState, RecState}
+use Rattle.dash_record.specs.History.{LogState, RecState}
 use Rattle.dash_history.specs.OneHistory.{CopiesRecPairs, rec_contents}
-use Rattle.dash_history.specs.WholeSteps.{AppliedWhole, joined_number, joined_pairs, number_in, pairs_in}
+use Rattle.dash_history.specs.WholeSteps.{AppliedWhole}
+use Rattle.dash_record.specs.Joined.{joined_number, joined_pairs, number_in, pairs_in}
 
 -- the sum along a list, from its front
 pub total : {X : Type 0} → (X → ℕ) → List X → ℕ

@@ -1,24 +1,13 @@
 mod Alones
 mod Faults
-mod Growing
 mod Logging
-pub mod Telling
 mod Maps
-mod Recording
 mod Refusals
-mod Placing
 mod Members
-mod Merging
 mod Alongs
 mod Whole
-mod Indexing
-mod Following
 mod Matching
 mod Gathering
-mod Copying
-mod Parts
-mod Adding
-mod WholeLogs
 mod WholeAlone
 mod Joining
 mod SharedSteps

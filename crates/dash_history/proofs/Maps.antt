@@ -9,17 +9,17 @@ use Rattle.dash_shard.specs.Hashing.{KeyHash, IsAmount, HashAlike}
 use Rattle.dash_lock.specs.Lock.{FoundBehind, LeftBehind}
 use Rattle.dash_shard.specs.inner.Rows.{Moved}
 use Rattle.dash_shard.proofs.Rows.{moved-length, moved-from, moved-to}
-use Rattle.dash_history.specs.declared.record.held.RecTag.{RecTag}
-use Rattle.dash_history.specs.History.{RecState, LogState, Recorded, IsRecorded, shard_of}
-use Rattle.dash_history.specs.Alone.{RecAloneState, IsRecTagged, IsRecAlone}
-use Rattle.dash_history.specs.Held.{FitsRecTag}
+use Rattle.dash_record.specs.declared.record.tag.RecTag.{RecTag}
+use Rattle.dash_record.specs.History.{RecState, LogState, Recorded, IsRecorded, shard_of}
+use Rattle.dash_history.specs.Alone.{RecAloneState, IsRecAlone}
+use Rattle.dash_record.specs.Held.{IsRecTagged, FitsRecTag}
 use Rattle.dash_history.specs.Map.{RecMapState, Logs, kinds_on}
-use Rattle.dash_history.specs.Refused.{Records}
+use Rattle.dash_record.specs.Refused.{Records}
 use Rattle.dash_steps.specs.Takes.{Known}
 use Rattle.dash_steps.specs.inner.Kinds.{kinds_of}
 use Rattle.dash_steps.specs.declared.step.ShardStep.{ShardStep}
 use Rattle.dash_steps.specs.declared.step.Reply.{Reply}
-use Rattle.dash_history.specs.declared.record.RecordFault.{RecordFault}
+use Rattle.dash_record.specs.declared.record.RecordFault.{RecordFault}
 use Rattle.dash_history.proofs.Alones.{kinds-same}
 use Rattle.dash_history.proofs.Faults.{never-missing}
 use Rattle.dash_history.proofs.Logging.{logged}

@@ -1,54 +1,12 @@
--- The elements of lists, lists in which each element comes before all behind it, and when two such lists agree.
-use Rattle.std.proofs.Common.{◌≡◌, ℕ, zero, suc, ◌<◌, ◌≤◌, ◌⊎◌, Bool, true, false, cond, List, [], ◌∷◌, ◌++◌, filter, map, length, Option, Some, None, slice_get, slice_index_or, ⊎_elim, inl, inr, refl, sym, ap, subst, ◌∙◌, arith}
-use Rattle.std.specs.List.{Contains, AllZip, filter_map, cons_option}
-use Rattle.std.proofs.lemmas.Option.{slice_get-get_or, slice_get_past, slice_get_within, same_Some}
+-- What filters keep of lists, and when two lists in an order agree.
+use Rattle.std.proofs.Common.{◌≡◌, ℕ, zero, suc, ◌<◌, ◌≤◌, Bool, true, false, cond, List, [], ◌∷◌, filter, length, Option, Some, None, slice_get, slice_index_or, inl, inr, refl, sym, ap, subst, ◌∙◌, arith}
+use Rattle.std.specs.List.{AllZip, filter_map, cons_option}
+use Rattle.std.proofs.lemmas.Option.{slice_get-get_or, slice_get_past}
 use Rattle.std.specs.Option.{MatchOption, IfSome, option_map}
 use denote.Ref.{Bor}
+use Rattle.dash_gather.proofs.Members.{Has, has-get, InOrder}
 
 module _ {X : Type 0} where
-  -- x is one of the list
-  abbrev pub Has : List X → X → Type 0
-  Has [] x = ⊥
-  Has (y ∷ ys) x = (y ≡ x) ⊎ Has ys x
-
-  pub get-has : (xs : List X) (i : ℕ) (x : X) → slice_get xs i ≡ Some x → Has xs x
-  get-has [] i x e = cc
-  get-has (y ∷ xs) zero x e = inl (same_Some y x e)
-  get-has (y ∷ xs) (suc i) x e = inr (get-has xs i x e)
-
-  pub has-get : (xs : List X) (x : X) → Has xs x → (i : ℕ) × (slice_get xs i ≡ Some x)
-  has-get [] x h = absurd h
-  has-get (y ∷ xs) x (inl e) = (zero, ap Some e)
-  has-get (y ∷ xs) x (inr h) = let r = has-get xs x h in (suc r.0, r.1)
-
-  pub get-within : (xs : List X) (i : ℕ) → i < length xs → (x : X) × (slice_get xs i ≡ Some x)
-  get-within [] i lt = absurd (omega (arith, lt))
-  get-within (x ∷ xs) zero lt = (x, refl)
-  get-within (x ∷ xs) (suc i) lt = get-within xs i (omega (arith, lt))
-
-  pub contains-has : (xs : List X) (x : X) → Contains xs x → Has xs x
-  contains-has xs x c = get-has xs c.0 x (slice_get-get_or xs c.0 x c.1 ∙ ap Some c.2)
-
-  pub has-contains : (xs : List X) (x : X) → Has xs x → Contains xs x
-  has-contains xs x h =
-      let r = has-get xs x h in
-      let within = slice_get_within xs r.0 x r.1 in
-      (r.0, within, same_Some _ x (sym (slice_get-get_or xs r.0 x within) ∙ r.1))
-
-  pub has-either : (xs ys : List X) (x : X) → Has (xs ++ ys) x → Has xs x ⊎ Has ys x
-  has-either [] ys x h = inr h
-  has-either (y ∷ xs) ys x (inl e) = inl (inl e)
-  has-either (y ∷ xs) ys x (inr h) = ⊎_elim (λ a. inl (inr a)) inr (has-either xs ys x h)
-
-  pub has-front : (xs ys : List X) (x : X) → Has xs x → Has (xs ++ ys) x
-  has-front [] ys x h = absurd h
-  has-front (y ∷ xs) ys x (inl e) = inl e
-  has-front (y ∷ xs) ys x (inr h) = inr (has-front xs ys x h)
-
-  pub has-back : (xs ys : List X) (x : X) → Has ys x → Has (xs ++ ys) x
-  has-back [] ys x h = h
-  has-back (y ∷ xs) ys x h = inr (has-back xs ys x h)
-
   -- what a filter keeps
   pub has-kept : (p : X → Bool) (xs : List X) (x : X) → Has (filter p xs) x → Has xs x × (p x ≡ true)
   has-kept p [] x h = absurd h
@@ -63,18 +21,6 @@ module _ {X : Type 0} where
   kept-has p [] x h e = h
   kept-has p (y ∷ xs) x (inl same) e = rw (ap p same ∙ e) (inl same)
   kept-has p (y ∷ xs) x (inr h) e = elim (p y) as (λ b. Has (cond b (y ∷ filter p xs) (filter p xs)) x) [ true ↦ inr (kept-has p xs x h e) | false ↦ kept-has p xs x h e ]
-
-  -- each comes before all behind it
-  abbrev pub InOrder : (X → X → Type 0) → List X → Type 0
-  InOrder R [] = Unit {0}
-  InOrder R (x ∷ xs) = ((y : X) → Has xs y → R x y) × InOrder R xs
-
-  pub in_order-get : (R : X → X → Type 0) (xs : List X) → InOrder R xs → (i j : ℕ) (x y : X) → i < j → slice_get xs i ≡ Some x → slice_get xs j ≡ Some y → R x y
-  in_order-get R [] o i j x y lt e f = cc
-  in_order-get R (z ∷ xs) o zero zero x y lt e f = absurd (omega (arith, lt))
-  in_order-get R (z ∷ xs) o zero (suc j) x y lt e f = subst (λ a. R a y) (same_Some z x e) (o.0 y (get-has xs j y f))
-  in_order-get R (z ∷ xs) o (suc i) zero x y lt e f = absurd (omega (arith, lt))
-  in_order-get R (z ∷ xs) o (suc i) (suc j) x y lt e f = in_order-get R xs o.1 i j x y (omega (arith, lt)) e f
 
   pub get-in_order : (R : X → X → Type 0) (xs : List X) → ((i j : ℕ) (x y : X) → i < j → slice_get xs i ≡ Some x → slice_get xs j ≡ Some y → R x y) → InOrder R xs
   get-in_order R [] f = tt
@@ -117,12 +63,6 @@ module _ {X : Type 0} where
             go : ((z : X) × Has (x ∷ xs) z × L z w) → (z : X) × Has xs z × L z w
             go (z, inl e, l) = let r = forth x x y w heads (subst (λ v. L v w) (sym e) l) (oy.0 w h) in absurd (never x x r r)
             go (z, inr k, l) = (z, k, l)
-
--- what stands in a mapped list stands for an element of the list
-pub mapped-get : {X Y : Type 0} (f : X → Y) (xs : List X) (i : ℕ) (y : Y) → slice_get (map f xs) i ≡ Some y → (x : X) × (slice_get xs i ≡ Some x) × (f x ≡ y)
-mapped-get f [] i y e = cc
-mapped-get f (x ∷ xs) zero y e = (x, refl, same_Some (f x) y e)
-mapped-get f (x ∷ xs) (suc i) y e = mapped-get f xs i y e
 
 -- what a filter_map keeps
 module _ {X Y : Type 0} (f : X → Option Y) where

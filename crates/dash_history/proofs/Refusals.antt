@@ -1,12 +1,9 @@
 -- Refusals that differ.
-use Rattle.std.proofs.Common.{◌≡◌, Result, Ok, Err, ap}
+use Rattle.std.proofs.Common.{◌≡◌, Result, Err, ap}
 use Rattle.dash_shard.specs.declared.error.ConstructError.{ConstructError}
 use Rattle.dash_shard.specs.declared.error.ConstructError.TheVariants.{ShardAmount, Callers, Memory}
-use Rattle.dash_history.specs.declared.record.RecordFault.{RecordFault}
-use Rattle.dash_history.specs.declared.record.RecordFault.TheVariants.{LastStamp, NoSuchShard}
-
-pub made-refused : {T E : Type 0} (x : T) (e : E) → ◌≡◌ {A = Result T E} (Ok x) (Err e) → ⊥
-made-refused x e same = cc
+use Rattle.dash_record.specs.declared.record.RecordFault.{RecordFault}
+use Rattle.dash_record.specs.declared.record.RecordFault.TheVariants.{LastStamp, NoSuchShard}
 
 pub callers-amount : {T : Type 0} → ◌≡◌ {A = Result T ConstructError} (Err Callers) (Err ShardAmount) → ⊥
 callers-amount same = cc

@@ -9,14 +9,15 @@ use Rattle.dash_steps.specs.Takes.{Known}
 use Rattle.dash_steps.specs.declared.step.Record.{Record}
 use Rattle.dash_steps.specs.declared.step.Whole.{Whole}
 use Rattle.dash_steps.proofs.AlikeLaws.{chained, reply_equiv}
-use Rattle.dash_history.specs.History.{LogState, RecState}
+use Rattle.dash_record.specs.History.{LogState, RecState}
 use Rattle.dash_history.specs.Map.{RecMapState}
 use Rattle.dash_history.specs.SharedSteps.{LogsWhole, NoStampLeft}
-use Rattle.dash_history.specs.WholeSteps.{TellsPart, greatest, part_reply}
+use Rattle.dash_record.specs.Part.{TellsPart, greatest}
+use Rattle.dash_record.specs.Joined.{part_reply}
 use Rattle.dash_history.specs.inner.Locks.{HoldsAll}
-use Rattle.dash_history.specs.inner.Parts.{Planned, TellsTwice}
-use Rattle.dash_history.proofs.Members.{get-within}
-use Rattle.dash_history.proofs.WholeLogs.{above-log, part-copied}
+use Rattle.dash_record.specs.inner.Parts.{Planned, TellsTwice}
+use Rattle.dash_record.proofs.Lists.{get-within}
+use Rattle.dash_record.proofs.WholeLogs.{above-log, part-copied}
 
 -- the greatest is one of them
 greatest-is : {X : Type 0} (last : X → ℕ) (n : ℕ) (xs : List X) → (greatest last n xs ≡ n) ⊎ ((i : ℕ) × (x : X) × (slice_get xs i ≡ Some x) × (greatest last n xs ≡ last x))

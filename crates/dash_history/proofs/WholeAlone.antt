@@ -11,13 +11,15 @@ use Rattle.dash_steps.specs.declared.step.Record.{Record}
 use Rattle.dash_steps.specs.declared.step.Whole.{Whole}
 use Rattle.dash_steps.specs.Takes.{Known}
 use Rattle.dash_steps.proofs.Copies.{ActAlike}
-use Rattle.dash_history.specs.History.{LogState, RecState, IsRecorded}
-use Rattle.dash_history.specs.Alone.{RecAloneState, IsRecAlone, IsRecTagged}
-use Rattle.dash_history.specs.WholeSteps.{AppliedWhole, and_record}
-use Rattle.dash_history.specs.inner.Parts.{AddedEach, IsNext, Planned, SameEach}
-use Rattle.dash_history.proofs.Members.{get-within}
-use Rattle.dash_history.proofs.Parts.{next-recorded}
-use Rattle.dash_history.proofs.WholeLogs.{each-next}
+use Rattle.dash_record.specs.History.{LogState, RecState, IsRecorded}
+use Rattle.dash_history.specs.Alone.{RecAloneState, IsRecAlone}
+use Rattle.dash_record.specs.Held.{IsRecTagged}
+use Rattle.dash_history.specs.WholeSteps.{AppliedWhole}
+use Rattle.dash_record.specs.Part.{and_record}
+use Rattle.dash_record.specs.inner.Parts.{AddedEach, IsNext, Planned, SameEach}
+use Rattle.dash_record.proofs.Lists.{get-within}
+use Rattle.dash_record.proofs.Parts.{next-recorded}
+use Rattle.dash_record.proofs.WholeLogs.{each-next}
 
 -- lists with the same elements at the same indexes
 same-lists : {X : Type 0} (xs ys : List X) → length xs ≡ length ys → ((i : ℕ) (x : X) → slice_get ys i ≡ Some x → slice_get xs i ≡ Some x) → xs ≡ ys

@@ -1,12 +1,13 @@
 -- A recorded map of one owner: a row of recorded shards.
 use Rattle.std.specs.Prelude.{ℕ, zero, suc, ◌≡◌, ◌<◌, ◌≤◌, List, [], ◌∷◌, ◌++◌, length, Some, slice_get, slice_set}
 use Rattle.std.specs.Option.{option_map_or}
-use Rattle.dash_shard.specs.Hashing.{KeyHash, IsAmount, HashAlike}
-use Rattle.dash_shard.specs.Shard.{EachAt, pairs}
+use Rattle.dash_shard.specs.Hashing.{IsAmount}
+use Rattle.dash_shard.specs.Shard.{EachAt}
 use Rattle.dash_steps.specs.Takes.{Known, kinds_at, Kinds}
 use Rattle.dash_steps.specs.Steps.{IsPart}
-use Rattle.dash_history.specs.History.{LogState, RecState, IsRecorded, Recorded, last_or, shard_of}
-use Rattle.dash_history.specs.Refused.{NoStamp}
+use Rattle.dash_record.specs.History.{LogState, RecState, IsRecorded, Recorded, last_or, shard_of}
+use Rattle.dash_record.specs.Held.{IsRecTagged}
+use Rattle.dash_record.specs.Refused.{NoStamp}
 use Rattle.dash_steps.specs.declared.step.ShardStep.{ShardStep}
 use Rattle.dash_steps.specs.declared.step.Reply.{Reply}
 
@@ -27,22 +28,9 @@ pub record RecAloneState (K V A S : Type 0) : Type 0 where
   pub row : List (RecState K V A S)
 
 module _ {K V A S : Type 0} where
-  -- no pair, and no history
-  pub record IsFresh (s : RecState K V A S) : Type 0 where
-    pub pairs : pairs s.shard ≡ []
-    pub history : s.history ≡ []
-    pub last : s.last ≡ 0
-
   -- the last stamp of the history of shard i, 0 where there is none
   abbrev pub last_at : RecAloneState K V A S → ℕ → ℕ
   last_at a i = option_map_or (λ s. last_or 0 s.history) (slice_get a.row i) 0
-
-  -- the shard i of n, of a map with c callers and a hasher of this meaning
-  pub record IsRecTagged (h : KeyHash K S) (meaning : S) (n c i : ℕ) (s : RecState K V A S) : Type 0 where
-    pub number : s.shard.number ≡ i
-    pub amount : s.shard.amount ≡ n
-    pub callers : s.callers ≡ c
-    pub hashes : HashAlike h meaning s.shard.hasher
 
   -- each shard has the number of its index, and a legal history
   pub record IsRecAlone (w : Known K V A S) (a : RecAloneState K V A S) : Type 0 where

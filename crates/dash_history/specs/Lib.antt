@@ -1,9 +1,5 @@
-pub mod History
 pub mod Alone
-pub mod Held
 pub mod Map
-pub mod Refused
-pub mod Joined
 pub mod OneHistory
 pub mod WholeSteps
 pub mod SharedSteps

@@ -5,14 +5,15 @@ use Rattle.dash_lock.specs.Lock.{FoundBehind, LeftBehind}
 use Rattle.dash_shard.specs.Shard.{EachAt}
 use Rattle.dash_steps.specs.Steps.{step_of, reply_of, IsPart}
 use Rattle.dash_steps.specs.Takes.{Known, kinds_at, Kinds, Answers}
-use Rattle.dash_history.specs.History.{RecState, LogState, IsCopy, IsRecorded, NoShard, Recorded, shard_of}
-use Rattle.dash_history.specs.Alone.{RecAloneState, IsRecTagged, IsRecAlone}
-use Rattle.dash_history.specs.Refused.{NoStamp, RefusesPart}
+use Rattle.dash_record.specs.History.{RecState, LogState, IsCopy, IsRecorded, NoShard, Recorded, shard_of}
+use Rattle.dash_history.specs.Alone.{RecAloneState, IsRecAlone}
+use Rattle.dash_record.specs.Held.{IsRecTagged}
+use Rattle.dash_record.specs.Refused.{NoStamp, RefusesPart}
 use Rattle.dash_steps.specs.declared.step.ShardStep.{ShardStep}
 use Rattle.dash_steps.specs.declared.step.Reply.{Reply}
 use Rattle.dash_steps.specs.declared.step.Record.{Record}
-use Rattle.dash_history.specs.declared.record.RecordFault.{RecordFault}
-use Rattle.dash_history.specs.declared.record.RecordFault.TheVariants.{LastStamp, NoSuchShard}
+use Rattle.dash_record.specs.declared.record.RecordFault.{RecordFault}
+use Rattle.dash_record.specs.declared.record.RecordFault.TheVariants.{LastStamp, NoSuchShard}
 
 -- what contracts see of the map: nothing of its pairs and histories
 pub record RecMapState (S : Type 0) : Type 0 where

@@ -1,6 +1,6 @@
 -- One history of a recorded map: the merge of the histories of its shards, and when the logs of its callers match them.
-use Rattle.std.specs.Prelude.{ℕ, ◌≡◌, ◌+◌, ◌-◌, ◌^◌, min, take, drop, ◌<◌, ◌≤◌, ◌==◌, ◌⊎◌, ◌↔◌, List, [], map, filter, flat_map, length, Option, Some, option_and_then, slice_get, All, IsTrue, Result, IfOk, Err, Vec}
-use Rattle.std.specs.List.{Contains, filter_map}
+use Rattle.std.specs.Prelude.{ℕ, ◌≡◌, ◌+◌, ◌-◌, ◌^◌, min, take, drop, ◌<◌, ◌≤◌, ◌==◌, List, [], map, filter, flat_map, length, Option, Some, slice_get, All, IsTrue, Result, IfOk, Err, Vec}
+use Rattle.std.specs.List.{Contains}
 use Rattle.dash_shard.specs.Shard.{EachAt, pairs}
 use Rattle.std.specs.Option.{option_eq}
 use Rattle.std.specs.Cmp.Lexicographic.{pointwise}
@@ -8,49 +8,20 @@ use Rattle.dash_kept.specs.Alike.{alike_pair}
 use Rattle.dash_steps.specs.Steps.{alike_record, part_of}
 use Rattle.dash_steps.specs.declared.step.Whole.{Whole}
 use Rattle.dash_steps.specs.declared.step.Whole.TheVariants as whole
-use Rattle.dash_history.specs.Joined.{joined_number, joined_pairs}
+use Rattle.dash_record.specs.Joined.{joined_number, joined_pairs}
 use Rattle.dash_shard.specs.Contents.{EachOnce}
 use Rattle.dash_steps.specs.Takes.{Known, Runs}
-use Rattle.dash_history.specs.History.{LogState, done}
+use Rattle.dash_record.specs.History.{LogState, done}
 use Rattle.dash_history.specs.Alone.{RecAloneState, kinds_in}
+use Rattle.dash_gather.specs.Merge.{AreCallers, IsMerge, Same, along, of_caller, record_at}
 use Rattle.dash_steps.specs.declared.step.Record.{Record}
-use Rattle.dash_history.specs.declared.gather.At.{At}
+use Rattle.dash_gather.specs.declared.place.At.{At}
 use Rattle.dash_history.specs.declared.gather.GatherError.{GatherError}
 use Rattle.dash_history.specs.declared.gather.GatherError.TheVariants.{Mismatch}
 
--- first by stamp, and among equal stamps by shard
-abbrev pub Earlier : At → At → Type 0
-Earlier a b = (a.stamp < b.stamp) ⊎ ((a.stamp ≡ b.stamp) × (a.shard < b.shard))
-
 module _ {K V A : Type 0} where
-  -- the record at a place: at the index p of the history of shard s
-  abbrev pub record_at : List (List (Record K V A)) → ℕ → ℕ → Option (Record K V A)
-  record_at hs s p = option_and_then (λ h. slice_get h p) (slice_get hs s)
-
-  -- there is a record at the place of a, and a has its stamp and its caller
-  abbrev pub Names : List (List (Record K V A)) → At → Type 0
-  Names hs a = (r : Record K V A) × (record_at hs a.shard a.place ≡ Some r) × (r.stamp ≡ a.stamp) × (r.caller ≡ a.caller)
-
-  -- MERGE: each record of each history once, first by stamp, and among equal stamps by shard
-  pub record IsMerge (hs : List (List (Record K V A))) (ats : List At) : Type 0 where
-    pub each : (a : At) → Contains ats a ↔ Names hs a
-    pub in_order : (i j : ℕ) (a b : At) → i < j → slice_get ats i ≡ Some a → slice_get ats j ≡ Some b → Earlier a b
-
-  -- the records at these places
-  abbrev pub along : List (List (Record K V A)) → List At → List (Record K V A)
-  along hs ats = filter_map (λ a. record_at hs a.shard a.place) ats
-
   abbrev pub of_shard : ℕ → List (Record K V A) → List (Record K V A)
   of_shard s rs = filter (λ r. r.shard == s) rs
-
-  abbrev pub of_caller : ℕ → List (Record K V A) → List (Record K V A)
-  of_caller j rs = filter (λ r. r.caller == j) rs
-
-  -- the logs are those of the callers 0 to c - 1, each once
-  pub record AreCallers (c : ℕ) (logs : List (LogState K V A)) : Type 0 where
-    pub few : EachAt logs (λ _ l. l.caller < c)
-    pub all : (j : ℕ) → j < c → (i : ℕ) × (l : LogState K V A) × (slice_get logs i ≡ Some l) × (l.caller ≡ j)
-    pub once : (i k : ℕ) (l m : LogState K V A) → slice_get logs i ≡ Some l → slice_get logs k ≡ Some m → l.caller ≡ m.caller → i ≡ k
 
   -- the log has a part of a whole step of this kind in each of n shards, all at this stamp
   abbrev pub HasWhole : ℕ → Whole → ℕ → List (Record K V A) → Type 0
@@ -71,10 +42,6 @@ module _ {K V A S : Type 0} where
   rec_contents a = flat_map (λ s. pairs s.shard) a.row
 
 module _ {K V A S : Type 0} (w : Known K V A S) where
-  -- the same records in the same order, up to alike
-  abbrev pub Same : List (Record K V A) → List (Record K V A) → Type 0
-  Same rs qs = IsTrue (pointwise (alike_record w.alike_key w.alike_value w.alike_action) rs qs)
-
   -- a copy of the record at a place, or none where there is none
   abbrev pub CopiesEntry : RecAloneState K V A S → ℕ → ℕ → Option (Record K V A) → Type 0
   CopiesEntry a s p found = IsTrue (option_eq (alike_record w.alike_key w.alike_value w.alike_action) (record_at (histories a) s p) found)
@@ -87,7 +54,7 @@ module _ {K V A S : Type 0} (w : Known K V A S) where
   pub record Matches (a : RecAloneState K V A S) (logs : List (LogState K V A)) : Type 0 where
     pub callers : AreCallers a.callers logs
     pub shards : EachAt logs (λ _ l. All (λ r. r.shard < length a.row) l.entries)
-    pub same : EachAt logs (λ _ l. EachAt (histories a) (λ s h. Same (of_caller l.caller h) (of_shard s l.entries)))
+    pub same : EachAt logs (λ _ l. EachAt (histories a) (λ s h. Same w (of_caller l.caller h) (of_shard s l.entries)))
 
   -- ONE HISTORY: the places are the merge, each shard's records stand in its order, and along them all steps run on one map, from
   -- no pairs to the pairs of all shards
@@ -100,7 +67,7 @@ module _ {K V A S : Type 0} (w : Known K V A S) where
   pub record IsGathered (a : RecAloneState K V A S) (logs : List (LogState K V A)) (ats : List At) : Type 0 where
     pub matches : Matches a logs
     pub history : IsOneHistory a ats
-    pub callers : EachAt logs (λ _ l. Same (of_caller l.caller (along (histories a) ats)) l.entries)
+    pub callers : EachAt logs (λ _ l. Same w (of_caller l.caller (along (histories a) ats)) l.entries)
 
   -- these records of parts reply, joined, what one map with the contents P has
   abbrev pub Joined : Whole → List (K × V) → List (Record K V A) → Type 0

@@ -7,9 +7,10 @@ use Rattle.dash_steps.specs.Takes.{Known}
 use Rattle.dash_steps.specs.declared.step.Record.{Record}
 use Rattle.dash_steps.specs.declared.step.Whole.{Whole}
 use Rattle.dash_steps.specs.declared.step.Whole.TheVariants as whole
-use Rattle.dash_history.specs.History.{LogState}
+use Rattle.dash_record.specs.History.{LogState}
 use Rattle.dash_history.specs.Map.{RecMapState, SawRecShard}
-use Rattle.dash_history.specs.WholeSteps.{TellsPart, joined_number, joined_pairs}
+use Rattle.dash_record.specs.Part.{TellsPart}
+use Rattle.dash_record.specs.Joined.{joined_number, joined_pairs}
 
 module _ {K V A S : Type 0} (w : Known K V A S) where
   -- The log is longer by a record of the part in each shard, as the shard was found behind its lock, in rising order of shards, all at

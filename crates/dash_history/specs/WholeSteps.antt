@@ -1,46 +1,29 @@
 -- Whole steps: a count or a copy of the whole map, by one part in each shard, all at one stamp.
-use Rattle.std.specs.Prelude.{ℕ, ◌≡◌, ◌+◌, ◌-◌, ◌^◌, min, max, List, [], ◌∷◌, ◌++◌, length, Some, slice_get, IsTrue}
+use Rattle.std.specs.Prelude.{ℕ, ◌≡◌, ◌+◌, ◌-◌, ◌^◌, min, List, ◌++◌, length, Some, slice_get, IsTrue}
 use Rattle.std.specs.Cmp.Lexicographic.{pointwise}
-use Rattle.dash_shard.specs.Shard.{EachAt, pairs}
+use Rattle.dash_shard.specs.Shard.{EachAt}
 use Rattle.dash_kept.specs.Alike.{alike_pair}
-use Rattle.dash_steps.specs.Alike.{alike_reply}
-use Rattle.dash_steps.specs.Steps.{reply_of, alike_record, part}
+use Rattle.dash_steps.specs.Steps.{alike_record}
 use Rattle.dash_steps.specs.Takes.{Known}
 use Rattle.dash_steps.specs.declared.step.Record.{Record}
 use Rattle.dash_steps.specs.declared.step.Whole.{Whole}
 use Rattle.dash_steps.specs.declared.step.Whole.TheVariants as whole
 use Rattle.dash_history.specs.Alone.{RecAloneState}
-use Rattle.dash_history.specs.History.{LogState, RecState}
-pub use Rattle.dash_history.specs.Joined.{joined_number, joined_pairs, number_in, pairs_in, part_reply}
+use Rattle.dash_record.specs.History.{LogState, RecState}
+use Rattle.dash_record.specs.Joined.{joined_number, joined_pairs}
+use Rattle.dash_record.specs.Part.{TellsPart, and_record, greatest}
 use Rattle.dash_history.specs.OneHistory.{CopiesRecPairs, rec_contents}
-
--- the greatest of a number and the lasts of these shards
-abbrev pub greatest : {X : Type 0} → (X → ℕ) → ℕ → List X → ℕ
-greatest last n [] = n
-greatest last n (x ∷ xs) = greatest last (max n (last x)) xs
 
 module _ {K V A S : Type 0} where
   -- the greatest of the log's last and the lasts of all shards
   abbrev pub top_of : RecAloneState K V A S → LogState K V A → ℕ
   top_of a l = greatest (λ s. s.last) l.last a.row
 
-  -- the shard with one record more at the end of its history
-  abbrev pub and_record : RecState K V A S → Record K V A → RecState K V A S
-  and_record s r = record s { last = r.stamp; history = s.history ++ r ∷ [] }
-
 module _ {K V A S : Type 0} (w : Known K V A S) where
-  -- the record tells the part of such a whole step in a shard, at this stamp and by this caller, with the reply at the shard's pairs
-  pub record TellsPart (kind : Whole) (stamp caller : ℕ) (s : RecState K V A S) (r : Record K V A) : Type 0 where
-    pub stamped : r.stamp ≡ stamp
-    pub by : r.caller ≡ caller
-    pub of : r.shard ≡ s.shard.number
-    pub step : r.step ≡ part kind s.shard.number
-    pub replied : IsTrue (alike_reply w.alike_key w.alike_value (part_reply kind (pairs s.shard)) (reply_of r.reply))
-
   -- the shard's part was recorded at the end of its history, and so in the log
   pub record RecordsPart (kind : Whole) (stamp caller : ℕ) (s s' : RecState K V A S) (logged : Record K V A) : Type 0 where
     pub kept : Record K V A
-    pub tells : TellsPart kind stamp caller s kept
+    pub tells : TellsPart w kind stamp caller s kept
     pub grown : s' ≡ and_record s kept
     pub same : IsTrue (alike_record w.alike_key w.alike_value w.alike_action kept logged)
 

@@ -3,31 +3,33 @@ ghost use Rattle.std.specs.Prelude.{◌∷◌, [], ◌≡◌, ◌+◌, ◌<◌, 
 ghost use Rattle.dash_shard.specs.Errors.{IsOneOf};
 ghost use Rattle.dash_shard.specs.declared.error.ConstructError.TheVariants.{Callers, Memory, ShardAmount};
 ghost use Rattle.dash_shard.specs.Hashing.{IsAmount, HashAlike};
-ghost use Rattle.dash_history.specs.History.{LogState, NoShard, shard_of};
-ghost use Rattle.dash_history.specs.Alone.{RecAloneState, IsCallers, IsFresh, IsRecAlone, Applied, NoStampIn, fresh_logs, kinds_in, last_at};
+ghost use Rattle.dash_record.specs.History.{LogState, NoShard, shard_of, IsFresh};
+ghost use Rattle.dash_history.specs.Alone.{RecAloneState, IsCallers, IsRecAlone, Applied, NoStampIn, fresh_logs, kinds_in, last_at};
 ghost use Rattle.dash_history.specs.inner.Fresh.{FreshRow};
 ghost use Rattle.dash_shard.specs.Shard.{EachAt, pairs};
 ghost use Rattle.dash_steps.specs.inner.Copied.{alike_pairs};
-ghost use Rattle.dash_history.specs.OneHistory.{IsOneHistory, Gathers, CopiesEntry, CopiesRecPairs, histories, record_at};
-ghost use Rattle.dash_history.specs.Refused.{HandsBack, RefusesPart};
-ghost use Rattle.dash_history.specs.declared.record.RecordFault.TheVariants as fault;
-ghost use Rattle.dash_history.specs.declared.record.RecordFault.TheVariants.{LastStamp, NoSuchShard, Locked};
+ghost use Rattle.dash_history.specs.OneHistory.{IsOneHistory, Gathers, CopiesEntry, CopiesRecPairs, histories};
+ghost use Rattle.dash_gather.specs.Merge.{record_at};
+ghost use Rattle.dash_record.specs.Refused.{HandsBack, RefusesPart};
+ghost use Rattle.dash_record.specs.declared.record.RecordFault.TheVariants as fault;
+ghost use Rattle.dash_record.specs.declared.record.RecordFault.TheVariants.{LastStamp, NoSuchShard, Locked};
 ghost use Rattle.dash_history.specs.WholeSteps.{AppliedWhole, CountsAll, ClonesAll, top_of};
-ghost use Rattle.dash_history.specs.inner.Parts.{Planned};
+ghost use Rattle.dash_record.specs.inner.Parts.{Planned};
 ghost use Rattle.dash_steps.specs.declared.step.Whole.{Whole};
 ghost use Rattle.dash_steps.specs.Takes.{Known, known};
 ghost use Rattle.dash_steps.specs.Steps.{IsPart};
 ghost use Rattle.dash_steps.specs.declared.step.ShardStep.{ShardStep};
 ghost use Rattle.dash_steps.specs.declared.step.Reply.{Reply};
 
-use crate::gather::matching::{follows, index_of};
-use crate::gather::merge::merge;
-use crate::gather::{At, GatherError};
-use crate::known::Recorded;
+use crate::gather::GatherError;
 use crate::record::map::Locked;
-use crate::record::whole::{Parts, join_numbers, join_pairs, plan_whole, record_whole};
-use crate::record::{CallerLog, RecShard, RecordFault};
+use dash_gather::matching::{follows, index_of};
+use dash_gather::merge::merge;
+use dash_gather::place::At;
 use dash_kept::{Kept, KeptKey};
+use dash_record::known::Recorded;
+use dash_record::record::whole::{Parts, join_numbers, join_pairs, plan_whole, record_whole};
+use dash_record::record::{CallerLog, RecShard, RecordFault};
 use dash_shard::error::ConstructError;
 use dash_shard::hash::is_shard_amount;
 use dash_shard::keyed::Keyed;
@@ -115,11 +117,11 @@ fn copy_contents<K: KeptKey + Drop, V: Kept + Drop, S: BuildHasher, A: KeptActio
 {
     let mut count: usize = 0;
     for shard in row {
-        count = count.saturating_add(shard.len());
+        count = count.saturating_add(shard.shard().len());
     }
     let mut copies = Vec::with_capacity(alloc, count)?;
     for idx in 0..row.len() {
-        add_copies(&mut copies, row[idx].iter())?;
+        add_copies(&mut copies, row[idx].shard().iter())?;
     }
     Ok(copies)
 }

@@ -2,12 +2,12 @@
 ghost use Rattle.std.specs.Prelude.{◌≡◌, ◌-◌, ◌^◌, ◌<◌, ◌⊎◌};
 ghost use Rattle.dash_steps.specs.Steps.{IsPart};
 ghost use Rattle.dash_history.specs.Map.{Logs, shard_on};
-ghost use Rattle.dash_history.specs.declared.record.RecordFault.TheVariants.{LastStamp, Locked};
+ghost use Rattle.dash_record.specs.declared.record.RecordFault.TheVariants.{LastStamp, Locked};
 
-use crate::known::Recorded;
 use crate::record::map::RecordedMap;
-use crate::record::{CallerLog, RecordFault};
 use dash_kept::{Kept, KeptKey};
+use dash_record::known::Recorded;
+use dash_record::record::{CallerLog, RecordFault};
 use dash_steps::action::KeptAction;
 use dash_steps::step::{Reply, ShardStep};
 use std::hash::BuildHasher;

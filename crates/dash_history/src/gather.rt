@@ -1,33 +1,21 @@
 //! One history of a recorded map: the histories of its shards merged, where the logs of its callers match them.
 ghost use Rattle.std.specs.Prelude.{◌≡◌, List};
 ghost use Rattle.dash_history.specs.Alone.{RecAloneState};
-ghost use Rattle.dash_history.specs.History.{LogState};
+ghost use Rattle.dash_record.specs.History.{LogState};
 ghost use Rattle.dash_history.specs.Map.{SawRecShards};
 ghost use Rattle.dash_history.specs.OneHistory.{IsGathered, Gathers, StampsStandInOrder};
 ghost use Rattle.dash_steps.specs.Takes.{Known};
-ghost use Rattle.dash_history.specs.declared.gather.At.{At};
+ghost use Rattle.dash_gather.specs.declared.place.At.{At};
 
-use crate::known::Recorded;
-use crate::record::CallerLog;
 use crate::record::map::RecordedMap;
 use core::mem::replace_with;
+pub use dash_gather::place::At;
 use dash_kept::{Kept, KeptKey};
+use dash_record::known::Recorded;
+use dash_record::record::CallerLog;
 use dash_steps::action::KeptAction;
 use std::hash::BuildHasher;
 use thiserror::Error;
-
-pub(crate) mod matching;
-pub(crate) mod merge;
-
-/// One record of a recorded map, by its place: the index `place` in the history of the shard `shard`. It orders by stamp, then by
-/// shard.
-#[derive(Clone, Copy, Debug, PartialEq, Eq, PartialOrd, Ord, Drop)]
-pub struct At {
-    pub stamp: u64,
-    pub shard: usize,
-    pub place: usize,
-    pub caller: u32,
-}
 
 /// Why there is no one history.
 #[derive(Clone, Copy, Debug, PartialEq, Eq, Error)]

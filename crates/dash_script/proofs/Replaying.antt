@@ -21,8 +21,8 @@ use Rattle.dash_steps.specs.declared.step.ShardStep.{ShardStep}
 use Rattle.dash_steps.specs.declared.step.ShardStep.TheVariants.{Get, Insert, Remove}
 use Rattle.dash_steps.specs.declared.step.Reply.TheVariants.{Pair, Old}
 use Rattle.dash_steps.specs.declared.step.Record.{Record}
-use Rattle.dash_history.specs.declared.gather.At.{At}
-use Rattle.dash_history.specs.OneHistory.{along, record_at}
+use Rattle.dash_gather.specs.declared.place.At.{At}
+use Rattle.dash_gather.specs.Merge.{along, record_at}
 use Rattle.dash_script.specs.Replay.{IsThreadStep, IsReplay, plain}
 use Rattle.dash_script.specs.inner.Replay.{Fits, Makes, bare}
 use Rattle.dash_script.proofs.PlainMaps.{paired, at-lookup, at-put, distinct}

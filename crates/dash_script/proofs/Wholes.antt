@@ -15,11 +15,11 @@ use Rattle.dash_steps.specs.declared.step.Reply.{Reply}
 use Rattle.dash_steps.specs.declared.step.Reply.TheVariants.{Number}
 use Rattle.dash_steps.specs.declared.step.Whole.{Whole}
 use Rattle.dash_steps.specs.declared.step.Whole.TheVariants as whole
-use Rattle.dash_history.specs.History.{LogState}
-use Rattle.dash_history.specs.Joined.{pairs_in, joined_pairs}
+use Rattle.dash_record.specs.History.{LogState}
+use Rattle.dash_record.specs.Joined.{pairs_in, joined_pairs}
 use Rattle.dash_history.specs.Map.{RecMapState, SawRecShard}
 use Rattle.dash_history.specs.SharedSteps.{ClonesShared}
-use Rattle.dash_history.specs.WholeSteps.{TellsPart}
+use Rattle.dash_record.specs.Part.{TellsPart}
 use Rattle.dash_script.specs.declared.step.Line.TheVariants as says
 use Rattle.dash_script.specs.Script.{IsReplyTo}
 use Rattle.dash_script.proofs.Replaying.{same-pairs}

@@ -7,9 +7,9 @@ use Rattle.dash_lock.specs.Lock.{FoundBehind}
 use Rattle.dash_shard.specs.Shard.{EachAt}
 use Rattle.dash_steps.specs.Takes.{Known}
 use Rattle.dash_history.specs.Alone.{IsCallers}
-use Rattle.dash_history.specs.Held.{FitsRecTag}
-use Rattle.dash_history.specs.History.{RecState, IsRecorded}
-use Rattle.dash_history.specs.declared.record.held.RecTag.{RecTag}
+use Rattle.dash_record.specs.Held.{FitsRecTag}
+use Rattle.dash_record.specs.History.{RecState, IsRecorded}
+use Rattle.dash_record.specs.declared.record.tag.RecTag.{RecTag}
 use Rattle.dash_history.specs.Map.{RecMapState, IsRecShardOf}
 
 module _ {S : Type 0} where

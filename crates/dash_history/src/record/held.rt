@@ -1,46 +1,28 @@
 //! A recorded shard that is held for writing, changed in place behind its lock.
 ghost use Rattle.std.specs.Prelude.{◌≡◌, ◌<◌, ◌↔◌, IsFalse, IsTrue};
-ghost use Rattle.dash_shard.specs.Hashing.{by};
 ghost use Rattle.dash_shard.specs.Shard.{Routes};
 ghost use Rattle.dash_lock.specs.Lock.{LeftBehind};
-ghost use Rattle.dash_history.specs.History.{IsRecorded, GoesTo, RecState};
-ghost use Rattle.dash_history.specs.WholeSteps.{and_record};
-ghost use Rattle.dash_history.specs.inner.Parts.{HasOneMore, IsNext};
+ghost use Rattle.dash_record.specs.History.{IsRecorded, GoesTo, RecState};
+ghost use Rattle.dash_record.specs.Part.{and_record};
+ghost use Rattle.dash_record.specs.inner.Parts.{HasOneMore, IsNext};
 ghost use Rattle.dash_steps.specs.Steps.{IsPart};
 ghost use Rattle.dash_steps.specs.inner.Hashed.{HasHash};
-ghost use Rattle.dash_history.specs.Held.{FitsRecTag};
-ghost use Rattle.dash_history.specs.Refused.{Records};
+ghost use Rattle.dash_record.specs.Held.{FitsRecTag};
+ghost use Rattle.dash_record.specs.Refused.{Records};
 ghost use Rattle.dash_steps.specs.Takes.{known};
 
-use super::whole::Member;
-use super::{CallerLog, RecShard, RecordFault};
-use crate::known::Recorded;
 use dash_kept::{Kept, KeptKey};
-use dash_lock::Tagged;
 use dash_lock::lock::RwLockWriteGuard;
+use dash_record::known::Recorded;
+pub use dash_record::record::tag::RecTag;
+use dash_record::record::whole::Member;
+use dash_record::record::{CallerLog, RecShard, RecordFault};
 use dash_steps::action::KeptAction;
 use dash_steps::step::{Record, Reply, ShardStep, Whole};
 use std::alloc::{AllocError, Global};
 use std::hash::BuildHasher;
 use std::marker::Model;
 use std::mem;
-use std::snapshot::Snapshot;
-
-/// What a recorded shard's lock is made for: the shard's number, how many there are, the number of callers, and what its hasher
-/// means. The snapshot has no bytes.
-#[derive(Drop)]
-pub struct RecTag<S> {
-    pub number: usize,
-    pub amount: usize,
-    pub callers: u32,
-    pub hasher: Snapshot<S>,
-}
-
-impl<K: KeptKey, V: Kept, S: BuildHasher, A: KeptAction<K, V>> Tagged for RecShard<K, V, S, A> {
-    type Tag = RecTag<S>;
-
-    ghost fits = { λ tag shard. FitsRecTag (by K.Hash S.BuildHasher S.Hasher.Hasher) tag shard };
-}
 
 /// A recorded shard that is held for writing: the hold ends when it is dropped. A contract sees it as the shard with its history.
 #[must_use]
@@ -50,7 +32,7 @@ pub struct RecShardMut<'a, K: KeptKey, V: Kept, S: BuildHasher, A: KeptAction<K,
 
 impl<'a, K: KeptKey, V: Kept, S: BuildHasher, A: KeptAction<K, V>> Model
     for RecShardMut<'a, K, V, S, A> {
-    ghost use Rattle.dash_history.specs.History.{RecState};
+    ghost use Rattle.dash_record.specs.History.{RecState};
 
     ghost Value = { RecState K V A S };
 
@@ -105,7 +87,7 @@ impl<K: KeptKey + Drop, V: Kept + Drop, S: BuildHasher, A: KeptAction<K, V> + Dr
         ensures number { result ≡ self.now.shard.number }
         ensures legal { IsRecorded ⟦<Self as Recorded>⟧.known self.now }
     {
-        self.guard.shard.number()
+        self.guard.shard().number()
     }
 
     /// How many shards the map has.
@@ -113,7 +95,7 @@ impl<K: KeptKey + Drop, V: Kept + Drop, S: BuildHasher, A: KeptAction<K, V> + Dr
     pub fn amount(&self) -> usize
         ensures { result ≡ self.now.shard.amount }
     {
-        self.guard.shard.amount()
+        self.guard.shard().amount()
     }
 
     /// How many callers the map has.
@@ -121,7 +103,7 @@ impl<K: KeptKey + Drop, V: Kept + Drop, S: BuildHasher, A: KeptAction<K, V> + Dr
     pub fn callers(&self) -> u32
         ensures { result ≡ self.now.callers }
     {
-        self.guard.callers
+        self.guard.callers()
     }
 
     /// The stamp of the shard's last step, 0 for none.
@@ -129,7 +111,7 @@ impl<K: KeptKey + Drop, V: Kept + Drop, S: BuildHasher, A: KeptAction<K, V> + Dr
     pub fn last_stamp(&self) -> u64
         ensures { result ≡ self.now.last }
     {
-        self.guard.last
+        self.guard.last_stamp()
     }
 
     /// Whether the key goes to this shard.
@@ -137,7 +119,7 @@ impl<K: KeptKey + Drop, V: Kept + Drop, S: BuildHasher, A: KeptAction<K, V> + Dr
     pub fn routes(&self, key: &K) -> bool
         ensures { IsTrue result ↔ Routes ⟦<Self as Recorded>⟧.known.keys self.now.shard key.now }
     {
-        self.guard.shard.routes(key)
+        self.guard.shard().routes(key)
     }
 
     /// Takes a step of this shard, and adds one same record of it at the end of its history and of the caller's log.
@@ -156,8 +138,16 @@ impl<K: KeptKey + Drop, V: Kept + Drop, S: BuildHasher, A: KeptAction<K, V> + Dr
         if step.is_part() {
             return Err((step, RecordFault::Part));
         }
-        let hash = self.guard.hash_of(&step);
+        let hash = self.hash_of(&step);
         self.record_hashed(log, hash, step)
+    }
+
+    // The hash of a step's key, or 0 where it has none.
+    fn hash_of(&self, step: &ShardStep<K, V, A>) -> u64
+        ensures { HasHash ⟦<Self as Recorded>⟧.known self.now.shard step.now result }
+    {
+        let shard = self.guard.shard();
+        step.route(shard.hasher(), shard.amount()).0
     }
 
     // As `record`, for a caller who has the hash of the step's key, and knows that it is no part.
@@ -174,7 +164,7 @@ impl<K: KeptKey + Drop, V: Kept + Drop, S: BuildHasher, A: KeptAction<K, V> + Dr
         ensures { Records ⟦<Self as Recorded>⟧.known self.old self.new log.old log.new step result }
     {
         // The closure takes the log and gives it back, and a log with no entries stands in its place meanwhile.
-        let blank = CallerLog::new(*log.entries.allocator(), log.caller);
+        let blank = CallerLog::new(log.allocator(), log.caller());
         let mine = mem::replace(log, blank);
         let (mine, answer) = self.guard.change(
             |shard: &mut RecShard<K, V, S, A>| -> (

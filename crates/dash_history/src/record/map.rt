@@ -6,22 +6,24 @@ ghost use Rattle.dash_shard.specs.Shard.{EachAt};
 ghost use Rattle.dash_shard.specs.Errors.{IsOneOf};
 ghost use Rattle.dash_shard.specs.declared.error.ConstructError.TheVariants.{Callers, Memory, ShardAmount};
 ghost use Rattle.dash_shard.specs.Hashing.{by, IsAmount, HashAlike};
-ghost use Rattle.dash_history.specs.Alone.{IsCallers, IsRecTagged, fresh_logs, last_at};
-ghost use Rattle.dash_history.specs.History.{IsRecorded};
+ghost use Rattle.dash_history.specs.Alone.{IsCallers, fresh_logs, last_at};
+ghost use Rattle.dash_record.specs.Held.{IsRecTagged};
+ghost use Rattle.dash_record.specs.History.{IsRecorded};
 ghost use Rattle.dash_history.specs.Map.{IsRecFound, IsRecShardOf, SawRecShards, rec_map, shard_on};
 ghost use Rattle.dash_history.specs.OneHistory.{CopiesEntry, CopiesRecPairs};
 ghost use Rattle.dash_history.specs.inner.Locks.{IsRecAt, LeavesLock};
 ghost use Rattle.dash_steps.specs.inner.Hashed.{IsHashBy};
 ghost use Rattle.dash_steps.specs.Takes.{known};
 
-use super::held::{RecShardMut, RecTag};
-use super::{CallerLog, RecShard};
+use super::held::RecShardMut;
 use crate::alone::RecAlone;
-use crate::known::Recorded;
 use core::mem::replace_with;
 use crossbeam_utils::CachePadded;
 use dash_kept::{Kept, KeptKey};
 use dash_lock::lock::RwLock;
+use dash_record::known::Recorded;
+use dash_record::record::tag::RecTag;
+use dash_record::record::{CallerLog, RecShard};
 use dash_shard::error::ConstructError;
 use dash_shard::row::Row;
 use dash_steps::action::KeptAction;
@@ -180,7 +182,7 @@ impl<K: KeptKey + Drop, V: Kept + Drop, S: BuildHasher, A: KeptAction<K, V> + Dr
                 ensures found { FoundBehind result }
             {
                 let shard = lock.into_inner().into_inner();
-                let _ = &shard.last;
+                let _ = shard.last_stamp();
                 shard
             },
         );

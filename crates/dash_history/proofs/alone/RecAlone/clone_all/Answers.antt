@@ -4,7 +4,7 @@ use Rattle.dash_kept.specs.Alike.{alike_pair}
 use Rattle.dash_steps.specs.Takes.{known_by}
 use Rattle.dash_steps.specs.declared.step.Record.{Record}
 use Rattle.dash_steps.specs.declared.step.Whole.TheVariants as whole
-use Rattle.dash_history.specs.WholeSteps.{joined_pairs}
+use Rattle.dash_record.specs.Joined.{joined_pairs}
 use Rattle.dash_history.proofs.Joining.{copies-joined}
 use Rattle.dash_history.proofs.alone.RecAlone.clone_all.Goals as goal
 

@@ -1,6 +1,6 @@
 use Rattle.std.proofs.Common.{◌≡◌, ◌∙◌, sym, subst, ap, length}
 use Rattle.dash_shard.proofs.Rows.{moved-length}
-use Rattle.dash_history.specs.Alone.{IsRecTagged}
+use Rattle.dash_record.specs.Held.{IsRecTagged}
 use Rattle.dash_history.proofs.Maps.{map-of_alone, left-of_alone}
 use Rattle.dash_shard.specs.Hashing.{key_hash}
 use Rattle.dash_steps.specs.Takes.{known_by}

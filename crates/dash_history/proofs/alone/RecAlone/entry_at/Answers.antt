@@ -1,5 +1,5 @@
 use Rattle.std.proofs.Common.{slice_get, ap, ◌∙◌}
-use Rattle.dash_history.proofs.Following.{stored-at}
+use Rattle.dash_history.proofs.Alones.{stored-at}
 use Rattle.dash_history.proofs.Members.{got}
 use Rattle.dash_history.proofs.alone.RecAlone.entry_at.Goals as goal
 

@@ -1,6 +1,6 @@
-use Rattle.std.proofs.Common.{subst, sym, ◌∙◌}
-use Rattle.dash_history.specs.Refused.{Records}
-use Rattle.dash_history.specs.History.{LogState, RecState}
+use Rattle.std.proofs.Common.{subst, ◌∙◌}
+use Rattle.dash_record.specs.Refused.{Records}
+use Rattle.dash_record.specs.History.{LogState, RecState}
 use Rattle.dash_steps.specs.Takes.{known_by}
 use Rattle.dash_history.proofs.record.held.RecShardMut.record_hashed.Goals as goal
 
@@ -11,5 +11,4 @@ returns g c =
     let ran = c.change-mine.ensures.ran in
     let P = λ (old new : At) (log after : Log). Records (known_by g.K.PartialEq.eq g.K.Hash.hash_input g.K.Kept.alike g.V.Kept.alike g.A.Kept.alike g.A.Action.acts g.S.BuildHasher g.S.Hasher.Hasher) old new log after c.args.step c.change-mine.result.1 in
     let log = subst (λ log. P ran.shown.now c.change-mine.new.self.value log c.change-mine.result.0) c.replace-mine.ensures.value (subst (λ new. P ran.shown.now new c.replace-mine.result c.change-mine.result.0) ran.leaves ran.met) in
-    subst (λ after. P c.args.self.now c.change-mine.new.self.value c.args.log.now after) (sym c.drop.view_is)
-    (subst (λ old. P old c.change-mine.new.self.value c.args.log.now c.change-mine.result.0) (ran.shows ∙ c.self.view_is) log)
+    subst (λ old. P old c.change-mine.new.self.value c.args.log.now c.change-mine.result.0) (ran.shows ∙ c.self.view_is) log

@@ -1,6 +1,6 @@
 use Rattle.std.proofs.Common.{sym, subst, ◌∙◌}
-use Rattle.dash_history.specs.History.{RecState}
-use Rattle.dash_history.specs.inner.Parts.{HasOneMore}
+use Rattle.dash_record.specs.History.{RecState}
+use Rattle.dash_record.specs.inner.Parts.{HasOneMore}
 use Rattle.dash_steps.specs.Takes.{known_by}
 use Rattle.dash_history.proofs.record.held.RecShardMutMember.take_back.Goals as goal
 

@@ -1,8 +1,8 @@
 use Rattle.std.proofs.Common.{List, IsTrue, sym, subst, ◌∙◌}
 use Rattle.std.specs.Cmp.Lexicographic.{pointwise}
-use Rattle.dash_history.specs.History.{RecState}
-use Rattle.dash_history.specs.WholeSteps.{joined_pairs}
-use Rattle.dash_history.specs.inner.Parts.{Planned}
+use Rattle.dash_record.specs.History.{RecState}
+use Rattle.dash_record.specs.Joined.{joined_pairs}
+use Rattle.dash_record.specs.inner.Parts.{Planned}
 use Rattle.dash_kept.specs.Alike.{alike_pair}
 use Rattle.dash_steps.specs.Takes.{known_by}
 use Rattle.dash_steps.specs.declared.step.Record.{Record}

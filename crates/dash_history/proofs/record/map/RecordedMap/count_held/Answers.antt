@@ -1,7 +1,7 @@
 use Rattle.std.proofs.Common.{List, ap, sym, subst, ◌∙◌}
-use Rattle.dash_history.specs.History.{RecState}
-use Rattle.dash_history.specs.WholeSteps.{joined_number}
-use Rattle.dash_history.specs.inner.Parts.{Planned}
+use Rattle.dash_record.specs.History.{RecState}
+use Rattle.dash_record.specs.Joined.{joined_number}
+use Rattle.dash_record.specs.inner.Parts.{Planned}
 use Rattle.dash_steps.specs.Takes.{known_by}
 use Rattle.dash_steps.specs.declared.step.Whole.TheVariants as whole
 use Rattle.dash_history.proofs.record.map.RecordedMap.count_held.Goals as goal

@@ -2,7 +2,7 @@ use Rattle.std.proofs.Common.{◌≡◌, [], ◌∷◌}
 use Rattle.dash_shard.specs.Errors.{IsOneOf}
 use Rattle.dash_steps.specs.Takes.{known_by}
 use Rattle.dash_history.specs.SharedSteps.{NoStampLeft}
-use Rattle.dash_history.specs.declared.record.RecordFault.TheVariants.{LastStamp, Memory}
+use Rattle.dash_record.specs.declared.record.RecordFault.TheVariants.{LastStamp, Memory}
 use Rattle.dash_history.proofs.record.map.RecordedMap.try_fault_unheld.Given as goal
 
 abbrev pub invariant-loop-idx : goal.invariant-loop-idx

@@ -2,7 +2,7 @@ use Rattle.std.proofs.lemmas.Option.{slice_get_within}
 use Rattle.std.proofs.Common.{◌≡◌, ap, length, sym, subst, ◌∙◌, arith}
 use Rattle.dash_lock.specs.Lock.{FoundBehind}
 use Rattle.dash_shard.proofs.Rows.{each-more}
-use Rattle.dash_history.specs.History.{IsRecorded}
+use Rattle.dash_record.specs.History.{IsRecorded}
 use Rattle.dash_history.specs.Map.{IsRecShardOf}
 use Rattle.dash_steps.specs.Takes.{known_by}
 use Rattle.dash_history.proofs.record.map.RecordedMap.try_hold_all.Goals as goal

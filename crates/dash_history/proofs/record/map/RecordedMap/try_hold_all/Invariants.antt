@@ -1,7 +1,7 @@
 use Rattle.std.proofs.Common.{◌≡◌, ◌≤◌, vec_len, vec_capacity}
 use Rattle.dash_lock.specs.Lock.{FoundBehind}
 use Rattle.dash_shard.specs.Shard.{EachAt}
-use Rattle.dash_history.specs.History.{IsRecorded}
+use Rattle.dash_record.specs.History.{IsRecorded}
 use Rattle.dash_history.specs.Map.{IsRecShardOf}
 use Rattle.dash_steps.specs.Takes.{known_by}
 use Rattle.dash_history.proofs.record.map.RecordedMap.try_hold_all.Given as goal

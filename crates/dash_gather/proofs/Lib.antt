@@ -1,0 +1,5 @@
+pub mod Members
+pub mod Merging
+mod Placing
+mod Indexing
+mod Following

@@ -1,0 +1,2 @@
+-- What only proofs and the contracts of functions for the crates here alone use.
+pub mod Gathering
