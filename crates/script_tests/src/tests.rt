@@ -1,5 +1,5 @@
 //! The tests, in modules that are named as those that they test.
-mod change;
+mod checks;
 mod replay;
 mod script;
 mod threads;
