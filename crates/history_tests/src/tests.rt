@@ -1,10 +1,12 @@
-//! The tests of recorded maps: of one owner, behind locks, and what is gathered of them. `maps` has the maps and steps that they share.
+//! The tests of recorded maps: of one owner, behind locks, and what is gathered of them. `maps` has the maps and steps that they share,
+//! and `script` the tests of `dash_script`.
 mod alone;
 mod checks;
 mod gather;
 mod held;
 mod logs;
 mod maps;
+mod script;
 mod stamps;
 mod threads;
 mod whole;

@@ -8,6 +8,9 @@ use std::process::Abort;
 use std::rt::Clock;
 use std::sync::Wait;
 
+mod replay;
+mod threads;
+
 // Gives the bytes, one piece a read, then fails.
 #[derive(Drop)]
 struct Failing<'a> {
