@@ -1,7 +1,7 @@
 //! The stamps of steps by two callers, and which steps stand between which.
 use crate::tests::checks::is;
 use crate::tests::gather::{at, is_gathered};
-use crate::tests::maps::{Step, answers, are_pairs, insert_all, last_of, map_of_two};
+use crate::tests::maps::{Step, answers, are_pairs, insert_all, last_of, map_of_two, take};
 
 #[test]
 fn a_stamp_is_above_the_last_of_shard_and_caller(rt: HostRuntime) {
@@ -28,8 +28,8 @@ fn what_was_learned_stands_before(rt: HostRuntime) {
         );
         second.learn(learned);
         is(&rt, second.last_stamp(), learned);
-        let last = insert_all(&rt, &map, &mut second, &[9]);
-        is(&rt, (learned, last), (learned, stamp));
+        assert!(rt; take(&rt, &map, &mut second, Step::Insert(1, 1), true).is_ok());
+        is(&rt, (learned, second.last_stamp()), (learned, stamp));
         let places = map.alone().gather(&[first, second]).expect(&rt, "refused");
         assert!(rt; places.contains(&at(stamp, 1, 2, 1)), "{learned}");
     }

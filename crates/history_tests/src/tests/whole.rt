@@ -1,20 +1,21 @@
 //! Whole steps, as worked by hand.
 use crate::tests::checks::is;
-use crate::tests::maps::{Log, Map, are_pairs, insert_all, map_of_two};
+use crate::tests::maps::{Log, Map, Step, are_pairs, map_of_two, take};
 use dash_history::record::RecordFault;
 use std::alloc::Global;
 use std::process::Abort;
 use std::rt::Clock;
 use std::sync::Wait;
 
-const PAIRS: [(u64, u64); 3] = [(0, 10), (1, 10), (3, 10)];
+const PAIRS: [(u64, u64); 3] = [(0, 1), (1, 2), (3, 4)];
 
 // Three pairs, in shards of the lasts 1, 2, 0 and 5, by two callers of the lasts 3 and 5.
 fn three_pairs<R: Abort + Wait + Clock>(rt: &R, alloc: Global) -> (Map, Log, Log) {
     let (map, mut first, mut second) = map_of_two(rt, alloc, 4);
-    insert_all(rt, &map, &mut first, &[0, 1]);
+    assert!(rt; take(rt, &map, &mut first, Step::Insert(0, 1), true).is_ok());
+    assert!(rt; take(rt, &map, &mut first, Step::Insert(1, 2), true).is_ok());
     second.learn(4);
-    insert_all(rt, &map, &mut second, &[3]);
+    assert!(rt; take(rt, &map, &mut second, Step::Insert(3, 4), true).is_ok());
     first.learn(3);
     (map, first, second)
 }
