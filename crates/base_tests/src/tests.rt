@@ -7,4 +7,3 @@ mod lock;
 mod mapref;
 mod shard;
 mod slots;
-mod step;

@@ -1,10 +1,12 @@
-//! The tests, in modules that are named as those that they test; `callers` and `logs` have what is hostile.
+//! The tests of recorded maps: of one owner, behind locks, and what is gathered of them. `maps` has the maps and steps that they share,
+//! and `script` the tests of `dash_script`.
 mod alone;
-mod callers;
 mod checks;
 mod gather;
 mod held;
 mod logs;
-mod map;
-mod try_apply;
+mod maps;
+mod script;
+mod stamps;
+mod threads;
 mod whole;

@@ -3,51 +3,9 @@ use crate::tests::by_hand::{new_shard, put, remove, shard_one};
 use crate::tests::checks::is;
 use crate::values::Noted;
 use dash_shard::hash::PlaceState;
-use dash_shard::shard::Shard;
-use std::process::Abort;
 
 mod held;
 mod table;
-
-type Numbers = Shard<u64, u64, PlaceState>;
-
-// The place of a new pair.
-fn put_new(rt: &impl Abort, shard: &mut Numbers, key: u64) -> usize {
-    assert!(rt; shard.len() < shard.capacity());
-    assert!(rt; !shard.contains_key(&key));
-    assert!(rt; shard.routes(&key));
-    shard.insert_new(key, key)
-}
-
-#[test]
-fn grows(rt: HostRuntime) {
-    let mut shard = shard_one(&rt, rt.alloc(), []);
-    is(&rt, shard.capacity(), 0);
-    for i in 0..1000u64 {
-        let key = 4 * i + 1;
-        is(&rt, (key, put(&rt, &mut shard, key, i)), (key, None));
-        assert!(rt; shard.capacity() >= shard.len(), "{key}");
-    }
-    is(&rt, shard.len(), 1000);
-    for i in 0..1000u64 {
-        let key = 4 * i + 1;
-        is(&rt, shard.get(&key), Some((&key, &i)));
-    }
-}
-
-#[test]
-fn makes_room_ahead(rt: HostRuntime) {
-    let shard: Shard<u64, u64, _> = new_shard(&rt, rt.alloc(), PlaceState, 0, 2, 100);
-    assert!(rt; shard.capacity() >= 100);
-    is(&rt, shard.len(), 0);
-
-    let mut shard = shard_one(&rt, rt.alloc(), [(1, 10u64)]);
-    shard.try_reserve(10).expect(&rt, "refused");
-    assert!(rt; shard.capacity() >= 11);
-    is(&rt, shard.get(&1), Some((&1, &10)));
-    assert!(rt; shard.try_reserve(usize::MAX).is_err());
-    is(&rt, shard.len(), 1);
-}
 
 #[test]
 fn the_stored_key_stays(rt: HostRuntime) {
@@ -58,8 +16,7 @@ fn the_stored_key_stays(rt: HostRuntime) {
     }
     let key = Noted { name: 5, note: 3 };
     let (key, value) = shard.get(&key).expect(&rt, "no pair");
-    is(&rt, (key.note, *value), (1, 200));
-    is(&rt, shard.len(), 1);
+    is(&rt, (key.note, *value, shard.len()), (1, 200, 1));
 }
 
 #[test]
@@ -70,12 +27,10 @@ fn shrink_to_fit_gives_places_back(rt: HostRuntime) {
         [(1, 15u64), (5, 22), (9, 27), (13, 30), (17, 36)],
     );
     shard.try_reserve(10).expect(&rt, "refused");
-    is(&rt, shard.capacity(), 28);
-    shard.retain(|_, value| *value % 3 == 0);
+    let before = shard.capacity();
+    is(&rt, remove(&rt, &mut shard, 5), Some((5, 22)));
     shard.shrink_to_fit();
-    is(&rt, shard.len(), 4);
-    is(&rt, shard.capacity(), 14);
-    is(&rt, shard.get(&5), None);
+    is(&rt, (before, shard.capacity(), shard.len()), (28, 14, 4));
     for (key, value) in [(1, 15), (9, 27), (13, 30), (17, 36)] {
         is(&rt, shard.get(&key), Some((&key, &value)));
     }
@@ -94,15 +49,14 @@ fn removed_marks_go(rt: HostRuntime) {
     for i in 0..20u64 {
         is(&rt, (i, put(&rt, &mut shard, 4 * i + 1, i)), (i, None));
     }
-    is(&rt, shard.search(&81).visits, 2);
-    is(&rt, shard.search(&77).position, shard.position_of(&77));
-    is(&rt, shard.search(&77).visits, 2);
-    is(&rt, remove(&rt, &mut shard, 1), Some((1, 0)));
-    is(&rt, shard.search(&81).visits, 2);
-    for i in 16..20u64 {
-        let key = 4 * i + 1;
-        is(&rt, remove(&rt, &mut shard, key), Some((key, i)));
+    is(
+        &rt,
+        (shard.search(&81).visits, shard.search(&77).visits),
+        (2, 2),
+    );
+    for (number, visits) in [(0, 2), (16, 2), (17, 2), (18, 2), (19, 1)] {
+        let key = 4 * number + 1;
+        is(&rt, remove(&rt, &mut shard, key), Some((key, number)));
+        is(&rt, (number, shard.search(&81).visits), (number, visits));
     }
-    is(&rt, shard.search(&81).visits, 1);
-    is(&rt, shard.search(&5).visits, 1);
 }

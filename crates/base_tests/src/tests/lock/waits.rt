@@ -83,52 +83,41 @@ fn sleep_behind<R: Threads + Wait + Clock + Sync>(
 }
 
 #[test]
-fn writers_that_sleep_behind_a_reader_get_the_lock(rt: HostRuntime) {
+fn who_sleeps_behind_a_hold_gets_the_lock(rt: HostRuntime) {
     let lock = RwLock::new(Counted { count: 0 }, &());
-    sleep_behind(&rt, &lock, false);
-    is(&rt, lock.into_inner().count, 3);
+    is(&rt, sleep_behind(&rt, &lock, false), [0; 4]);
+    is(&rt, sleep_behind(&rt, &lock, true), [0, 3, 3, 3]);
 }
 
-#[test]
-fn readers_that_sleep_behind_a_writer_all_get_the_lock(rt: HostRuntime) {
-    let lock = RwLock::new(Counted { count: 7 }, &());
-    is(&rt, sleep_behind(&rt, &lock, true), [0, 7, 7, 7]);
-}
-
-#[test]
-fn a_writer_goes_on_as_a_reader(rt: HostRuntime) {
-    let lock = RwLock::new(Counted { count: 0 }, &());
-    add_one(&rt, &lock);
-    let guard = lock.write(&rt).downgrade();
-    is(&rt, guard.count, 1);
-    is(&rt, lock.read(&rt).count, 1);
-    assert!(rt; lock.try_write().is_none());
-    drop(guard);
-    assert!(rt; lock.try_write().is_some());
+// Whether a reader and a writer would get the lock now.
+fn admits(lock: &RawRwLock) -> (bool, bool) {
+    let reader = lock.try_lock_shared();
+    let is_reader = reader.is_some();
+    if let Some(hold) = reader {
+        lock.unlock_shared(hold);
+    }
+    let writer = lock.try_lock_exclusive();
+    let is_writer = writer.is_some();
+    if let Some(hold) = writer {
+        lock.unlock_exclusive(hold);
+    }
+    (is_reader, is_writer)
 }
 
 #[test]
 fn holds_go_back_to_their_lock(rt: HostRuntime) {
     let lock = RawRwLock::new();
-    let first = lock.lock_shared(&rt);
-    match lock.try_lock_shared() {
-        Some(second) => lock.unlock_shared(second),
-        None => assert!(rt; false, "a second reader"),
-    }
-    if let Some(hold) = lock.try_lock_exclusive() {
-        lock.unlock_exclusive(hold);
-        assert!(rt; false, "a writer beside a reader");
-    }
-    lock.unlock_shared(first);
-    let hold = lock.lock_exclusive(&rt);
-    let hold = lock.downgrade(hold);
-    match lock.try_lock_shared() {
-        Some(second) => lock.unlock_shared(second),
-        None => assert!(rt; false, "a reader after a downgrade"),
-    }
+    let hold = lock.lock_shared(&rt);
+    let beside_reader = admits(&lock);
     lock.unlock_shared(hold);
-    match lock.try_lock_exclusive() {
-        Some(hold) => lock.unlock_exclusive(hold),
-        None => assert!(rt; false, "a writer of a free lock"),
-    }
+    let hold = lock.lock_exclusive(&rt);
+    let beside_writer = admits(&lock);
+    let hold = lock.downgrade(hold);
+    let after_downgrade = admits(&lock);
+    lock.unlock_shared(hold);
+    is(
+        &rt,
+        [beside_reader, beside_writer, after_downgrade, admits(&lock)],
+        [(true, false), (false, false), (true, false), (true, true)],
+    );
 }

@@ -4,24 +4,23 @@ use crate::tests::checks::is;
 use dash_shard::hash::{PlaceState, ZeroState};
 use dash_shard::shard::probe;
 
-// Whether the group has the tag in the lanes of the first mask, and is empty in those of the second.
-fn shows(group: &[u8; 16], tag: u8, matches: u16, empty: u16) -> bool {
-    let seen = probe(group, tag);
-    seen.matches == matches && seen.empty == empty
-}
-
 #[test]
 fn looks_at_sixteen_tags(rt: HostRuntime) {
-    let mut group = [128u8; 16];
-    assert!(rt; shows(&group, 128, 65535, 65535));
-    group[15] = 127;
-    assert!(rt; shows(&group, 127, 32768, 32767));
-    group = [128; 16];
-    group[0] = 5;
-    group[2] = 129;
-    group[3] = 5;
-    assert!(rt; shows(&group, 5, 9, 65522));
-    assert!(rt; shows(&[129; 16], 0, 0, 0));
+    let mut last = [128u8; 16];
+    last[15] = 127;
+    let mut two = [128u8; 16];
+    two[0] = 5;
+    two[2] = 129;
+    two[3] = 5;
+    for (group, tag, matches, empty) in [
+        ([128; 16], 128, 65535, 65535),
+        (last, 127, 32768, 32767),
+        (two, 5, 9, 65522),
+        ([129; 16], 0, 0, 0),
+    ] {
+        let seen = probe(&group, tag);
+        is(&rt, (tag, seen.matches, seen.empty), (tag, matches, empty));
+    }
 }
 
 #[test]
@@ -43,16 +42,12 @@ fn keys_of_one_hash(rt: HostRuntime) {
     }
     is(&rt, shard.len(), 200);
     for key in 0..200u64 {
+        assert!(rt; shard.contains_key(&key), "{key}");
         if key % 2 == 1 {
             is(&rt, remove(&rt, &mut shard, key), Some((key, key)));
         }
     }
-    for key in 200..300u64 {
-        is(&rt, put(&rt, &mut shard, key, key), None);
-    }
-    is(&rt, shard.len(), 200);
-    for key in 0..300u64 {
-        let is_there = key >= 200 || key % 2 == 0;
-        is(&rt, (key, shard.contains_key(&key)), (key, is_there));
+    for key in 0..200u64 {
+        is(&rt, (key, shard.contains_key(&key)), (key, key % 2 == 0));
     }
 }

@@ -3,9 +3,11 @@ ghost use Rattle.std.specs.Prelude.{◌≡◌, ◌<◌, All, length};
 ghost use Rattle.dash_script.specs.Threads.{IsSize};
 ghost use Rattle.dash_script.specs.inner.Threads.{IsIdle};
 
+use crate::tests::checks::is;
 use dash_history::gather::GatherError;
 use dash_history::record::map::RecordedMap;
 use dash_history::record::{CallerLog, RecordFault};
+use dash_script::script::Stop;
 use dash_script::status::Status;
 use dash_script::threads::{Outcome, Refusal, Worker, idle_workers, refuse, step, take_all, tell};
 use dash_shard::error::ConstructError;
@@ -26,8 +28,8 @@ fn steps_of_a_thread(rt: HostRuntime) -> Result<(), Fail> {
         (63, 2, "Remove(1)"),
         (63, 9_999, "Insert(14, 63009999)"),
     ] {
-        let step = step(thread, number);
-        assert_eq!(rt; format!(in rt.alloc(); "{step:?}")?.as_str(), text);
+        let step = format!(in rt.alloc(); "{:?}", step(thread, number))?;
+        is(&rt, step.as_str(), text);
     }
     Ok(())
 }
@@ -91,47 +93,66 @@ fn each_worker_has_a_thread_of_its_own(rt: HostRuntime) {
         },
     );
     for worker in &workers {
-        assert_eq!(rt; worker.log.entries().len(), 4);
+        is(&rt, worker.log.entries().len(), 4);
     }
 }
 
 #[test]
-fn a_failed_allocation_in_a_step_is_told(rt: HostRuntime) -> Result<(), Fail> {
-    let mut refused = Vec::new(rt.alloc());
-    assert_eq!(rt; refuse(Refusal::Memory, &mut refused)?, Status::Refused);
-    assert_eq!(rt; refused.as_slice(), b"refused: no memory (19)\n".as_slice());
+fn what_became_of_the_threads_is_told(rt: HostRuntime) -> Result<(), Fail> {
+    let mut text = Vec::new(rt.alloc());
+    is(&rt, refuse(Refusal::Memory, &mut text)?, Status::Refused);
+    for legal in [true, false] {
+        tell(Outcome { entries: 3, legal }, &mut text)?;
+    }
+    let wanted: &[u8] = b"refused: no memory (19)\nentries 3\nlegal\nentries 3\nnot legal\n";
+    is(&rt, text.as_slice(), wanted);
     Ok(())
 }
 
-#[test]
-fn a_history_that_is_not_legal_is_told(rt: HostRuntime) -> Result<(), Fail> {
-    let mut output = Vec::new(rt.alloc());
-    let outcome = Outcome {
-        entries: 3,
-        legal: false,
-    };
-    assert_eq!(rt; tell(outcome, &mut output)?, Status::Refused);
-    assert_eq!(rt; output.as_slice(), b"entries 3\nnot legal\n".as_slice());
-    Ok(())
-}
-
+// A program's texts of its own, beside those of the errors of the map.
 #[test]
 fn texts_are_those_of_the_map(rt: HostRuntime) -> Result<(), Fail> {
-    for (refusal, fault) in [
-        (Refusal::LastStamp, RecordFault::LastStamp),
-        (Refusal::Memory, RecordFault::Memory),
+    for (fault, text) in [
+        (
+            RecordFault::LastStamp,
+            "last stamp (18), refused line 3: last stamp (18)",
+        ),
+        (
+            RecordFault::Memory,
+            "no memory (19), refused line 3: no memory (19)",
+        ),
+        (
+            RecordFault::NoSuchShard,
+            "no such shard (20), refused line 3: no such shard (20)",
+        ),
+        (
+            RecordFault::Locked,
+            "locked (21), refused line 3: locked (21)",
+        ),
+        (
+            RecordFault::Part,
+            "whole step's part (24), refused line 3: whole step's part (24)",
+        ),
     ] {
-        let text = format!(in rt.alloc(); "refused: {fault}")?;
-        assert_eq!(rt; format!(in rt.alloc(); "{refusal}")?, text);
+        let said = format!(in rt.alloc(); "{fault}, {}", Stop::Step { line: 3, fault })?;
+        is(&rt, said.as_str(), text);
     }
-    for (refusal, error) in [
-        (Refusal::Mismatch, GatherError::Mismatch),
-        (Refusal::Gather, GatherError::Memory),
+    let (made, gathered) = (ConstructError::Memory, GatherError::Memory);
+    let said = format!(in rt.alloc(); "{made}, {}, {gathered}", GatherError::Mismatch)?;
+    is(
+        &rt,
+        said.as_str(),
+        "no memory (8), mismatch (22), no memory (23)",
+    );
+    for (refusal, text) in [
+        (Refusal::Map, "refused: no memory (8)"),
+        (Refusal::LastStamp, "refused: last stamp (18)"),
+        (Refusal::Memory, "refused: no memory (19)"),
+        (Refusal::Mismatch, "refused: mismatch (22)"),
+        (Refusal::Gather, "refused: no memory (23)"),
     ] {
-        let text = format!(in rt.alloc(); "refused: {error}")?;
-        assert_eq!(rt; format!(in rt.alloc(); "{refusal}")?, text);
+        let said = format!(in rt.alloc(); "{refusal}")?;
+        is(&rt, said.as_str(), text);
     }
-    let text = format!(in rt.alloc(); "refused: {}", ConstructError::Memory)?;
-    assert_eq!(rt; format!(in rt.alloc(); "{}", Refusal::Map)?, text);
     Ok(())
 }

@@ -6,9 +6,9 @@ use Rattle.dash_history.specs.Alone.{fresh_logs}
 use Rattle.dash_script.specs.declared.threads.Worker.{Worker}
 use Rattle.dash_script.specs.inner.Threads.{IsIdle, idle}
 use Rattle.dash_script.proofs.Working.{logs-idle, many, all-idle}
-use Rattle.script_tests.proofs.tests.threads.four_idle.Goals.{After-expect-last}
-use Rattle.script_tests.proofs.tests.threads.four_idle.Given.{Over}
-use Rattle.script_tests.proofs.tests.threads.four_idle.Goals as goal
+use Rattle.history_tests.proofs.tests.script.threads.four_idle.Goals.{After-expect-last}
+use Rattle.history_tests.proofs.tests.script.threads.four_idle.Given.{Over}
+use Rattle.history_tests.proofs.tests.script.threads.four_idle.Goals as goal
 
 fresh : (g : Over) (c : After-expect-last g) → map (λ w. w.log) c.expect-workers.result.items ≡ fresh_logs 5
 fresh g c =

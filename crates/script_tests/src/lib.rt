@@ -1,5 +1,0 @@
-//! The tests of `dash_script`, over its public items alone.
-#![tactic(auto)]
-
-#[cfg(test)]
-mod tests;

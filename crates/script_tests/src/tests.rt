@@ -1,5 +1,0 @@
-//! The tests, in modules that are named as those that they test.
-mod change;
-mod replay;
-mod script;
-mod threads;
