@@ -2,6 +2,7 @@
 use crate::tests::checks::{is, prints};
 use dashmap::DashSet;
 use dashmap::hash::PlaceState;
+use dashmap::iter_set::Iter;
 use dashmap::set::AloneSet;
 use std::alloc::Global;
 use std::process::Abort;
@@ -11,10 +12,17 @@ use std::thread;
 
 type Keys = DashSet<u64>;
 
-// The keys that a walk gives, rising.
-fn walked<R: Abort + Wait + Clock>(rt: &R, alloc: Global, set: &Keys) -> Vec<u64> {
+// Sets where the key k of four shards goes to shard k modulo 4.
+type Places = DashSet<u64, PlaceState>;
+
+// The keys that a walk gives, sorted.
+fn walked<R: Abort + Wait + Clock>(
+    rt: &R,
+    alloc: Global,
+    walk: Iter<'_, u64, PlaceState, R>,
+) -> Vec<u64> {
     let mut keys = Vec::new(alloc);
-    for key in set.iter(rt) {
+    for key in walk {
         keys.push(*key.expect(rt, "refused").key())
             .expect(rt, "refused");
     }
@@ -25,20 +33,25 @@ fn walked<R: Abort + Wait + Clock>(rt: &R, alloc: Global, set: &Keys) -> Vec<u64
 #[test]
 fn a_set_of_a_list(rt: HostRuntime) {
     let list = vec![in rt.alloc(); 1, 5, 2].expect(&rt, "refused");
-    let mut set = Keys::from_iter(rt.alloc(), list, 1).expect(&rt, "refused");
+    let mut set = Places::from_iter(rt.alloc(), list, 1).expect(&rt, "refused");
     is(&rt, set.contains(&rt, &5), true);
     is(&rt, set.remove_if(&rt, &5, |_| false), None);
     is(&rt, set.remove_if(&rt, &1, |_| true), Some(1));
     set.extend(9..10).expect(&rt, "refused");
     is(&rt, set.len(&rt), 3);
-    prints(&rt, rt.alloc(), &walked(&rt, rt.alloc(), &set), "[2, 5, 9]");
+    prints(
+        &rt,
+        rt.alloc(),
+        &walked(&rt, rt.alloc(), set.iter(&rt)),
+        "[2, 5, 9]",
+    );
     let copy = set.clone(&rt).expect(&rt, "refused");
     set.clear(&rt);
     is(&rt, set.is_empty(&rt), true);
     prints(
         &rt,
         rt.alloc(),
-        &walked(&rt, rt.alloc(), &copy),
+        &walked(&rt, rt.alloc(), copy.iter(&rt)),
         "[2, 5, 9]",
     );
 }
@@ -83,33 +96,22 @@ fn get(rt: HostRuntime) {
     prints(&rt, rt.alloc(), &set.waiting(&rt), "{0: ()}");
 }
 
-// A set of four shards, where the key k goes to shard k modulo 4.
-fn set_of_four(rt: &impl Abort, alloc: Global) -> DashSet<u64, PlaceState> {
-    DashSet::with_hasher(alloc, PlaceState, 1).expect(rt, "refused")
-}
-
 #[test]
 fn places_of_keys(rt: HostRuntime) {
-    let set = set_of_four(&rt, rt.alloc());
+    let set = Places::with_hasher(rt.alloc(), PlaceState, 1).expect(&rt, "refused");
     is(&rt, set.shards().len(), 4);
     is(&rt, set.determine_map(&6), 2);
     is(&rt, set.determine_shard(set.hash_usize(&7u64)), 3);
     for key in [3, 6, 1] {
         is(&rt, set.insert(&rt, key), Ok(true));
     }
-    let mut walk = set.iter(&rt);
-    let first = walk.next().expect(&rt, "no key").expect(&rt, "refused");
-    let again = walk.clone().expect(&rt, "refused").next();
-    let again = again.expect(&rt, "no key").expect(&rt, "refused");
-    is(&rt, (*first, *again), (1, 1));
+    let copy = set.iter(&rt).clone().expect(&rt, "refused");
+    prints(&rt, rt.alloc(), &walked(&rt, rt.alloc(), copy), "[1, 3, 6]");
     let digits = |digits: u64, key: &u64| digits.wrapping_mul(10).wrapping_add(*key);
     is(&rt, set.fold(&rt, 0, digits), 163);
     let mut sum = 0u64;
     set.for_each(&rt, |key| sum = sum.wrapping_add(*key));
     is(&rt, sum, 10);
-    drop(first);
-    drop(again);
-    drop(walk);
     is(&rt, set.into_iter().next(), Some(1));
 }
 
