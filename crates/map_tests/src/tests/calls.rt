@@ -10,16 +10,6 @@ use std::rt::Clock;
 use std::sync::{Arc, Wait};
 use std::thread;
 
-// Takes a pair out, and answers its value.
-fn take<R: Wait + Clock, K: Eq + Hash + Drop, S: BuildHasher>(
-    rt: &R,
-    map: &DashMap<K, u64, S>,
-    key: K,
-) -> Option<u64> {
-    let (_, value) = map.remove(rt, &key)?;
-    Some(value)
-}
-
 // Adds 1 to each value.
 fn add_one<R: Wait + Clock, K: Eq + Hash, S: BuildHasher>(rt: &R, map: &DashMap<K, u64, S>) {
     map.alter_all(rt, |_, value| value.wrapping_add(1));
@@ -91,6 +81,11 @@ fn room_is_made(rt: HostRuntime) {
     has(&rt, &map, 1, Some(1));
 }
 
+// Takes a pair of equal numbers out, and says whether it was there.
+fn take<R: Wait + Clock, S: BuildHasher>(rt: &R, map: &DashMap<u64, u64, S>, key: u64) -> bool {
+    map.remove(rt, &key) == Some((key, key))
+}
+
 #[test]
 fn one_shard_may_have_all_keys(rt: HostRuntime) {
     let made = DashMap::<u64, u64, _>::with_hasher_and_shard_amount(rt.alloc(), ZeroState, 4);
@@ -104,8 +99,8 @@ fn one_shard_may_have_all_keys(rt: HostRuntime) {
         has(&rt, &map, key, Some(key));
     }
     for half in 0..100u64 {
-        is(&rt, take(&rt, &map, 2 * half), Some(2 * half));
-        is(&rt, take(&rt, &map, 2 * half), None);
+        is(&rt, take(&rt, &map, 2 * half), true);
+        is(&rt, take(&rt, &map, 2 * half), false);
     }
     for half in 0..100u64 {
         let key = 2 * half;
@@ -200,7 +195,7 @@ fn the_list_for_shared_calls(rt: HostRuntime) {
     add_one(&rt, &map);
     is(&rt, keep_above(&rt, &map, 5), 2);
     has(&rt, &map, 1, None);
-    is(&rt, take(&rt, &map, 4), Some(11));
+    is(&rt, map.remove(&rt, &4), Some((4, 11)));
     has(&rt, &map, 0, Some(6));
     map.clear(&rt);
     is(&rt, map.is_empty(&rt), true);
@@ -224,7 +219,7 @@ fn names_with_numbers(rt: HostRuntime) {
     has(&rt, &map, "Albin", None);
     put(&rt, &map, "Johnny", 21);
     for (name, age) in [("Jones", 22), ("Charlie", 27), ("Johnny", 21)] {
-        is(&rt, take(&rt, &map, name), Some(age));
+        is(&rt, map.remove(&rt, &name), Some((name, age)));
     }
     map.shrink_to_fit(&rt);
     is(&rt, (map.len(&rt), map.capacity(&rt)), (0, 0));
