@@ -69,75 +69,69 @@ fn equal_keys<R: Abort + Wait + Clock, S: BuildHasher>(rt: &R, map: &Map<S>) {
     let entry = map.entry(rt, a(9)).expect(rt, "refused");
     is(rt, (entry.key().note, entry.into_key().note), (1, 9));
     has_a(rt, map, 1, 100);
-    let put = map.entry(rt, a(9)).expect(rt, "refused").insert(7);
-    is(rt, *put, 7);
-    drop(put);
+    is(rt, *map.entry(rt, a(9)).expect(rt, "refused").insert(7), 7);
     has_a(rt, map, 1, 7);
     let (key, value) = map.remove(rt, &a(9)).expect(rt, "no pair");
     is(rt, (key.note, value), (1, 7));
     is(rt, map.len(rt), 0);
 }
 
-// Puts a pair beside the one of a, and answers the note of the entry's key.
-fn put_beside<R: Abort + Wait + Clock, S: BuildHasher>(rt: &R, map: &Map<S>) -> u64 {
+// The value of a key that is looked for by an equal one.
+fn value_of<R: Wait + Clock, S: BuildHasher>(rt: &R, map: &Map<S>, name: u64) -> Option<u64> {
+    map.view(rt, &make_noted(name, 2), |_, value| *value)
+}
+
+// Puts a pair beside the one of a, by an entry, whose key is the one that was handed in.
+fn put_beside<R: Abort + Wait + Clock, S: BuildHasher>(rt: &R, map: &Map<S>) {
     is(rt, map.insert(rt, a(1), 100).expect(rt, "refused"), None);
     let entry = map.entry(rt, make_noted(6, 1)).expect(rt, "refused");
     let entry = entry.insert_entry(5).ok().expect(rt, "refused");
-    let note = entry.into_key().note;
+    is(rt, entry.into_key().note, 1);
     is(
         rt,
-        map.view(rt, &make_noted(6, 2), |_, value| *value),
-        Some(5),
+        (value_of(rt, map, 6), value_of(rt, map, 5)),
+        (Some(5), Some(100)),
     );
-    is(rt, map.view(rt, &a(2), |_, value| *value), Some(100));
-    is(rt, map.len(rt), 2);
-    note
+}
+
+// Of equal keys in a list the first stays, and the last value, by one worker and by more.
+fn first_and_last<R: Abort + Threads + Sync, S: BuildHasher + Send + Sync>(
+    rt: &R,
+    alloc: Global,
+    alone: &mut Alone<Noted, u64, S>,
+)
+where
+    S::Hasher: Send,
+{
+    for workers in [1, 2, 3] {
+        let list = vec![in alloc; (a(1), 1), (a(2), 2), (a(3), 3)].expect(rt, "refused");
+        alone.par_extend(rt, list, workers).expect(rt, "refused");
+        let (key, value) = alone.remove(&a(9)).expect(rt, "no pair");
+        is(rt, (workers, key.note, value), (workers, 1, 3));
+    }
+}
+
+// All of these on a map without pairs.
+fn all_calls<R: Abort + Threads + Wait + Clock + Sync, S: BuildHasher + Send + Sync + Drop>(
+    rt: &R,
+    alloc: Global,
+    map: Map<S>,
+)
+where
+    S::Hasher: Send,
+{
+    equal_keys(rt, &map);
+    put_beside(rt, &map);
+    map.clear(rt);
+    first_and_last(rt, alloc, &mut map.alone());
 }
 
 #[test]
 fn an_equal_key_finds_the_stored_one(rt: HostRuntime) {
     let place = Map::with_hasher_and_shard_amount(rt.alloc(), PlaceState, 4);
-    let place = place.expect(&rt, "refused");
-    equal_keys(&rt, &place);
-    is(&rt, put_beside(&rt, &place), 1);
+    all_calls(&rt, rt.alloc(), place.expect(&rt, "refused"));
     let zero = Map::with_hasher_and_shard_amount(rt.alloc(), ZeroState, 4);
-    let zero = zero.expect(&rt, "refused");
-    equal_keys(&rt, &zero);
-    is(&rt, put_beside(&rt, &zero), 1);
+    all_calls(&rt, rt.alloc(), zero.expect(&rt, "refused"));
     let fixed = Map::with_hasher_and_shard_amount(rt.alloc(), FixedState, 4);
-    let fixed = fixed.expect(&rt, "refused");
-    equal_keys(&rt, &fixed);
-    is(&rt, put_beside(&rt, &fixed), 1);
-}
-
-// Of equal keys in a list the first stays, and the last value.
-fn first_and_last<R: Abort + Threads + Sync, S: BuildHasher + Send + Sync>(
-    rt: &R,
-    alloc: Global,
-    alone: &mut Alone<Noted, u64, S>,
-    workers: usize,
-)
-where
-    S::Hasher: Send,
-{
-    let list = vec![in alloc; (a(1), 1), (a(2), 2), (a(3), 3)].expect(rt, "refused");
-    alone.par_extend(rt, list, workers).expect(rt, "refused");
-    let (key, value) = alone.remove(&a(9)).expect(rt, "no pair");
-    is(rt, (workers, key.note, value), (workers, 1, 3));
-    is(rt, alone.len(), 0);
-}
-
-#[test]
-fn workers_keep_the_first_key_and_the_last_value(rt: HostRuntime) {
-    let place = Map::with_hasher_and_shard_amount(rt.alloc(), PlaceState, 4);
-    let mut place = place.expect(&rt, "refused").alone();
-    let zero = Map::with_hasher_and_shard_amount(rt.alloc(), ZeroState, 4);
-    let mut zero = zero.expect(&rt, "refused").alone();
-    let fixed = Map::with_hasher_and_shard_amount(rt.alloc(), FixedState, 4);
-    let mut fixed = fixed.expect(&rt, "refused").alone();
-    for workers in [1, 2, 3] {
-        first_and_last(&rt, rt.alloc(), &mut place, workers);
-        first_and_last(&rt, rt.alloc(), &mut zero, workers);
-        first_and_last(&rt, rt.alloc(), &mut fixed, workers);
-    }
+    all_calls(&rt, rt.alloc(), fixed.expect(&rt, "refused"));
 }

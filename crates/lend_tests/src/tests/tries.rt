@@ -1,143 +1,125 @@
 //! References that may be written, and calls that wait for nobody.
 use crate::tests::checks::{is, prints};
-use crate::tests::maps::{Places, map_of, put};
+use crate::tests::maps::{Places, add_one, is_held, is_written, map_of, put, tried, value_of};
 use dash_map::map::DashMap;
-use dash_ref::mapref::entry::Entry;
+use dash_ref::mapref::one::RefMut;
 use dash_ref::try_result::TryResult;
 use dash_ref::util::SharedValue;
-use dash_shard::hash::FixedState;
+use dash_shard::hash::PlaceState;
 use std::mem;
+use std::process::Abort;
+use std::rt::Clock;
+use std::sync::Wait;
 
-#[test]
-fn try_get(rt: HostRuntime) {
-    let map = DashMap::<&str, u64, FixedState>::with_shard_amount(rt.alloc(), 4).expect(
-        &rt, "refused",
-    );
-    put(&rt, &map, "Johnny", 21);
-    let found = map.try_get(&"Johnny").try_unwrap();
-    is(&rt, found.map(|found| *found), Some(21));
-    assert!(rt; map.try_get(&"Sam").is_absent());
-    let held = map.get_mut(&rt, &"Johnny").expect(&rt, "no pair");
-    assert!(rt; map.try_get(&"Johnny").is_locked());
-    drop(held);
-    assert!(rt; map.try_get(&"Johnny").is_present());
+type Ages = DashMap<&'static str, u64>;
+
+// Adds 1 to the age of somebody whose shard nobody holds.
+fn grow_older(rt: &impl Abort, ages: &Ages, name: &'static str) {
+    let mut age = ages.try_get_mut(&name).try_unwrap().expect(rt, "no pair");
+    *age = age.wrapping_add(1);
+}
+
+// How many pairs the shards have, each held for writing.
+fn count_shards<R: Wait + Clock>(rt: &R, ages: &Ages) -> usize {
+    let mut count = 0usize;
+    for lock in ages.shards() {
+        count = count.saturating_add(lock.write(rt).len());
+    }
+    count
 }
 
 #[test]
-fn try_get_mut(rt: HostRuntime) {
-    let map = DashMap::<&str, u64, FixedState>::with_shard_amount(rt.alloc(), 4).expect(
-        &rt, "refused",
-    );
-    put(&rt, &map, "Johnny", 21);
-    let mut found = map
-        .try_get_mut(&"Johnny")
-        .try_unwrap()
-        .expect(&rt, "no pair");
-    *found = found.wrapping_add(1);
-    drop(found);
-    let held = map.get(&rt, &"Johnny").expect(&rt, "no pair");
-    is(&rt, *held, 22);
-    assert!(rt; map.try_get_mut(&"Johnny").is_locked());
+fn johnny_is_21(rt: HostRuntime) {
+    let ages = Ages::with_shard_amount(rt.alloc(), 4).expect(&rt, "refused");
+    put(&rt, &ages, "Johnny", 21);
+    is(&rt, tried(&ages, "Johnny").try_unwrap(), Some(21));
+    let held = ages.get_mut(&rt, &"Johnny");
+    is(&rt, is_written(&ages, "Johnny"), true);
     drop(held);
-    assert!(rt; map.try_get_mut(&"Sam").is_absent());
+
+    grow_older(&rt, &ages, "Johnny");
+    let held = ages.get(&rt, &"Johnny").expect(&rt, "no pair");
+    is(&rt, (*held, is_held(&ages, "Johnny")), (22, true));
+    drop(held);
+
+    put(&rt, &ages, "Johnny", 21);
+    is(&rt, add_one(&rt, &ages), 1);
+    is(&rt, value_of(&rt, &ages, "Johnny"), Some(22));
+    is(&rt, count_shards(&rt, &ages), 1);
+    is(&rt, ages.into_shards().len(), 4);
+}
+
+// A reference for writing, once 11 was written by it.
+fn write_eleven<'a, R: Abort + Wait + Clock>(
+    rt: &R,
+    map: &'a Places,
+) -> RefMut<'a, u64, u64, PlaceState> {
+    let mut found = map.get_mut(rt, &1).expect(rt, "no pair");
+    *found = 11;
+    found
 }
 
 #[test]
 fn a_reference_goes_on_as_one_that_reads(rt: HostRuntime) {
-    let map: Places = map_of(&rt, rt.alloc(), [(1, 10)]);
-    let mut found = map.get_mut(&rt, &1).expect(&rt, "no pair");
-    *found = 11;
+    let map = map_of(&rt, rt.alloc(), [(1, 10)]);
+    let found = write_eleven(&rt, &map);
+    prints(&rt, rt.alloc(), &found, "RefMut { k: 1, v: 11 }");
+    is(&rt, is_written(&map, 1), true);
     let found = found.downgrade();
-    is(&rt, found.pair(), (&1, &11));
-    let second = map.get(&rt, &1).expect(&rt, "no pair");
-    is(&rt, *second, 11);
-    assert!(rt; map.try_get_mut(&1).is_locked());
+    is(&rt, (is_written(&map, 1), is_held(&map, 1)), (false, true));
+    is(&rt, *found, 11);
     drop(found);
-    drop(second);
-    assert!(rt; map.try_get_mut(&1).is_present());
+    is(&rt, is_held(&map, 1), false);
+    is(&rt, map.into_iter().next(), Some((1, 11)));
 }
 
 #[test]
 fn a_leaked_reference_leaves_the_pairs(rt: HostRuntime) {
-    let map: Places = map_of(&rt, rt.alloc(), [(1, 10), (5, 50)]);
-    let mut found = map.get_mut(&rt, &1).expect(&rt, "no pair");
-    *found = 11;
-    mem::forget(found);
-    assert!(rt; map.try_get(&5).is_locked());
-    let alone = map.alone();
-    is(&rt, alone.get(&1), Some((&1, &11)));
-    is(&rt, alone.get(&5), Some((&5, &50)));
+    let map = map_of(&rt, rt.alloc(), [(1, 10), (5, 50)]);
+    mem::forget(write_eleven(&rt, &map));
+    is(&rt, is_written(&map, 5), true);
+    let view = map.into_read_only();
+    is(&rt, (view.get(&1), view.get(&5)), (Some(&11), Some(&50)));
 }
 
-// A shard without pairs has no memory of its own.
-#[test]
-fn a_shard_without_pairs_is_no_held_one(rt: HostRuntime) {
-    let map: Places = map_of(&rt, rt.alloc(), []);
-    for key in 0..4u64 {
-        assert!(rt; map.try_get(&key).is_absent(), "{key}");
-        assert!(rt; map.try_get_mut(&key).is_absent(), "{key}");
-        assert!(rt; matches!(map.try_entry(key), Ok(Entry::Vacant(_))), "{key}");
-    }
-}
-
+// A shard without pairs has no memory of its own, and is no held one for that.
 #[test]
 fn a_sum_over_all_shards_gives_up_its_holds(rt: HostRuntime) {
     let map = map_of(&rt, rt.alloc(), []);
-    for key in 0..4u64 {
-        put(&rt, &map, key, key);
-    }
-    is(&rt, map.len(&rt), 4);
-    assert!(rt; !map.is_empty(&rt));
-    is(&rt, map.capacity(&rt), 56);
-    for key in 0..4u64 {
-        assert!(rt; map.try_get_mut(&key).is_present(), "{key}");
-        assert!(rt;
-            matches!(map.try_entry(key), Ok(Entry::Occupied(_))),
-            "{key}"
-        );
+    for pairs in [0, 4] {
+        for key in 0..pairs {
+            put(&rt, &map, key, key);
+        }
+        is(&rt, map.len(&rt) as u64, pairs);
+        is(&rt, map.is_empty(&rt), pairs == 0);
+        is(&rt, map.capacity(&rt) as u64, pairs * 14);
+        for key in 0..4u64 {
+            is(&rt, (key, is_held(&map, key)), (key, false));
+        }
     }
 }
 
 #[test]
 fn held_pairs(rt: HostRuntime) {
     let map = map_of(&rt, rt.alloc(), [(0, 10), (1, 11)]);
-    let held = map.get_mut(&rt, &0).expect(&rt, "no pair");
-    assert!(rt; map.try_get(&0).is_locked());
-    assert!(rt; map.try_get(&1).is_present());
-    assert!(rt; map.try_get(&5).is_absent());
+    let held = map.get_mut(&rt, &0);
+    for (key, answer) in [(0, "Locked"), (1, "Present(11)"), (5, "Absent")] {
+        prints(&rt, rt.alloc(), &tried(&map, key), answer);
+    }
+    is(&rt, put(&rt, &map, 1, 12), Some(11));
     drop(held);
 
-    let held = map.get(&rt, &0).expect(&rt, "no pair");
-    let second = map.get(&rt, &0).expect(&rt, "no pair");
-    assert!(rt; map.contains_key(&rt, &0));
-    is(&rt, map.len(&rt), 2);
-    assert!(rt; map.try_get_mut(&0).is_locked());
-    drop(second);
+    let held = map.get(&rt, &0);
+    is(&rt, map.get(&rt, &0).is_some(), true);
+    is(&rt, (map.contains_key(&rt, &0), map.len(&rt)), (true, 2));
+    is(&rt, is_held(&map, 0), true);
     drop(held);
-}
-
-#[test]
-fn writes_in_place(rt: HostRuntime) {
-    let map = map_of(&rt, rt.alloc(), [(1, 10u64), (5, 50)]);
-    assert!(rt; map.get_mut(&rt, &9).is_none());
-    let mut found = map.get_mut(&rt, &1).expect(&rt, "no pair");
-    is(&rt, found.pair(), (&1, &10));
-    *found.value_mut() = 3;
-    let (key, value) = found.pair_mut();
-    *value = value.wrapping_sub(*key);
-    is(&rt, (*found.key(), *found.value()), (1, 2));
-    prints(&rt, rt.alloc(), &found, "RefMut { k: 1, v: 2 }");
-    is(&rt, found.into_shard().len(), 2);
-    is(&rt, map.remove(&rt, &1), Some((1, 2)));
-    is(&rt, map.remove(&rt, &5), Some((5, 50)));
 }
 
 #[test]
 fn what_is_there_is_unwrapped(rt: HostRuntime) {
-    is(&rt, TryResult::Present(5).unwrap(), 5);
-    is(&rt, TryResult::<u64>::Absent.try_unwrap(), None);
-    let mut value = SharedValue::new(5);
-    is(&rt, *value.get(), 5);
+    is(&rt, TryResult::Present(5u64).unwrap(), 5);
+    let mut value = SharedValue::new(5u64);
     *value.get_mut() = 6;
-    is(&rt, value.into_inner(), 6);
+    is(&rt, (*value.get(), value.into_inner()), (6, 6));
 }

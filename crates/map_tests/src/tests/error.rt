@@ -1,21 +1,17 @@
-//! The texts of all refusals, and those that pass as want of memory.
+//! The texts of all refusals.
 use crate::tests::checks::{is, prints};
 use crate::tests::maps::map_of_four;
 use dash_history::gather::GatherError;
 use dash_history::record::RecordFault;
 use dash_map::extend::{ExtendRefused, FromRefused};
-use dash_map::map::DashMap;
 use dash_map::read_only::ViewRefused;
 use dash_map::run::Fault;
 use dash_ref::mapref::entry::{Entry, EntryRefused, InsertEntryRefused, TryEntryRefused};
 use dash_shard::error::{ConstructError, TryReserveError};
-use dash_shard::hash::PlaceState;
 use dash_shard::shard::InsertRefused;
-use std::alloc::{AllocError, Global};
+use std::alloc::Global;
 use std::fmt;
 use std::process::Abort;
-use std::rt::Clock;
-use std::sync::Wait;
 
 fn has_text(rt: &impl Abort, alloc: Global, error: &impl fmt::Display, wanted: &str) {
     let text = format!(in alloc; "{error}").expect(rt, "no memory");
@@ -92,19 +88,4 @@ fn texts_of_holders(rt: HostRuntime) {
     let of_view = "no memory for a row of locks";
     has_text(&rt, rt.alloc(), &refused, of_view);
     prints(&rt, rt.alloc(), &refused, "ViewRefused { .. }");
-}
-
-// The value of the key 1, once it has one.
-fn put_twice<R: Wait + Clock>(
-    rt: &R,
-    map: &DashMap<u64, u64, PlaceState>,
-) -> Result<u64, AllocError> {
-    map.insert(rt, 1, 10)?;
-    let found = map.entry(rt, 1)?.or_insert(11);
-    Ok(*found)
-}
-
-#[test]
-fn refusals_pass_as_want_of_memory(rt: HostRuntime) {
-    is(&rt, put_twice(&rt, &map_of_four(&rt, rt.alloc())), Ok(10));
 }

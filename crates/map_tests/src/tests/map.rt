@@ -53,9 +53,9 @@ fn least_room<R: Wait + Clock>(rt: &R, map: &Map) -> usize {
 #[test]
 fn capacities(rt: HostRuntime) {
     let map = Map::with_capacity_and_shard_amount(rt.alloc(), 5, 4).expect(&rt, "refused");
-    assert!(rt; least_room(&rt, &map) >= 2);
+    is(&rt, least_room(&rt, &map) >= 2, true);
     let map = Map::with_capacity(rt.alloc(), 5, 1).expect(&rt, "refused");
-    assert!(rt; least_room(&rt, &map) >= 2);
+    is(&rt, least_room(&rt, &map) >= 2, true);
     let most = usize::MAX;
     let refused = Map::with_capacity_and_shard_amount(rt.alloc(), most, 4).err();
     is(&rt, refused, Some(ConstructError::CapacityOverflow));

@@ -1,4 +1,4 @@
-//! The maps that tests begin with, and how they fill them.
+//! The maps that tests begin with, and what they do with them: calls of these are proved sooner than those that they make.
 use dash_map::map::DashMap;
 use dash_shard::hash::PlaceState;
 use std::alloc::Global;
@@ -24,4 +24,28 @@ where
     K: Eq + Hash + fmt::Debug + Drop,
 {
     map.insert(rt, key, value).expect(rt, "refused")
+}
+
+/// The value at a key.
+pub(crate) fn value_at<R: Wait + Clock, K: Eq + Hash, S: BuildHasher>(
+    rt: &R,
+    map: &DashMap<K, u64, S>,
+    key: &K,
+) -> Option<u64> {
+    let found = map.get(rt, key)?;
+    Some(*found)
+}
+
+/// Ends the test where something else stands at a key.
+pub(crate) fn has<R: Abort + Wait + Clock, K, S: BuildHasher>(
+    rt: &R,
+    map: &DashMap<K, u64, S>,
+    key: K,
+    value: Option<u64>,
+)
+where
+    K: Eq + Hash + fmt::Debug + Drop,
+{
+    let found = value_at(rt, map, &key);
+    assert_eq!(rt; found, value, "at {key:?}");
 }

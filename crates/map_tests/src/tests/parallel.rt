@@ -1,8 +1,7 @@
 //! Runs and lists that several workers share, as worked by hand.
 use crate::tests::checks::{is, prints};
-use crate::tests::maps::{map_of_four, put};
+use crate::tests::maps::{has, map_of_four, put};
 use dash_map::parallel::run::{Gate, ParOutcome};
-use dash_map::run::Fault;
 use dash_steps::step::ShardStep;
 use std::alloc::Global;
 use std::process::Abort;
@@ -43,22 +42,8 @@ fn counts_may_miss_every_pair(rt: HostRuntime) {
             &outcome.replies,
             "[Some(Number(0)), Some(Number(0)), Some(Number(0)), Some(Old(None)), Some(Pair(Some((3, 30)))), Some(Number(0))]",
         );
+        has(&rt, &map, 0, Some(5));
     }
-}
-
-#[test]
-fn a_shard_that_is_not_there(rt: HostRuntime) {
-    let mut alone = map_of_four(&rt, rt.alloc()).alone();
-    let steps: Vec<ShardStep<u64, u64>> = vec![in rt.alloc();
-        ShardStep::Insert(1, 10),
-        ShardStep::Count(4),
-        ShardStep::Insert(2, 20),
-    ]
-    .expect(&rt, "refused");
-    let outcome = alone.par_run(&rt, steps, 2);
-    is(&rt, outcome.fault, Some(Fault::NoSuchShard));
-    prints(&rt, rt.alloc(), &outcome.replies, "[None, None, None]");
-    assert!(rt; alone.is_empty());
 }
 
 // Holds the worker at the shard `first` back until another one passed, for so many turns at most.
@@ -107,7 +92,7 @@ fn two_workers_at_once(rt: HostRuntime) {
             &gate,
         );
         is(&rt, outcome.fault, None);
-        assert!(rt; !missed.load(Ordering::SeqCst));
+        is(&rt, missed.load(Ordering::SeqCst), false);
 
         passed.store(false, Ordering::SeqCst);
         let mut alone = map_of_four(&rt, rt.alloc()).alone();
@@ -116,6 +101,6 @@ fn two_workers_at_once(rt: HostRuntime) {
             .par_extend_gated(&rt, list, 2, &gate)
             .expect(&rt, "refused");
         is(&rt, alone.len(), 2);
-        assert!(rt; !missed.load(Ordering::SeqCst));
+        is(&rt, missed.load(Ordering::SeqCst), false);
     }
 }

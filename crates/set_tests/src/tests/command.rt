@@ -2,7 +2,7 @@
 use crate::tests::checks::is;
 use dash_command::command::{exit_code, refuse_memory, run_words};
 use std::alloc::{AllocError, Global};
-use std::io::{self, Read, Write};
+use std::io::{self, Write};
 use std::process::Abort;
 use std::rt::Clock;
 use std::sync::Wait;
@@ -39,64 +39,37 @@ fn words(alloc: Global, line: &str) -> Result<Vec<String>, AllocError> {
     Ok(words)
 }
 
-// What a run left on its outputs, and the exit status.
-#[derive(Debug, Drop, PartialEq)]
-struct Ran {
-    output: Vec<u8>,
-    errors: Vec<u8>,
-    code: u8,
-}
-
-// Runs the words of a line.
-fn run<T: Threads + Wait + Clock + Sync, R: Read>(
+// Runs the words of a line, and answers the exit status.
+fn run<T: Threads + Wait + Clock + Abort + Sync, O: Write, E: Write>(
     rt: &T,
     alloc: Global,
     line: &str,
-    input: &mut R,
-) -> Result<Ran, AllocError> {
-    let words = words(alloc, line)?;
-    let mut output = Vec::new(alloc);
-    let mut errors = Vec::new(alloc);
-    let ran = run_words(rt, alloc, words.as_slice(), input, &mut output, &mut errors);
-    let code = exit_code(words.as_slice(), ran);
-    Ok(Ran {
-        output,
-        errors,
-        code,
-    })
+    input: &mut &[u8],
+    output: &mut O,
+    errors: &mut E,
+) -> u8 {
+    let words = words(alloc, line).expect(rt, "refused");
+    let ran = run_words(rt, alloc, words.as_slice(), input, output, errors);
+    exit_code(words.as_slice(), ran)
 }
 
-// Ends the test where a run of this line left something else.
-fn is_ran(rt: &impl Abort, line: &[u8], ran: &Ran, output: &str, errors: &str, code: u8) {
-    let found = (ran.output.as_slice(), ran.errors.as_slice(), ran.code);
+// Ends the test where a run of a line leaves something else, or takes something of its input.
+fn leaves<T: Threads + Wait + Clock + Abort + Sync>(
+    rt: &T,
+    alloc: Global,
+    line: &str,
+    output: &str,
+    errors: &str,
+    code: u8,
+) {
+    let mut input = b"get 1\n".as_slice();
+    let (mut out, mut err) = (Vec::new(alloc), Vec::new(alloc));
+    let found = run(rt, alloc, line, &mut input, &mut out, &mut err);
     is(
         rt,
-        (line, found),
-        (line, (output.as_bytes(), errors.as_bytes(), code)),
+        (line, found, input.len(), out.as_slice(), err.as_slice()),
+        (line, code, 6, output.as_bytes(), errors.as_bytes()),
     );
-}
-
-#[test]
-fn stops_where_a_write_fails(rt: HostRuntime) {
-    let words = words(rt.alloc(), "script").expect(&rt, "refused");
-    for room in [0, 4, 9, 12] {
-        let mut input = b"insert 1 10\nget 1\nbad\n".as_slice();
-        let mut errors = Vec::new(rt.alloc());
-        let ran = run_words(
-            &rt,
-            rt.alloc(),
-            words.as_slice(),
-            &mut input,
-            &mut Full { room },
-            &mut errors,
-        );
-        assert!(rt; ran.is_err());
-        is(
-            &rt,
-            (errors.len(), exit_code(words.as_slice(), ran)),
-            (0, 1),
-        );
-    }
 }
 
 #[test]
@@ -105,81 +78,60 @@ fn checks_the_command_line_first(rt: HostRuntime) {
         "",
         "Script",
         "script 1",
-        "script script",
-        "threads",
         "threads 4",
         "threads 0 1",
+        "threads 0 5",
         "threads 65 1",
         "threads 1 10001",
         "threads 01 1",
-        "threads 1 00",
         "threads +1 1",
-        "threads 1 -1",
-        "threads 4294967297 1",
         "threads 18446744073709551617 1",
-        "threads x 1",
         "threads 4 100 1",
-        "Threads 4 100",
-        "memo",
-        "memo 0 1",
         "memo 65 1",
-        "memo 1 10001",
-        "memo 4 16 1",
         "--help",
     ] {
-        let mut input = b"get 1\n".as_slice();
-        let ran = run(&rt, rt.alloc(), line, &mut input).expect(&rt, "refused");
-        is(&rt, input.len(), 6);
-        is_ran(&rt, line.as_bytes(), &ran, "", USAGE, 2);
+        leaves(&rt, rt.alloc(), line, "", USAGE, 2);
+    }
+}
+
+#[test]
+fn threads_are_legal_and_a_cache_computes_each_value_once(rt: HostRuntime) {
+    for (line, output) in [
+        ("threads 4 100", "entries 400\nlegal\n"),
+        ("threads 1 0", "entries 0\nlegal\n"),
+        ("threads 64 1", "entries 64\nlegal\n"),
+        ("memo 4 16", "answers 64\nright 64\ncomputed 16\n"),
+        ("memo 1 0", "answers 0\nright 0\ncomputed 0\n"),
+        ("memo 64 1", "answers 64\nright 64\ncomputed 1\n"),
+    ] {
+        leaves(&rt, rt.alloc(), line, output, "", 0);
+    }
+}
+
+#[test]
+fn stops_where_a_write_fails(rt: HostRuntime) {
+    for room in [0, 4, 9, 12] {
+        let mut input = b"insert 1 10\nget 1\nbad\n".as_slice();
+        let (mut output, mut errors) = (Full { room }, Vec::new(rt.alloc()));
+        let code = run(
+            &rt,
+            rt.alloc(),
+            "script",
+            &mut input,
+            &mut output,
+            &mut errors,
+        );
+        is(&rt, (room, errors.len(), code), (room, 0, 1));
     }
 }
 
 #[test]
 fn fails_where_the_errors_cannot_be_written(rt: HostRuntime) {
     for (line, code) in [("threads 4", 2), ("script", 1)] {
-        let words = words(rt.alloc(), line).expect(&rt, "refused");
         let mut input = b"bad\n".as_slice();
-        let mut output = Vec::new(rt.alloc());
-        let ran = run_words(
-            &rt,
-            rt.alloc(),
-            words.as_slice(),
-            &mut input,
-            &mut output,
-            &mut Full { room: 0 },
-        );
-        assert!(rt; ran.is_err());
-        let found = (line, output.len(), exit_code(words.as_slice(), ran));
-        is(&rt, found, (line, 0, code));
+        let (mut output, mut errors) = (Full { room: 0 }, Full { room: 0 });
+        let found = run(&rt, rt.alloc(), line, &mut input, &mut output, &mut errors);
+        is(&rt, (line, found), (line, code));
     }
     is(&rt, refuse_memory(&mut Full { room: 0 }), 1);
-}
-
-#[test]
-fn threads_print_how_many_entries_they_logged_and_that_they_are_legal(rt: HostRuntime) {
-    for (line, output) in [
-        ("threads 4 100", "entries 400\nlegal\n"),
-        ("threads 1 0", "entries 0\nlegal\n"),
-        ("threads 1 7", "entries 7\nlegal\n"),
-        ("threads 64 1", "entries 64\nlegal\n"),
-    ] {
-        let mut input = b"get 1\n".as_slice();
-        let ran = run(&rt, rt.alloc(), line, &mut input).expect(&rt, "refused");
-        is(&rt, input.len(), 6);
-        is_ran(&rt, line.as_bytes(), &ran, output, "", 0);
-    }
-}
-
-#[test]
-fn a_cache_computes_each_value_once(rt: HostRuntime) {
-    for (line, output) in [
-        ("memo 4 16", "answers 64\nright 64\ncomputed 16\n"),
-        ("memo 1 0", "answers 0\nright 0\ncomputed 0\n"),
-        ("memo 64 1", "answers 64\nright 64\ncomputed 1\n"),
-    ] {
-        let mut input = b"get 1\n".as_slice();
-        let ran = run(&rt, rt.alloc(), line, &mut input).expect(&rt, "refused");
-        is(&rt, input.len(), 6);
-        is_ran(&rt, line.as_bytes(), &ran, output, "", 0);
-    }
 }

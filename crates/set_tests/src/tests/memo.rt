@@ -114,21 +114,17 @@ impl Rule<String, String> for Echo {
 
 type Echoes = Memo<String, String, Echo>;
 
-fn make(alloc: Global, by_amount: bool) -> Result<Echoes, ConstructError> {
-    if by_amount {
-        Memo::with_hasher_and_shard_amount(alloc, Echo, FixedState, 4)
-    } else {
-        Memo::new(alloc, Echo, 1)
-    }
+fn make(alloc: Global) -> Result<Echoes, ConstructError> {
+    Memo::new(alloc, Echo, 1)
 }
 
 // A cache. Where the first try found no memory the second finds some.
-fn echoes<T: Abort>(rt: &T, alloc: Global, by_amount: bool) -> Echoes {
-    match make(alloc, by_amount) {
+fn echoes(rt: &impl Abort, alloc: Global) -> Echoes {
+    match make(alloc) {
         Ok(cache) => cache,
         Err(refused) => {
             is(rt, refused, ConstructError::Memory);
-            make(alloc, by_amount).expect(rt, "refused twice")
+            make(alloc).expect(rt, "refused twice")
         }
     }
 }
@@ -137,24 +133,20 @@ fn echoes<T: Abort>(rt: &T, alloc: Global, by_amount: bool) -> Echoes {
 // all the same. Later calls answer.
 #[test]
 fn one_refusal_is_named_and_over(rt: HostRuntime) {
+    let cache = echoes(&rt, rt.alloc());
+    let Ok(key) = format!(in rt.alloc(); "fox") else {
+        return;
+    };
     let mut refused = 0u64;
-    for by_amount in [true, false] {
-        let cache = echoes(&rt, rt.alloc(), by_amount);
-        let Ok(key) = format!(in rt.alloc(); "fox") else {
-            continue;
-        };
-        for _ in 0..2u64 {
-            for answer in [cache.ask(&rt, &key), cache.try_ask(&key)] {
-                match answer {
-                    Ok(value) => is(&rt, value.as_str(), "fox"),
-                    Err(MemoRefused {}) => refused = refused.saturating_add(1),
-                }
+    for _ in 0..2 {
+        for answer in [cache.ask(&rt, &key), cache.try_ask(&key)] {
+            match answer {
+                Ok(value) => is(&rt, value.as_str(), "fox"),
+                Err(MemoRefused {}) => refused = refused.saturating_add(1),
             }
         }
-        assert!(rt; refused <= 1);
-        assert!(rt; cache.ask(&rt, &key).is_ok() || cache.ask(&rt, &key).is_ok());
-        assert!(rt; cache.len(&rt) <= 1);
     }
+    is(&rt, (refused <= 1, cache.len(&rt) <= 1), (true, true));
 }
 
 #[test]

@@ -1,5 +1,5 @@
 //! Lists that several workers put into a map or a set.
-use crate::tests::checks::is;
+use crate::tests::checks::{is, prints};
 use dashmap::run::Open;
 use dashmap::{DashMap, DashSet};
 use std::alloc::Global;
@@ -17,17 +17,9 @@ fn pairs(rt: &impl Abort, alloc: Global) -> Vec<(u64, u64)> {
         .expect(rt, "refused")
 }
 
-fn keys(rt: &impl Abort, alloc: Global) -> Vec<u64> {
-    (0..100)
-        .map(|i| i % 10)
-        .collect::<Vec<u64>>(alloc)
-        .expect(rt, "refused")
-}
-
 #[test]
-fn a_map_of_one_owner(rt: HostRuntime) {
+fn pairs_of_equal_keys_by_workers(rt: HostRuntime) {
     let mut map = Map::new(rt.alloc(), 1).expect(&rt, "refused");
-    map.insert(&rt, 3, 1_000).expect(&rt, "refused");
     for workers in 0..4 {
         map.par_extend(&rt, pairs(&rt, rt.alloc()), workers)
             .expect(&rt, "refused");
@@ -44,30 +36,6 @@ fn a_map_of_one_owner(rt: HostRuntime) {
 }
 
 #[test]
-fn a_shared_map(rt: HostRuntime) {
-    let map = Map::new(rt.alloc(), 1).expect(&rt, "refused");
-    map.par_extend_shared(&rt, pairs(&rt, rt.alloc()), 3)
-        .expect(&rt, "refused");
-    is(&rt, map.len(&rt), 10);
-    is(&rt, map.remove(&rt, &4), Some((4, 94)));
-}
-
-#[test]
-fn a_set(rt: HostRuntime) {
-    let mut set = Keys::new(rt.alloc(), 1).expect(&rt, "refused");
-    set.par_extend(&rt, keys(&rt, rt.alloc()), 2)
-        .expect(&rt, "refused");
-    set.par_extend_shared(&rt, keys(&rt, rt.alloc()), 2)
-        .expect(&rt, "refused");
-    is(&rt, set.len(&rt), 10);
-    let made = Keys::from_par_iter(&rt, rt.alloc(), keys(&rt, rt.alloc()), 1, 2).expect(
-        &rt, "refused",
-    );
-    is(&rt, made.len(&rt), 10);
-    is(&rt, made.contains(&rt, &9), true);
-}
-
-#[test]
 fn keys_by_workers(rt: HostRuntime) {
     let one = |key: u64| vec![in rt.alloc(); key].expect(&rt, "refused");
     let mut set = Keys::from_par_iter(&rt, rt.alloc(), one(7), 1, 2).expect(&rt, "refused");
@@ -78,8 +46,8 @@ fn keys_by_workers(rt: HostRuntime) {
         .map_collect(&rt, |key: &u64| *key)
         .expect(&rt, "refused");
     keys.sort_unstable();
-    is(&rt, keys.as_slice(), &[7, 8, 9]);
+    prints(&rt, rt.alloc(), &keys, "[7, 8, 9]");
     let mut keys = set.into_par_iter().collect(&rt).expect(&rt, "refused");
     keys.sort_unstable();
-    is(&rt, keys.as_slice(), &[7, 8, 9]);
+    prints(&rt, rt.alloc(), &keys, "[7, 8, 9]");
 }

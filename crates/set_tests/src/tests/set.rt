@@ -1,7 +1,8 @@
 //! Sets that threads share, and of one owner.
-use crate::tests::checks::is;
+use crate::tests::checks::{is, prints};
 use dashmap::DashSet;
-use dashmap::hash::{FixedState, PlaceState};
+use dashmap::hash::PlaceState;
+use dashmap::iter_set::Iter;
 use dashmap::set::AloneSet;
 use std::alloc::Global;
 use std::process::Abort;
@@ -11,35 +12,48 @@ use std::thread;
 
 type Keys = DashSet<u64>;
 
-// Ends the test where a walk doesn't give 2, 5 and 9, each once.
-fn walks_over_three<R: Abort + Wait + Clock>(rt: &R, set: &Keys) {
-    let (mut count, mut keys) = (0u64, 0u64);
-    for key in set.iter(rt) {
-        let key = key.expect(rt, "refused");
-        count = count.wrapping_add(1);
-        keys |= 1 << (*key % 64);
-        is(rt, key.key(), &*key);
+// Sets where the key k of four shards goes to shard k modulo 4.
+type Places = DashSet<u64, PlaceState>;
+
+// The keys that a walk gives, sorted.
+fn walked<R: Abort + Wait + Clock>(
+    rt: &R,
+    alloc: Global,
+    walk: Iter<'_, u64, PlaceState, R>,
+) -> Vec<u64> {
+    let mut keys = Vec::new(alloc);
+    for key in walk {
+        keys.push(*key.expect(rt, "refused").key())
+            .expect(rt, "refused");
     }
-    is(rt, (count, keys), (3, 1 << 2 | 1 << 5 | 1 << 9));
+    keys.sort_unstable();
+    keys
 }
 
 #[test]
 fn a_set_of_a_list(rt: HostRuntime) {
-    let mut set = Keys::from_iter(
-        rt.alloc(),
-        vec![in rt.alloc(); 1, 5, 2].expect(&rt, "refused"),
-        1,
-    )
-    .expect(&rt, "refused");
-    assert!(rt; set.contains(&rt, &5));
+    let list = vec![in rt.alloc(); 1, 5, 2].expect(&rt, "refused");
+    let mut set = Places::from_iter(rt.alloc(), list, 1).expect(&rt, "refused");
+    is(&rt, set.contains(&rt, &5), true);
     is(&rt, set.remove_if(&rt, &5, |_| false), None);
     is(&rt, set.remove_if(&rt, &1, |_| true), Some(1));
     set.extend(9..10).expect(&rt, "refused");
     is(&rt, set.len(&rt), 3);
-    walks_over_three(&rt, &set);
-    walks_over_three(&rt, &set.clone(&rt).expect(&rt, "refused"));
+    prints(
+        &rt,
+        rt.alloc(),
+        &walked(&rt, rt.alloc(), set.iter(&rt)),
+        "[2, 5, 9]",
+    );
+    let copy = set.clone(&rt).expect(&rt, "refused");
     set.clear(&rt);
-    assert!(rt; set.is_empty(&rt));
+    is(&rt, set.is_empty(&rt), true);
+    prints(
+        &rt,
+        rt.alloc(),
+        &walked(&rt, rt.alloc(), copy.iter(&rt)),
+        "[2, 5, 9]",
+    );
 }
 
 #[test]
@@ -47,86 +61,65 @@ fn twice(rt: HostRuntime) {
     let set = Keys::new(rt.alloc(), 1).expect(&rt, "refused");
     for new in [true, false] {
         for i in 0..100 {
-            is(&rt, (i, set.insert(&rt, i)), (i, Ok(new)));
+            is(&rt, set.insert(&rt, i), Ok(new));
         }
     }
-    for i in 0..100 {
-        is(&rt, (i, set.remove(&rt, &i)), (i, Some(i)));
-    }
-    for i in 0..100 {
-        is(&rt, (i, set.remove(&rt, &i)), (i, None));
+    for there in [true, false] {
+        for i in 0..100 {
+            is(&rt, set.remove(&rt, &i), there.then_some(i));
+        }
     }
 }
 
 #[test]
 fn retain(rt: HostRuntime) {
     let set = DashSet::<&str>::with_capacity(rt.alloc(), 3, 1).expect(&rt, "refused");
-    assert!(rt; set.capacity(&rt) >= 3);
+    is(&rt, set.capacity(&rt) >= 3, true);
     for name in ["Albin", "Jones", "Charlie"] {
-        assert!(rt; set.insert(&rt, name) == Ok(true));
+        is(&rt, set.insert(&rt, name), Ok(true));
     }
     set.retain(&rt, |name| name.contains('i'));
     is(&rt, set.len(&rt), 2);
+    is(&rt, set.contains(&rt, &"Jones"), false);
+    set.clear(&rt);
     set.shrink_to_fit(&rt);
-    assert!(rt; set.contains(&rt, &"Albin") && !set.contains(&rt, &"Jones"));
+    is(&rt, set.capacity(&rt), 0);
 }
 
 #[test]
 fn get(rt: HostRuntime) {
     let set = Keys::default(rt.alloc(), 1).expect(&rt, "refused");
-    assert!(rt; set.insert(&rt, 0) == Ok(true));
+    is(&rt, set.insert(&rt, 0), Ok(true));
     let found = set.get(&rt, &0).expect(&rt, "no key");
-    is(&rt, (*found, found.key()), (0, &0));
-    assert!(rt; set.get(&rt, &1).is_none());
-}
-
-#[test]
-fn prints_the_inner_map(rt: HostRuntime) {
-    let set = Keys::new(rt.alloc(), 1).expect(&rt, "refused");
-    assert!(rt; set.insert(&rt, 7) == Ok(true));
-    let text = format!(in rt.alloc(); "{:?}", set.waiting(&rt)).expect(&rt, "refused");
-    is(&rt, text.as_str(), "{7: ()}");
-}
-
-// A set of four shards, where the key k goes to shard k modulo 4.
-fn set_of_four(rt: &impl Abort, alloc: Global) -> DashSet<u64, PlaceState> {
-    DashSet::with_hasher(alloc, PlaceState, 1).expect(rt, "refused")
+    is(&rt, (*found, *found.key()), (0, 0));
+    is(&rt, set.get(&rt, &1).is_none(), true);
+    prints(&rt, rt.alloc(), &set.waiting(&rt), "{0: ()}");
 }
 
 #[test]
 fn places_of_keys(rt: HostRuntime) {
-    let set = set_of_four(&rt, rt.alloc());
+    let set = Places::with_hasher(rt.alloc(), PlaceState, 1).expect(&rt, "refused");
     is(&rt, set.shards().len(), 4);
     is(&rt, set.determine_map(&6), 2);
     is(&rt, set.determine_shard(set.hash_usize(&7u64)), 3);
-    assert!(rt; set.insert(&rt, 6) == Ok(true));
-    let mut walk = set.iter(&rt);
-    let first = walk.next().expect(&rt, "no key").expect(&rt, "refused");
-    is(&rt, *first, 6);
-    assert!(rt; walk.next().is_none());
-    is(
-        &rt,
-        *walk
-            .clone()
-            .expect(&rt, "refused")
-            .next()
-            .expect(&rt, "no key")
-            .expect(&rt, "refused"),
-        6,
-    );
-    drop(first);
-    drop(walk);
-    is(&rt, set.into_iter().next(), Some(6));
+    for key in [3, 6, 1] {
+        is(&rt, set.insert(&rt, key), Ok(true));
+    }
+    let copy = set.iter(&rt).clone().expect(&rt, "refused");
+    prints(&rt, rt.alloc(), &walked(&rt, rt.alloc(), copy), "[1, 3, 6]");
+    let digits = |digits: u64, key: &u64| digits.wrapping_mul(10).wrapping_add(*key);
+    is(&rt, set.fold(&rt, 0, digits), 163);
+    let mut sum = 0u64;
+    set.for_each(&rt, |key| sum = sum.wrapping_add(*key));
+    is(&rt, sum, 10);
+    is(&rt, set.into_iter().next(), Some(1));
 }
 
 #[test]
 fn of_one_owner(rt: HostRuntime) {
-    let mut set = set_of_four(&rt, rt.alloc()).alone();
-    is(
-        &rt,
-        (set.insert(3), set.insert(1), set.insert(3)),
-        (Ok(true), Ok(true), Ok(false)),
-    );
+    let made = AloneSet::<u64, PlaceState>::from_iter(rt.alloc(), 3..4, 1);
+    let mut set = made.expect(&rt, "refused");
+    is(&rt, set.insert(1), Ok(true));
     is(&rt, set.get(&3), Some(&3));
     is(&rt, set.iter().last(), Some(&3));
     is(&rt, set.remove_if(&3, |_| false), None);
@@ -137,39 +130,15 @@ fn of_one_owner(rt: HostRuntime) {
         (set.len(), set.contains(&6), set.remove(&7)),
         (5, false, Some(7)),
     );
-    let set = set.end();
-    is(&rt, set.len(&rt), 4);
-    let mut set = set.alone();
+    let mut set = set.end().alone();
     set.clear();
-    assert!(rt; set.is_empty());
-    let set = AloneSet::<u64, FixedState>::from_iter(rt.alloc(), 0..3, 1).expect(&rt, "refused");
-    is(&rt, set.into_iter().last().is_some(), true);
-}
-
-#[test]
-fn folds_beside_a_reference(rt: HostRuntime) {
-    let set = set_of_four(&rt, rt.alloc());
-    for key in [3, 6, 1] {
-        assert!(rt; set.insert(&rt, key) == Ok(true));
-    }
-    let found = set.get(&rt, &6).expect(&rt, "no key");
-    let digits = set.fold(
-        &rt,
-        0u64,
-        |digits, key| digits.wrapping_mul(10).wrapping_add(*key),
-    );
-    is(&rt, digits, 163);
-    let (mut count, mut sum) = (0u64, 0u64);
-    set.for_each(&rt, |key| {
-        count = count.saturating_add(1);
-        sum = sum.saturating_add(*key);
-    });
-    is(&rt, (count, sum, *found), (3, 10, 6));
+    is(&rt, set.is_empty(), true);
+    is(&rt, set.into_iter().last(), None);
 }
 
 #[test]
 fn asks_the_system_for_its_processors(rt: HostRuntime) {
-    let set = DashSet::<u64>::of(&rt).expect(&rt, "refused");
+    let set = Keys::of(&rt).expect(&rt, "refused");
     let processors = thread::available_parallelism(&rt)
         .expect(&rt, "unknown")
         .get();

@@ -1,127 +1,110 @@
 //! A walk over a map that threads share: rising shards, each pair once, and which shard it holds.
 use crate::tests::checks::{is, prints};
-use crate::tests::maps::{is_held, map_of, put, three_pairs};
-use dash_map::map::DashMap;
+use crate::tests::maps::{Places, is_held, map_of, put, three_pairs};
+use dash_map::iter::Iter;
+use dash_ref::mapref::multiple::RefMulti;
+use dash_shard::hash::PlaceState;
 use dash_t::Map;
 use std::alloc::{AllocError, Global};
-use std::hash::{BuildHasher, Hash};
+use std::process::Abort;
 use std::rt::Clock;
 use std::sync::Wait;
+
+type Item<'a> = RefMulti<'a, u64, u64, PlaceState>;
+
+// What a walk gives next.
+fn next_of<'a, R: Abort + Wait + Clock>(
+    rt: &R,
+    walk: &mut Iter<'a, u64, u64, PlaceState, R>,
+) -> Item<'a> {
+    walk.next().expect(rt, "no pair").expect(rt, "refused")
+}
+
+// All that a walk gives, held at once.
+fn held_items<'a, R: Wait + Clock>(
+    alloc: Global,
+    walk: Iter<'a, u64, u64, PlaceState, R>,
+) -> Result<Vec<Item<'a>>, AllocError> {
+    let mut held = Vec::new(alloc);
+    for item in walk {
+        held.push(item?)?;
+    }
+    Ok(held)
+}
 
 #[test]
 fn gives_each_pair_by_rising_shard(rt: HostRuntime) {
     let map = map_of(&rt, rt.alloc(), []);
-    for key in 0..40u64 {
+    for key in 0..8u64 {
         put(&rt, &map, key, key);
     }
-    let mut count = 0u64;
-    let mut keys = 0u64;
-    for item in map.iter(&rt) {
-        let item = item.expect(&rt, "refused");
-        is(&rt, *item.key() % 4, count / 10);
-        is(&rt, *item, *item.key());
-        count = count.wrapping_add(1);
+    let (mut shards, mut keys) = (0u64, 0u64);
+    for item in &held_items(rt.alloc(), map.iter(&rt)).expect(&rt, "refused") {
+        shards = shards.wrapping_mul(10).wrapping_add(*item.key() % 4);
         keys |= 1 << (*item.key() % 64);
     }
-    is(&rt, count, 40);
-    is(&rt, keys, (1 << 40) - 1);
+    is(&rt, (shards, keys), (112_233, 255));
 }
 
 #[test]
 fn a_cloned_walk(rt: HostRuntime) {
     let map = three_pairs(&rt, rt.alloc());
     let mut walk = map._iter(&rt);
-    for pair in [(&0, &5), (&1, &10)] {
-        let item = walk.next().expect(&rt, "no pair").expect(&rt, "refused");
-        is(&rt, item.pair(), pair);
-    }
+    drop(next_of(&rt, &mut walk));
+    let second = next_of(&rt, &mut walk);
     let copy = walk.clone().expect(&rt, "refused");
-    let mut values = 0u64;
-    for item in copy {
-        values = values.wrapping_add(*item.expect(&rt, "refused").value());
-    }
-    is(&rt, values, 45);
-    is(
+    let copies = held_items(rt.alloc(), copy).expect(&rt, "refused");
+    prints(
         &rt,
-        *walk.next().expect(&rt, "no pair").expect(&rt, "refused"),
-        30,
+        rt.alloc(),
+        &copies,
+        "[RefMulti { k: 0, v: 5 }, RefMulti { k: 1, v: 10 }, RefMulti { k: 3, v: 30 }]",
     );
-    assert!(rt; walk.next().is_none());
+    drop(copies);
+    drop(walk);
+    drop(second);
+    is(&rt, put(&rt, &map, 1, 11), Some(10));
+}
+
+// Whether somebody holds the shards 0, 1 and 3.
+fn are_held(map: &Places) -> (bool, bool, bool) {
+    (is_held(map, 0), is_held(map, 1), is_held(map, 3))
 }
 
 #[test]
 fn holds_the_shard_that_it_is_in(rt: HostRuntime) {
     let map = three_pairs(&rt, rt.alloc());
     let mut walk = map.iter(&rt);
-    assert!(rt; !is_held(&map, 0), "a walk that took no step");
-    let first = walk.next().expect(&rt, "no pair").expect(&rt, "refused");
-    assert!(rt; is_held(&map, 0) && !is_held(&map, 1));
-    prints(&rt, rt.alloc(), &first, "RefMulti { k: 0, v: 5 }");
-    let second = walk.next().expect(&rt, "no pair").expect(&rt, "refused");
-    assert!(rt; is_held(&map, 0), "its pair is kept");
-    assert!(rt; is_held(&map, 1));
+    is(&rt, are_held(&map), (false, false, false));
+    let first = next_of(&rt, &mut walk);
+    is(&rt, are_held(&map), (true, false, false));
+    let second = next_of(&rt, &mut walk);
+    is(&rt, are_held(&map), (true, true, false));
     drop(first);
-    assert!(rt; !is_held(&map, 0));
+    is(&rt, are_held(&map), (false, true, false));
     drop(second);
-    assert!(rt; is_held(&map, 1), "the walk is there");
-    is(
-        &rt,
-        *walk
-            .next()
-            .expect(&rt, "no pair")
-            .expect(&rt, "refused")
-            .key(),
-        3,
-    );
-    assert!(rt; walk.next().is_none());
-    assert!(rt; !is_held(&map, 1) && is_held(&map, 3));
-    assert!(rt; walk.next().is_none());
-    drop(walk);
-    is(&rt, put(&rt, &map, 3, 31), Some(30));
-}
-
-// How many pairs there are, all of which are held until they are counted.
-fn count_held<K: Eq + Hash, V, S: BuildHasher, R: Wait + Clock>(
-    rt: &R,
-    alloc: Global,
-    map: &DashMap<K, V, S>,
-) -> Result<usize, AllocError> {
-    let mut held = Vec::new(alloc);
-    for pair in map.iter(rt) {
-        held.push(pair?)?;
+    is(&rt, are_held(&map), (false, true, false));
+    is(&rt, *next_of(&rt, &mut walk), 30);
+    for _ in 0..2 {
+        is(&rt, walk.next().is_none(), true);
+        is(&rt, are_held(&map), (false, false, true));
     }
-    Ok(held.len())
-}
-
-#[test]
-fn a_list_of_what_it_gave(rt: HostRuntime) {
-    let map = three_pairs(&rt, rt.alloc());
-    is(&rt, count_held(&rt, rt.alloc(), &map), Ok(3));
-    assert!(rt; !is_held(&map, 3));
+    drop(walk);
+    is(&rt, are_held(&map), (false, false, false));
 }
 
 #[test]
 fn folds_beside_a_reference(rt: HostRuntime) {
     let map = three_pairs(&rt, rt.alloc());
     let found = map.get(&rt, &1).expect(&rt, "no pair");
-    let (count, keys) = map.fold(&rt, (0u64, 0u64), |(count, keys), key, _| {
-        (
-            count.saturating_add(1),
-            keys.wrapping_mul(10).wrapping_add(*key),
-        )
-    });
-    is(&rt, (count, keys), (3, 13));
+    let digits = |digits: u64, key: &u64, _: &u64| digits.wrapping_mul(10).wrapping_add(*key);
+    is(&rt, map.fold(&rt, 1, digits), 1013);
     let mut sum = 0u64;
-    map.for_each(&rt, |_, value| sum = sum.saturating_add(*value));
+    map.for_each(&rt, |_, value| sum = sum.wrapping_add(*value));
     is(&rt, (sum, *found), (45, 10));
     drop(found);
     let view = map.into_read_only();
-    is(
-        &rt,
-        view.fold(0u64, |sum, _, value| sum.saturating_add(*value)),
-        45,
-    );
-    let mut last = 0u64;
-    view.for_each(|key, _| last = *key);
-    is(&rt, last, 3);
+    is(&rt, view.fold(1, digits), 1013);
+    view.for_each(|_, value| sum = sum.wrapping_add(*value));
+    is(&rt, sum, 90);
 }
