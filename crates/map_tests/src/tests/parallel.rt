@@ -2,6 +2,7 @@
 use crate::tests::checks::{is, prints};
 use crate::tests::maps::{has, map_of_four, put};
 use dash_map::parallel::run::{Gate, ParOutcome};
+use dash_map::run::Fault;
 use dash_steps::step::ShardStep;
 use std::alloc::Global;
 use std::process::Abort;
@@ -44,6 +45,21 @@ fn counts_may_miss_every_pair(rt: HostRuntime) {
         );
         has(&rt, &map, 0, Some(5));
     }
+}
+
+#[test]
+fn a_shard_that_is_not_there(rt: HostRuntime) {
+    let mut alone = map_of_four(&rt, rt.alloc()).alone();
+    let steps: Vec<ShardStep<u64, u64>> = vec![in rt.alloc();
+        ShardStep::Insert(1, 10),
+        ShardStep::Count(4),
+        ShardStep::Insert(2, 20),
+    ]
+    .expect(&rt, "refused");
+    let outcome = alone.par_run(&rt, steps, 2);
+    is(&rt, outcome.fault, Some(Fault::NoSuchShard));
+    prints(&rt, rt.alloc(), &outcome.replies, "[None, None, None]");
+    is(&rt, alone.is_empty(), true);
 }
 
 // Holds the worker at the shard `first` back until another one passed, for so many turns at most.
