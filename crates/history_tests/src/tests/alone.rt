@@ -10,6 +10,7 @@ fn amounts_and_then_callers_are_refused(rt: HostRuntime) {
     for (amount, callers, error) in [
         (0, 0, ConstructError::ShardAmount),
         (1, 1, ConstructError::ShardAmount),
+        (3, 0, ConstructError::ShardAmount),
         (3, 65_537, ConstructError::ShardAmount),
         (4, 0, ConstructError::Callers),
         (4, 65_537, ConstructError::Callers),

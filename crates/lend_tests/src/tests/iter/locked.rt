@@ -6,6 +6,7 @@ use dash_ref::mapref::multiple::RefMulti;
 use dash_shard::hash::PlaceState;
 use dash_t::Map;
 use std::alloc::{AllocError, Global};
+use std::hash::{BuildHasher, Hash};
 use std::process::Abort;
 use std::rt::Clock;
 use std::sync::Wait;
@@ -21,10 +22,10 @@ fn next_of<'a, R: Abort + Wait + Clock>(
 }
 
 // All that a walk gives, held at once.
-fn held_items<'a, R: Wait + Clock>(
+fn held_items<'a, K: Eq + Hash, V, S: BuildHasher, R: Wait + Clock>(
     alloc: Global,
-    walk: Iter<'a, u64, u64, PlaceState, R>,
-) -> Result<Vec<Item<'a>>, AllocError> {
+    walk: Iter<'a, K, V, S, R>,
+) -> Result<Vec<RefMulti<'a, K, V, S>>, AllocError> {
     let mut held = Vec::new(alloc);
     for item in walk {
         held.push(item?)?;
