@@ -15,3 +15,4 @@ mod Standing
 mod Counting
 mod Cutting
 mod There
+mod Copying

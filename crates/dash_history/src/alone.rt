@@ -22,13 +22,14 @@ ghost use Rattle.dash_steps.specs.declared.step.ShardStep.{ShardStep};
 ghost use Rattle.dash_steps.specs.declared.step.Reply.{Reply};
 
 use crate::gather::GatherError;
+use crate::joined::{join_numbers, join_pairs};
 use crate::record::map::Locked;
 use dash_gather::matching::{follows, index_of};
 use dash_gather::merge::merge;
 use dash_gather::place::At;
 use dash_kept::{Kept, KeptKey};
 use dash_record::known::Recorded;
-use dash_record::record::whole::{Parts, join_numbers, join_pairs, plan_whole, record_whole};
+use dash_record::record::whole::Parts;
 use dash_record::record::{CallerLog, RecShard, RecordFault};
 use dash_shard::error::ConstructError;
 use dash_shard::hash::is_shard_amount;
@@ -240,7 +241,7 @@ impl<K: KeptKey + Drop, V: Kept + Drop, S: BuildHasher, A: KeptAction<K, V> + Dr
         ensures last_stamp { IsErrOf result LastStamp ↔ (top_of self.now log.now ≡ 2 ^ 64 - 1) }
         ensures kinds { IfErr result (IsOneOf (LastStamp ∷ fault.Memory ∷ [])) }
     {
-        plan_whole(self.row.items(), log, kind)
+        RecShard::plan_whole(self.row.items(), log, kind)
     }
 
     // Adds the records of a whole step to the shards and to the log, or changes nothing where there is no memory for them.
@@ -254,7 +255,7 @@ impl<K: KeptKey + Drop, V: Kept + Drop, S: BuildHasher, A: KeptAction<K, V> + Dr
         ensures lawful { IsRecAlone ⟦<Self as Recorded>⟧.known self.new }
         ensures refused { IsFalse result → (self.new ≡ self.old) × (log.new ≡ log.old) }
     {
-        record_whole(self.row.items_mut(), log, parts)
+        RecShard::record_whole(self.row.items_mut(), log, parts)
     }
 
     /// How many pairs the map has, saturating at 2^64 - 1: a whole step.

@@ -6,5 +6,6 @@ pub use dash_record::known;
 pub mod alone;
 mod apply;
 pub mod gather;
+mod joined;
 pub mod record;
 mod whole_steps;

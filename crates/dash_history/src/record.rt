@@ -1,5 +1,4 @@
 //! Recorded shards behind their locks, and callers' logs.
-pub use dash_record::record::{CallerLog, RecShard, RecordFault};
+pub use dash_record::record::{CallerLog, RecShard, RecordFault, held};
 
-pub mod held;
 pub mod map;

@@ -7,11 +7,12 @@ ghost use Rattle.dash_history.specs.inner.Locks.{HoldsAll};
 ghost use Rattle.dash_record.specs.inner.Parts.{Planned};
 ghost use Rattle.dash_record.specs.declared.record.RecordFault.TheVariants.{LastStamp, Locked, Memory};
 
+use crate::joined::{join_numbers, join_pairs};
 use crate::record::held::RecShardMut;
 use crate::record::map::RecordedMap;
 use dash_kept::{Kept, KeptKey};
 use dash_record::known::Recorded;
-use dash_record::record::whole::{Parts, join_numbers, join_pairs, plan_whole, record_whole};
+use dash_record::record::whole::Parts;
 use dash_record::record::{CallerLog, RecordFault};
 use dash_steps::action::KeptAction;
 use dash_steps::step::Whole;
@@ -107,7 +108,7 @@ impl<K: KeptKey + Drop, V: Kept + Drop, S: BuildHasher, A: KeptAction<K, V> + Dr
         ensures last_stamp { result ≡ Err LastStamp → NoStampLeft ⟦<Self as Recorded>⟧.known self.now log.now }
         ensures kinds { IfErr result (IsOneOf (LastStamp ∷ Memory ∷ [])) }
     {
-        plan_whole(holds, log, kind)
+        RecShardMut::plan_whole(holds, log, kind)
     }
 
     // Adds them to the shards and to the log, or changes nothing where there is no memory for them.
@@ -126,7 +127,7 @@ impl<K: KeptKey + Drop, V: Kept + Drop, S: BuildHasher, A: KeptAction<K, V> + Dr
             → LogsWhole ⟦<Self as Recorded>⟧.known self.now kind log.old log.new parts.logged.items }
         ensures refused { IsFalse result → log.new ≡ log.old }
     {
-        record_whole(holds, log, parts)
+        RecShardMut::record_whole(holds, log, parts)
     }
 
     // A count of the shards that are held, whose holds it ends.

@@ -6,4 +6,3 @@ mod Recording
 pub mod Parts
 mod Adding
 pub mod WholeLogs
-pub mod Copying

@@ -21,6 +21,7 @@ use std::hash::BuildHasher;
 use std::marker::Model;
 use thiserror::Error;
 
+pub mod held;
 mod plan;
 pub mod tag;
 pub mod whole;
@@ -102,9 +103,9 @@ impl<K, V, A> CallerLog<K, V, A> {
         self.last = self.last.max(stamp);
     }
 
-    /// The allocator of the log. For the crates here alone.
+    // The allocator of the log.
     #[inline]
-    pub fn allocator(&self) -> Global {
+    fn allocator(&self) -> Global {
         *self.entries.allocator()
     }
 
@@ -246,9 +247,9 @@ impl<K: KeptKey + Drop, V: Kept + Drop, S: BuildHasher, A: KeptAction<K, V> + Dr
         &self.shard
     }
 
-    /// How many callers the map has. For the crates here alone.
+    // How many callers the map has.
     #[inline]
-    pub fn callers(&self) -> u32
+    fn callers(&self) -> u32
         ensures { result ≡ self.now.callers }
     {
         self.callers

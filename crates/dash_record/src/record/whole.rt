@@ -1,6 +1,5 @@
-//! Whole steps on a row of recorded shards: a part in each, all at one stamp. For the crates here alone.
-ghost use Rattle.std.specs.Prelude.{◌≡◌, ◌+◌, ◌-◌, ◌^◌, ◌<◌, ◌≤◌, [], ◌∷◌, ◌++◌, ◌↔◌, IsErrOf, IsFalse, IsTrue, IfErr, IfOk, OnOk, Some, length, slice_get};
-ghost use Rattle.std.specs.Cmp.Lexicographic.{pointwise};
+//! Whole steps on a row of recorded shards: a part in each, all at one stamp.
+ghost use Rattle.std.specs.Prelude.{◌≡◌, ◌+◌, ◌-◌, ◌^◌, ◌<◌, ◌≤◌, [], ◌∷◌, ◌++◌, ◌↔◌, IsErrOf, IsFalse, IsTrue, IfErr, IfOk, Some, length, slice_get};
 ghost use Rattle.dash_shard.specs.Errors.{IsOneOf};
 ghost use Rattle.dash_shard.specs.Shard.{EachAt};
 ghost use Rattle.dash_steps.specs.Takes.{known};
@@ -8,10 +7,6 @@ ghost use Rattle.dash_steps.specs.declared.step.Whole.{Whole};
 ghost use Rattle.dash_steps.specs.declared.step.Record.{Record};
 ghost use Rattle.dash_record.specs.History.{RecState, IsRecorded, last_or};
 ghost use Rattle.dash_record.specs.Part.{and_record, greatest};
-ghost use Rattle.dash_record.specs.Joined.{joined_number, joined_pairs, number_in, pairs_in};
-ghost use Rattle.dash_kept.specs.Alike.{alike_pair};
-ghost use Rattle.dash_steps.specs.Steps.{reply_of};
-ghost use Rattle.dash_steps.specs.inner.Sweep.{AddsAlike};
 ghost use Rattle.dash_record.specs.inner.Parts.{AddedEach, HasOneMore, IsNext, Planned, SameEach, TakenBack, TellsTwice, ToldEach};
 ghost use Rattle.dash_record.specs.declared.record.RecordFault.TheVariants.{LastStamp, Memory};
 
@@ -24,17 +19,17 @@ use dash_steps::sweep::copy_pairs;
 use std::alloc::{AllocError, Global};
 use std::hash::BuildHasher;
 
-/// A recorded shard that takes its part of whole steps: of one owner, or held for writing.
-pub trait Member<K: KeptKey, V: Kept, S: BuildHasher, A: KeptAction<K, V>>: Sized {
+// A recorded shard that takes its part of whole steps: of one owner, or held for writing.
+pub(crate) trait Member<K: KeptKey, V: Kept, S: BuildHasher, A: KeptAction<K, V>>: Sized {
     // What contracts see of it.
     ghost state: { Self → RecState K V A S };
 
-    /// The stamp of the last record, 0 for none.
+    // The stamp of the last record, 0 for none.
     fn last(&self) -> u64
         ensures last { result ≡ (state self.now).last }
         ensures legal { IsRecorded (known K.KeptKey V.alike A.KeptAction S.BuildHasher S.Hasher.Hasher) (state self.now) };
 
-    /// The record of its part at a stamp, once for its history and once for the log. It takes memory for copies.
+    // The record of its part at a stamp, once for its history and once for the log. It takes memory for copies.
     fn tell(
         &self,
         alloc: Global,
@@ -45,13 +40,13 @@ pub trait Member<K: KeptKey, V: Kept, S: BuildHasher, A: KeptAction<K, V>>: Size
         ensures { IfOk result (λ p. TellsTwice (known K.KeptKey V.alike A.KeptAction S.BuildHasher S.Hasher.Hasher) kind stamp caller
             (state self.now) p.0 p.1) };
 
-    /// Adds the record of its part at the end of the history, or changes nothing where there is no memory.
+    // Adds the record of its part at the end of the history, or changes nothing where there is no memory.
     fn add(&mut self, entry: Record<K, V, A>) -> bool
         requires { IsNext (known K.KeptKey V.alike A.KeptAction S.BuildHasher S.Hasher.Hasher) (state self.old) entry }
         ensures added { IsTrue result → state self.new ≡ and_record (state self.old) entry }
         ensures refused { IsFalse result → state self.new ≡ state self.old };
 
-    /// Takes the last record back.
+    // Takes the last record back.
     fn take_back(&mut self)
         requires { (s : RecState K V A S) × HasOneMore (known K.KeptKey V.alike A.KeptAction S.BuildHasher S.Hasher.Hasher) s (state self.old) }
         ensures { (s : RecState K V A S) → HasOneMore (known K.KeptKey V.alike A.KeptAction S.BuildHasher S.Hasher.Hasher) s (state self.old)
@@ -184,10 +179,8 @@ fn tell_each<
     })
 }
 
-/// The records of a whole step of this kind by the log's caller, at one stamp above all lasts.
-///
-/// It is refused where there is no such stamp (18), then where there is no memory (19).
-pub fn plan_whole<
+// The records of a whole step of this kind by the log's caller, at one stamp above all lasts.
+pub(crate) fn plan_whole<
     K: KeptKey + Drop,
     V: Kept + Drop,
     S: BuildHasher,
@@ -252,10 +245,8 @@ fn add_each<
     true
 }
 
-/// Adds the records of a whole step: to each shard its own at the end of its history, and all to the end of the log.
-///
-/// It takes memory for their places (19).
-pub fn record_whole<
+// Adds the records of a whole step: to each shard its own at the end of its history, and all to the end of the log.
+pub(crate) fn record_whole<
     K: KeptKey + Drop,
     V: Kept + Drop,
     S: BuildHasher,
@@ -289,51 +280,48 @@ pub fn record_whole<
     true
 }
 
-// The number that the record of a part of a count replies.
-fn number_of<K, V, A>(entry: &Record<K, V, A>) -> u64
-    ensures { result ≡ number_in (reply_of entry.now.reply) }
-{
-    match &entry.reply {
-        Reply::Number(number) => *number,
-        _ => 0,
+impl<K: KeptKey + Drop, V: Kept + Drop, S: BuildHasher, A: KeptAction<K, V> + Drop> RecShard<
+    K,
+    V,
+    S,
+    A,
+> {
+    /// The records of a whole step of this kind by the log's caller on shards of one owner, at one stamp above all lasts. For the
+    /// crates here alone.
+    ///
+    /// It is refused where there is no such stamp (18), then where there is no memory (19).
+    pub fn plan_whole(
+        row: &[Self],
+        log: &CallerLog<K, V, A>,
+        kind: Whole,
+    ) -> Result<Parts<K, V, A>, RecordFault>
+        ensures told { IfOk result (λ p. Planned ⟦<Self as Recorded>⟧.known (λ s. s) kind row.now log.now
+            p.stamp p.kept.items p.logged.items) }
+        ensures last_stamp { IsErrOf result LastStamp ↔ (greatest (λ s. s.last) log.now.last row.now ≡ 2 ^ 64 - 1) }
+        ensures faults { IfErr result (IsOneOf (LastStamp ∷ Memory ∷ [])) }
+    {
+        plan_whole(row, log, kind)
     }
-}
 
-/// The numbers that the records of parts reply, added up, saturating.
-pub fn join_numbers<K, V, A>(entries: &[Record<K, V, A>]) -> u64
-    ensures { result ≡ joined_number entries.now }
-{
-    let mut sum: u64 = 0;
-    for entry in entries {
-        sum = sum.saturating_add(number_of(entry));
+    /// Adds the records of a whole step: to each shard of one owner its own at the end of its history, and all to the end of the
+    /// log. For the crates here alone.
+    ///
+    /// It takes memory for their places (19).
+    pub fn record_whole(
+        row: &mut [Self],
+        log: &mut CallerLog<K, V, A>,
+        parts: Parts<K, V, A>,
+    ) -> bool
+        requires planned { (kind : Whole) × Planned ⟦<Self as Recorded>⟧.known (λ s. s) kind row.old log.old
+            parts.stamp parts.kept.items parts.logged.items }
+        requires numbers { EachAt row.old (λ i s. s.shard.number ≡ i) }
+        requires callers { EachAt row.old (λ _ s. log.old.caller < s.callers) }
+        requires legal { EachAt row.old (λ _ s. IsRecorded ⟦<Self as Recorded>⟧.known s) }
+        ensures added { IsTrue result → AddedEach (λ s. s) row.old row.new parts.kept.items }
+        ensures log { IsTrue result
+            → log.new ≡ record log.old { last = parts.stamp; entries = log.old.entries ++ parts.logged.items } }
+        ensures refused { IsFalse result → SameEach (λ s. s) row.old row.new × (log.new ≡ log.old) }
+    {
+        record_whole(row, log, parts)
     }
-    sum
-}
-
-// Adds copies of the pairs that the record of a part of a copy replies.
-fn add_pairs<K: Kept + Drop, V: Kept + Drop, A>(
-    copies: &mut Vec<(K, V)>,
-    entry: &Record<K, V, A>,
-) -> Result<(), AllocError>
-    ensures { OnOk result (AddsAlike K.alike V.alike (pairs_in (reply_of entry.now.reply)) copies.old.items copies.new.items) }
-{
-    if let Reply::Pairs(pairs) = &entry.reply {
-        let mut made = pairs.copy()?;
-        copies.append(&mut made)?;
-    }
-    Ok(())
-}
-
-/// Copies of the pairs that the records of parts reply, one list after the other.
-pub fn join_pairs<K: Kept + Drop, V: Kept + Drop, A>(
-    alloc: Global,
-    entries: &[Record<K, V, A>],
-) -> Result<Vec<(K, V)>, AllocError>
-    ensures { IfOk result (λ copies. IsTrue (pointwise (alike_pair K.alike V.alike) (joined_pairs entries.now) copies.items)) }
-{
-    let mut copies = Vec::new(alloc);
-    for entry in entries {
-        add_pairs(&mut copies, entry)?;
-    }
-    Ok(copies)
 }

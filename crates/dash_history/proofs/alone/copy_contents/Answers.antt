@@ -3,7 +3,7 @@ use Rattle.dash_kept.specs.Alike.{alike_pair}
 use Rattle.std.specs.Cmp.Lexicographic.{pointwise}
 use Rattle.dash_steps.specs.inner.Sweep.{AddsAlike}
 use Rattle.dash_shard.specs.Shard.{pairs}
-use Rattle.dash_record.proofs.Copying.{all, copied-more, copied-all}
+use Rattle.dash_history.proofs.Copying.{all, copied-more, copied-all}
 use Rattle.dash_history.proofs.alone.copy_contents.Goals as goal
 
 pub loop-idx-init : goal.loop-idx-init

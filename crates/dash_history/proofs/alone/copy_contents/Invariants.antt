@@ -1,5 +1,5 @@
 use Rattle.dash_shard.specs.Shard.{pairs}
-use Rattle.dash_record.proofs.Copying.{Copied}
+use Rattle.dash_history.proofs.Copying.{Copied}
 use Rattle.dash_history.proofs.alone.copy_contents.Given as goal
 
 abbrev pub invariant-loop-idx : goal.invariant-loop-idx

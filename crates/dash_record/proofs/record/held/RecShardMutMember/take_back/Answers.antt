@@ -2,7 +2,7 @@ use Rattle.std.proofs.Common.{sym, subst, ◌∙◌}
 use Rattle.dash_record.specs.History.{RecState}
 use Rattle.dash_record.specs.inner.Parts.{HasOneMore}
 use Rattle.dash_steps.specs.Takes.{known_by}
-use Rattle.dash_history.proofs.record.held.RecShardMutMember.take_back.Goals as goal
+use Rattle.dash_record.proofs.record.held.RecShardMutMember.take_back.Goals as goal
 
 pub change-requires-clause-callable : goal.change-requires-clause-callable
 change-requires-clause-callable g c = λ p e.

@@ -2,7 +2,7 @@ use Rattle.std.proofs.Common.{subst, ◌∙◌}
 use Rattle.dash_record.specs.Refused.{Records}
 use Rattle.dash_record.specs.History.{LogState, RecState}
 use Rattle.dash_steps.specs.Takes.{known_by}
-use Rattle.dash_history.proofs.record.held.RecShardMut.record_hashed.Goals as goal
+use Rattle.dash_record.proofs.record.held.RecShardMut.record_hashed.Goals as goal
 
 pub returns : goal.returns
 returns g c =

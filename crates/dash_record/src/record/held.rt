@@ -1,22 +1,25 @@
 //! A recorded shard that is held for writing, changed in place behind its lock.
-ghost use Rattle.std.specs.Prelude.{◌≡◌, ◌<◌, ◌↔◌, IsFalse, IsTrue};
-ghost use Rattle.dash_shard.specs.Shard.{Routes};
+ghost use Rattle.std.specs.Prelude.{◌≡◌, [], ◌∷◌, ◌++◌, ◌-◌, ◌^◌, ◌<◌, ◌↔◌, IsErrOf, IsFalse, IsTrue, IfErr, IfOk};
+ghost use Rattle.dash_shard.specs.Errors.{IsOneOf};
+ghost use Rattle.dash_shard.specs.Shard.{EachAt, Routes};
 ghost use Rattle.dash_lock.specs.Lock.{LeftBehind};
 ghost use Rattle.dash_record.specs.History.{IsRecorded, GoesTo, RecState};
-ghost use Rattle.dash_record.specs.Part.{and_record};
-ghost use Rattle.dash_record.specs.inner.Parts.{HasOneMore, IsNext};
+ghost use Rattle.dash_record.specs.Part.{and_record, greatest};
+ghost use Rattle.dash_record.specs.inner.Parts.{AddedEach, HasOneMore, IsNext, Planned, SameEach};
+ghost use Rattle.dash_record.specs.declared.record.RecordFault.TheVariants.{LastStamp, Memory};
+ghost use Rattle.dash_steps.specs.declared.step.Whole.{Whole};
 ghost use Rattle.dash_steps.specs.Steps.{IsPart};
 ghost use Rattle.dash_steps.specs.inner.Hashed.{HasHash};
 ghost use Rattle.dash_record.specs.Held.{FitsRecTag};
 ghost use Rattle.dash_record.specs.Refused.{Records};
 ghost use Rattle.dash_steps.specs.Takes.{known};
 
+pub use super::tag::RecTag;
+use super::whole::{self, Member, Parts};
+use super::{CallerLog, RecShard, RecordFault};
+use crate::known::Recorded;
 use dash_kept::{Kept, KeptKey};
 use dash_lock::lock::RwLockWriteGuard;
-use dash_record::known::Recorded;
-pub use dash_record::record::tag::RecTag;
-use dash_record::record::whole::Member;
-use dash_record::record::{CallerLog, RecShard, RecordFault};
 use dash_steps::action::KeptAction;
 use dash_steps::step::{Record, Reply, ShardStep, Whole};
 use std::alloc::{AllocError, Global};
@@ -150,8 +153,8 @@ impl<K: KeptKey + Drop, V: Kept + Drop, S: BuildHasher, A: KeptAction<K, V> + Dr
         step.route(shard.hasher(), shard.amount()).0
     }
 
-    // As `record`, for a caller who has the hash of the step's key, and knows that it is no part.
-    pub(crate) fn record_hashed(
+    /// As `record`, for a caller who has the hash of the step's key, and knows that it is no part. For the crates here alone.
+    pub fn record_hashed(
         &mut self,
         log: &mut CallerLog<K, V, A>,
         hash: u64,
@@ -184,6 +187,45 @@ impl<K: KeptKey + Drop, V: Kept + Drop, S: BuildHasher, A: KeptAction<K, V> + Dr
         );
         *log = mine;
         answer
+    }
+
+    /// The records of a whole step of this kind by the log's caller on shards that are held, at one stamp above all lasts. For the
+    /// crates here alone.
+    ///
+    /// It is refused where there is no such stamp (18), then where there is no memory (19).
+    pub fn plan_whole(
+        row: &[Self],
+        log: &CallerLog<K, V, A>,
+        kind: Whole,
+    ) -> Result<Parts<K, V, A>, RecordFault>
+        ensures told { IfOk result (λ p. Planned ⟦<Self as Recorded>⟧.known (λ s. s) kind row.now log.now
+            p.stamp p.kept.items p.logged.items) }
+        ensures last_stamp { IsErrOf result LastStamp ↔ (greatest (λ s. s.last) log.now.last row.now ≡ 2 ^ 64 - 1) }
+        ensures faults { IfErr result (IsOneOf (LastStamp ∷ Memory ∷ [])) }
+    {
+        whole::plan_whole(row, log, kind)
+    }
+
+    /// Adds the records of a whole step: to each shard that is held its own at the end of its history, and all to the end of the
+    /// log. For the crates here alone.
+    ///
+    /// It takes memory for their places (19).
+    pub fn record_whole(
+        row: &mut [Self],
+        log: &mut CallerLog<K, V, A>,
+        parts: Parts<K, V, A>,
+    ) -> bool
+        requires planned { (kind : Whole) × Planned ⟦<Self as Recorded>⟧.known (λ s. s) kind row.old log.old
+            parts.stamp parts.kept.items parts.logged.items }
+        requires numbers { EachAt row.old (λ i s. s.shard.number ≡ i) }
+        requires callers { EachAt row.old (λ _ s. log.old.caller < s.callers) }
+        requires legal { EachAt row.old (λ _ s. IsRecorded ⟦<Self as Recorded>⟧.known s) }
+        ensures added { IsTrue result → AddedEach (λ s. s) row.old row.new parts.kept.items }
+        ensures log { IsTrue result
+            → log.new ≡ record log.old { last = parts.stamp; entries = log.old.entries ++ parts.logged.items } }
+        ensures refused { IsFalse result → SameEach (λ s. s) row.old row.new × (log.new ≡ log.old) }
+    {
+        whole::record_whole(row, log, parts)
     }
 }
 

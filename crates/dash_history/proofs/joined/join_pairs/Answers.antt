@@ -3,8 +3,8 @@ use Rattle.std.specs.Cmp.Lexicographic.{pointwise}
 use Rattle.dash_kept.specs.Alike.{alike_pair}
 use Rattle.dash_steps.specs.Steps.{reply_of}
 use Rattle.dash_record.specs.Joined.{pairs_in}
-use Rattle.dash_record.proofs.Copying.{all, copied-more, copied-all}
-use Rattle.dash_record.proofs.record.whole.join_pairs.Goals as goal
+use Rattle.dash_history.proofs.Copying.{all, copied-more, copied-all}
+use Rattle.dash_history.proofs.joined.join_pairs.Goals as goal
 
 pub loop-entry-init : goal.loop-entry-init
 loop-entry-init g c = λ rest h. subst (λ l. pointwise (alike_pair g.K.Kept.alike g.V.Kept.alike) (all g.K.Kept.alike g.V.Kept.alike (λ r. pairs_in (reply_of r.reply)) c.args.entries.now c.args.entries.now) (l ++ rest) ≡ true) (sym c.new-copies.ensures.items) h
