@@ -31,3 +31,13 @@ pub(super) fn free_lanes(group: &[u8; 16]) -> u16
         .simd_ge(u8x16::splat(128))
         .to_bitmask() as u16
 }
+
+// A bit for each lane with a pair.
+#[inline(always)]
+pub(super) fn taken_lanes(group: &[u8; 16]) -> u16
+    ensures { (i : ℕ) → (bit_at result i ≡ 1) ↔ ((i < 16) × (slice_index group.now i < 128)) }
+{
+    u8x16::from_array(*group)
+        .simd_lt(u8x16::splat(128))
+        .to_bitmask() as u16
+}

@@ -10,7 +10,9 @@ ghost use Rattle.std.specs.Map.Iter.{deref_pair};
 
 use crate::shard::group::probe;
 use dash_slots::Slots;
-use marks::{EMPTY, class, count_at, group_of, home, lowest, next_group, steps_to, tag, without};
+use marks::{
+    class, count_at, group_of, home, lowest, next_group, next_pair, steps_to, tag, without,
+};
 use std::alloc::Global;
 use std::hash::{BuildHasher, Hash};
 use std::mem;
@@ -260,12 +262,12 @@ impl<K, V> Table<K, V> {
         ensures next { IsNextTaken (pairs_in self.now) position result }
         ensures below { IfSome result (λ i. i < 2 ^ 64 - 1) }
     {
-        for slot in position..self.tags.len() {
-            if self.tags[slot] < EMPTY {
-                return Some(slot);
-            }
+        let slot = next_pair(&self.tags, position);
+        if slot < self.tags.len() {
+            Some(slot)
+        } else {
+            None
         }
-        None
     }
 
     /// How many slots are taken.

@@ -4,6 +4,8 @@ ghost use Rattle.std.specs.Int.{bit_at};
 ghost use Rattle.dash_shard.specs.Search.{class_of};
 ghost use Rattle.dash_shard.specs.inner.Marks.{round, step_to, goes_past, tag_of, count_of, IsRaised, IsLowered, OthersStay, CountsPast, UncountsPast, IsClean, KeepsTags};
 
+use crate::shard::lanes::taken_lanes;
+
 // What stands for a tag where a slot is empty, and where its pair was removed from a group that pairs stand past.
 pub(super) const EMPTY: u8 = 128;
 
@@ -18,6 +20,7 @@ pub(super) fn lowest(mask: u16) -> usize
     requires { 0 < mask }
     ensures bound { result < 16 }
     ensures set { bit_at mask result ≡ 1 }
+    ensures first { (j : ℕ) → j < result → bit_at mask j ≡ 0 }
 {
     mask.trailing_zeros() as usize
 }
@@ -33,16 +36,50 @@ pub(super) fn without(mask: u16, bit: usize) -> u16
     mask & !(1 << bit)
 }
 
+// Sixteen tags from a slot on.
+#[inline(always)]
+fn tags_at(tags: &[u8], start: usize) -> &[u8; 16]
+    requires { start + 16 ≤ length tags.now }
+    ensures { (j : ℕ) → j < 16 → slice_index result.now j ≡ slice_index tags.now (start + j) }
+{
+    match <&[u8; 16]>::try_from(&tags[start..start + 16]) {
+        Ok(row) => row,
+        Err(_) => unreachable!(),
+    }
+}
+
 // The tags of a group.
 #[inline(always)]
 pub(super) fn group_of(tags: &[u8], group: usize) -> &[u8; 16]
     requires { 16 * group + 16 ≤ length tags.now }
     ensures { (j : ℕ) → j < 16 → slice_index result.now j ≡ slice_index tags.now (16 * group + j) }
 {
-    match <&[u8; 16]>::try_from(&tags[16 * group..16 * group + 16]) {
-        Ok(row) => row,
-        Err(_) => unreachable!(),
+    tags_at(tags, 16 * group)
+}
+
+// The lowest slot from `from` on that is taken, by its tag, or one past all. It looks at sixteen at once.
+#[inline(always)]
+pub(super) fn next_pair(tags: &[u8], from: usize) -> usize
+    ensures from { from ≤ result }
+    ensures taken { result < length tags.now → slice_index tags.now result < 128 }
+    ensures passed { (j : ℕ) → from ≤ j → j < result → 128 ≤ slice_index tags.now j }
+{
+    let mut slot = from;
+    while slot < tags.len() {
+        if tags.len() - slot < 16 {
+            if tags[slot] < EMPTY {
+                return slot;
+            }
+            slot += 1;
+        } else {
+            let mask = taken_lanes(tags_at(tags, slot));
+            if mask != 0 {
+                return slot + lowest(mask);
+            }
+            slot += 16;
+        }
     }
+    slot
 }
 
 // How many times a hash goes round so many groups, without a division where they are three times a power of two.

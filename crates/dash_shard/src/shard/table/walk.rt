@@ -6,7 +6,7 @@ ghost use Rattle.dash_shard.specs.inner.Table.{IsTable, pairs_in};
 ghost use Rattle.dash_shard.specs.Shard.{taken};
 
 use super::Table;
-use super::marks::EMPTY;
+use super::marks::next_pair;
 use super::sweep::let_go;
 use dash_slots::Slots;
 use std::alloc::AllocError;
@@ -62,16 +62,15 @@ impl<'a, K, V> Iterator for Iter<'a, K, V> {
     #[inline]
     fn next(&mut self) -> Option<(&'a K, &'a V)> {
         let slots = self.slots?;
-        for slot in self.position..self.tags.len() {
-            if self.tags[slot] < EMPTY {
-                self.position = slot + 1;
-                self.len -= 1;
-                let (key, value) = slots.get(slot);
-                return Some((key, value));
-            }
+        let slot = next_pair(self.tags, self.position);
+        if slot >= self.tags.len() {
+            self.position = slot;
+            return None;
         }
-        self.position = self.tags.len();
-        None
+        self.position = slot + 1;
+        self.len -= 1;
+        let (key, value) = slots.get(slot);
+        Some((key, value))
     }
 
     #[inline]
@@ -175,14 +174,13 @@ impl<K: Drop, V: Drop> Iterator for IntoIter<K, V> {
 
     #[inline]
     fn next(&mut self) -> Option<(K, V)> {
-        for slot in self.position..self.tags.len() {
-            if self.tags[slot] < EMPTY {
-                self.position = slot + 1;
-                return Some(self.slots.take(slot));
-            }
+        let slot = next_pair(&self.tags, self.position);
+        if slot >= self.tags.len() {
+            self.position = slot;
+            return None;
         }
-        self.position = self.tags.len();
-        None
+        self.position = slot + 1;
+        Some(self.slots.take(slot))
     }
 }
 

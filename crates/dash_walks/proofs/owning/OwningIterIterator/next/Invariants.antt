@@ -2,7 +2,7 @@ use Rattle.std.proofs.Common.{◌≡◌, ◌++◌, [], flat_map, length}
 use Rattle.std.specs.Option.{unwrap_or}
 use Rattle.std.specs.Vec.Iter.{into_iter_items}
 use Rattle.dash_shard.specs.Shard.{pairs}
-use Rattle.dash_rows.proofs.owning.OwningIterIterator.next.Given as goal
+use Rattle.dash_walks.proofs.owning.OwningIterIterator.next.Given as goal
 
 -- no pair was passed over
 abbrev pub invariant-loop-self : goal.invariant-loop-self

@@ -1,6 +1,6 @@
 use Rattle.std.proofs.Common.{◌≡◌, ◌++◌, flat_map, length}
 use Rattle.dash_shard.specs.Shard.{pairs}
-use Rattle.dash_rows.proofs.view.ViewIterIterator.next.Given as goal
+use Rattle.dash_walks.proofs.view.ViewIterIterator.next.Given as goal
 
 -- no pair was passed over
 abbrev pub invariant-loop-pair : goal.invariant-loop-pair
