@@ -235,8 +235,8 @@ impl<K: KeptKey + Drop, V: Kept + Drop, S: BuildHasher, A: KeptAction<K, V> + Dr
 
     // The records of a whole step of this map.
     fn plan(&self, log: &CallerLog<K, V, A>, kind: Whole) -> Result<Parts<K, V, A>, RecordFault>
-        ensures planned { IfOk result (λ p. Planned ⟦<Self as Recorded>⟧.known (λ s. s) kind self.now.row log.now p.stamp p.kept.items
-            p.logged.items) }
+        ensures planned { IfOk result (λ p. Planned ⟦<Self as Recorded>⟧.known (λ s. s)
+            kind self.now.row log.now p.stamp p.kept.items p.logged.items) }
         ensures lawful { IsRecAlone ⟦<Self as Recorded>⟧.known self.now }
         ensures last_stamp { IsErrOf result LastStamp ↔ (top_of self.now log.now ≡ 2 ^ 64 - 1) }
         ensures kinds { IfErr result (IsOneOf (LastStamp ∷ fault.Memory ∷ [])) }
@@ -247,8 +247,8 @@ impl<K: KeptKey + Drop, V: Kept + Drop, S: BuildHasher, A: KeptAction<K, V> + Dr
     // Adds the records of a whole step to the shards and to the log, or changes nothing where there is no memory for them.
     fn record_parts(&mut self, log: &mut CallerLog<K, V, A>, parts: Parts<K, V, A>) -> bool
         requires caller { log.old.caller < self.old.callers }
-        requires planned { (kind : Whole) × Planned ⟦<Self as Recorded>⟧.known (λ s. s) kind self.old.row log.old parts.stamp
-            parts.kept.items parts.logged.items }
+        requires planned { (kind : Whole) × Planned ⟦<Self as Recorded>⟧.known (λ s. s)
+            kind self.old.row log.old parts.stamp parts.kept.items parts.logged.items }
         ensures added { IsTrue result → (kind : Whole) → Planned ⟦<Self as Recorded>⟧.known (λ s. s) kind self.old.row log.old parts.stamp
             parts.kept.items parts.logged.items
             → AppliedWhole ⟦<Self as Recorded>⟧.known kind self.old self.new log.old log.new parts.logged.items }

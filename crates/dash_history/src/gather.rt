@@ -2,10 +2,10 @@
 ghost use Rattle.std.specs.Prelude.{◌≡◌, List};
 ghost use Rattle.dash_history.specs.Alone.{RecAloneState};
 ghost use Rattle.dash_record.specs.History.{LogState};
-ghost use Rattle.dash_history.specs.Map.{SawRecShards};
-ghost use Rattle.dash_history.specs.OneHistory.{IsGathered, Gathers, StampsStandInOrder};
-ghost use Rattle.dash_steps.specs.Takes.{Known};
 ghost use Rattle.dash_gather.specs.declared.place.At.{At};
+ghost use Rattle.dash_history.specs.OneHistory.{IsGathered, Gathers, StampsStandInOrder};
+ghost use Rattle.dash_history.specs.Map.{SawRecShards};
+ghost use Rattle.dash_steps.specs.Takes.{Known};
 
 use crate::record::map::RecordedMap;
 use core::mem::replace_with;

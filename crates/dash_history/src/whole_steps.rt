@@ -103,8 +103,8 @@ impl<K: KeptKey + Drop, V: Kept + Drop, S: BuildHasher, A: KeptAction<K, V> + Dr
         kind: Whole,
     ) -> Result<Parts<K, V, A>, RecordFault>
         requires { HoldsAll ⟦<Self as Recorded>⟧.known self.now holds.now }
-        ensures planned { IfOk result (λ p. Planned ⟦<Self as Recorded>⟧.known (λ s. s) kind holds.now log.now p.stamp p.kept.items
-            p.logged.items) }
+        ensures planned { IfOk result (λ p. Planned ⟦<Self as Recorded>⟧.known (λ s. s)
+            kind holds.now log.now p.stamp p.kept.items p.logged.items) }
         ensures last_stamp { result ≡ Err LastStamp → NoStampLeft ⟦<Self as Recorded>⟧.known self.now log.now }
         ensures kinds { IfErr result (IsOneOf (LastStamp ∷ Memory ∷ [])) }
     {
@@ -120,8 +120,8 @@ impl<K: KeptKey + Drop, V: Kept + Drop, S: BuildHasher, A: KeptAction<K, V> + Dr
     ) -> bool
         requires held { HoldsAll ⟦<Self as Recorded>⟧.known self.now holds.old }
         requires caller { log.old.caller < self.now.callers }
-        requires planned { (kind : Whole) × Planned ⟦<Self as Recorded>⟧.known (λ s. s) kind holds.old log.old parts.stamp
-            parts.kept.items parts.logged.items }
+        requires planned { (kind : Whole) × Planned ⟦<Self as Recorded>⟧.known (λ s. s)
+            kind holds.old log.old parts.stamp parts.kept.items parts.logged.items }
         ensures logs { IsTrue result → (kind : Whole) → Planned ⟦<Self as Recorded>⟧.known (λ s. s) kind holds.old log.old parts.stamp
             parts.kept.items parts.logged.items
             → LogsWhole ⟦<Self as Recorded>⟧.known self.now kind log.old log.new parts.logged.items }

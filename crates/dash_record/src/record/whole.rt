@@ -295,8 +295,8 @@ impl<K: KeptKey + Drop, V: Kept + Drop, S: BuildHasher, A: KeptAction<K, V> + Dr
         log: &CallerLog<K, V, A>,
         kind: Whole,
     ) -> Result<Parts<K, V, A>, RecordFault>
-        ensures told { IfOk result (λ p. Planned ⟦<Self as Recorded>⟧.known (λ s. s) kind row.now log.now
-            p.stamp p.kept.items p.logged.items) }
+        ensures told { IfOk result (λ p. Planned ⟦<Self as Recorded>⟧.known (λ s. s)
+            kind row.now log.now p.stamp p.kept.items p.logged.items) }
         ensures last_stamp { IsErrOf result LastStamp ↔ (greatest (λ s. s.last) log.now.last row.now ≡ 2 ^ 64 - 1) }
         ensures faults { IfErr result (IsOneOf (LastStamp ∷ Memory ∷ [])) }
     {
@@ -312,8 +312,8 @@ impl<K: KeptKey + Drop, V: Kept + Drop, S: BuildHasher, A: KeptAction<K, V> + Dr
         log: &mut CallerLog<K, V, A>,
         parts: Parts<K, V, A>,
     ) -> bool
-        requires planned { (kind : Whole) × Planned ⟦<Self as Recorded>⟧.known (λ s. s) kind row.old log.old
-            parts.stamp parts.kept.items parts.logged.items }
+        requires planned { (kind : Whole) × Planned ⟦<Self as Recorded>⟧.known (λ s. s)
+            kind row.old log.old parts.stamp parts.kept.items parts.logged.items }
         requires numbers { EachAt row.old (λ i s. s.shard.number ≡ i) }
         requires callers { EachAt row.old (λ _ s. log.old.caller < s.callers) }
         requires legal { EachAt row.old (λ _ s. IsRecorded ⟦<Self as Recorded>⟧.known s) }

@@ -41,13 +41,10 @@ fn keys_by_workers(rt: HostRuntime) {
     let mut set = Keys::from_par_iter(&rt, rt.alloc(), one(7), 1, 2).expect(&rt, "refused");
     set.par_extend(&rt, one(8), 2).expect(&rt, "refused");
     set.par_extend_shared(&rt, one(9), 2).expect(&rt, "refused");
-    let mut keys = set
-        .par_iter()
-        .map_collect(&rt, |key: &u64| *key)
-        .expect(&rt, "refused");
-    keys.sort_unstable();
-    prints(&rt, rt.alloc(), &keys, "[7, 8, 9]");
-    let mut keys = set.into_par_iter().collect(&rt).expect(&rt, "refused");
-    keys.sort_unstable();
-    prints(&rt, rt.alloc(), &keys, "[7, 8, 9]");
+    let copied = set.par_iter().map_collect(&rt, |key: &u64| *key);
+    for keys in [copied, set.into_par_iter().collect(&rt)] {
+        let mut keys = keys.expect(&rt, "refused");
+        keys.sort_unstable();
+        prints(&rt, rt.alloc(), &keys, "[7, 8, 9]");
+    }
 }
