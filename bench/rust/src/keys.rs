@@ -14,7 +14,7 @@ pub trait Keys: Copy + Send + Sync {
     /// The key of a number. No two numbers have one key.
     fn key(&self, number: u64) -> u64;
 
-    /// A number below `count`, which is above 0.
+    /// A number below `count`, or 0 where that is 0.
     fn below(&self, drawn: u64, count: u64) -> u64;
 }
 
@@ -30,7 +30,7 @@ impl Keys for Mixed {
 
     #[inline(always)]
     fn below(&self, drawn: u64, count: u64) -> u64 {
-        drawn % count
+        drawn % count.max(1)
     }
 }
 
@@ -47,7 +47,7 @@ impl Keys for Masked {
 
     #[inline(always)]
     fn below(&self, drawn: u64, count: u64) -> u64 {
-        drawn & (count - 1)
+        drawn & count.saturating_sub(1)
     }
 }
 

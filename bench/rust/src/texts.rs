@@ -10,7 +10,7 @@ use dashmap::DashMap;
 const PAIRS: usize = 200_000;
 
 /// How often each key is looked up.
-const ROUNDS: usize = 5;
+const ROUNDS: u64 = 5;
 
 type Value = [u64; 8];
 
@@ -51,10 +51,55 @@ fn sum_of(value: &Value) -> u64 {
     value.iter().fold(0u64, |sum, part| sum.wrapping_add(*part))
 }
 
-struct Worker {
-    keys: Vec<String>,
+/// How many steps there were, and the sum of what they gave.
+#[derive(Clone, Copy, Default)]
+struct Tally {
     steps: u64,
     sum: u64,
+}
+
+impl Tally {
+    #[inline(always)]
+    fn count(&mut self, found: Option<u64>) {
+        self.steps += 1;
+        self.sum = self.sum.wrapping_add(found.unwrap_or(1));
+    }
+}
+
+fn look_up(map: &Map, keys: &[String]) -> Tally {
+    let mut tally = Tally::default();
+    for _ in 0..ROUNDS {
+        for key in keys {
+            tally.count(map.get(key).map(|found| sum_of(found.value())));
+        }
+    }
+    tally
+}
+
+fn insert(map: &Map, keys: &mut Vec<String>) -> Tally {
+    let mut tally = Tally::default();
+    for number in 0..keys.len() as u64 {
+        if let Some(key) = keys.pop() {
+            let old = map.insert(key, [number; 8]);
+            tally.count(old.map(|old| sum_of(&old)));
+        }
+    }
+    tally
+}
+
+fn remove(map: &Map, keys: &[String]) -> Tally {
+    let mut tally = Tally::default();
+    for key in keys {
+        let old = map.remove(key);
+        tally.count(old.map(|(_, value)| sum_of(&value)));
+    }
+    tally
+}
+
+/// A thread's texts, and what it came to.
+struct Worker {
+    keys: Vec<String>,
+    done: Tally,
 }
 
 impl Worker {
@@ -62,47 +107,16 @@ impl Worker {
     fn new(index: usize, threads: usize) -> Self {
         let (first, end) = share_of(PAIRS, index, threads);
         let keys = (first..end).map(|number| text_of(number * 77_773 % PAIRS as u64)).collect();
-        Worker { keys, steps: 0, sum: 0 }
+        Worker { keys, done: Tally::default() }
     }
 
     fn work(&mut self, map: &Map, text: Text) {
-        let mut keys = std::mem::take(&mut self.keys);
-        let (steps, sum) = match text {
-            Text::Hit => look_up(map, &keys),
-            Text::Insert0 => insert(map, &mut keys),
-            Text::Remove => remove(map, &keys),
+        self.done = match text {
+            Text::Hit => look_up(map, &self.keys),
+            Text::Insert0 => insert(map, &mut self.keys),
+            Text::Remove => remove(map, &self.keys),
         };
-        *self = Worker { keys, steps, sum };
     }
-}
-
-fn look_up(map: &Map, keys: &[String]) -> (u64, u64) {
-    let (mut steps, mut sum) = (0u64, 0u64);
-    for _ in 0..ROUNDS {
-        for key in keys {
-            steps += 1;
-            sum = sum.wrapping_add(map.get(key).map_or(1, |found| sum_of(found.value())));
-        }
-    }
-    (steps, sum)
-}
-
-fn insert(map: &Map, keys: &mut Vec<String>) -> (u64, u64) {
-    let (mut steps, mut sum) = (0u64, 0u64);
-    while let Some(key) = keys.pop() {
-        steps += 1;
-        sum = sum.wrapping_add(map.insert(key, [steps; 8]).map_or(1, |old| sum_of(&old)));
-    }
-    (steps, sum)
-}
-
-fn remove(map: &Map, keys: &[String]) -> (u64, u64) {
-    let (mut steps, mut sum) = (0u64, 0u64);
-    for key in keys {
-        steps += 1;
-        sum = sum.wrapping_add(map.remove(key).map_or(1, |(_, value)| sum_of(&value)));
-    }
-    (steps, sum)
 }
 
 /// The time of a work by so many threads, on a map of so many shards.
@@ -116,8 +130,8 @@ pub fn measure(text: Text, threads: usize, shards: usize) -> Measured {
     let nanoseconds = time(&mut workers, |worker| worker.work(&map, text));
     Measured {
         nanoseconds,
-        steps: workers.iter().map(|worker| worker.steps).sum(),
-        sum: workers.iter().fold(0u64, |sum, worker| sum.wrapping_add(worker.sum)),
+        steps: workers.iter().map(|worker| worker.done.steps).sum(),
+        sum: workers.iter().fold(0u64, |sum, worker| sum.wrapping_add(worker.done.sum)),
         bytes: 0,
     }
 }

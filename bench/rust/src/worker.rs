@@ -96,8 +96,9 @@ impl<D: Keys> Worker<D> {
     fn insert_timed<S: BuildHasher + Clone>(&mut self, map: &Map<S>) {
         let (first, end) = self.share(self.pairs);
         for number in first..end {
+            let key = self.keys.key(number);
             let start = Instant::now();
-            self.put(map, self.keys.key(number), number);
+            self.put(map, key, number);
             self.worst = self.worst.max(start.elapsed().as_nanos());
         }
     }
@@ -132,15 +133,15 @@ impl<D: Keys> Worker<D> {
     fn alter<S: BuildHasher + Clone>(&mut self, map: &Map<S>) {
         let (first, end) = self.share(self.pairs);
         for number in first..end {
-            map.alter(&self.keys.key(number), |_, value| value.wrapping_add(1));
-            self.count(1);
+            self.alter_one(map, number);
         }
     }
 
     fn update<S: BuildHasher + Clone>(&mut self, map: &Map<S>) {
         let (first, end) = self.share(STEPS);
         for step in first..end {
-            if let Some(mut found) = map.get_mut(&self.keys.key(step % self.pairs as u64)) {
+            let number = self.keys.below(step, self.pairs as u64);
+            if let Some(mut found) = map.get_mut(&self.keys.key(number)) {
                 *found = found.wrapping_add(1);
                 self.count(1);
             }
@@ -151,7 +152,8 @@ impl<D: Keys> Worker<D> {
         let (first, end) = self.share(self.pairs);
         let (from, to) = self.share(STEPS);
         for step in from..to {
-            let key = self.keys.key(first + step % (end - first).max(1));
+            let number = self.keys.below(step, end - first);
+            let key = self.keys.key(first + number);
             self.take(map, key);
             self.put(map, key, step);
         }
@@ -170,8 +172,7 @@ impl<D: Keys> Worker<D> {
     fn contend<S: BuildHasher + Clone>(&mut self, map: &Map<S>) {
         let (first, end) = self.share(STEPS);
         for _ in first..end {
-            map.alter(&self.keys.key(0), |_, value| value.wrapping_add(1));
-            self.count(1);
+            self.alter_one(map, 0);
         }
     }
 
@@ -195,8 +196,9 @@ impl<D: Keys> Worker<D> {
         let mut random = Random::new(first + 1);
         for _ in from..to {
             let drawn = random.next();
-            let number = first + self.keys.below(drawn >> 20, (end - first).max(1));
-            self.step(map, mix, drawn & 0xfffff, self.keys.key(number));
+            let number = self.keys.below(drawn >> 20, end - first);
+            let key = self.keys.key(first + number);
+            self.step(map, mix, drawn & 0xfffff, key);
         }
     }
 
@@ -239,5 +241,11 @@ impl<D: Keys> Worker<D> {
             }
             None => self.count(1),
         }
+    }
+
+    #[inline(always)]
+    fn alter_one<S: BuildHasher + Clone>(&mut self, map: &Map<S>, number: u64) {
+        map.alter(&self.keys.key(number), |_, value| value.wrapping_add(1));
+        self.count(1);
     }
 }
