@@ -25,6 +25,33 @@ pub struct Measured {
     pub bytes: u64,
 }
 
+impl Measured {
+    // Adds what the workers came to.
+    fn add<D: Keys>(&mut self, workers: &[Worker<D>]) -> Result<(), Refused> {
+        for worker in workers {
+            if let Some(refused) = worker.refused {
+                return Err(refused);
+            }
+            self.steps = self.steps.wrapping_add(worker.steps);
+            self.sum = self.sum.wrapping_add(worker.sum);
+        }
+        Ok(())
+    }
+
+    // The longest insert in place of all.
+    fn of_worst<D: Keys>(self, workers: &[Worker<D>]) -> Self {
+        let mut nanoseconds: u128 = 0;
+        for worker in workers {
+            nanoseconds = nanoseconds.max(worker.worst);
+        }
+        Measured {
+            nanoseconds,
+            steps: 1,
+            ..self
+        }
+    }
+}
+
 impl fmt::Display for Measured {
     fn fmt<W: fmt::Write>(&self, f: &mut fmt::Formatter<W>) -> fmt::Result {
         let Measured {
@@ -49,44 +76,42 @@ pub fn measure<R: Threads + Wait + Clock + Files + AllocGlobal + RandomSource + 
 ) -> Result<Measured, Refused> {
     let before = resident(rt);
     let room = work.room();
-    let mut measured = match work.form() {
+    match work.form() {
         Form::Mixed => {
             let map = DashMap::with_capacity_and_shard_amount(alloc, room, shards)?;
-            measure_by(rt, alloc, &map, Mixed, work, threads)?
+            measure_by(rt, &map, Mixed, work, threads, before)
         }
         Form::Masked => {
             let map = DashMap::with_capacity_and_shard_amount(alloc, room, shards)?;
-            measure_by(rt, alloc, &map, Masked, work, threads)?
+            measure_by(rt, &map, Masked, work, threads, before)
         }
         Form::Random => {
             let hasher = RandomState::new(rt)?;
             let map = DashMap::with_capacity_and_hasher_and_shard_amount(
                 alloc, room, hasher, shards,
             )?;
-            measure_by(rt, alloc, &map, Mixed, work, threads)?
+            measure_by(rt, &map, Mixed, work, threads, before)
         }
-    };
-    measured.bytes = resident(rt).saturating_sub(before);
-    Ok(measured)
+    }
 }
 
-// Fills a map, and takes the time that so many threads need for the work with these keys.
+// Fills a map, and takes the time that so many threads need for the work with these keys. The process had `before` bytes without the map.
 fn measure_by<R, D: Keys, S: BuildHasher + Send + Sync>(
     rt: &R,
-    alloc: Global,
     map: &Map<S>,
     keys: D,
     work: Work,
     threads: usize,
+    before: u64,
 ) -> Result<Measured, Refused>
 where
-    R: Threads + Wait + Clock + Sync,
+    R: Threads + Wait + Clock + Files + AllocGlobal + Sync,
     S::Hasher: Send + Sync,
 {
     for number in 0..work.filled() as u64 {
         map.insert(rt, keys.key(number), number)?;
     }
-    let mut workers = idle_workers(alloc, threads, work.pairs(), keys)?;
+    let mut workers = idle_workers(rt.alloc(), threads, work.pairs(), keys)?;
     // Each thread counts on its own stack: workers share cache lines.
     let one = |_: usize, worker: &mut Worker<D>| {
         let mut own = *worker;
@@ -95,25 +120,15 @@ where
     };
     let start = Instant::now(rt)?;
     thread::for_each_mut(rt, workers.as_mut_slice(), threads.max(1), &one);
-    let nanoseconds = start.elapsed(rt)?.as_nanos();
     let mut measured = Measured {
-        nanoseconds,
+        nanoseconds: start.elapsed(rt)?.as_nanos(),
         steps: 0,
         sum: 0,
-        bytes: 0,
+        bytes: resident(rt).saturating_sub(before),
     };
-    let mut worst: u128 = 0;
-    for worker in workers.iter() {
-        if let Some(refused) = worker.refused {
-            return Err(refused);
-        }
-        measured.steps = measured.steps.wrapping_add(worker.steps);
-        measured.sum = measured.sum.wrapping_add(worker.sum);
-        worst = worst.max(worker.worst);
-    }
+    measured.add(workers.as_slice())?;
     if work == Work::Worst {
-        measured.steps = 1;
-        measured.nanoseconds = worst;
+        measured = measured.of_worst(workers.as_slice());
     }
     Ok(measured)
 }
