@@ -10,8 +10,10 @@ top=$(CDPATH='' cd -- "$(dirname -- "$0")/.." && pwd)
 registry=/usr/share/cargo/registry
 rounds=${ROUNDS:-5}
 works=("$@")
-[ "$#" -gt 0 ] || works=(hit miss small-hit insert insert0 remove iterate get-mut small-update alter entry read exchange grow contend hold
-    extend extend0 par-extend par-extend0 par-map-collect memory)
+[ "$#" -gt 0 ] || works=(hit miss small-hit small-miss insert insert0 worst remove iterate alone-iterate view-iterate retain get-mut
+    small-update small-cycle alter entry read exchange grow contend hold extend extend0 par-extend par-extend0 par-map-collect memory
+    hit-mask miss-mask insert0-mask remove-mask read-mask exchange-mask grow-mask
+    string-hit string-insert0 string-remove random-hit random-insert0 random-remove)
 
 [ -d "$registry" ] || { echo "run.sh: install librust-dashmap-dev first" >&2; exit 2; }
 (cd "$top/bench/rust" && cargo build --release --offline --quiet \
@@ -23,10 +25,10 @@ ours=$top/crates/dash_bench/out/dash_bench
 
 # Best of the rounds for both programs: prints NS BYTES SUM of ours, then of theirs.
 best() {
-    local work=$1 threads=$2
+    local work=$1 threads=$2 shards=$3
     for _ in $(seq "$rounds"); do
-        echo "ours $("$ours" "$work" "$threads")"
-        echo "theirs $("$theirs" "$work" "$threads")"
+        echo "ours $("$ours" "$work" "$threads" "$shards")"
+        echo "theirs $("$theirs" "$work" "$threads" "$shards")"
     done | awk '{ ns = $3; if (!($1 in best) || ns < best[$1]) best[$1] = ns; bytes[$1] = $9; ops[$1] = $5
                   if (($1 in sum) && sum[$1] != $7) bad = 1; sum[$1] = $7 }
                 END { if (bad || sum["ours"] != sum["theirs"]) { print "DIFFER"; exit }
@@ -34,21 +36,29 @@ best() {
 }
 
 theirs_is=$(cd "$registry" && ls -d dashmap-* | head -1)
-echo "| work | threads | ours | $theirs_is | ratio |"
-echo '|---|---|---|---|---|'
+echo "| work | threads | shards | ours | $theirs_is | ratio |"
+echo '|---|---|---|---|---|---|'
 status=0
 for work in "${works[@]}"; do
-    threads_of="1 2 4"
-    case $work in memory | iterate | small-hit | extend | extend0) threads_of=1 ;; contend | hold | par-map-collect) threads_of=4 ;; esac
-    for threads in $threads_of; do
-        found=$(best "$work" "$threads")
+    # How many threads, over how many shards.
+    places="1/16 2/16 4/16"
+    case $work in
+    memory | iterate | *-iterate | retain | small-hit | small-miss | small-cycle | worst | extend | extend0) places=1/16 ;;
+    contend | hold | par-map-collect) places=4/16 ;;
+    string-* | random-*) places="1/16 4/16" ;;
+    read* | exchange* | grow*) places="$places 16/16 16/256 64/16 64/256" ;;
+    esac
+    for place in $places; do
+        threads=${place%/*} shards=${place#*/}
+        found=$(best "$work" "$threads" "$shards")
         if [ "$found" = DIFFER ]; then
-            echo "| $work | $threads | the checksums differ | | |"
+            echo "| $work | $threads | $shards | the checksums differ | | |"
             status=1
         elif [ "$work" = memory ]; then
-            echo "$found" | awk '{ printf "| memory | 1 | %.1f bytes | %.1f bytes | %.2f |\n", $2, $4, $4 / $2 }'
+            echo "$found" | awk '{ printf "| memory | 1 | 16 | %.1f bytes | %.1f bytes | %.2f |\n", $2, $4, $4 / $2 }'
         else
-            echo "$found" | awk -v w="$work" -v t="$threads" '{ printf "| %s | %s | %.1f ns | %.1f ns | %.2f |\n", w, t, $1, $3, $3 / $1 }'
+            echo "$found" | awk -v w="$work" -v t="$threads" -v s="$shards" \
+                '{ printf "| %s | %s | %s | %.1f ns | %.1f ns | %.2f |\n", w, t, s, $1, $3, $3 / $1 }'
         fi
     done
 done

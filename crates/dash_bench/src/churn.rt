@@ -2,7 +2,6 @@
 
 use crate::Refused;
 use crate::keys::key;
-use dashmap::error::InsertRefused;
 use dashmap::hash::FixedState;
 use dashmap::shard::Shard;
 use std::alloc::{AllocError, Global};
@@ -23,12 +22,6 @@ const MISSES: u64 = 1_000_000;
 const ABSENT: u64 = 1 << 40;
 
 type Pairs = Shard<u64, u64, FixedState>;
-
-impl From<InsertRefused<u64, u64>> for Refused {
-    fn from(_: InsertRefused<u64, u64>) -> Refused {
-        Refused::Memory
-    }
-}
 
 /// The time of all searches, and at how many groups they looked.
 #[derive(Clone, Copy, Debug)]

@@ -1,4 +1,4 @@
-//! Keys that look random, each number giving another one.
+//! How numbers are drawn, and the keys that they have.
 
 /// The key of a number. Its bits are mixed by steps that can be undone, so no two numbers have one key.
 #[inline]
@@ -7,6 +7,48 @@ pub fn key(number: u64) -> u64 {
     key = (key ^ (key >> 30)).wrapping_mul(0xbf58_476d_1ce4_e5b9);
     key = (key ^ (key >> 27)).wrapping_mul(0x94d0_49bb_1331_11eb);
     key ^ (key >> 31)
+}
+
+/// How a loop draws numbers and makes keys of them.
+pub trait Keys: Copy + Send + Sync {
+    /// The key of a number. No two numbers have one key.
+    fn key(&self, number: u64) -> u64;
+
+    /// A number below `count`, or 0 where that is 0.
+    fn below(&self, drawn: u64, count: u64) -> u64;
+}
+
+/// Keys of many steps, drawn by the rest of a division.
+#[derive(Clone, Copy)]
+pub struct Mixed;
+
+impl Keys for Mixed {
+    #[inline(always)]
+    fn key(&self, number: u64) -> u64 {
+        key(number)
+    }
+
+    #[inline(always)]
+    fn below(&self, drawn: u64, count: u64) -> u64 {
+        drawn % count.max(1)
+    }
+}
+
+/// Keys by one multiplication and a shift, drawn by a mask: each number below `count` where that is a power of two.
+#[derive(Clone, Copy)]
+pub struct Masked;
+
+impl Keys for Masked {
+    #[inline(always)]
+    fn key(&self, number: u64) -> u64 {
+        let key = number.wrapping_mul(0xd134_2543_de82_ef95);
+        key ^ (key >> 32)
+    }
+
+    #[inline(always)]
+    fn below(&self, drawn: u64, count: u64) -> u64 {
+        drawn & count.saturating_sub(1)
+    }
 }
 
 /// Numbers that look random, from a seed.

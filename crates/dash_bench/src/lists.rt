@@ -1,22 +1,19 @@
-//! Calls on a whole list or map, which start their threads themselves, and the time that they take.
+//! Calls on a whole list or map, which start their threads themselves, walks of a map's owner, and the time that they take.
 
 use crate::Refused;
 use crate::keys::key;
-use crate::run::{Measured, SHARDS};
+use crate::run::Measured;
 use crate::work::PAIRS;
-use crate::worker::Map;
-use dashmap::error::ExtendRefused;
+use dashmap::DashMap;
+use dashmap::hash::FixedState;
+use dashmap::read_only::ViewIter;
 use std::alloc::{AllocError, Global};
 use std::rt::Clock;
 use std::sync::Wait;
 use std::thread::Threads;
 use std::time::Instant;
 
-impl From<ExtendRefused<u64, u64>> for Refused {
-    fn from(_: ExtendRefused<u64, u64>) -> Refused {
-        Refused::Memory
-    }
-}
+type Map = DashMap<u64, u64, FixedState>;
 
 /// One call that is measured. `of_name` says how a command line names it.
 #[derive(Clone, Copy, Debug)]
@@ -31,6 +28,10 @@ pub enum Call {
     ParExtend0,
     /// Copies the values of a million pairs into a list, by as many threads as the machine has processors.
     ParMapCollect,
+    /// Walks over a million pairs of a map that has one owner.
+    AloneIterate,
+    /// The same of a view.
+    ViewIterate,
 }
 
 impl Call {
@@ -41,6 +42,8 @@ impl Call {
             "par-extend" => Call::ParExtend,
             "par-extend0" => Call::ParExtend0,
             "par-map-collect" => Call::ParMapCollect,
+            "alone-iterate" => Call::AloneIterate,
+            "view-iterate" => Call::ViewIterate,
             _ => return None,
         })
     }
@@ -54,7 +57,7 @@ impl Call {
     }
 }
 
-/// Makes a map and a list, and takes the time that a call on both needs with so many workers.
+/// Makes a map of so many shards and a list, and takes the time that a call on both needs with so many workers.
 ///
 /// It takes memory for both and for what the call takes, and waits for the call's threads.
 pub fn measure<R: Threads + Wait + Clock + Sync>(
@@ -62,13 +65,14 @@ pub fn measure<R: Threads + Wait + Clock + Sync>(
     alloc: Global,
     call: Call,
     workers: usize,
+    shards: usize,
 ) -> Result<Measured, Refused> {
-    let mut map = Map::with_capacity_and_shard_amount(alloc, call.room(), SHARDS)?;
+    let mut map = Map::with_capacity_and_shard_amount(alloc, call.room(), shards)?;
     let list = pairs(alloc)?;
     match call {
-        Call::ParMapCollect => {
+        Call::ParMapCollect | Call::AloneIterate | Call::ViewIterate => {
             map.extend(list)?;
-            collect(rt, &map)
+            read(rt, map, call)
         }
         _ => put(rt, map, list, call, workers),
     }
@@ -100,6 +104,35 @@ fn put<R: Threads + Wait + Clock + Sync>(
         nanoseconds,
         steps: PAIRS as u64,
         sum: map.len(rt) as u64,
+        bytes: 0,
+    })
+}
+
+// Reads all pairs of a map, in the way of a call.
+fn read<R: Threads + Wait + Clock + Sync>(
+    rt: &R,
+    map: Map,
+    call: Call,
+) -> Result<Measured, Refused> {
+    match call {
+        Call::AloneIterate => walk(rt, map.alone().iter()),
+        Call::ViewIterate => walk(rt, map.into_read_only().iter()),
+        _ => collect(rt, &map),
+    }
+}
+
+fn walk(rt: &impl Clock, pairs: ViewIter<'_, u64, u64, FixedState>) -> Result<Measured, Refused> {
+    let start = Instant::now(rt)?;
+    let mut steps: u64 = 0;
+    let mut sum: u64 = 0;
+    for (_, value) in pairs {
+        steps = steps.wrapping_add(1);
+        sum = sum.wrapping_add(*value);
+    }
+    Ok(Measured {
+        nanoseconds: start.elapsed(rt)?.as_nanos(),
+        steps,
+        sum,
         bytes: 0,
     })
 }

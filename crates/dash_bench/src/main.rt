@@ -1,4 +1,4 @@
-//! `dash_bench WORK THREADS` takes the time of one kind of work on a map of a million pairs.
+//! `dash_bench WORK THREADS [SHARDS]` takes the time of one kind of work, on a map of 16 shards where the command line doesn't say.
 //!
 //! It prints a line: nanoseconds, operations, and a checksum that any right map gives for the same work. `dash_bench churn` searches a full
 //! shard for absent keys, and again after a million of its pairs were exchanged.
@@ -9,25 +9,36 @@ mod keys;
 mod lists;
 mod memory;
 mod run;
+mod texts;
 mod work;
 mod worker;
 
-use dashmap::error::ConstructError;
+use dashmap::error::{ConstructError, EntryRefused, ExtendRefused, InsertRefused};
+use dashmap::hash::is_shard_amount;
 use lists::Call;
-use std::alloc::AllocError;
+use run::Measured;
+use std::alloc::{AllocError, Global};
 use std::io::Eprint;
 use std::process::ExitCode;
+use std::random::RandomSource;
+use std::rt::{Clock, Files};
+use std::sync::Wait;
+use std::thread::Threads;
 use std::{env, fmt, io};
+use texts::Text;
 use thiserror::Error;
 use work::Work;
 
-const USAGE: &str = "usage: dash_bench WORK THREADS | dash_bench churn";
+const USAGE: &str = "usage: dash_bench WORK THREADS [SHARDS] | dash_bench churn";
 
 /// The most threads that a command line may ask for.
 const MOST_THREADS: usize = 64;
 
+/// How many shards a map has, where the command line doesn't say.
+const SHARDS: usize = 16;
+
 /// Why there is no time to print.
-#[derive(Debug, Drop, Error)]
+#[derive(Clone, Copy, Debug, Error)]
 pub enum Refused {
     #[error("no memory")]
     Memory,
@@ -47,6 +58,24 @@ impl From<ConstructError> for Refused {
     }
 }
 
+impl<K: Drop, V: Drop> From<InsertRefused<K, V>> for Refused {
+    fn from(_: InsertRefused<K, V>) -> Refused {
+        Refused::Memory
+    }
+}
+
+impl From<EntryRefused<u64>> for Refused {
+    fn from(_: EntryRefused<u64>) -> Refused {
+        Refused::Memory
+    }
+}
+
+impl From<ExtendRefused<u64, u64>> for Refused {
+    fn from(_: ExtendRefused<u64, u64>) -> Refused {
+        Refused::Memory
+    }
+}
+
 impl From<io::Error> for Refused {
     fn from(_: io::Error) -> Refused {
         Refused::Clock
@@ -61,29 +90,55 @@ fn main(rt: HostRuntime) -> io::Result<ExitCode> {
     if words.len() == 1 && words[0].as_str() == "churn" {
         return tell(&rt, churn::measure(&rt, rt.alloc()));
     }
-    let Some((asked, threads)) = parse(words.as_slice()) else {
+    let Some(asked) = parse(words.as_slice()) else {
         eprintln!(rt; "{USAGE}")?;
         return Ok(ExitCode::from(2));
     };
-    match asked {
-        Asked::Work(work) => tell(&rt, run::measure(&rt, rt.alloc(), work, threads)),
-        Asked::Call(call) => tell(&rt, lists::measure(&rt, rt.alloc(), call, threads)),
-    }
+    tell(&rt, measure(&rt, rt.alloc(), asked))
 }
 
-// What a command line asks for: work of some threads on a map, or one call that starts them.
+// What a command line asks for: work of some threads on a map of so many shards.
 #[derive(Clone, Copy, Debug)]
-enum Asked {
+struct Asked {
+    kind: Kind,
+    threads: usize,
+    shards: usize,
+}
+
+// Work of threads on a map, the same on a map of texts, or one call that starts the threads.
+#[derive(Clone, Copy, Debug)]
+enum Kind {
     Work(Work),
+    Text(Text),
     Call(Call),
 }
 
-impl Asked {
-    fn of_name(name: &str) -> Option<Asked> {
-        match Call::of_name(name) {
-            Some(call) => Some(Asked::Call(call)),
-            None => Some(Asked::Work(Work::of_name(name)?)),
+impl Kind {
+    fn of_name(name: &str) -> Option<Kind> {
+        if let Some(call) = Call::of_name(name) {
+            return Some(Kind::Call(call));
         }
+        if let Some(text) = Text::of_name(name) {
+            return Some(Kind::Text(text));
+        }
+        Some(Kind::Work(Work::of_name(name)?))
+    }
+}
+
+fn measure<R: Threads + Wait + Clock + Files + AllocGlobal + RandomSource + Sync>(
+    rt: &R,
+    alloc: Global,
+    asked: Asked,
+) -> Result<Measured, Refused> {
+    let Asked {
+        kind,
+        threads,
+        shards,
+    } = asked;
+    match kind {
+        Kind::Work(work) => run::measure(rt, alloc, work, threads, shards),
+        Kind::Text(text) => texts::measure(rt, alloc, text, threads, shards),
+        Kind::Call(call) => lists::measure(rt, alloc, call, threads, shards),
     }
 }
 
@@ -104,15 +159,20 @@ fn tell<T: fmt::Display + Drop>(
     }
 }
 
-// What the words ask for, and for how many threads.
-fn parse(words: &[String]) -> Option<(Asked, usize)> {
-    if words.len() != 2 {
+// What the words ask for.
+fn parse(words: &[String]) -> Option<Asked> {
+    let (name, threads, shards) = match words {
+        [name, threads] => (name, threads, SHARDS),
+        [name, threads, shards] => (name, threads, shards.as_str().parse::<usize>().ok()?),
+        _ => return None,
+    };
+    let threads = threads.as_str().parse::<usize>().ok()?;
+    if threads == 0 || threads > MOST_THREADS || !is_shard_amount(shards) {
         return None;
     }
-    let asked = Asked::of_name(words[0].as_str())?;
-    let threads = words[1].as_str().parse::<usize>().ok()?;
-    if threads == 0 || threads > MOST_THREADS {
-        return None;
-    }
-    Some((asked, threads))
+    Some(Asked {
+        kind: Kind::of_name(name.as_str())?,
+        threads,
+        shards,
+    })
 }

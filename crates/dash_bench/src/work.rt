@@ -5,22 +5,37 @@
 pub enum Work {
     /// Looks up keys that are there, among a million.
     Hit,
+    HitMask,
+    RandomHit,
     /// Looks up keys that are absent, among a million.
     Miss,
+    MissMask,
     /// Looks up keys that are there, among a thousand.
     SmallHit,
+    /// Looks up keys that are absent, among a thousand.
+    SmallMiss,
     /// Inserts a million new keys into a map with room for them.
     Insert,
     /// Inserts a million new keys into a map without room.
     Insert0,
+    Insert0Mask,
+    RandomInsert0,
+    /// The longest single one of these inserts.
+    Worst,
     /// Removes a million keys.
     Remove,
+    RemoveMask,
+    RandomRemove,
     /// Walks over a million pairs.
     Iterate,
+    /// Walks over a million pairs and keeps them all.
+    Retain,
     /// Adds one to values through `get_mut`.
     GetMut,
     /// The same among a thousand, over and over.
     SmallUpdate,
+    /// Removes a key and inserts it again, among a thousand, over and over.
+    SmallCycle,
     /// Adds one to values by `alter`.
     Alter,
     /// Adds one through `entry` and `or_insert`, to a million values that are there and a million that aren't.
@@ -33,62 +48,111 @@ pub enum Work {
     Wait,
     /// A mix: mostly look-ups.
     Read,
+    ReadMask,
     /// A mix: mostly inserts and removals, as many of each.
     Exchange,
+    ExchangeMask,
     /// A mix: mostly inserts, into a map without room.
     Grow,
+    GrowMask,
     /// How many bytes a pair takes. No time is taken.
     Memory,
+}
+
+/// How the keys of a work are made, and hashed.
+#[derive(Clone, Copy, Debug, PartialEq, Eq)]
+pub enum Form {
+    /// As most works have them.
+    Mixed,
+    /// By one multiplication, and drawn by a mask.
+    Masked,
+    /// As most, by std's `RandomState`.
+    Random,
 }
 
 impl Work {
     pub fn of_name(name: &str) -> Option<Work> {
         Some(match name {
             "hit" => Work::Hit,
+            "hit-mask" => Work::HitMask,
+            "random-hit" => Work::RandomHit,
             "miss" => Work::Miss,
+            "miss-mask" => Work::MissMask,
             "small-hit" => Work::SmallHit,
+            "small-miss" => Work::SmallMiss,
             "insert" => Work::Insert,
             "insert0" => Work::Insert0,
+            "insert0-mask" => Work::Insert0Mask,
+            "random-insert0" => Work::RandomInsert0,
+            "worst" => Work::Worst,
             "remove" => Work::Remove,
+            "remove-mask" => Work::RemoveMask,
+            "random-remove" => Work::RandomRemove,
             "iterate" => Work::Iterate,
+            "retain" => Work::Retain,
             "get-mut" => Work::GetMut,
             "small-update" => Work::SmallUpdate,
+            "small-cycle" => Work::SmallCycle,
             "alter" => Work::Alter,
             "entry" => Work::Entry,
             "contend" => Work::Contend,
             "hold" => Work::Hold,
             "wait" => Work::Wait,
             "read" => Work::Read,
+            "read-mask" => Work::ReadMask,
             "exchange" => Work::Exchange,
+            "exchange-mask" => Work::ExchangeMask,
             "grow" => Work::Grow,
+            "grow-mask" => Work::GrowMask,
             "memory" => Work::Memory,
             _ => return None,
         })
     }
 
+    pub fn form(self) -> Form {
+        match self {
+            Work::HitMask | Work::MissMask | Work::Insert0Mask | Work::RemoveMask => Form::Masked,
+            Work::ReadMask | Work::ExchangeMask | Work::GrowMask => Form::Masked,
+            Work::RandomHit | Work::RandomInsert0 | Work::RandomRemove => Form::Random,
+            _ => Form::Mixed,
+        }
+    }
+
+    /// Of how many pairs the work takes its numbers.
+    pub fn pairs(self) -> usize {
+        match (self, self.form()) {
+            (_, Form::Masked) => MASKED,
+            (Work::SmallHit | Work::SmallMiss | Work::SmallUpdate | Work::SmallCycle, _) => SMALL,
+            (Work::Contend | Work::Hold | Work::Wait, _) => SMALL,
+            _ => PAIRS,
+        }
+    }
+
     /// How many pairs there is room for when the map is made.
     pub fn room(self) -> usize {
         match self {
-            Work::Insert0 | Work::Grow | Work::Memory => 0,
-            Work::SmallHit | Work::SmallUpdate | Work::Contend | Work::Hold | Work::Wait => SMALL,
+            Work::Insert0 | Work::Insert0Mask | Work::RandomInsert0 | Work::Worst => 0,
+            Work::Grow | Work::GrowMask | Work::Memory => 0,
             Work::Entry => 2 * PAIRS,
-            _ => PAIRS,
+            _ => self.pairs(),
         }
     }
 
     /// How many pairs are there before the time is taken.
     pub fn filled(self) -> usize {
         match self {
-            Work::Insert | Work::Insert0 | Work::Grow | Work::Memory => 0,
-            Work::SmallHit | Work::SmallUpdate | Work::Contend | Work::Hold | Work::Wait => SMALL,
-            Work::Exchange => PAIRS / 2,
-            _ => PAIRS,
+            Work::Insert => 0,
+            Work::Entry => PAIRS,
+            Work::Exchange | Work::ExchangeMask => self.pairs() / 2,
+            _ => self.room(),
         }
     }
 }
 
-/// How many pairs a map has, and how many one that fits a cache.
+/// How many pairs a map has, how many where they are drawn by a mask, and how many where it fits a cache.
 pub const PAIRS: usize = 1_000_000;
+
+pub const MASKED: usize = 1 << 20;
 
 pub const SMALL: usize = 1_000;
 
@@ -97,3 +161,6 @@ pub const STEPS: usize = 4_000_000;
 
 /// How many holds of about a microsecond there are in all.
 pub const HOLDS: usize = 200_000;
+
+/// The first number of the absent keys.
+pub const ABSENT: u64 = 1 << 40;

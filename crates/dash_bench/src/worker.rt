@@ -2,48 +2,31 @@
 //!
 //! Each thread has numbers of its own, so that what it finds doesn't depend on the others, and the checksum is the same at every run.
 
-use crate::keys::{Random, key};
-use crate::work::{HOLDS, PAIRS, SMALL, STEPS, Work};
+use crate::Refused;
+use crate::keys::{Keys, Random, key};
+use crate::work::{ABSENT, HOLDS, PAIRS, STEPS, Work};
 use dashmap::DashMap;
-use dashmap::error::{EntryRefused, InsertRefused};
-use std::alloc::AllocError;
+use std::hash::BuildHasher;
 use std::rt::Clock;
 use std::sync::Wait;
 use std::thread;
-use std::time::Duration;
+use std::time::{Duration, Instant};
 
-pub type Map = DashMap<u64, u64>;
+pub type Map<S> = DashMap<u64, u64, S>;
 
 /// A thread's share of the numbers, and what it came to.
 #[derive(Clone, Copy)]
-pub struct Worker {
+pub struct Worker<D> {
     pub index: usize,
     pub threads: usize,
+    /// Of how many pairs the numbers are, and their keys.
+    pub pairs: usize,
+    pub keys: D,
     pub steps: u64,
     pub sum: u64,
-    pub is_refused: bool,
-}
-
-// A step that found no memory.
-#[derive(Drop)]
-struct NoMemory;
-
-impl From<InsertRefused<u64, u64>> for NoMemory {
-    fn from(_: InsertRefused<u64, u64>) -> NoMemory {
-        NoMemory
-    }
-}
-
-impl From<EntryRefused<u64>> for NoMemory {
-    fn from(_: EntryRefused<u64>) -> NoMemory {
-        NoMemory
-    }
-}
-
-impl From<AllocError> for NoMemory {
-    fn from(_: AllocError) -> NoMemory {
-        NoMemory
-    }
+    /// The nanoseconds of the longest insert.
+    pub worst: u128,
+    pub refused: Option<Refused>,
 }
 
 // In percent, how many steps of a mix are look-ups, inserts and removals. The rest adds to values.
@@ -71,38 +54,55 @@ const GROW: Mix = Mix {
     remove: 5,
 };
 
-impl Worker {
-    pub fn new(index: usize, threads: usize) -> Self {
+/// The first of a thread's numbers among `count`, and the first that is not.
+pub fn share_of(count: usize, index: usize, threads: usize) -> (u64, u64) {
+    let first = count.saturating_mul(index) / threads.max(1);
+    let end = count.saturating_mul(index.saturating_add(1)) / threads.max(1);
+    (first as u64, end as u64)
+}
+
+impl<D: Keys> Worker<D> {
+    pub fn new(index: usize, threads: usize, pairs: usize, keys: D) -> Self {
         Worker {
             index,
             threads,
+            pairs,
+            keys,
             steps: 0,
             sum: 0,
-            is_refused: false,
+            worst: 0,
+            refused: None,
         }
     }
 
     /// Does this thread's share of the work.
-    pub fn work<R: Wait + Clock>(&mut self, rt: &R, map: &Map, work: Work) {
+    pub fn work<R: Wait + Clock, S: BuildHasher>(&mut self, rt: &R, map: &Map<S>, work: Work) {
         let done = match work {
-            Work::Hit => self.look_up(rt, map, 0, PAIRS),
-            Work::Miss => self.look_up(rt, map, 1 << 40, PAIRS),
-            Work::SmallHit => self.look_up(rt, map, 0, SMALL),
-            Work::Insert | Work::Insert0 | Work::Memory => self.insert(rt, map, PAIRS),
-            Work::Remove => self.remove(rt, map),
+            Work::Hit | Work::HitMask | Work::RandomHit | Work::SmallHit => {
+                self.look_up(rt, map, 0)
+            }
+            Work::Miss | Work::MissMask | Work::SmallMiss => self.look_up(rt, map, ABSENT),
+            Work::Insert | Work::Insert0 | Work::Insert0Mask | Work::RandomInsert0 => {
+                self.insert(rt, map)
+            }
+            Work::Memory => self.insert(rt, map),
+            Work::Worst => self.insert_timed(rt, map),
+            Work::Remove | Work::RemoveMask | Work::RandomRemove => self.remove(rt, map),
             Work::Iterate => self.walk(rt, map),
+            Work::Retain => self.retain(rt, map),
             Work::GetMut => self.add_by_reference(rt, map),
             Work::SmallUpdate => self.update(rt, map),
+            Work::SmallCycle => self.cycle(rt, map),
             Work::Alter => self.alter(rt, map),
             Work::Entry => self.add_by_entry(rt, map),
             Work::Contend => self.contend(rt, map),
             Work::Hold => self.hold(rt, map),
             Work::Wait => self.wait(rt, map),
-            Work::Read => self.mix(rt, map, &READ),
-            Work::Exchange => self.mix(rt, map, &EXCHANGE),
-            Work::Grow => self.mix(rt, map, &GROW),
+            Work::Read | Work::ReadMask => self.mix(rt, map, &READ),
+            Work::Exchange | Work::ExchangeMask => self.mix(rt, map, &EXCHANGE),
+            Work::Grow | Work::GrowMask => self.mix(rt, map, &GROW),
         };
-        self.is_refused = done.is_err();
+        self.refused = done.err();
     }
 
     // A step gave this number.
@@ -112,50 +112,71 @@ impl Worker {
         self.sum = self.sum.wrapping_add(found);
     }
 
-    // The first of this thread's numbers among `count`, and the first that is not.
     fn share(&self, count: usize) -> (u64, u64) {
-        let first = count.saturating_mul(self.index) / self.threads.max(1);
-        let end = count.saturating_mul(self.index.saturating_add(1)) / self.threads.max(1);
-        (first as u64, end as u64)
+        share_of(count, self.index, self.threads)
     }
 
-    fn look_up<R: Wait + Clock>(
+    fn look_up<R: Wait + Clock, S: BuildHasher>(
         &mut self,
         rt: &R,
-        map: &Map,
+        map: &Map<S>,
         from: u64,
-        pairs: usize,
-    ) -> Result<(), NoMemory> {
+    ) -> Result<(), Refused> {
         let (first, end) = self.share(STEPS);
         for step in first..end {
-            let number = step.wrapping_mul(7) % pairs.max(1) as u64;
-            match map.get(rt, &key(from.wrapping_add(number))) {
-                Some(found) => self.count(*found.value()),
-                None => self.count(1),
-            }
+            let number = self.keys.below(step.wrapping_mul(7), self.pairs as u64);
+            let key = self.keys.key(from.wrapping_add(number));
+            self.find(rt, map, key);
         }
         Ok(())
     }
 
-    /// Inserts this thread's share of so many pairs.
-    fn insert<R: Wait + Clock>(&mut self, rt: &R, map: &Map, pairs: usize) -> Result<(), NoMemory> {
-        let (first, end) = self.share(pairs);
+    fn insert<R: Wait + Clock, S: BuildHasher>(
+        &mut self,
+        rt: &R,
+        map: &Map<S>,
+    ) -> Result<(), Refused> {
+        let (first, end) = self.share(self.pairs);
         for number in first..end {
-            let old = map.insert(rt, key(number), number)?;
-            self.count(old.unwrap_or(1));
+            let key = self.keys.key(number);
+            self.put(rt, map, key, number)?;
         }
         Ok(())
     }
 
-    fn remove<R: Wait + Clock>(&mut self, rt: &R, map: &Map) -> Result<(), NoMemory> {
-        let (first, end) = self.share(PAIRS);
+    fn insert_timed<R: Wait + Clock, S: BuildHasher>(
+        &mut self,
+        rt: &R,
+        map: &Map<S>,
+    ) -> Result<(), Refused> {
+        let (first, end) = self.share(self.pairs);
         for number in first..end {
-            self.count(map.remove(rt, &key(number)).map_or(1, |(_, value)| value));
+            let key = self.keys.key(number);
+            let start = Instant::now(rt)?;
+            self.put(rt, map, key, number)?;
+            self.worst = self.worst.max(start.elapsed(rt)?.as_nanos());
         }
         Ok(())
     }
 
-    fn walk<R: Wait + Clock>(&mut self, rt: &R, map: &Map) -> Result<(), NoMemory> {
+    fn remove<R: Wait + Clock, S: BuildHasher>(
+        &mut self,
+        rt: &R,
+        map: &Map<S>,
+    ) -> Result<(), Refused> {
+        let (first, end) = self.share(self.pairs);
+        for number in first..end {
+            let key = self.keys.key(number);
+            self.take(rt, map, key);
+        }
+        Ok(())
+    }
+
+    fn walk<R: Wait + Clock, S: BuildHasher>(
+        &mut self,
+        rt: &R,
+        map: &Map<S>,
+    ) -> Result<(), Refused> {
         for found in map.iter(rt) {
             let found = found?;
             self.count(*found.value());
@@ -163,34 +184,64 @@ impl Worker {
         Ok(())
     }
 
-    fn add_by_reference<R: Wait + Clock>(&mut self, rt: &R, map: &Map) -> Result<(), NoMemory> {
-        let (first, end) = self.share(PAIRS);
+    fn retain<R: Wait + Clock, S: BuildHasher>(
+        &mut self,
+        rt: &R,
+        map: &Map<S>,
+    ) -> Result<(), Refused> {
+        map.retain(rt, |_, value| {
+            self.count(*value);
+            true
+        });
+        Ok(())
+    }
+
+    fn add_by_reference<R: Wait + Clock, S: BuildHasher>(
+        &mut self,
+        rt: &R,
+        map: &Map<S>,
+    ) -> Result<(), Refused> {
+        let (first, end) = self.share(self.pairs);
         for number in first..end {
-            match map.get_mut(rt, &key(number)) {
-                Some(mut found) => {
-                    let value = found.wrapping_add(1);
-                    *found = value;
-                    self.count(value);
-                }
-                None => self.count(1),
-            }
+            let key = self.keys.key(number);
+            self.add(rt, map, key);
         }
         Ok(())
     }
 
-    fn alter<R: Wait + Clock>(&mut self, rt: &R, map: &Map) -> Result<(), NoMemory> {
-        let (first, end) = self.share(PAIRS);
+    fn alter<R: Wait + Clock, S: BuildHasher>(
+        &mut self,
+        rt: &R,
+        map: &Map<S>,
+    ) -> Result<(), Refused> {
+        let (first, end) = self.share(self.pairs);
         for number in first..end {
-            map.alter(rt, &key(number), |_, value| value.wrapping_add(1));
-            self.count(1);
+            self.alter_one(rt, map, number);
         }
         Ok(())
     }
 
-    fn update<R: Wait + Clock>(&mut self, rt: &R, map: &Map) -> Result<(), NoMemory> {
+    fn contend<R: Wait + Clock, S: BuildHasher>(
+        &mut self,
+        rt: &R,
+        map: &Map<S>,
+    ) -> Result<(), Refused> {
+        let (first, end) = self.share(STEPS);
+        for _ in first..end {
+            self.alter_one(rt, map, 0);
+        }
+        Ok(())
+    }
+
+    fn update<R: Wait + Clock, S: BuildHasher>(
+        &mut self,
+        rt: &R,
+        map: &Map<S>,
+    ) -> Result<(), Refused> {
         let (first, end) = self.share(STEPS);
         for step in first..end {
-            if let Some(mut found) = map.get_mut(rt, &key(step % SMALL as u64)) {
+            let number = self.keys.below(step, self.pairs as u64);
+            if let Some(mut found) = map.get_mut(rt, &self.keys.key(number)) {
                 *found = found.wrapping_add(1);
                 self.count(1);
             }
@@ -198,10 +249,30 @@ impl Worker {
         Ok(())
     }
 
-    fn add_by_entry<R: Wait + Clock>(&mut self, rt: &R, map: &Map) -> Result<(), NoMemory> {
+    fn cycle<R: Wait + Clock, S: BuildHasher>(
+        &mut self,
+        rt: &R,
+        map: &Map<S>,
+    ) -> Result<(), Refused> {
+        let (first, end) = self.share(self.pairs);
+        let (from, to) = self.share(STEPS);
+        for step in from..to {
+            let number = self.keys.below(step, end.saturating_sub(first));
+            let key = self.keys.key(first.wrapping_add(number));
+            self.take(rt, map, key);
+            self.put(rt, map, key, step)?;
+        }
+        Ok(())
+    }
+
+    fn add_by_entry<R: Wait + Clock, S: BuildHasher>(
+        &mut self,
+        rt: &R,
+        map: &Map<S>,
+    ) -> Result<(), Refused> {
         let (first, end) = self.share(2 * PAIRS);
         for number in first..end {
-            let mut found = map.entry(rt, key(number))?.or_insert(0);
+            let mut found = map.entry(rt, self.keys.key(number))?.or_insert(0);
             let value = found.wrapping_add(1);
             *found = value;
             self.count(value);
@@ -209,19 +280,14 @@ impl Worker {
         Ok(())
     }
 
-    fn contend<R: Wait + Clock>(&mut self, rt: &R, map: &Map) -> Result<(), NoMemory> {
-        let (first, end) = self.share(STEPS);
-        for _ in first..end {
-            map.alter(rt, &key(0), |_, value| value.wrapping_add(1));
-            self.count(1);
-        }
-        Ok(())
-    }
-
-    fn hold<R: Wait + Clock>(&mut self, rt: &R, map: &Map) -> Result<(), NoMemory> {
+    fn hold<R: Wait + Clock, S: BuildHasher>(
+        &mut self,
+        rt: &R,
+        map: &Map<S>,
+    ) -> Result<(), Refused> {
         let (first, end) = self.share(HOLDS);
         for _ in first..end {
-            if let Some(mut found) = map.get_mut(rt, &key(0)) {
+            if let Some(mut found) = map.get_mut(rt, &self.keys.key(0)) {
                 let mut value = *found;
                 for _ in 0..200u64 {
                     value = key(value);
@@ -233,12 +299,16 @@ impl Worker {
         Ok(())
     }
 
-    fn wait<R: Wait + Clock>(&mut self, rt: &R, map: &Map) -> Result<(), NoMemory> {
+    fn wait<R: Wait + Clock, S: BuildHasher>(
+        &mut self,
+        rt: &R,
+        map: &Map<S>,
+    ) -> Result<(), Refused> {
         let holds = self.index == 0;
         if !holds {
             thread::sleep(rt, Duration::from_millis(10));
         }
-        if let Some(found) = map.get_mut(rt, &key(0)) {
+        if let Some(found) = map.get_mut(rt, &self.keys.key(0)) {
             if holds {
                 thread::sleep(rt, Duration::from_secs(1));
             }
@@ -247,46 +317,84 @@ impl Worker {
         Ok(())
     }
 
-    fn mix<R: Wait + Clock>(&mut self, rt: &R, map: &Map, mix: &Mix) -> Result<(), NoMemory> {
-        let (first, end) = self.share(PAIRS);
+    fn mix<R: Wait + Clock, S: BuildHasher>(
+        &mut self,
+        rt: &R,
+        map: &Map<S>,
+        mix: &Mix,
+    ) -> Result<(), Refused> {
+        let (first, end) = self.share(self.pairs);
         let (from, to) = self.share(STEPS);
         let mut random = Random::new(first.wrapping_add(1));
         for _ in from..to {
             let drawn = random.next();
-            let number = first.wrapping_add((drawn >> 20) % end.saturating_sub(first).max(1));
-            self.step(rt, map, mix, drawn & 0xfffff, key(number))?;
+            let number = self.keys.below(drawn >> 20, end.saturating_sub(first));
+            let key = self.keys.key(first.wrapping_add(number));
+            self.step(rt, map, mix, drawn & 0xfffff, key)?;
         }
         Ok(())
     }
 
     // One step of a mix, on this key.
     #[inline]
-    fn step<R: Wait + Clock>(
+    fn step<R: Wait + Clock, S: BuildHasher>(
         &mut self,
         rt: &R,
-        map: &Map,
+        map: &Map<S>,
         mix: &Mix,
         drawn: u64,
         key: u64,
-    ) -> Result<(), NoMemory> {
+    ) -> Result<(), Refused> {
         let kind = drawn % 100;
-        let found = if kind < mix.get {
-            map.get(rt, &key).map_or(1, |found| *found.value())
+        if kind < mix.get {
+            self.find(rt, map, key);
         } else if kind < mix.get.wrapping_add(mix.insert) {
-            map.insert(rt, key, drawn)?.unwrap_or(1)
+            self.put(rt, map, key, drawn)?;
         } else if kind < mix.get.wrapping_add(mix.insert).wrapping_add(mix.remove) {
-            map.remove(rt, &key).map_or(1, |(_, value)| value)
+            self.take(rt, map, key);
         } else {
-            match map.get_mut(rt, &key) {
-                Some(mut found) => {
-                    let value = found.wrapping_add(1);
-                    *found = value;
-                    value
-                }
-                None => 1,
-            }
-        };
-        self.count(found);
+            self.add(rt, map, key);
+        }
         Ok(())
+    }
+
+    #[inline(always)]
+    fn find<R: Wait + Clock, S: BuildHasher>(&mut self, rt: &R, map: &Map<S>, key: u64) {
+        self.count(map.get(rt, &key).map_or(1, |found| *found.value()));
+    }
+
+    #[inline(always)]
+    fn put<R: Wait + Clock, S: BuildHasher>(
+        &mut self,
+        rt: &R,
+        map: &Map<S>,
+        key: u64,
+        value: u64,
+    ) -> Result<(), Refused> {
+        self.count(map.insert(rt, key, value)?.unwrap_or(1));
+        Ok(())
+    }
+
+    #[inline(always)]
+    fn take<R: Wait + Clock, S: BuildHasher>(&mut self, rt: &R, map: &Map<S>, key: u64) {
+        self.count(map.remove(rt, &key).map_or(1, |(_, value)| value));
+    }
+
+    #[inline(always)]
+    fn add<R: Wait + Clock, S: BuildHasher>(&mut self, rt: &R, map: &Map<S>, key: u64) {
+        match map.get_mut(rt, &key) {
+            Some(mut found) => {
+                let value = found.wrapping_add(1);
+                *found = value;
+                self.count(value);
+            }
+            None => self.count(1),
+        }
+    }
+
+    #[inline(always)]
+    fn alter_one<R: Wait + Clock, S: BuildHasher>(&mut self, rt: &R, map: &Map<S>, number: u64) {
+        map.alter(rt, &self.keys.key(number), |_, value| value.wrapping_add(1));
+        self.count(1);
     }
 }
