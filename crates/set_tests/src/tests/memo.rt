@@ -17,7 +17,7 @@ struct Square<'a> {
     goes_on: &'a AtomicU64,
 }
 
-fn square<'a>(computed: &'a AtomicU64, goes_on: &'a AtomicU64) -> Square<'a> {
+fn rule_of<'a>(computed: &'a AtomicU64, goes_on: &'a AtomicU64) -> Square<'a> {
     Square { computed, goes_on }
 }
 
@@ -52,7 +52,7 @@ fn wait_for(number: &AtomicU64) {
 #[test]
 fn what_is_kept_is_not_computed_again(rt: HostRuntime) {
     let (computed, goes_on) = (AtomicU64::new(0), AtomicU64::new(1));
-    let rule = square(&computed, &goes_on);
+    let rule = rule_of(&computed, &goes_on);
     let cache = Memo::new(rt.alloc(), rule, 1).expect(&rt, "refused");
     for key in [3, 3, 5] {
         is(&rt, cache.ask(&rt, &key), Ok(key * key + 1));
@@ -78,7 +78,7 @@ fn what_is_kept_is_not_computed_again(rt: HostRuntime) {
 #[test]
 fn who_does_not_wait_computes(rt: HostRuntime) {
     let (computed, goes_on) = (AtomicU64::new(0), AtomicU64::new(0));
-    let rule = square(&computed, &goes_on);
+    let rule = rule_of(&computed, &goes_on);
     let cache = Memo::with_hasher_and_shard_amount(rt.alloc(), rule, PlaceState, 4).expect(
         &rt, "refused",
     );
