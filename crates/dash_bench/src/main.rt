@@ -42,7 +42,7 @@ const SHARDS: usize = 16;
 pub enum Refused {
     #[error("no memory")]
     Memory,
-    #[error("no clock")]
+    #[error("no clock, or no random bytes")]
     Clock,
 }
 
