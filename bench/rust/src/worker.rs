@@ -80,9 +80,10 @@ impl<D: Keys> Worker<D> {
 
     fn look_up<S: BuildHasher + Clone>(&mut self, map: &Map<S>, from: u64) {
         let (first, end) = self.share(STEPS);
+        let (keys, pairs) = (self.keys, self.pairs as u64);
         for step in first..end {
-            let number = self.keys.below(step.wrapping_mul(7), self.pairs as u64);
-            self.find(map, self.keys.key(from + number));
+            let number = keys.below(step.wrapping_mul(7), pairs);
+            self.find(map, keys.key(from + number));
         }
     }
 

@@ -16,7 +16,7 @@ use std::time::Instant;
 type Map = DashMap<u64, u64, FixedState>;
 
 /// One call that is measured. `of_name` says how a command line names it.
-#[derive(Clone, Copy, Debug)]
+#[derive(Clone, Copy)]
 pub enum Call {
     /// Puts a list of a million pairs into a map with room for them, one after the other.
     Extend,

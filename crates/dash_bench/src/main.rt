@@ -42,7 +42,7 @@ const SHARDS: usize = 16;
 pub enum Refused {
     #[error("no memory")]
     Memory,
-    #[error("no clock")]
+    #[error("no clock, or no random bytes")]
     Clock,
 }
 
@@ -98,7 +98,7 @@ fn main(rt: HostRuntime) -> io::Result<ExitCode> {
 }
 
 // What a command line asks for: work of some threads on a map of so many shards.
-#[derive(Clone, Copy, Debug)]
+#[derive(Clone, Copy)]
 struct Asked {
     kind: Kind,
     threads: usize,
@@ -106,7 +106,7 @@ struct Asked {
 }
 
 // Work of threads on a map, the same on a map of texts, or one call that starts the threads.
-#[derive(Clone, Copy, Debug)]
+#[derive(Clone, Copy)]
 enum Kind {
     Work(Work),
     Text(Text),

@@ -22,7 +22,7 @@ type Value = [u64; 8];
 type Map = DashMap<String, Value>;
 
 /// One kind of work. `of_name` says how a command line names it.
-#[derive(Clone, Copy, Debug, PartialEq, Eq)]
+#[derive(Clone, Copy, PartialEq, Eq)]
 pub enum Text {
     /// Looks up texts that are there.
     Hit,
@@ -64,7 +64,7 @@ fn sum_of(value: &Value) -> u64 {
 }
 
 /// How many steps there were, and the sum of what they gave.
-#[derive(Clone, Copy, Debug)]
+#[derive(Clone, Copy)]
 struct Tally {
     steps: u64,
     sum: u64,

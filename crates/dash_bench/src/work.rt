@@ -1,7 +1,7 @@
 //! The kinds of work that are measured.
 
 /// One kind of work. `of_name` says how a command line names it.
-#[derive(Clone, Copy, Debug, PartialEq, Eq)]
+#[derive(Clone, Copy, PartialEq, Eq)]
 pub enum Work {
     /// Looks up keys that are there, among a million.
     Hit,
@@ -60,7 +60,7 @@ pub enum Work {
 }
 
 /// How the keys of a work are made, and hashed.
-#[derive(Clone, Copy, Debug, PartialEq, Eq)]
+#[derive(Clone, Copy)]
 pub enum Form {
     /// As most works have them.
     Mixed,

@@ -123,10 +123,10 @@ impl<D: Keys> Worker<D> {
         from: u64,
     ) -> Result<(), Refused> {
         let (first, end) = self.share(STEPS);
+        let (keys, pairs) = (self.keys, self.pairs as u64);
         for step in first..end {
-            let number = self.keys.below(step.wrapping_mul(7), self.pairs as u64);
-            let key = self.keys.key(from.wrapping_add(number));
-            self.find(rt, map, key);
+            let number = keys.below(step.wrapping_mul(7), pairs);
+            self.find(rt, map, keys.key(from.wrapping_add(number)));
         }
         Ok(())
     }
