@@ -10,7 +10,7 @@ top=$(CDPATH='' cd -- "$(dirname -- "$0")/.." && pwd)
 registry=/usr/share/cargo/registry
 rounds=${ROUNDS:-5}
 works=("$@")
-[ "$#" -gt 0 ] || works=(hit miss small-hit small-miss insert insert0 worst remove iterate alone-iterate view-iterate retain get-mut
+[ "$#" -gt 0 ] || works=(hit miss small-hit small-miss hostile insert insert0 worst remove iterate alone-iterate view-iterate retain get-mut
     small-update small-cycle alter entry read exchange grow contend hold extend extend0 par-extend par-extend0 par-map-collect memory
     hit-mask miss-mask insert0-mask remove-mask read-mask exchange-mask grow-mask
     string-hit string-insert0 string-remove random-hit random-insert0 random-remove)
@@ -43,7 +43,7 @@ for work in "${works[@]}"; do
     # How many threads, over how many shards.
     places="1/16 2/16 4/16"
     case $work in
-    memory | iterate | *-iterate | retain | small-hit | small-miss | small-cycle | worst | extend | extend0) places=1/16 ;;
+    memory | iterate | *-iterate | retain | small-hit | small-miss | hostile | small-cycle | worst | extend | extend0) places=1/16 ;;
     contend | hold | par-map-collect) places=4/16 ;;
     string-* | random-*) places="1/16 4/16" ;;
     read* | exchange* | grow*) places="$places 16/16 16/256 64/16 64/256" ;;

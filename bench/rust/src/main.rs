@@ -7,6 +7,7 @@ mod run;
 mod texts;
 mod work;
 mod worker;
+mod zero;
 
 use lists::Call;
 use run::{Measured, SHARDS};

@@ -4,6 +4,7 @@ use crate::hash::FixedState;
 use crate::keys::{Keys, Masked, Mixed};
 use crate::work::{Form, Work};
 use crate::worker::{Map, Worker};
+use crate::zero::ZeroState;
 use std::collections::hash_map::RandomState;
 use std::fmt;
 use std::hash::BuildHasher;
@@ -38,6 +39,7 @@ pub fn measure(work: Work, threads: usize, shards: usize) -> Measured {
         Form::Mixed => measure_by(work, threads, shards, Mixed, FixedState),
         Form::Masked => measure_by(work, threads, shards, Masked, FixedState),
         Form::Random => measure_by(work, threads, shards, Mixed, RandomState::new()),
+        Form::Zero => measure_by(work, threads, shards, Mixed, ZeroState),
     }
 }
 

@@ -10,6 +10,7 @@ pub enum Work {
     MissMask,
     SmallHit,
     SmallMiss,
+    Hostile,
     Insert,
     Insert0,
     Insert0Mask,
@@ -41,6 +42,7 @@ pub enum Form {
     Mixed,
     Masked,
     Random,
+    Zero,
 }
 
 impl Work {
@@ -53,6 +55,7 @@ impl Work {
             "miss-mask" => Work::MissMask,
             "small-hit" => Work::SmallHit,
             "small-miss" => Work::SmallMiss,
+            "hostile" => Work::Hostile,
             "insert" => Work::Insert,
             "insert0" => Work::Insert0,
             "insert0-mask" => Work::Insert0Mask,
@@ -86,6 +89,7 @@ impl Work {
             Work::HitMask | Work::MissMask | Work::Insert0Mask | Work::RemoveMask => Form::Masked,
             Work::ReadMask | Work::ExchangeMask | Work::GrowMask => Form::Masked,
             Work::RandomHit | Work::RandomInsert0 | Work::RandomRemove => Form::Random,
+            Work::Hostile => Form::Zero,
             _ => Form::Mixed,
         }
     }
@@ -95,6 +99,7 @@ impl Work {
         match (self, self.form()) {
             (_, Form::Masked) => MASKED,
             (Work::SmallHit | Work::SmallMiss | Work::SmallUpdate | Work::SmallCycle, _) => SMALL,
+            (Work::Hostile, _) => 2 * SMALL,
             (Work::Contend | Work::Hold, _) => SMALL,
             _ => PAIRS,
         }

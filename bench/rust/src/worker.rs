@@ -47,8 +47,9 @@ impl<D: Keys> Worker<D> {
 
     fn work<S: BuildHasher + Clone>(&mut self, map: &Map<S>, work: Work) {
         match work {
-            Work::Hit | Work::HitMask | Work::RandomHit | Work::SmallHit => self.look_up(map, 0),
-            Work::Miss | Work::MissMask | Work::SmallMiss => self.look_up(map, ABSENT),
+            Work::Hit | Work::HitMask | Work::RandomHit | Work::SmallHit => self.look_up(map, STEPS, 0),
+            Work::Miss | Work::MissMask | Work::SmallMiss => self.look_up(map, STEPS, ABSENT),
+            Work::Hostile => self.look_up(map, HOLDS, 0),
             Work::Insert | Work::Insert0 | Work::Insert0Mask | Work::RandomInsert0 => self.insert(map),
             Work::Memory => self.insert(map),
             Work::Worst => self.insert_timed(map),
@@ -78,8 +79,8 @@ impl<D: Keys> Worker<D> {
         share_of(count, self.index, self.threads)
     }
 
-    fn look_up<S: BuildHasher + Clone>(&mut self, map: &Map<S>, from: u64) {
-        let (first, end) = self.share(STEPS);
+    fn look_up<S: BuildHasher + Clone>(&mut self, map: &Map<S>, steps: usize, from: u64) {
+        let (first, end) = self.share(steps);
         let (keys, pairs) = (self.keys, self.pairs as u64);
         for step in first..end {
             let number = keys.below(step.wrapping_mul(7), pairs);

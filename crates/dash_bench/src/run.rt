@@ -6,7 +6,7 @@ use crate::memory::resident;
 use crate::work::{Form, Work};
 use crate::worker::{Map, Worker};
 use dashmap::DashMap;
-use dashmap::hash::FixedState;
+use dashmap::hash::ZeroState;
 use std::alloc::{AllocError, Global};
 use std::fmt;
 use std::hash::{BuildHasher, RandomState};
@@ -89,6 +89,12 @@ pub fn measure<R: Threads + Wait + Clock + Files + AllocGlobal + RandomSource + 
             let hasher = RandomState::new(rt)?;
             let map = DashMap::with_capacity_and_hasher_and_shard_amount(
                 alloc, room, hasher, shards,
+            )?;
+            measure_by(rt, &map, Mixed, work, threads, before)
+        }
+        Form::Zero => {
+            let map = DashMap::with_capacity_and_hasher_and_shard_amount(
+                alloc, room, ZeroState, shards,
             )?;
             measure_by(rt, &map, Mixed, work, threads, before)
         }

@@ -14,6 +14,8 @@ pub enum Work {
     SmallHit,
     /// Looks up keys that are absent, among a thousand.
     SmallMiss,
+    /// Looks up keys that are there, among two thousand of one hash.
+    Hostile,
     /// Inserts a million new keys into a map with room for them.
     Insert,
     /// Inserts a million new keys into a map without room.
@@ -68,6 +70,8 @@ pub enum Form {
     Masked,
     /// As most, by std's `RandomState`.
     Random,
+    /// As most, and each hash is 0.
+    Zero,
 }
 
 impl Work {
@@ -80,6 +84,7 @@ impl Work {
             "miss-mask" => Work::MissMask,
             "small-hit" => Work::SmallHit,
             "small-miss" => Work::SmallMiss,
+            "hostile" => Work::Hostile,
             "insert" => Work::Insert,
             "insert0" => Work::Insert0,
             "insert0-mask" => Work::Insert0Mask,
@@ -114,6 +119,7 @@ impl Work {
             Work::HitMask | Work::MissMask | Work::Insert0Mask | Work::RemoveMask => Form::Masked,
             Work::ReadMask | Work::ExchangeMask | Work::GrowMask => Form::Masked,
             Work::RandomHit | Work::RandomInsert0 | Work::RandomRemove => Form::Random,
+            Work::Hostile => Form::Zero,
             _ => Form::Mixed,
         }
     }
@@ -124,6 +130,7 @@ impl Work {
             (_, Form::Masked) => MASKED,
             (Work::SmallHit | Work::SmallMiss | Work::SmallUpdate | Work::SmallCycle, _) => SMALL,
             (Work::Contend | Work::Hold | Work::Wait, _) => SMALL,
+            (Work::Hostile, _) => 2 * SMALL,
             _ => PAIRS,
         }
     }
@@ -159,7 +166,7 @@ pub const SMALL: usize = 1_000;
 /// How many steps the mixes and look-ups take in all.
 pub const STEPS: usize = 4_000_000;
 
-/// How many holds of about a microsecond there are in all.
+/// How many holds of about a microsecond there are in all, and look-ups among keys of one hash.
 pub const HOLDS: usize = 200_000;
 
 /// The first number of the absent keys.

@@ -79,9 +79,12 @@ impl<D: Keys> Worker<D> {
     pub fn work<R: Wait + Clock, S: BuildHasher>(&mut self, rt: &R, map: &Map<S>, work: Work) {
         let done = match work {
             Work::Hit | Work::HitMask | Work::RandomHit | Work::SmallHit => {
-                self.look_up(rt, map, 0)
+                self.look_up(rt, map, STEPS, 0)
             }
-            Work::Miss | Work::MissMask | Work::SmallMiss => self.look_up(rt, map, ABSENT),
+            Work::Miss | Work::MissMask | Work::SmallMiss => {
+                self.look_up(rt, map, STEPS, ABSENT)
+            }
+            Work::Hostile => self.look_up(rt, map, HOLDS, 0),
             Work::Insert | Work::Insert0 | Work::Insert0Mask | Work::RandomInsert0 => {
                 self.insert(rt, map)
             }
@@ -120,9 +123,10 @@ impl<D: Keys> Worker<D> {
         &mut self,
         rt: &R,
         map: &Map<S>,
+        steps: usize,
         from: u64,
     ) -> Result<(), Refused> {
-        let (first, end) = self.share(STEPS);
+        let (first, end) = self.share(steps);
         let (keys, pairs) = (self.keys, self.pairs as u64);
         for step in first..end {
             let number = keys.below(step.wrapping_mul(7), pairs);

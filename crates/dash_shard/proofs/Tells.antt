@@ -89,3 +89,10 @@ lanes-free tags row i slot m n le lanes bits none passed j from below = elim (ca
     | inr high ↦ high
   ]
 ]
+
+-- one free slot more
+pub one-free : (tags : List ℕ) (i slot : ℕ) → 128 ≤ slice_index tags slot → ((j : ℕ) → i ≤ j → j < slot → 128 ≤ slice_index tags j) → (j : ℕ) → i ≤ j → j < slot + 1 → 128 ≤ slice_index tags j
+one-free tags i slot high passed j from below = elim (cases_lt j slot) as (λ _. 128 ≤ slice_index tags j) [
+  | inl less ↦ passed j from less
+  | inr more ↦ let same = ap (slice_index tags) (let e : j ≡ slot = omega (arith, more, below) in e) in omega (arith, same, high)
+]

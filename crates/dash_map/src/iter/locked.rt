@@ -97,7 +97,7 @@ impl<'a, K: Eq + Hash, V, S: BuildHasher, R> Iter<'a, K, V, S, R> {
     }
 
     // The next pair of the shard that is held.
-    #[inline]
+    #[inline(always)]
     fn here(&mut self) -> Option<Result<RefMulti<'a, K, V, S>, AllocError>>
         ensures same { self.new.base ≡ self.old.base }
         ensures pair { IfSome result (λ r. IfOk r (λ item. GivesHere ⟦<Self as Keyed>⟧.by self.old item self.new)) }
@@ -170,7 +170,7 @@ impl<'a, K: Eq + Hash, V, S: BuildHasher, R: Wait + Clock> Iterator for Iter<'a,
         (0, None)
     }
 
-    #[inline]
+    #[inline(always)]
     fn next(&mut self) -> Option<Result<RefMulti<'a, K, V, S>, AllocError>> {
         loop {
             if let Some(item) = self.here() {

@@ -57,7 +57,8 @@ pub(super) fn group_of(tags: &[u8], group: usize) -> &[u8; 16]
     tags_at(tags, 16 * group)
 }
 
-// The lowest slot from `from` on that is taken, by its tag, or one past all. It looks at sixteen at once.
+// The lowest slot from `from` on that is taken, by its tag, or one past all. It looks at one, which is a good guess where pairs stand close
+// together, and then at sixteen at once.
 #[inline(always)]
 pub(super) fn next_pair(tags: &[u8], from: usize) -> usize
     ensures from { from ≤ result }
@@ -66,12 +67,11 @@ pub(super) fn next_pair(tags: &[u8], from: usize) -> usize
 {
     let mut slot = from;
     while slot < tags.len() {
-        if tags.len() - slot < 16 {
-            if tags[slot] < EMPTY {
-                return slot;
-            }
-            slot += 1;
-        } else {
+        if tags[slot] < EMPTY {
+            return slot;
+        }
+        slot += 1;
+        if tags.len() - slot >= 16 {
             let mask = taken_lanes(tags_at(tags, slot));
             if mask != 0 {
                 return slot + lowest(mask);
