@@ -1,10 +1,13 @@
 //! What a call answered, as its line says it.
 
 use crate::noted::Noted;
+use dashmap::mapref::one::{Ref, RefMut};
+use std::alloc::AllocError;
 use std::fmt;
+use std::hash::BuildHasher;
 
 /// What a call answered.
-#[derive(Clone, Copy, Debug)]
+#[derive(Clone, Copy)]
 pub enum Answer {
     None,
     Number(u64),
@@ -27,11 +30,17 @@ impl fmt::Display for Answer {
 
 impl Answer {
     pub fn number(found: Option<u64>) -> Answer {
-        found.map_or(Answer::None, Answer::Number)
+        match found {
+            Some(number) => Answer::Number(number),
+            None => Answer::None,
+        }
     }
 
     pub fn key(found: Option<Noted>) -> Answer {
-        found.map_or(Answer::None, Answer::Key)
+        match found {
+            Some(key) => Answer::Key(key),
+            None => Answer::None,
+        }
     }
 
     pub fn pair(found: Option<(Noted, u64)>) -> Answer {
@@ -44,10 +53,33 @@ impl Answer {
     pub fn yes(yes: bool) -> Answer {
         Answer::Number(yes as u64)
     }
+
+    /// The pair of a reference.
+    pub fn told<S: BuildHasher>(found: Ref<'_, Noted, u64, S>) -> Answer {
+        Answer::Pair(*found.key(), *found.value())
+    }
+
+    /// The pair of a reference that writes.
+    pub fn told_mut<S: BuildHasher>(found: RefMut<'_, Noted, u64, S>) -> Answer {
+        Answer::Pair(*found.key(), *found.value())
+    }
+
+    /// The value alone of a reference that writes.
+    pub fn told_value<S: BuildHasher>(found: RefMut<'_, Noted, u64, S>) -> Answer {
+        Answer::Number(*found.value())
+    }
+}
+
+/// What a call gave that is refused for want of memory alone.
+pub fn needed<T, E: Drop>(made: Result<T, E>) -> Result<T, AllocError> {
+    match made {
+        Ok(it) => Ok(it),
+        Err(_) => Err(AllocError),
+    }
 }
 
 /// What a walk gave, whatever the order in a shard: how many pairs, and a digest of them and of the order of their shards.
-#[derive(Clone, Copy, Debug)]
+#[derive(Clone, Copy)]
 pub struct Walk {
     count: u64,
     shard: u64,

@@ -7,7 +7,7 @@ use crate::noted::Noted;
 pub const NAMES: u64 = 2000;
 
 /// One call.
-#[derive(Clone, Copy, Debug)]
+#[derive(Clone, Copy)]
 pub struct Draw {
     pub number: u64,
     pub group: u64,

@@ -1,6 +1,6 @@
 //! Calls of one key.
 
-use crate::answer::Answer;
+use crate::answer::{Answer, needed};
 use crate::draw::Draw;
 use crate::run::Map;
 use dashmap::try_result::TryResult;
@@ -14,29 +14,38 @@ pub fn take<R: Wait + Clock, S: BuildHasher>(
     map: &Map<S>,
     draw: Draw,
 ) -> Result<(&'static str, Answer), AllocError> {
-    let key = draw.key();
     Ok(match draw.kind {
-        0..=3 => {
-            let old = map.insert(rt, key, draw.value).map_err(|_| AllocError)?;
-            ("insert", Answer::number(old))
-        }
-        4 => {
-            let found = map.get(rt, &key);
-            (
-                "get",
-                Answer::pair(found.map(|found| (*found.key(), *found.value()))),
-            )
-        }
-        5 => match map.get_mut(rt, &key) {
-            Some(mut found) => {
-                *found = found.wrapping_add(1);
-                ("get_mut", Answer::Pair(*found.key(), *found.value()))
-            }
-            None => ("get_mut", Answer::None),
-        },
-        6 => ("remove", Answer::pair(map.remove(rt, &key))),
+        0..=3 => ("insert", insert(rt, map, draw)?),
+        4 => ("get", get(rt, map, draw)),
+        5 => ("get_mut", raise(rt, map, draw)),
+        6 => ("remove", Answer::pair(map.remove(rt, &draw.key()))),
         _ => take_by_closure(rt, map, draw),
     })
+}
+
+fn insert<R: Wait + Clock, S: BuildHasher>(
+    rt: &R,
+    map: &Map<S>,
+    draw: Draw,
+) -> Result<Answer, AllocError> {
+    let old = needed(map.insert(rt, draw.key(), draw.value))?;
+    Ok(Answer::number(old))
+}
+
+fn get<R: Wait + Clock, S: BuildHasher>(rt: &R, map: &Map<S>, draw: Draw) -> Answer {
+    match map.get(rt, &draw.key()) {
+        Some(found) => Answer::told(found),
+        None => Answer::None,
+    }
+}
+
+// Adds one to a value by a reference.
+fn raise<R: Wait + Clock, S: BuildHasher>(rt: &R, map: &Map<S>, draw: Draw) -> Answer {
+    let Some(mut found) = map.get_mut(rt, &draw.key()) else {
+        return Answer::None;
+    };
+    *found = found.wrapping_add(1);
+    Answer::told_mut(found)
 }
 
 fn take_by_closure<R: Wait + Clock, S: BuildHasher>(
@@ -63,9 +72,14 @@ fn take_by_closure<R: Wait + Clock, S: BuildHasher>(
             ("alter, view", Answer::pair(seen))
         }
         10 => ("contains_key", Answer::yes(map.contains_key(rt, &key))),
-        _ => match map.try_get(&key) {
-            TryResult::Present(found) => ("try_get", Answer::Pair(*found.key(), *found.value())),
-            _ => ("try_get", Answer::Number(map.determine_map(&key) as u64)),
-        },
+        _ => ("try_get", try_get(map, draw)),
+    }
+}
+
+// The pair of a key, or the number of its shard.
+fn try_get<S: BuildHasher>(map: &Map<S>, draw: Draw) -> Answer {
+    match map.try_get(&draw.key()) {
+        TryResult::Present(found) => Answer::told(found),
+        _ => Answer::Number(map.determine_map(&draw.key()) as u64),
     }
 }

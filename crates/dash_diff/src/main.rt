@@ -25,7 +25,7 @@ use std::{env, io};
 const USAGE: &str = "usage: dash_diff fixed|place|zero CALLS";
 
 fn main(rt: HostRuntime) -> io::Result<ExitCode> {
-    let words = words(&rt)?;
+    let words: Vec<String> = env::args(&rt)?.collect(rt.alloc())?;
     let Some((hasher, calls)) = asked(words.as_slice()) else {
         eprintln!(rt; "{USAGE}")?;
         return Ok(ExitCode::from(2));
@@ -80,23 +80,14 @@ fn take_by<R: Wait + Clock, W: Write>(
     }
 }
 
-// The words after the program's name.
-fn words(rt: &HostRuntime) -> io::Result<Vec<String>> {
-    let mut words = Vec::new(rt.alloc());
-    for word in env::args(rt)?.skip(1) {
-        words.push(word)?;
-    }
-    Ok(words)
-}
-
-// The hasher and the number of calls that the words ask for.
+// The hasher and the number of calls that the words ask for. The first one is the program's name.
 fn asked(words: &[String]) -> Option<(&str, u64)> {
-    if words.len() != 2 {
+    if words.len() != 3 {
         return None;
     }
-    let hasher = words[0].as_str();
+    let hasher = words[1].as_str();
     if !matches!(hasher, "fixed" | "place" | "zero") {
         return None;
     }
-    Some((hasher, words[1].as_str().parse::<u64>().ok()?))
+    Some((hasher, words[2].as_str().parse::<u64>().ok()?))
 }

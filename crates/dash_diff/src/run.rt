@@ -36,7 +36,16 @@ pub fn run<R: Wait + Clock, S: BuildHasher + Drop, W: Write>(
     let (Ok(map), Ok(set)) = (map, set) else {
         return Err(io::ErrorKind::OutOfMemory.into());
     };
-    let maps = &mut Maps { map, set };
+    take_all(rt, alloc, out, &mut Maps { map, set }, calls)
+}
+
+fn take_all<R: Wait + Clock, S: BuildHasher + Drop, W: Write>(
+    rt: &R,
+    alloc: Global,
+    out: &mut W,
+    maps: &mut Maps<S>,
+    calls: u64,
+) -> io::Result<()> {
     for number in 0..calls {
         let draw = Draw::of(number);
         let (call, answer) = take(rt, alloc, maps, draw)?;

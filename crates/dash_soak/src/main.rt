@@ -63,14 +63,9 @@ fn soak<R: Threads + Wait + Clock + Sync + Print + Eprint>(
     println!(rt; "seed {}, threads {}", asked.seed, asked.threads)?;
     let mut soak = Soak::new(alloc, asked.threads, asked.seed)?;
     if let Err(wrong) = run(rt, alloc, &mut soak, asked)? {
-        tell_wrong(rt, wrong)?;
-        return Ok(ExitCode::from(1));
+        return tell_wrong(rt, wrong);
     }
-    if asked.in_minutes {
-        tell(rt, &soak)?;
-    }
-    println!(rt; "no wrong answer")?;
-    Ok(ExitCode::from(0))
+    tell(rt, &soak, asked.in_minutes)
 }
 
 // Takes the rounds.
@@ -81,24 +76,39 @@ fn run<R: Threads + Wait + Clock + Sync>(
     asked: Asked,
 ) -> io::Result<Judged> {
     let start = Instant::now(rt)?;
+    let records = if asked.in_minutes {
+        RECORDS
+    } else {
+        SHORT_RECORDS
+    };
     for _ in rt.forever() {
-        let (done, records) = if asked.in_minutes {
-            (start.elapsed(rt)?.as_secs() / 60, RECORDS)
+        let done = if asked.in_minutes {
+            start.elapsed(rt)?.as_secs() / 60
         } else {
-            (soak.rounds, SHORT_RECORDS)
+            soak.rounds
         };
         if done >= asked.number {
             break;
         }
-        if let Err(wrong) = soak.round(rt, alloc, records) {
-            return Ok(Err(wrong));
+        let judged = soak.round(rt, alloc, records);
+        if judged.is_err() {
+            return Ok(judged);
         }
     }
     Ok(Ok(()))
 }
 
+// Prints that all went well, and what was done if that took minutes.
+fn tell(rt: &(impl Print + Eprint), soak: &Soak, in_minutes: bool) -> io::Result<ExitCode> {
+    if in_minutes {
+        tell_counts(rt, soak)?;
+    }
+    println!(rt; "no wrong answer")?;
+    Ok(ExitCode::from(0))
+}
+
 // Prints how many calls of each kind were taken.
-fn tell(rt: &(impl Print + Eprint), soak: &Soak) -> io::Result<()> {
+fn tell_counts(rt: &(impl Print + Eprint), soak: &Soak) -> io::Result<()> {
     for (name, count) in NAMES.iter().zip(&soak.tally.counts) {
         println!(rt; "{name}: {count}")?;
     }
@@ -109,7 +119,7 @@ fn tell(rt: &(impl Print + Eprint), soak: &Soak) -> io::Result<()> {
 }
 
 // Prints a wrong answer.
-fn tell_wrong(rt: &(impl Print + Eprint), wrong: Wrong) -> io::Result<()> {
+fn tell_wrong(rt: &(impl Print + Eprint), wrong: Wrong) -> io::Result<ExitCode> {
     let Wrong {
         call,
         key,
@@ -117,32 +127,34 @@ fn tell_wrong(rt: &(impl Print + Eprint), wrong: Wrong) -> io::Result<()> {
         came,
     } = wrong;
     let name = NAMES.get(call as usize).unwrap_or(&"call");
-    println!(rt; "wrong answer: {name} of {key}: wanted {wanted:?}, came {came:?}")
+    println!(rt; "wrong answer: {name} of {key}: wanted {wanted:?}, came {came:?}")?;
+    Ok(ExitCode::from(1))
 }
 
 // What the words of a command line ask for. The first one is the program's name.
 fn parse(words: &[String]) -> Option<Asked> {
-    if words.len() != 4 && words.len() != 5 {
-        return None;
-    }
+    let seed = match words.len() {
+        4 => 1,
+        5 => number_of(&words[4])?,
+        _ => return None,
+    };
     let in_minutes = match words[1].as_str() {
         "minutes" => true,
         "rounds" => false,
         _ => return None,
     };
-    let number = words[2].as_str().parse::<u64>().ok()?;
-    let threads = words[3].as_str().parse::<u64>().ok()?;
+    let (number, threads) = (number_of(&words[2])?, number_of(&words[3])?);
     if threads == 0 || threads > MOST_THREADS {
         return None;
     }
-    let seed = match words.get(4) {
-        Some(word) => word.as_str().parse::<u64>().ok()?,
-        None => 1,
-    };
     Some(Asked {
         in_minutes,
         number,
         threads,
         seed,
     })
+}
+
+fn number_of(word: &String) -> Option<u64> {
+    word.as_str().parse::<u64>().ok()
 }

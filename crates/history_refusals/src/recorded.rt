@@ -75,14 +75,10 @@ impl<S: BuildHasher + Clone + Copy + Drop> Recorded<S> {
 impl<S: BuildHasher + Drop> Recorded<S> {
     // Fills the lists of the map and of its logs, and copies the records.
     fn fill<R: Wait + Clock>(&mut self, rt: &R) -> Result<(), AllocError> {
-        for number in 0..RECORDS {
+        for number in 0..RECORDS + 2 {
             let step = filling(self.alloc, number)?;
-            let log = self.logs.first_mut();
+            let log = self.logs.get_mut((number >= RECORDS) as usize);
             drop(needed(apply(rt, &self.map, log, step, "apply"))?);
-        }
-        for _ in 0..2 {
-            let log = self.logs.last_mut();
-            drop(needed(apply(rt, &self.map, log, ShardStep::Count(1), "apply"))?);
         }
         self.has(FULL)?;
         Ok(())
@@ -96,8 +92,11 @@ impl<S: BuildHasher + Drop> Recorded<S> {
     }
 }
 
-// A step that puts a pair, or once there are `FULL` one that is only recorded.
+// A step that puts a pair, or once there are `FULL` one that is only recorded. Those of caller 1 come last.
 fn filling(alloc: Global, number: u64) -> Result<Step, AllocError> {
+    if number >= RECORDS {
+        return Ok(ShardStep::Count(1));
+    }
     if number >= FULL {
         return Ok(ShardStep::Contains(bare(alloc, 0)));
     }
