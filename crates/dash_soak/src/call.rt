@@ -195,15 +195,12 @@ impl Tally {
 
     /// The calls of another tally too.
     pub fn add(&mut self, other: &Tally) {
-        add_each(&mut self.counts, &other.counts);
-        add_each(&mut self.added, &other.added);
+        for (count, more) in self.counts.iter_mut().zip(&other.counts) {
+            *count = count.wrapping_add(*more);
+        }
+        for (added, more) in self.added.iter_mut().zip(&other.added) {
+            *added = added.wrapping_add(*more);
+        }
         self.most = self.most.max(other.most);
-    }
-}
-
-// Adds each number of a list to the one at its place.
-fn add_each(numbers: &mut [u64], more: &[u64]) {
-    for (number, more) in numbers.iter_mut().zip(more) {
-        *number = number.wrapping_add(*more);
     }
 }

@@ -63,9 +63,14 @@ fn soak<R: Threads + Wait + Clock + Sync + Print + Eprint>(
     println!(rt; "seed {}, threads {}", asked.seed, asked.threads)?;
     let mut soak = Soak::new(alloc, asked.threads, asked.seed)?;
     if let Err(wrong) = run(rt, alloc, &mut soak, asked)? {
-        return tell_wrong(rt, wrong);
+        tell_wrong(rt, wrong)?;
+        return Ok(ExitCode::from(1));
     }
-    tell(rt, &soak, asked.in_minutes)
+    if asked.in_minutes {
+        tell(rt, &soak)?;
+    }
+    println!(rt; "no wrong answer")?;
+    Ok(ExitCode::from(0))
 }
 
 // Takes the rounds.
@@ -76,39 +81,24 @@ fn run<R: Threads + Wait + Clock + Sync>(
     asked: Asked,
 ) -> io::Result<Judged> {
     let start = Instant::now(rt)?;
-    let records = if asked.in_minutes {
-        RECORDS
-    } else {
-        SHORT_RECORDS
-    };
     for _ in rt.forever() {
-        let done = if asked.in_minutes {
-            start.elapsed(rt)?.as_secs() / 60
+        let (done, records) = if asked.in_minutes {
+            (start.elapsed(rt)?.as_secs() / 60, RECORDS)
         } else {
-            soak.rounds
+            (soak.rounds, SHORT_RECORDS)
         };
         if done >= asked.number {
             break;
         }
-        let judged = soak.round(rt, alloc, records);
-        if judged.is_err() {
-            return Ok(judged);
+        if let Err(wrong) = soak.round(rt, alloc, records) {
+            return Ok(Err(wrong));
         }
     }
     Ok(Ok(()))
 }
 
-// Prints that all went well, and what was done if that took minutes.
-fn tell(rt: &(impl Print + Eprint), soak: &Soak, in_minutes: bool) -> io::Result<ExitCode> {
-    if in_minutes {
-        tell_counts(rt, soak)?;
-    }
-    println!(rt; "no wrong answer")?;
-    Ok(ExitCode::from(0))
-}
-
 // Prints how many calls of each kind were taken.
-fn tell_counts(rt: &(impl Print + Eprint), soak: &Soak) -> io::Result<()> {
+fn tell(rt: &(impl Print + Eprint), soak: &Soak) -> io::Result<()> {
     for (name, count) in NAMES.iter().zip(&soak.tally.counts) {
         println!(rt; "{name}: {count}")?;
     }
@@ -119,7 +109,7 @@ fn tell_counts(rt: &(impl Print + Eprint), soak: &Soak) -> io::Result<()> {
 }
 
 // Prints a wrong answer.
-fn tell_wrong(rt: &(impl Print + Eprint), wrong: Wrong) -> io::Result<ExitCode> {
+fn tell_wrong(rt: &(impl Print + Eprint), wrong: Wrong) -> io::Result<()> {
     let Wrong {
         call,
         key,
@@ -127,34 +117,32 @@ fn tell_wrong(rt: &(impl Print + Eprint), wrong: Wrong) -> io::Result<ExitCode> 
         came,
     } = wrong;
     let name = NAMES.get(call as usize).unwrap_or(&"call");
-    println!(rt; "wrong answer: {name} of {key}: wanted {wanted:?}, came {came:?}")?;
-    Ok(ExitCode::from(1))
+    println!(rt; "wrong answer: {name} of {key}: wanted {wanted:?}, came {came:?}")
 }
 
 // What the words of a command line ask for. The first one is the program's name.
 fn parse(words: &[String]) -> Option<Asked> {
-    let seed = match words.len() {
-        4 => 1,
-        5 => number_of(&words[4])?,
-        _ => return None,
-    };
+    if words.len() != 4 && words.len() != 5 {
+        return None;
+    }
     let in_minutes = match words[1].as_str() {
         "minutes" => true,
         "rounds" => false,
         _ => return None,
     };
-    let (number, threads) = (number_of(&words[2])?, number_of(&words[3])?);
+    let number = words[2].as_str().parse::<u64>().ok()?;
+    let threads = words[3].as_str().parse::<u64>().ok()?;
     if threads == 0 || threads > MOST_THREADS {
         return None;
     }
+    let seed = match words.get(4) {
+        Some(word) => word.as_str().parse::<u64>().ok()?,
+        None => 1,
+    };
     Some(Asked {
         in_minutes,
         number,
         threads,
         seed,
     })
-}
-
-fn number_of(word: &String) -> Option<u64> {
-    word.as_str().parse::<u64>().ok()
 }

@@ -25,41 +25,28 @@ type Alone = RecAlone<u64, u64, PlaceState, Change>;
 /// recorded reply, the parts of a whole step are to stand side by side, and the list is to have the map's pairs at the end.
 pub fn replay(alloc: Global, alone: &Alone, logs: &[Log], tally: &mut Tally) -> Judged {
     tally.count(Call::Gather);
-    match alone.gather(logs) {
-        Ok(ats) => {
-            let (wanted, came) = (count_of(logs), Answer::Number(ats.len() as u64));
-            judge(Call::Gather, 0, wanted, came)?;
-            replay_all(alloc, alone, &ats, tally)
-        }
-        Err(GatherError::Memory) => Err(no_memory(Call::Gather)),
+    let ats = match alone.gather(logs) {
+        Ok(ats) => ats,
+        Err(GatherError::Memory) => return Err(no_memory(Call::Gather)),
         Err(GatherError::Mismatch) => {
-            judge(Call::Gather, 0, Answer::Truth(true), Answer::Truth(false))
+            return judge(Call::Gather, 0, Answer::Truth(true), Answer::Truth(false));
         }
-    }
-}
-
-// How many records the logs have.
-fn count_of(logs: &[Log]) -> Answer {
+    };
+    let Ok(mut list) = List::new(alloc, KEYS as usize) else {
+        return Err(no_memory(Call::Gather));
+    };
     let mut logged = 0u64;
     for log in logs {
         logged = logged.wrapping_add(log.entries().len() as u64);
     }
-    Answer::Number(logged)
-}
-
-// Replays a history in this order, and judges what is left.
-fn replay_all(alloc: Global, alone: &Alone, ats: &[At], tally: &mut Tally) -> Judged {
-    let Ok(mut list) = List::new(alloc, KEYS as usize) else {
+    let (wanted, came) = (Answer::Number(logged), Answer::Number(ats.len() as u64));
+    judge(Call::Gather, 0, wanted, came)?;
+    replay_steps(&mut list, alone, &ats, tally)?;
+    let Ok(pairs) = alone.pairs() else {
         return Err(no_memory(Call::Gather));
     };
-    replay_steps(&mut list, alone, ats, tally)?;
-    match alone.pairs() {
-        Ok(pairs) => {
-            let wanted = Answer::Number(list.sums(0, 1).1);
-            judge(Call::Gather, 0, wanted, Answer::Number(weigh(&pairs)))
-        }
-        Err(_) => Err(no_memory(Call::Gather)),
-    }
+    let wanted = Answer::Number(list.sums(0, 1).1);
+    judge(Call::Gather, 0, wanted, Answer::Number(weigh(&pairs)))
 }
 
 // Takes the steps at these places on a list, and judges the reply of each.

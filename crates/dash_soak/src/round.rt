@@ -25,9 +25,19 @@ pub struct Soak {
 impl Soak {
     /// A map and a set of sixteen shards, and idle threads.
     pub fn new(alloc: Global, threads: u64, seed: u64) -> Result<Soak, AllocError> {
+        let mut workers = Vec::new(alloc);
+        for index in 1..=threads {
+            workers.push(Worker::new(alloc, index, seed)?)?;
+        }
+        let Ok(map) = Map::with_shard_amount(alloc, 16) else {
+            return Err(AllocError);
+        };
+        let Ok(set) = Set::new(alloc, 4) else {
+            return Err(AllocError);
+        };
         Ok(Soak {
-            workers: idle_workers(alloc, threads, seed)?,
-            shared: empty(alloc)?,
+            shared: Shared { map, set },
+            workers,
             rounds: 0,
             tally: Tally::new(),
         })
@@ -42,24 +52,17 @@ impl Soak {
         alloc: Global,
         records: usize,
     ) -> Judged {
-        self.put_counters(rt)?;
-        let recording = self.work(rt, alloc, records)?;
-        self.judge_history(alloc, recording)?;
-        self.judge_workers(rt)?;
-        self.judge_counters(rt)?;
-        self.judge_lens(rt)?;
-        self.end_round(rt)
-    }
-
-    // Puts what was added to the counters.
-    fn put_counters<R: Wait + Clock>(&mut self, rt: &R) -> Judged {
         for counter in 0..COUNTERS {
             let (key, stood) = (counter_key(counter), self.tally.added(counter));
             if self.shared.map.insert(rt, key, stood).is_err() {
                 return Err(no_memory(Call::Insert));
             }
         }
-        Ok(())
+        let recording = self.work(rt, alloc, records)?;
+        self.judge_history(alloc, recording)?;
+        self.judge_workers(rt)?;
+        self.judge_sums(rt)?;
+        self.end_round(rt)
     }
 
     // Lets the threads work on the map, the set and a new recorded map.
@@ -97,8 +100,8 @@ impl Soak {
         Ok(())
     }
 
-    // Judges the counters.
-    fn judge_counters<R: Wait + Clock>(&mut self, rt: &R) -> Judged {
+    // Judges the counters, and how many pairs and keys there are.
+    fn judge_sums<R: Wait + Clock>(&mut self, rt: &R) -> Judged {
         for counter in 0..COUNTERS {
             let key = counter_key(counter);
             let wanted = Answer::Pair(key, self.tally.added(counter));
@@ -106,11 +109,6 @@ impl Soak {
             self.tally.count(Call::CountGet);
             judge(Call::CountGet, key, wanted, came)?;
         }
-        Ok(())
-    }
-
-    // Judges how many pairs and keys there are.
-    fn judge_lens<R: Wait + Clock>(&self, rt: &R) -> Judged {
         let (mut pairs, mut keys) = (COUNTERS as u64, 0u64);
         for worker in &self.workers {
             pairs = pairs.wrapping_add(worker.own.sums(0, 1).0);
@@ -159,20 +157,4 @@ impl Soak {
             Err(_) => Err(no_memory(Call::TryReserve)),
         }
     }
-}
-
-// A map and a set that have nothing.
-fn empty(alloc: Global) -> Result<Shared, AllocError> {
-    match (Map::with_shard_amount(alloc, 16), Set::new(alloc, 4)) {
-        (Ok(map), Ok(set)) => Ok(Shared { map, set }),
-        _ => Err(AllocError),
-    }
-}
-
-fn idle_workers(alloc: Global, threads: u64, seed: u64) -> Result<Vec<Worker>, AllocError> {
-    let mut workers = Vec::new(alloc);
-    for index in 1..=threads {
-        workers.push(Worker::new(alloc, index, seed)?)?;
-    }
-    Ok(workers)
 }

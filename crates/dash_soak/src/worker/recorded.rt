@@ -42,8 +42,11 @@ fn recorded<R: Wait + Clock>(rt: &R, recording: &Recording, log: &mut Log, draw:
     let step = step_of(draw);
     let key = key_of(&step);
     let is_try = draw.kind % 4 == 0;
-    let call = if is_try { Call::TryApply } else { Call::Apply };
-    let reply = apply(rt, recording, log, step, is_try);
+    let (call, reply) = if is_try {
+        (Call::TryApply, recording.try_apply(log, step))
+    } else {
+        (Call::Apply, recording.apply(rt, log, step))
+    };
     let came = answer(reply, is_try);
     let wanted = match log.entries().last() {
         Some(record) => answer_of(&record.reply),
@@ -79,30 +82,17 @@ fn refused<R: Wait + Clock>(rt: &R, recording: &Recording, log: &mut Log, draw: 
         1 => (ShardStep::ReadPart(1), RecordFault::Part),
         _ => (ShardStep::Read(SHARDS as usize), RecordFault::NoSuchShard),
     };
-    let reply = apply(rt, recording, log, step, draw.other % 2 == 0);
+    let reply = if draw.other % 2 == 0 {
+        recording.try_apply(log, step)
+    } else {
+        recording.apply(rt, log, step)
+    };
     let came = if log.entries().len() == len {
         answer(reply, false)
     } else {
         Answer::Number(log.entries().len() as u64)
     };
     (Call::RefusedStep, 0, Answer::Refused(fault), came)
-}
-
-// Takes a step, by the call that waits for nobody or by the other.
-fn apply<R: Wait + Clock>(
-    rt: &R,
-    recording: &Recording,
-    log: &mut Log,
-    step: Step,
-    is_try: bool,
-) -> Result<Reply<u64, u64>, (Step, RecordFault)>
-    requires { log.old.caller < recording.now.callers }
-{
-    if is_try {
-        recording.try_apply(log, step)
-    } else {
-        recording.apply(rt, log, step)
-    }
 }
 
 // What a step answered.
