@@ -16,7 +16,7 @@ use std::sync::Wait;
 const TRIES: u32 = 8;
 
 // How often a waiter spins before each look at the word, until it sleeps. Looks are seldom, so that who has the lock gets on.
-const SPINS: [u32; 5] = [2, 2, 2, 4, 4];
+const SPINS: [u32; 8] = [2, 2, 2, 4, 16, 16, 16, 16];
 
 // What a raw lock guards.
 #[derive(Drop)]
