@@ -1,7 +1,7 @@
 //! The reader-writer lock round each shard of a map: a value in place beside one word, and where waiters sleep.
 //!
 //! The word counts readers or says a writer, and has a mark for readers that wait and one for writers. It changes by the events of
-//! `LockEvent` alone, each one atomic step. Whoever can't have the lock spins, pauses for longer each time, and then sets its mark and sleeps.
+//! `LockEvent` alone, each one atomic step. Whoever can't have the lock spins, yields its processor, and then sets its mark and sleeps.
 ghost use Rattle.std.specs.Prelude.{◌≡◌, IfSome};
 ghost use Rattle.std.specs.Fn.{FnOnceReturnsAtMut, FnOnceTakesAtMut};
 ghost use Rattle.dash_lock.specs.KeepsFit.{KeepsFit};

@@ -6,20 +6,20 @@ ghost use Rattle.std.specs.Map.Iter.{deref_pair};
 ghost use Rattle.dash_shard.specs.Closures.{MayAsk, Viewed, MayChange, ChangesOn, MayGive, Answered, Given};
 ghost use Rattle.dash_shard.specs.Contents.{at};
 ghost use Rattle.dash_lock.specs.Lock.{FoundBehind};
-ghost use Rattle.dash_shard.specs.Shard.{pairs, IsShard};
+ghost use Rattle.dash_shard.specs.Shard.{ShardState, pairs, IsShard};
 ghost use Rattle.dash_map.specs.Behind.{SawShards, LeavesShard, SawAt, LeavesShards, IsShardOf, Removes, RemovesBy, AltersBy};
 ghost use Rattle.dash_map.specs.Gets.{IsGot, IsGotMut};
 ghost use Rattle.dash_shard.specs.Hashing.{route_by};
 ghost use Rattle.dash_map.specs.Alone.{contents, len_in, room_in, ReservesAlone};
 ghost use Rattle.dash_map.specs.Walking.{at_start};
-ghost use Rattle.dash_shard.specs.Held.{Inserts};
+ghost use Rattle.dash_shard.specs.Held.{FitsTag, Inserts};
 ghost use Rattle.dash_shard.specs.Steps.{RemoveIf, RemoveIfMut};
 
 use crate::iter::Iter;
 use crate::map::DashMap;
 use core::mem::replace_with;
 use dash_held::held::{IntoShard, ShardMut};
-use dash_lock::lock::RwLockReadGuard;
+use dash_lock::lock::{RwLock, RwLockReadGuard};
 use dash_ref::mapref::one::{Ref, RefMut};
 use dash_shard::error::TryReserveError;
 use dash_shard::keyed::Keyed;
@@ -60,6 +60,16 @@ impl<K: Eq + Hash, V, S: BuildHasher> DashMap<K, V, S> {
         (hash as u64, self.determine_shard(hash))
     }
 
+    // The lock of a shard. Keyed calls wait for it themselves: each level of calls that may wait costs a test.
+    #[inline(always)]
+    fn lock_of(&self, shard: usize) -> &RwLock<Shard<K, V, S>>
+        requires { shard < self.now.amount }
+        ensures { (tag : _) (s : ShardState K V S) → tag ≡ result.now → FitsTag ⟦<Self as Keyed>⟧.by tag s
+            → IsShardOf ⟦<Self as Keyed>⟧.by self.now shard s }
+    {
+        &self.row[shard]
+    }
+
     /// Waits until no writer has the shard, and holds it for reading. For the crates here alone.
     #[inline]
     pub fn read_shard<R: Wait + Clock>(
@@ -71,7 +81,7 @@ impl<K: Eq + Hash, V, S: BuildHasher> DashMap<K, V, S> {
         ensures tagged { IsShardOf ⟦<Self as Keyed>⟧.by self.now shard result.value }
         ensures found { FoundBehind result.value }
     {
-        self.row[shard].read(rt)
+        self.lock_of(shard).read(rt)
     }
 
     /// Waits until nobody has the shard, and holds it for writing. The original lends the row of locks.
@@ -81,7 +91,7 @@ impl<K: Eq + Hash, V, S: BuildHasher> DashMap<K, V, S> {
         ensures tagged { IsShardOf ⟦<Self as Keyed>⟧.by self.now shard result }
         ensures found { FoundBehind result }
     {
-        self.row[shard].write(rt).shard()
+        self.lock_of(shard).write(rt).shard()
     }
 
     /// Puts the pair, or where an equal key is there the value under the stored key, and answers the old value. Waits for the key's
@@ -101,7 +111,8 @@ impl<K: Eq + Hash, V, S: BuildHasher> DashMap<K, V, S> {
         ensures { LeavesShard ⟦<Self as Keyed>⟧.by self.now key (λ s t. Inserts K.eq s t key value result) }
     {
         let (hash, idx) = self.route_of(&key);
-        self.shards_mut(rt, idx).insert_hashed(hash, key, value)
+        let mut shard = self.lock_of(idx).write(rt).shard();
+        shard.insert_hashed(hash, key, value)
     }
 
     /// Takes the pair whose key equals `key` out, and answers it. Waits for the key's shard. It takes no memory.
@@ -111,7 +122,8 @@ impl<K: Eq + Hash, V, S: BuildHasher> DashMap<K, V, S> {
         ensures leaves { Removes ⟦<Self as Keyed>⟧.by self.now key.now result }
     {
         let (hash, idx) = self.route_of(key);
-        self.shards_mut(rt, idx).remove_hashed(hash, key)
+        let mut shard = self.lock_of(idx).write(rt).shard();
+        shard.remove_hashed(hash, key)
     }
 
     /// A walk over the pairs, by rising shard. This call waits for nobody and takes no memory; the walk's steps do both.
@@ -130,7 +142,7 @@ impl<K: Eq + Hash, V, S: BuildHasher> DashMap<K, V, S> {
         ensures { IsGot ⟦<Self as Keyed>⟧.by self.now key.now result }
     {
         let (hash, idx) = self.route_of(key);
-        Ref::find(self.read_shard(rt, idx), hash, key)
+        Ref::find(self.lock_of(idx).read(rt), hash, key)
     }
 
     /// The pair whose key equals `key`, with a hold of its shard for writing. Waits until nobody has the shard.
@@ -141,7 +153,7 @@ impl<K: Eq + Hash, V, S: BuildHasher> DashMap<K, V, S> {
         ensures { IsGotMut ⟦<Self as Keyed>⟧.by self.now key.now result }
     {
         let (hash, idx) = self.route_of(key);
-        RefMut::find(self.shards_mut(rt, idx), hash, key)
+        RefMut::find(self.lock_of(idx).write(rt).shard(), hash, key)
     }
 
     /// Takes the pair whose key equals `key` out if `f` answers yes on it, and answers it. Waits for the key's shard. It takes no memory.
@@ -158,7 +170,8 @@ impl<K: Eq + Hash, V, S: BuildHasher> DashMap<K, V, S> {
         ensures { RemovesBy ⟦<Self as Keyed>⟧.by self.now RemoveIf key.now result (Answered F.FnOnce f) }
     {
         let (hash, idx) = self.route_of(key);
-        self.shards_mut(rt, idx).remove_if_hashed(hash, key, f)
+        let mut shard = self.lock_of(idx).write(rt).shard();
+        shard.remove_if_hashed(hash, key, f)
     }
 
     /// As `remove_if`, where `f` may write the value. On yes the pair is answered as `f` left it, and on no it stays so. Waits for the
@@ -176,7 +189,8 @@ impl<K: Eq + Hash, V, S: BuildHasher> DashMap<K, V, S> {
         ensures { RemovesBy ⟦<Self as Keyed>⟧.by self.now RemoveIfMut key.now result (ChangesOn F.FnOnce f) }
     {
         let (hash, idx) = self.route_of(key);
-        self.shards_mut(rt, idx).remove_if_mut_hashed(hash, key, f)
+        let mut shard = self.lock_of(idx).write(rt).shard();
+        shard.remove_if_mut_hashed(hash, key, f)
     }
 
     /// What `f` answers on the pair whose key equals `key`. Waits until no writer has the key's shard. It takes no memory.
@@ -193,7 +207,7 @@ impl<K: Eq + Hash, V, S: BuildHasher> DashMap<K, V, S> {
         ensures { SawAt ⟦<Self as Keyed>⟧.by self.now key.now (λ p. Viewed F.FnOnce f p result) }
     {
         let (hash, idx) = self.route_of(key);
-        let guard = self.read_shard(rt, idx);
+        let guard = self.lock_of(idx).read(rt);
         let (key, value) = find(&guard, hash, key)?;
         Some(f(key, value))
     }
@@ -208,7 +222,8 @@ impl<K: Eq + Hash, V, S: BuildHasher> DashMap<K, V, S> {
         ensures { AltersBy ⟦<Self as Keyed>⟧.by self.now key.now (Given F.FnOnce f) }
     {
         let (hash, idx) = self.route_of(key);
-        self.shards_mut(rt, idx).alter_hashed(hash, key, f);
+        let mut shard = self.lock_of(idx).write(rt).shard();
+        shard.alter_hashed(hash, key, f);
     }
 
     /// Whether there is a pair whose key equals `key`. Waits until no writer has the key's shard. It takes no memory.
@@ -217,7 +232,7 @@ impl<K: Eq + Hash, V, S: BuildHasher> DashMap<K, V, S> {
         ensures { SawAt {V = V} ⟦<Self as Keyed>⟧.by self.now key.now (λ p. result ≡ is_some p) }
     {
         let (hash, idx) = self.route_of(key);
-        let guard = self.read_shard(rt, idx);
+        let guard = self.lock_of(idx).read(rt);
         find(&guard, hash, key).is_some()
     }
 

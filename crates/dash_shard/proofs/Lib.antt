@@ -5,6 +5,7 @@ pub mod BySlot
 mod Asking
 mod Carrying
 mod Counts
+mod Cursors
 pub mod Equals
 mod Fours
 mod Kept

@@ -6,4 +6,5 @@ pub mod Rows
 pub mod Steps
 pub mod Table
 pub mod Walks
+pub mod Cursors
 pub mod Marks

@@ -21,6 +21,7 @@ use std::hash::{BuildHasher, Hash};
 use std::marker::Model;
 pub use table::Search;
 use table::Table;
+pub use table::cursor::Cursor;
 pub use table::walk::{IntoIter, Iter};
 use thiserror::Error;
 

@@ -15,8 +15,9 @@ use std::sync::Wait;
 /// A try form makes at most so many exchanges.
 const TRIES: u32 = 8;
 
-// How often a waiter spins before each look at the word, until it sleeps. Looks are seldom, so that who has the lock gets on.
-const SPINS: [u32; 8] = [2, 2, 2, 4, 16, 16, 16, 16];
+// How often a waiter looks at the word until it sleeps. Before each of the first seven looks it spins, twice as long each time, and then it
+// yields its processor, so that who has the lock gets on where there are more threads than processors.
+const LOOKS: u32 = 20;
 
 // What a raw lock guards.
 #[derive(Drop)]
@@ -257,10 +258,8 @@ impl<T: Tagged> RwLock<T> {
         ensures { IsHold T.fits self.now 1 result }
     {
         let backoff = Backoff::new();
-        for spins in SPINS {
-            for _ in 0..spins {
-                backoff.spin();
-            }
+        for _ in 0..LOOKS {
+            backoff.snooze();
             if let Ok(hold) = self.try_lock_shared_fast(self.cell.word()) {
                 return hold;
             }
@@ -280,10 +279,8 @@ impl<T: Tagged> RwLock<T> {
         ensures { IsHold T.fits self.now 2 result }
     {
         let backoff = Backoff::new();
-        for spins in SPINS {
-            for _ in 0..spins {
-                backoff.spin();
-            }
+        for _ in 0..LOOKS {
+            backoff.snooze();
             if let Ok(hold) = self.try_lock_exclusive_fast(self.cell.word()) {
                 return hold;
             }

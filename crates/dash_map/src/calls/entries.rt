@@ -3,6 +3,7 @@ ghost use Rattle.dash_map.specs.Gets.{IsGotEntry};
 ghost use Rattle.dash_map.specs.Tries.{UnlessLockedOut};
 
 use crate::map::DashMap;
+use dash_held::held::IntoShard;
 use dash_ref::mapref::entry::{Entry, EntryRefused, TryEntryRefused};
 use dash_shard::keyed::Keyed;
 use std::hash::{BuildHasher, Hash};
@@ -23,7 +24,7 @@ impl<K: Eq + Hash + Drop, V: Drop, S: BuildHasher> DashMap<K, V, S> {
         ensures { IsGotEntry ⟦<Self as Keyed>⟧.by self.now key result }
     {
         let (hash, idx) = self.route_of(&key);
-        Entry::find(self.shards_mut(rt, idx), hash, key)
+        Entry::find(self.lock_of(idx).write(rt).shard(), hash, key)
     }
 
     /// As `entry`, for a caller who waits for nobody: it is refused too where `RwLock::try_write` doesn't get the key's shard (9),

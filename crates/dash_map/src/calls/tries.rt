@@ -22,7 +22,7 @@ impl<K: Eq + Hash, V, S: BuildHasher> DashMap<K, V, S> {
         ensures tagged { IfSome result (λ r. IsShardOf ⟦<Self as Keyed>⟧.by self.now shard r.value) }
         ensures found { IfSome result (λ r. FoundBehind r.value) }
     {
-        self.row[shard].try_read()
+        self.lock_of(shard).try_read()
     }
 
     /// As `get`, for a caller who waits for nobody: the answer is `Locked` where `RwLock::try_read` doesn't get the key's shard, which
@@ -48,7 +48,7 @@ impl<K: Eq + Hash, V, S: BuildHasher> DashMap<K, V, S> {
         ensures tagged { IfSome result (IsShardOf ⟦<Self as Keyed>⟧.by self.now shard) }
         ensures found { IfSome result FoundBehind }
     {
-        match self.row[shard].try_write() {
+        match self.lock_of(shard).try_write() {
             Some(guard) => Some(guard.shard()),
             None => None,
         }

@@ -11,7 +11,7 @@ use crate::map::DashMap;
 use dash_lock::lock::RwLockReadGuard;
 use dash_ref::mapref::multiple::RefMulti;
 use dash_shard::keyed::Keyed;
-use dash_shard::shard::Shard;
+use dash_shard::shard::{Cursor, Shard};
 use std::alloc::AllocError;
 use std::hash::{BuildHasher, Hash};
 use std::marker::Model;
@@ -32,21 +32,25 @@ pub struct Iter<'a, K: Eq + Hash, V, S: BuildHasher, R> {
     map: &'a DashMap<K, V, S>,
     shard_i: usize,
     current: Option<Rc<RwLockReadGuard<'a, Shard<K, V, S>>>>,
-    position: usize,
+    // Where the walk goes on in that shard.
+    cursor: Cursor,
 }
 
 impl<'a, K: Eq + Hash, V, S: BuildHasher, R> Model for Iter<'a, K, V, S, R> {
     ghost use Rattle.std.specs.Option.{option_map};
+    ghost use Rattle.std.specs.Prelude.{IfSome};
     ghost use Rattle.dash_shard.specs.Hashing.{key_hash};
+    ghost use Rattle.dash_shard.specs.inner.Cursors.{IsSlotCursor};
     ghost use Rattle.dash_map.specs.Walking.{IterState};
     ghost use Rattle.dash_map.specs.inner.Walking.{IsWalk};
 
     ghost Value = { IterState K V S };
 
-    ghost view = { λ w. record { base = w.map.now; entered = w.shard_i; held = option_map (λ rc. rc.value.value) w.current; position = w.position } };
+    ghost view = { λ w. record { base = w.map.now; entered = w.shard_i; held = option_map (λ rc. rc.value.value) w.current; position = w.cursor.position } };
 
     ghost invariant = { λ w. IsWalk (key_hash K.eq K.hash_input S.BuildHasher S.Hasher.Hasher)
-        (record { base = w.map.now; entered = w.shard_i; held = option_map (λ rc. rc.value.value) w.current; position = w.position }) };
+        (record { base = w.map.now; entered = w.shard_i; held = option_map (λ rc. rc.value.value) w.current; position = w.cursor.position })
+        × IfSome w.current (λ rc. IsSlotCursor rc.value.value.slots w.cursor) };
 }
 
 impl<K: Eq + Hash, V, S: BuildHasher, R> Keyed for Iter<'_, K, V, S, R> {
@@ -65,7 +69,7 @@ impl<K: Eq + Hash, V, S: BuildHasher, R> Drop for Iter<'_, K, V, S, R> {
             map: _,
             shard_i: _,
             current,
-            position: _,
+            cursor: _,
         } = self;
         if let Some(guard) = current {
             drop(guard);
@@ -83,7 +87,7 @@ impl<'a, K: Eq + Hash, V, S: BuildHasher, R> Iter<'a, K, V, S, R> {
             map,
             shard_i: 0,
             current: None,
-            position: 0,
+            cursor: Cursor::default(),
         }
     }
 
@@ -107,12 +111,9 @@ impl<'a, K: Eq + Hash, V, S: BuildHasher, R> Iter<'a, K, V, S, R> {
         ensures nearer { IfSome result (λ _. size (steps_left self.new) < size (steps_left self.old)) }
     {
         let guard = self.current.as_ref()?;
-        let position = guard.as_ref().next_taken(self.position)?;
+        let position = guard.as_ref().advance(&mut self.cursor)?;
         match guard.clone() {
-            Ok(guard) => {
-                self.position = position + 1;
-                Some(Ok(RefMulti::new(guard, position)))
-            }
+            Ok(guard) => Some(Ok(RefMulti::new(guard, position))),
             Err(refused) => {
                 self.stop();
                 Some(Err(refused))
@@ -143,11 +144,12 @@ impl<'a, K: Eq + Hash, V, S: BuildHasher, R: Wait + Clock> Iter<'a, K, V, S, R> 
     {
         let map = self.map;
         let guard = map.read_shard(self.rt, self.shard_i);
+        let cursor = guard.cursor();
         match Rc::new(map.row.allocator(), guard) {
             Ok(guard) => {
                 self.current = Some(guard);
                 self.shard_i += 1;
-                self.position = 0;
+                self.cursor = cursor;
                 Ok(())
             }
             Err(_) => {

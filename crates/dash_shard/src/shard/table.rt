@@ -2,6 +2,7 @@
 ghost use Rattle.std.specs.Prelude.{ℕ, ◌≡◌, ◌+◌, ◌-◌, ◌*◌, ◌/◌, ◌^◌, ◌<◌, ◌≤◌, ◌++◌, IfSome, IfNone, IsOk, IfOk, IfErr, OnOk, OnErr, IsSome, length, [], vec_len, vec_capacity, slice_set, slice_index, replicate};
 ghost use Rattle.dash_shard.specs.inner.Table.{IsTable, IsHashedBy, Holds, IsAbsent, AreTaken, MissesLanes, PassesFirst, MayEnd, limit, slots_in, groups_in, pairs_in, hashes_in};
 ghost use Rattle.dash_shard.specs.inner.Marks.{group_at};
+ghost use Rattle.dash_shard.specs.inner.Cursors.{IsSlotCursor, Advances};
 ghost use Rattle.dash_shard.specs.Shard.{slot, IsNextTaken};
 ghost use Rattle.dash_slots.specs.inner.Slots.{IsBlank};
 ghost use Rattle.std.specs.Int.{bit_at};
@@ -9,6 +10,7 @@ ghost use Rattle.std.specs.Option.{option_map};
 ghost use Rattle.std.specs.Map.Iter.{deref_pair};
 
 use crate::shard::group::probe;
+use cursor::Cursor;
 use dash_slots::Slots;
 use marks::{
     class, count_at, group_of, home, lowest, next_group, next_pair, steps_to, tag, without,
@@ -17,6 +19,7 @@ use std::alloc::Global;
 use std::hash::{BuildHasher, Hash};
 use std::mem;
 
+pub mod cursor;
 mod growth;
 mod marks;
 mod places;
@@ -268,6 +271,26 @@ impl<K, V> Table<K, V> {
         } else {
             None
         }
+    }
+
+    /// A cursor before the first slot.
+    #[inline]
+    pub fn cursor(&self) -> Cursor
+        requires { IsTable self.now }
+        ensures first { result.position ≡ 0 }
+        ensures cursor { IsSlotCursor (pairs_in self.now) result }
+    {
+        Cursor::new(&self.tags)
+    }
+
+    /// The lowest taken slot from the cursor's position on. The cursor goes on behind it, and stays where there is none.
+    #[inline(always)]
+    pub fn advance(&self, cursor: &mut Cursor) -> Option<usize>
+        requires table { IsTable self.now }
+        requires cursor { IsSlotCursor (pairs_in self.now) cursor.old }
+        ensures { Advances (pairs_in self.now) cursor.old result cursor.new }
+    {
+        cursor.next(&self.tags)
     }
 
     /// How many slots are taken.

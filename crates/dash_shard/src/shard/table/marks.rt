@@ -31,6 +31,7 @@ pub(super) fn without(mask: u16, bit: usize) -> u16
     requires bound { bit < 16 }
     requires set { bit_at mask bit ≡ 1 }
     ensures smaller { result < mask }
+    ensures cleared { bit_at result bit ≡ 0 }
     ensures kept { (j : ℕ) → j < 16 → (j ≡ bit → ⊥) → bit_at result j ≡ bit_at mask j }
 {
     mask & !(1 << bit)
@@ -38,7 +39,7 @@ pub(super) fn without(mask: u16, bit: usize) -> u16
 
 // Sixteen tags from a slot on.
 #[inline(always)]
-fn tags_at(tags: &[u8], start: usize) -> &[u8; 16]
+pub(super) fn tags_at(tags: &[u8], start: usize) -> &[u8; 16]
     requires { start + 16 ≤ length tags.now }
     ensures { (j : ℕ) → j < 16 → slice_index result.now j ≡ slice_index tags.now (start + j) }
 {
@@ -57,8 +58,8 @@ pub(super) fn group_of(tags: &[u8], group: usize) -> &[u8; 16]
     tags_at(tags, 16 * group)
 }
 
-// The lowest slot from `from` on that is taken, by its tag, or one past all. It looks at one, which is a good guess where pairs stand close
-// together, and then at sixteen at once.
+// The lowest slot from `from` on that is taken, by its tag, or one that isn't there. It looks at one, which is a good guess where pairs stand
+// close together, and then at sixteen at once.
 #[inline(always)]
 pub(super) fn next_pair(tags: &[u8], from: usize) -> usize
     ensures from { from ≤ result }

@@ -1,5 +1,5 @@
 //! What goes over all pairs of a table, in rising order of slots.
-ghost use Rattle.std.specs.Prelude.{ℕ, ◌≡◌, ◌<◌, Option, Some, None, IfSome, true, length, map, slice_set};
+ghost use Rattle.std.specs.Prelude.{ℕ, ◌≡◌, ◌<◌, Option, Some, None, IsSome, IfSome, true, length, map, slice_set};
 ghost use Rattle.std.specs.Map.Calls.{CalledAtPair, TakesPair, CallableOnEachPair};
 ghost use Rattle.dash_shard.specs.inner.Table.{IsTable, IsHashedBy, TellsTaken, slots_in, pairs_in, hashes_in};
 ghost use Rattle.dash_shard.specs.Shard.{slot, taken};
@@ -25,9 +25,9 @@ pub(super) fn let_go<K: Drop, V: Drop>(slots: &mut Slots<(K, V)>, tags: &[u8], f
 }
 
 impl<K, V> Table<K, V> {
-    // Asks `f` at the pair of a slot, if there is one. An empty slot answers yes.
+    // Asks `f` at the pair of a taken slot.
     fn ask_at<F: FnMut(&K, &mut V) -> bool>(&mut self, position: usize, f: &mut F) -> bool
-        requires within { position < slots_in self.old }
+        requires taken { IsSome (slot (pairs_in self.old) position) }
         requires table { IsTable self.old }
         requires callable { IfSome (slot (pairs_in self.old) position) (λ p. TakesPair F.FnMut f.old p.0 p.1) }
         ensures asks { Asks (CalledAtPair F.FnMut) f.old (slot (pairs_in self.old) position) result (slot (pairs_in self.new) position) f.new }
@@ -37,9 +37,6 @@ impl<K, V> Table<K, V> {
         ensures slots { slots_in self.new ≡ slots_in self.old }
         ensures table { IsTable self.new }
     {
-        if self.tags[position] >= EMPTY {
-            return true;
-        }
         let pair = self.slots.get_mut(position);
         f(&pair.0, &mut pair.1)
     }
@@ -57,7 +54,8 @@ impl<K, V> Table<K, V> {
         ensures slots { slots_in self.new ≡ slots_in self.old }
         ensures table { IsTable self.new }
     {
-        for slot in 0..self.slots.len() {
+        let mut cursor = self.cursor();
+        while let Some(slot) = self.advance(&mut cursor) {
             if !self.ask_at(slot, f) {
                 let hash = self.hash_at(slot, hasher);
                 drop(self.take(slot, hash));
@@ -65,9 +63,9 @@ impl<K, V> Table<K, V> {
         }
     }
 
-    // Puts what `f` makes of the value at a slot there, if there is a pair.
+    // Puts what `f` makes of the value at a taken slot there.
     fn alter_at<F: FnMut(&K, V) -> V>(&mut self, position: usize, f: &mut F)
-        requires within { position < slots_in self.old }
+        requires taken { IsSome (slot (pairs_in self.old) position) }
         requires table { IsTable self.old }
         requires callable { IfSome (slot (pairs_in self.old) position) (λ p. TakesOnPair F.FnMut f.old p.0 p.1) }
         ensures visits { Visits (CalledOnPair F.FnMut) altered f.old (slot (pairs_in self.old) position) (slot (pairs_in self.new) position) f.new }
@@ -77,11 +75,9 @@ impl<K, V> Table<K, V> {
         ensures slots { slots_in self.new ≡ slots_in self.old }
         ensures table { IsTable self.new }
     {
-        if self.tags[position] < EMPTY {
-            let (key, value) = self.slots.take(position);
-            let value = f(&key, value);
-            self.slots.put_back(position, (key, value));
-        }
+        let (key, value) = self.slots.take(position);
+        let value = f(&key, value);
+        self.slots.put_back(position, (key, value));
     }
 
     /// Puts what `f` makes of each value in its place.
@@ -94,7 +90,8 @@ impl<K, V> Table<K, V> {
         ensures slots { slots_in self.new ≡ slots_in self.old }
         ensures table { IsTable self.new }
     {
-        for slot in 0..self.slots.len() {
+        let mut cursor = self.cursor();
+        while let Some(slot) = self.advance(&mut cursor) {
             self.alter_at(slot, f);
         }
     }

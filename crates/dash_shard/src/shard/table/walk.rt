@@ -6,7 +6,7 @@ ghost use Rattle.dash_shard.specs.inner.Table.{IsTable, pairs_in};
 ghost use Rattle.dash_shard.specs.Shard.{taken};
 
 use super::Table;
-use super::marks::next_pair;
+use super::cursor::Cursor;
 use super::sweep::let_go;
 use dash_slots::Slots;
 use std::alloc::AllocError;
@@ -19,7 +19,7 @@ pub struct Iter<'a, K, V> {
     // None where there are no slots.
     slots: Option<&'a Slots<(K, V)>>,
     tags: &'a [u8],
-    position: usize,
+    cursor: Cursor,
     len: usize,
 }
 
@@ -27,13 +27,15 @@ impl<'a, K, V> Model for Iter<'a, K, V> {
     ghost use Rattle.std.specs.Prelude.{List, length, ◌≡◌};
     ghost use Rattle.std.specs.Prelude.{drop};
     ghost use Rattle.dash_shard.specs.inner.Table.{TellsTaken, values_of};
+    ghost use Rattle.dash_shard.specs.inner.Cursors.{IsTagCursor};
     ghost use Rattle.dash_shard.specs.Shard.{taken};
 
     ghost Value = { List (K × V) };
 
-    ghost view = { λ it. taken (drop it.position (values_of it.slots)) };
+    ghost view = { λ it. taken (drop it.cursor.position (values_of it.slots)) };
 
-    ghost invariant = { λ it. TellsTaken 0 it.tags.now (values_of it.slots) × (it.len ≡ length (taken (drop it.position (values_of it.slots)))) };
+    ghost invariant = { λ it. TellsTaken 0 it.tags.now (values_of it.slots) × IsTagCursor it.tags.now it.cursor
+        × (it.len ≡ length (taken (drop it.cursor.position (values_of it.slots)))) };
 }
 
 impl<K, V> Table<K, V> {
@@ -46,7 +48,7 @@ impl<K, V> Table<K, V> {
         Iter {
             slots: Some(&self.slots),
             tags: &self.tags,
-            position: 0,
+            cursor: self.cursor(),
             len: self.len,
         }
     }
@@ -62,12 +64,7 @@ impl<'a, K, V> Iterator for Iter<'a, K, V> {
     #[inline]
     fn next(&mut self) -> Option<(&'a K, &'a V)> {
         let slots = self.slots?;
-        let slot = next_pair(self.tags, self.position);
-        if slot >= self.tags.len() {
-            self.position = slot;
-            return None;
-        }
-        self.position = slot + 1;
+        let slot = self.cursor.next(self.tags)?;
         self.len -= 1;
         let (key, value) = slots.get(slot);
         Some((key, value))
@@ -97,7 +94,7 @@ impl<'a, K, V> Clone for Iter<'a, K, V> {
         Ok(Iter {
             slots: self.slots,
             tags: self.tags,
-            position: self.position,
+            cursor: self.cursor,
             len: self.len,
         })
     }
@@ -112,7 +109,7 @@ impl<'a, K, V> Default for Iter<'a, K, V> {
         Iter {
             slots: None,
             tags: Default::default(),
-            position: 0,
+            cursor: Cursor::new(&[]),
             len: 0,
         }
     }
@@ -122,19 +119,20 @@ impl<'a, K, V> Default for Iter<'a, K, V> {
 pub struct IntoIter<K, V> {
     slots: Slots<(K, V)>,
     tags: Vec<u8>,
-    position: usize,
+    cursor: Cursor,
 }
 
 impl<K, V> Model for IntoIter<K, V> {
     ghost use Rattle.std.specs.Prelude.{List};
     ghost use Rattle.dash_shard.specs.inner.Table.{TellsTaken};
+    ghost use Rattle.dash_shard.specs.inner.Cursors.{IsTagCursor};
     ghost use Rattle.dash_shard.specs.Shard.{taken};
 
     ghost Value = { List (K × V) };
 
     ghost view = { λ it. taken it.slots.values };
 
-    ghost invariant = { λ it. TellsTaken it.position it.tags.items it.slots.values };
+    ghost invariant = { λ it. TellsTaken it.cursor.position it.tags.items it.slots.values × IsTagCursor it.tags.items it.cursor };
 }
 
 impl<K: Drop, V: Drop> Drop for IntoIter<K, V> {
@@ -142,9 +140,9 @@ impl<K: Drop, V: Drop> Drop for IntoIter<K, V> {
         let IntoIter {
             mut slots,
             tags,
-            position,
+            cursor,
         } = self;
-        let_go(&mut slots, &tags, position);
+        let_go(&mut slots, &tags, cursor.position);
         slots.end();
     }
 }
@@ -156,11 +154,12 @@ impl<K, V> Table<K, V> {
         requires { IsTable self }
         ensures { result ≡ taken (pairs_in self) }
     {
+        let cursor = self.cursor();
         let (slots, tags) = self.into_slots();
         IntoIter {
             slots,
             tags,
-            position: 0,
+            cursor,
         }
     }
 }
@@ -174,12 +173,7 @@ impl<K: Drop, V: Drop> Iterator for IntoIter<K, V> {
 
     #[inline]
     fn next(&mut self) -> Option<(K, V)> {
-        let slot = next_pair(&self.tags, self.position);
-        if slot >= self.tags.len() {
-            self.position = slot;
-            return None;
-        }
-        self.position = slot + 1;
+        let slot = self.cursor.next(&self.tags)?;
         Some(self.slots.take(slot))
     }
 }

@@ -1,13 +1,5 @@
-use Rattle.std.proofs.Common.{◌<◌, ap, length, arith}
-use Rattle.dash_map.proofs.Moves.{tagged-held}
+use Rattle.std.proofs.Common.{refl}
 use Rattle.dash_map.proofs.map.DashMap.read_shard.Goals as goal
-use Rattle.dash_shard.specs.Hashing.{key_hash}
 
-pub returns-clause-tagged : goal.returns-clause-tagged
-returns-clause-tagged g c =
-    let row = c.self.inside.row in
-    let within : c.args.shard < length row = omega (arith, c.requires, ap (λ m. m.amount) c.self.view_is) in
-    tagged-held (key_hash g.K.PartialEq.eq g.K.Hash.hash_input g.S.BuildHasher g.S.Hasher.Hasher) _ _ c.self.view_is row c.self.invariant c.args.shard within c.index.result.now c.index.ensures _ c.deref.ensures c.read.result.value c.read.ensures.fits
-
-pub returns-clause-found : goal.returns-clause-found
-returns-clause-found g c = c.read.ensures.found
+pub returns : goal.returns
+returns g c = record { tagged = c.lock_of.ensures _ _ refl c.read.ensures.fits; found = c.read.ensures.found }

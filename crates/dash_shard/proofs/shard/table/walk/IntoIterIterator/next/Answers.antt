@@ -1,30 +1,39 @@
-use Rattle.std.proofs.Common.{◌≡◌, [], ◌∷◌, ◌<◌, ℕ, None, length, slice_index, ap, sym, ◌∙◌, arith, inl, inr}
+use Rattle.std.proofs.Common.{◌≡◌, ◌∷◌, None, length, slice_index, ap, sym, ◌∙◌, arith, inl, inr}
 use Rattle.std.proofs.lemmas.Bool.{cases_lt}
 use Rattle.std.proofs.lemmas.List.{get_or_past}
 use Rattle.dash_shard.specs.Shard.{slot, taken}
 use Rattle.dash_shard.proofs.Tells.{first-taken, passed-none, none-taken}
 use Rattle.dash_shard.proofs.shard.table.walk.IntoIterIterator.next.Given.{Over}
-use Rattle.dash_shard.proofs.shard.table.walk.IntoIterIterator.next.Goals.{After-next_pair-slot, After-take}
+use Rattle.dash_shard.proofs.shard.table.walk.IntoIterIterator.next.Goals.{After-take}
 use Rattle.dash_shard.proofs.shard.table.walk.IntoIterIterator.next.Goals as goal
 
--- no pair stands below the slot
-behind : (g : Over) (c : After-next_pair-slot g) (j : ℕ) → j < c.next_pair-slot.result → slot c.self.inside.slots.values j ≡ None
-behind g c = passed-none _ _ _ c.self.invariant c.next_pair-slot.result (λ j from below. let high = c.next_pair-slot.ensures.passed j from below in let same = ap (λ l. slice_index l j) c.deref.ensures.value in omega (arith, high, same))
-
-pub returns-then-slot-len-clause-steps : goal.returns-then-slot-len-clause-steps
-returns-then-slot-len-clause-steps g c =
-    let long = c.self.invariant.len in
-    let none = behind g (goal.at.returns-then-slot-len-clause-steps g c).After-next_pair-slot in
-    let gone = none-taken c.self.inside.slots.values (λ j. elim (cases_lt j c.next_pair-slot.result) as (λ _. slot c.self.inside.slots.values j ≡ None) [
+pub returns-in_err-slot-clause-steps : goal.returns-in_err-slot-clause-steps
+returns-in_err-slot-clause-steps g c =
+    let xs = c.self.inside.slots.values in
+    let tells = c.self.invariant.0 in
+    let same = c.deref.ensures.value in
+    let none = passed-none _ _ _ tells (length c.self.inside.tags.items) (λ j from below.
+    let long = ap length same in
+    let at = ap (λ l. slice_index l j) same in
+    let high = c.in_err-slot.ensures.next j from (omega (arith, below, long)) in
+    omega (arith, high, at)) in
+    let gone = none-taken xs (λ j. elim (cases_lt j (length c.self.inside.tags.items)) as (λ _. slot xs j ≡ None) [
       | inl less ↦ none j less
-      | inr more ↦ get_or_past c.self.inside.slots.values j None (omega (arith, more, long, c.if-slot-len.true, c.len.ensures))
+      | inr more ↦ get_or_past xs j None (let len = tells.len in omega (arith, more, len))
     ]) in
-    (sym c.self.view_is ∙ gone, gone)
+    rw c.from_residual.ensures (sym c.self.view_is ∙ gone, gone)
+
+-- the pair of the slot comes first
+here : (g : Over) (c : After-take g) → c.args.self.now ≡ c.take.result ∷ taken c.take.new.self.values
+here g c =
+    let next = c.in_ok-slot.ensures.next in
+    let behind = passed-none _ _ _ c.self.invariant.0 c.in_ok-slot.slot (λ j from below. let high = next.3 j from below in let same = ap (λ l. slice_index l j) c.deref.ensures.value in omega (arith, high, same)) in
+    sym c.self.view_is ∙ first-taken _ c.in_ok-slot.slot _ behind c.take.ensures.value ∙ ap (λ xs. c.take.result ∷ taken xs) (sym c.take.ensures.values)
 
 pub returns-clause-steps : goal.returns-clause-steps
-returns-clause-steps g c = sym c.self.view_is ∙ first-taken _ c.next_pair-slot.result _ (behind g (goal.at.returns-clause-steps g c).After-next_pair-slot) c.take.ensures.value ∙ ap (λ xs. c.take.result ∷ taken xs) (sym c.take.ensures.values)
+returns-clause-steps g c = here g (goal.at.returns-clause-steps g c).After-take
 
 pub returns-clause-goes : goal.returns-clause-goes
 returns-clause-goes g c =
-    let less = ap length (sym c.self.view_is ∙ first-taken _ c.next_pair-slot.result _ (behind g (goal.at.returns-clause-goes g c).After-next_pair-slot) c.take.ensures.value ∙ ap (λ xs. c.take.result ∷ taken xs) (sym c.take.ensures.values)) in
+    let less = ap length (here g (goal.at.returns-clause-goes g c).After-take) in
     record { on = λ _. (tt, tt, omega (arith, less)); keeps = tt; rests = λ _. tt }
