@@ -15,9 +15,9 @@ use std::sync::Wait;
 /// A try form makes at most so many exchanges.
 const TRIES: u32 = 8;
 
-// How often a waiter looks at the word until it sleeps. Before each of the first seven looks it spins, twice as long each time, and then it
-// yields its processor, so that who has the lock gets on where there are more threads than processors.
-const LOOKS: u32 = 20;
+// How often a waiter pauses before each look at the word, until it sleeps. The first seven pauses are spins, each twice as long, and then it
+// yields its processor, which who has the lock may want. Looks are seldom, since each holds that one up.
+const PAUSES: [u32; 20] = [1, 1, 1, 1, 1, 1, 1, 8, 8, 8, 8, 8, 8, 8, 8, 8, 8, 8, 8, 8];
 
 // What a raw lock guards.
 #[derive(Drop)]
@@ -258,8 +258,10 @@ impl<T: Tagged> RwLock<T> {
         ensures { IsHold T.fits self.now 1 result }
     {
         let backoff = Backoff::new();
-        for _ in 0..LOOKS {
-            backoff.snooze();
+        for pauses in PAUSES {
+            for _ in 0..pauses {
+                backoff.snooze();
+            }
             if let Ok(hold) = self.try_lock_shared_fast(self.cell.word()) {
                 return hold;
             }
@@ -279,8 +281,10 @@ impl<T: Tagged> RwLock<T> {
         ensures { IsHold T.fits self.now 2 result }
     {
         let backoff = Backoff::new();
-        for _ in 0..LOOKS {
-            backoff.snooze();
+        for pauses in PAUSES {
+            for _ in 0..pauses {
+                backoff.snooze();
+            }
             if let Ok(hold) = self.try_lock_exclusive_fast(self.cell.word()) {
                 return hold;
             }
