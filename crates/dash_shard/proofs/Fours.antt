@@ -1,4 +1,4 @@
--- Sixteen counts of four bits in a word, of which one is raised or lowered.
+-- 32 counts of four bits in a word, of which one is raised or lowered.
 use Rattle.std.proofs.Common.{◌≡◌, ℕ, ◌+◌, ◌-◌, ◌*◌, ◌/◌, ◌%◌, ◌^◌, ◌<◌, ◌≤◌, sym, ap, subst, ◌∙◌, inl, inr, arith, pow_pos, pow_mono}
 use Rattle.std.proofs.lemmas.Bool.{cases_lt}
 use Rattle.std.proofs.lemmas.Nat.{pow-add}
@@ -6,7 +6,7 @@ use Rattle.std.proofs.Math.Nat.{div-div-eq-div-mul, add-mul-div_left, mod-lt, ze
 use Rattle.dash_shard.specs.Search.{class_of}
 use Rattle.dash_shard.specs.inner.Marks.{count_of, OthersStay}
 
-pub class-small : (h : ℕ) → class_of h < 16
+pub class-small : (h : ℕ) → class_of h < 32
 class-small h = omega arith
 
 -- what a count is worth in its word
@@ -17,9 +17,9 @@ pub one-pos : (c : ℕ) → 0 < one c
 one-pos c = pow_pos (4 * c)
 
 -- it fits in the word, as a shift makes it
-pub one-fits : (c : ℕ) → c < 16 → 1 * 2 ^ (4 * c) % 2 ^ 64 ≡ one c
+pub one-fits : (c : ℕ) → c < 32 → 1 * 2 ^ (4 * c) % 2 ^ 128 ≡ one c
 one-fits c class =
-    let small : 2 ^ (4 * c) ≤ 2 ^ 60 = pow_mono {i = 4 * c} {j = 60} (omega (arith, class)) in
+    let small : 2 ^ (4 * c) ≤ 2 ^ 124 = pow_mono {i = 4 * c} {j = 124} (omega (arith, class)) in
     omega (arith, small)
 
 pub count-small : (w c : ℕ) → count_of w c < 16
@@ -89,11 +89,11 @@ others-less w c some d less other =
     sym (ap (λ x. count_of x d) (whole w c some) ∙ others-more (w - one c) c few d less other)
 
 -- there is room in the word
-pub room : (w c : ℕ) → w < 2 ^ 64 → c < 16 → count_of w c < 15 → w + one c < 2 ^ 64
+pub room : (w c : ℕ) → w < 2 ^ 128 → c < 32 → count_of w c < 15 → w + one c < 2 ^ 128
 unfolding count_of
 room w c fits class few =
-    let h = higher c 16 class in
-    let all : 2 ^ 64 ≡ 16 * h.0 * one c = h.1 ∙ mul_comm (one c) (16 * h.0) in
+    let h = higher c 32 class in
+    let all : 2 ^ 128 ≡ 16 * h.0 * one c = h.1 ∙ mul_comm (one c) (16 * h.0) in
     let part : w / one c < 16 * h.0 = (div-lt_iff_lt-mul (one-pos c)).1 (subst (λ m. w < m) all fits) in
     let next : (w + one c) / one c < 16 * h.0 = omega (arith, part, few, more w c) in
     subst (λ m. w + one c < m) (sym all) ((div-lt_iff_lt-mul (one-pos c)).0 next)

@@ -12,6 +12,7 @@ mod Kept
 pub mod Lawful
 mod Lanes
 pub mod Lending
+mod Lowest
 mod Marked
 pub mod Moving
 mod Odds

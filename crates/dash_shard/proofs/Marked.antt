@@ -218,7 +218,7 @@ module _ {A : Type 0} where
       filled-class : class_of (slice_index (set hs i h) i) ≡ class_of h
       filled-class = ap class_of filled-hash
 
-      filled-counted : (g c : ℕ) → g < n → c < 16 → IsCount (count_of (slice_index now g) c) (tally (stands_past n (set hs i h) g c) 0 (set xs i (Some p)))
+      filled-counted : (g c : ℕ) → g < n → c < 32 → IsCount (count_of (slice_index now g) c) (tally (stands_past n (set hs i h) g c) 0 (set xs i (Some p)))
       filled-counted g c lt class =
           let f = stands_past {A = A} n hs g c in
           let f' = stands_past {A = A} n (set hs i h) g c in
@@ -236,7 +236,7 @@ module _ {A : Type 0} where
                 subst (IsCount (count_of (slice_index now g) c)) same (subst (λ x. IsCount x (tally f 0 xs)) (sym (counts-now.others g lt c class (λ e. other (sym e)))) (m.counted g c lt class))
           ]
 
-      filled-full : (g c : ℕ) → g < n → c < 16 → 0 < count_of (slice_index now g) c → IsFull (set tags i (tag_of h)) g
+      filled-full : (g c : ℕ) → g < n → c < 32 → 0 < count_of (slice_index now g) c → IsFull (set tags i (tag_of h)) g
       filled-full g c lt class some j within = set-apart tags i (tag_of h) 128 (16 * g + j) tag-spot (λ e. omega (arith, e, low)) (λ _. elim (cases_lt 0 (count_of (slice_index counts g) c)) as (λ _. lane tags g j ≢ 128) [
         | inl was ↦ m.full g c lt class was j within
         | inr not ↦
@@ -311,7 +311,7 @@ module _ {A : Type 0} where
             ]
       ]
 
-      cleared-counted : (g c : ℕ) → g < n → c < 16 → IsCount (count_of (slice_index now g) c) (tally (stands_past n hs g c) 0 (set xs i None))
+      cleared-counted : (g c : ℕ) → g < n → c < 32 → IsCount (count_of (slice_index now g) c) (tally (stands_past n hs g c) 0 (set xs i None))
       cleared-counted g c lt class =
           let f = stands_past {A = A} n hs g c in
           let w = tally-write f f 0 xs i i None (omega arith) was-inside (λ j r _. refl) in
@@ -327,14 +327,14 @@ module _ {A : Type 0} where
           ]
 
       -- a class that is counted was
-      was-counted : (g c : ℕ) → g < n → c < 16 → 0 < count_of (slice_index now g) c → 0 < count_of (slice_index counts g) c
+      was-counted : (g c : ℕ) → g < n → c < 32 → 0 < count_of (slice_index now g) c → 0 < count_of (slice_index counts g) c
       was-counted g c lt class some = elim (cases_eq (class_of (slice_index hs i)) c) as (λ _. 0 < count_of (slice_index counts g) c) [
         | inl own ↦ lowered-some _ _ _ (subst (λ d. IsLowered (count_of (slice_index counts g) d) (goes_past n (slice_index hs i % n) (step_to n (slice_index hs i % n) (i / 16)) g) (count_of (slice_index now g) d)) own (counts-now.own g lt)) some
         | inr other ↦ let same = counts-now.others g lt c class (λ e. other (sym e)) in omega (arith, same, some)
       ]
 
       -- where a class is counted no slot was empty, and none is
-      then-full : (g c : ℕ) → g < n → c < 16 → 0 < count_of (slice_index now g) c → IsFull then g
+      then-full : (g c : ℕ) → g < n → c < 32 → 0 < count_of (slice_index now g) c → IsFull then g
       then-full g c lt class some j within e = elim (keeps (16 * g + j)) as (λ _. ⊥) [
         | inl same ↦ m.full g c lt class (was-counted g c lt class some) j within (sym same ∙ e)
         | inr gone ↦
@@ -343,7 +343,7 @@ module _ {A : Type 0} where
             omega (arith, none, count-word (slice_index now g) c some)
       ]
 
-      cleared-full : (g c : ℕ) → g < n → c < 16 → 0 < count_of (slice_index now g) c → IsFull (set then i mark) g
+      cleared-full : (g c : ℕ) → g < n → c < 32 → 0 < count_of (slice_index now g) c → IsFull (set then i mark) g
       cleared-full g c lt class some j within e =
           let full = then-full g c lt class some in
           elim (cases_eq (16 * g + j) i) as (λ _. ⊥) [
@@ -381,7 +381,7 @@ module _ {A : Type 0} where
     pub counted-there : (i : ℕ) (p : A) → slot xs i ≡ Some p → (g : ℕ) → g < n → goes_past n (slice_index hs i % n) (step_to n (slice_index hs i % n) (i / 16)) g ≤ count_of (slice_index counts g) (class_of (slice_index hs i))
     counted-there i p here g lt =
         let c = class_of (slice_index hs i) in
-        let class : c < 16 = class-small (slice_index hs i) in
+        let class : c < 32 = class-small (slice_index hs i) in
         let mine : stands_past n hs g c i (slot xs i) ≡ goes_past n (slice_index hs i % n) (step_to n (slice_index hs i % n) (i / 16)) g = ap (stands_past n hs g c i) here ∙ past-own n hs g c i p refl in
         let most = tally-at (stands_past n hs g c) 0 xs i i (omega arith) (slot-inside xs i p here) in
         elim (cases_lt (count_of (slice_index counts g) c) 15) as (λ _. goes_past n (slice_index hs i % n) (step_to n (slice_index hs i % n) (i / 16)) g ≤ count_of (slice_index counts g) c) [

@@ -10,9 +10,9 @@ use Rattle.dash_shard.specs.declared.shard.table.Search.{Search}
 abbrev pub IsMask : List ℕ → ℕ → ℕ → Type 0
 IsMask group tag mask = (i : ℕ) → (bit_at mask i ≡ 1) ↔ ((i < 16) × (slice_index group i ≡ tag))
 
--- the class of a hash, one of sixteen: its bits 32 to 35
+-- the class of a hash, one of 32: its bits 32 to 36
 abbrev pub class_of : ℕ → ℕ
-class_of hash = hash / 2 ^ 32 % 16
+class_of hash = hash / 2 ^ 32 % 32
 
 module _ {K V S : Type 0} where
   -- how many groups of sixteen slots a shard has

@@ -24,7 +24,7 @@ step_to n a g = if nat_lt g a then n - a + g else g - a
 abbrev pub goes_past : ℕ → ℕ → ℕ → ℕ → ℕ
 goes_past n a s g = if nat_lt (step_to n a g) s then 1 else 0
 
--- of the sixteen counts in a word, four bits each, the one of a class
+-- of the 32 counts in a word, four bits each, the one of a class
 unfoldable pub count_of : ℕ → ℕ → ℕ
 count_of word c = word / 2 ^ (4 * c) % 16
 
@@ -41,7 +41,7 @@ IsLowered c k new = (c < 15 → new + k ≡ c) × (15 ≤ c → new ≡ c)
 
 -- the other counts of a word are as they were
 abbrev pub OthersStay : ℕ → ℕ → ℕ → Type 0
-OthersStay class old new = (c : ℕ) → c < 16 → c ≢ class → count_of new c ≡ count_of old c
+OthersStay class old new = (c : ℕ) → c < 32 → c ≢ class → count_of new c ≡ count_of old c
 
 -- a pair of the class was counted at each group that its way of s steps from the group a goes past
 pub record CountsPast (n a s class : ℕ) (old new : List ℕ) : Type 0 where
@@ -92,8 +92,8 @@ module _ {A : Type 0} where
     pub tagged : (i : ℕ) (p : A) → slot slots i ≡ Some p → slice_index tags i ≡ tag_of (slice_index hashes i)
     pub low : (i : ℕ) (p : A) → slot slots i ≡ Some p → slice_index tags i < 128
     pub free : (i : ℕ) → i < 16 * n → slot slots i ≡ None → 128 ≤ slice_index tags i
-    pub counted : (g c : ℕ) → g < n → c < 16 → IsCount (count_of (slice_index counts g) c) (tally (stands_past n hashes g c) 0 slots)
-    pub full : (g c : ℕ) → g < n → c < 16 → 0 < count_of (slice_index counts g) c → IsFull tags g
+    pub counted : (g c : ℕ) → g < n → c < 32 → IsCount (count_of (slice_index counts g) c) (tally (stands_past n hashes g c) 0 slots)
+    pub full : (g c : ℕ) → g < n → c < 32 → 0 < count_of (slice_index counts g) c → IsFull tags g
     pub clean : (g : ℕ) → g < n → slice_index counts g ≡ 0 → IsClean tags g
 
   -- no slot of the group g is free

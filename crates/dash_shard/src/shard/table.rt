@@ -12,9 +12,7 @@ ghost use Rattle.std.specs.Map.Iter.{deref_pair};
 use crate::shard::group::probe;
 use cursor::Cursor;
 use dash_slots::Slots;
-use marks::{
-    class, count_at, group_of, home, lowest, next_group, next_pair, steps_to, tag, without,
-};
+use marks::{class, count_at, group_of, home, next_group, next_pair, split_lowest, steps_to, tag};
 use std::alloc::Global;
 use std::hash::{BuildHasher, Hash};
 use std::mem;
@@ -35,8 +33,8 @@ pub struct Table<K, V> {
     slots: Slots<(K, V)>,
     // A tag for each slot, in groups of sixteen.
     tags: Vec<u8>,
-    // For each group, how many pairs of each class stand past it on their ways: sixteen counts of four bits.
-    counts: Vec<u64>,
+    // For each group, how many pairs of each class stand past it on their ways: 32 counts of four bits.
+    counts: Vec<u128>,
     len: usize,
 }
 
@@ -58,11 +56,11 @@ fn find_in<K: Eq, V>(slots: &Slots<(K, V)>, start: usize, mask: u16, key: &K) ->
 {
     let mut left = mask;
     while left != 0 {
-        let lane = lowest(left);
+        let (lane, rest) = split_lowest(left);
         if &slots.get(start + lane).0 == key {
             return Some(start + lane);
         }
-        left = without(left, lane);
+        left = rest;
     }
     None
 }

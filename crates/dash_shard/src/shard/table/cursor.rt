@@ -3,7 +3,7 @@ ghost use Rattle.std.specs.Prelude.{◌≡◌, ◌+◌, length};
 ghost use Rattle.std.specs.Option.{option_map_or};
 ghost use Rattle.dash_shard.specs.inner.Cursors.{ComesInGroups, IsTagCursor, IsNextTag};
 
-use super::marks::{group_of, lowest, tags_at, without};
+use super::marks::{group_of, split_lowest, tags_at};
 use crate::shard::lanes::taken_lanes;
 
 /// Where a walk over the slots of a shard goes on, and what the tags of sixteen of them say, looked at once. For the crates here alone.
@@ -52,8 +52,8 @@ impl Cursor {
             self.start += 16;
             self.left = taken_lanes(tags_at(tags, self.start));
         }
-        let lane = lowest(self.left);
-        self.left = without(self.left, lane);
+        let (lane, rest) = split_lowest(self.left);
+        self.left = rest;
         let slot = self.start + lane;
         self.position = slot + 1;
         Some(slot)

@@ -11,25 +11,15 @@ use std::alloc::{AllocError, Global};
 use std::hash::{BuildHasher, Hash};
 use std::mem;
 
-// A full table of so many groups or more, which no processor's own cache holds, grows by half or a third of them, and a smaller one doubles.
+// Up to so many groups, which a processor's own cache holds, their number is a power of two.
 const LARGE: usize = 4_096;
 
-// The least power of two of groups that have room for so many pairs.
+// The least number of groups with room for so many pairs: a power of two or, where there are many, three times one.
 fn groups_for(pairs: usize) -> Result<usize, AllocError>
     requires { 0 < pairs }
     ensures room { IfOk result (λ n. pairs ≤ limit (16 * n)) }
 {
-    match ((pairs - 1) / 14 + 1).checked_next_power_of_two() {
-        Some(groups) => Ok(groups),
-        None => Err(AllocError),
-    }
-}
-
-// As many groups as a table that is full of so many pairs grows to: a power of two or, where there are many, three times one.
-fn groups_after(pairs: usize) -> Result<usize, AllocError>
-    ensures room { IfOk result (λ n. pairs < limit (16 * n)) }
-{
-    let needed = pairs / 14 + 1;
+    let needed = (pairs - 1) / 14 + 1;
     let Some(power) = needed.checked_next_power_of_two() else {
         return Err(AllocError);
     };
@@ -147,7 +137,7 @@ impl<K, V> Table<K, V> {
         self.rehash(groups_for(wanted)?, hasher)
     }
 
-    /// Makes room for one more pair in a full table: twice the slots or, in a large one, half or a third as many more.
+    /// Makes room for one more pair in a full table.
     #[cold]
     #[inline(never)]
     pub fn grow<S: BuildHasher>(&mut self, hasher: &S) -> Result<(), AllocError>
@@ -159,10 +149,10 @@ impl<K, V> Table<K, V> {
         ensures ok { OnOk result (self.new.len < limit (slots_in self.new)) }
         ensures err { OnErr result (self.new ≡ self.old) }
     {
-        self.rehash(groups_after(self.len)?, hasher)
+        self.rehash(groups_for(self.len + 1)?, hasher)
     }
 
-    /// Moves the pairs to as few groups of slots as hold them, a power of two and none for no pairs, where there is memory for these.
+    /// Moves the pairs to as few groups of slots as hold them, and to none for no pairs, where there is memory for these.
     pub fn shrink<S: BuildHasher>(&mut self, hasher: &S)
     where
         K: Eq + Hash,

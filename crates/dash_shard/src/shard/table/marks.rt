@@ -12,7 +12,7 @@ pub(super) const EMPTY: u8 = 128;
 pub(super) const REMOVED: u8 = 129;
 
 // A count stays at this once it comes to it, since four bits hold no more.
-const MANY: u64 = 15;
+const MANY: u128 = 15;
 
 // The lowest bit of a mask.
 #[inline(always)]
@@ -25,16 +25,18 @@ pub(super) fn lowest(mask: u16) -> usize
     mask.trailing_zeros() as usize
 }
 
-// The mask without a bit.
+// The lowest bit of a mask, and the mask without it.
 #[inline(always)]
-pub(super) fn without(mask: u16, bit: usize) -> u16
-    requires bound { bit < 16 }
-    requires set { bit_at mask bit ≡ 1 }
-    ensures smaller { result < mask }
-    ensures cleared { bit_at result bit ≡ 0 }
-    ensures kept { (j : ℕ) → j < 16 → (j ≡ bit → ⊥) → bit_at result j ≡ bit_at mask j }
+pub(super) fn split_lowest(mask: u16) -> (usize, u16)
+    requires { 0 < mask }
+    ensures bound { result.0 < 16 }
+    ensures set { bit_at mask result.0 ≡ 1 }
+    ensures first { (j : ℕ) → j < result.0 → bit_at mask j ≡ 0 }
+    ensures smaller { result.1 < mask }
+    ensures cleared { bit_at result.1 result.0 ≡ 0 }
+    ensures kept { (j : ℕ) → j < 16 → (j ≡ result.0 → ⊥) → bit_at result.1 j ≡ bit_at mask j }
 {
-    mask & !(1 << bit)
+    (lowest(mask), mask & (mask - 1))
 }
 
 // Sixteen tags from a slot on.
@@ -152,15 +154,15 @@ pub(super) fn tag(hash: u64) -> u8
 #[inline(always)]
 pub(super) fn class(hash: u64) -> usize
     ensures is { result ≡ class_of hash }
-    ensures below { result < 16 }
+    ensures below { result < 32 }
 {
-    (hash >> 32) as usize % 16
+    (hash >> 32) as usize % 32
 }
 
 // Of the counts of a group, the one of a class.
 #[inline(always)]
-pub(super) fn count_at(counts: u64, class: usize) -> u64
-    requires { class < 16 }
+pub(super) fn count_at(counts: u128, class: usize) -> u128
+    requires { class < 32 }
     ensures { result ≡ count_of counts class }
 {
     (counts >> (4 * class)) % 16
@@ -168,8 +170,8 @@ pub(super) fn count_at(counts: u64, class: usize) -> u64
 
 // The counts of a group, with one more of a class.
 #[inline(always)]
-fn raised(counts: u64, class: usize) -> u64
-    requires { class < 16 }
+fn raised(counts: u128, class: usize) -> u128
+    requires { class < 32 }
     ensures own { IsRaised (count_of counts class) 1 (count_of result class) }
     ensures more { counts ≤ result }
     ensures others { OthersStay class counts result }
@@ -183,8 +185,8 @@ fn raised(counts: u64, class: usize) -> u64
 
 // The counts of a group, with one less of a class.
 #[inline(always)]
-fn lowered(counts: u64, class: usize) -> u64
-    requires class { class < 16 }
+fn lowered(counts: u128, class: usize) -> u128
+    requires class { class < 32 }
     requires some { 0 < count_of counts class }
     ensures own { IsLowered (count_of counts class) 1 (count_of result class) }
     ensures others { OthersStay class counts result }
@@ -199,10 +201,10 @@ fn lowered(counts: u64, class: usize) -> u64
 // Counts a pair of a class at each group that its way goes past.
 #[cold]
 #[inline(never)]
-fn count_past(counts: &mut [u64], home: usize, steps: usize, class: usize)
+fn count_past(counts: &mut [u128], home: usize, steps: usize, class: usize)
     requires home { home < length counts.old }
     requires steps { steps ≤ length counts.old }
-    requires class { class < 16 }
+    requires class { class < 32 }
     ensures len { length counts.new ≡ length counts.old }
     ensures counts { CountsPast (length counts.old) home steps class counts.old counts.new }
 {
@@ -216,7 +218,7 @@ fn count_past(counts: &mut [u64], home: usize, steps: usize, class: usize)
 
 // Counts a pair of a hash that stands so many groups after the first of its way at each group before its own. Most stand in the first.
 #[inline(always)]
-pub(super) fn count_way(counts: &mut [u64], hash: u64, steps: usize)
+pub(super) fn count_way(counts: &mut [u128], hash: u64, steps: usize)
     requires { steps < length counts.old }
     ensures len { length counts.new ≡ length counts.old }
     ensures counts { CountsPast (length counts.old) (hash % length counts.old) steps (class_of hash) counts.old counts.new }
@@ -246,7 +248,7 @@ fn clean_group(tags: &mut [u8], group: usize)
 // marks become empty ones.
 #[inline]
 pub(super) fn uncount_past(
-    counts: &mut [u64],
+    counts: &mut [u128],
     tags: &mut [u8],
     home: usize,
     steps: usize,
@@ -254,7 +256,7 @@ pub(super) fn uncount_past(
 )
     requires home { home < length counts.old }
     requires steps { steps ≤ length counts.old }
-    requires class { class < 16 }
+    requires class { class < 32 }
     requires tags { length tags.old ≡ 16 * length counts.old }
     requires some { (g : ℕ) → g < length counts.old → goes_past (length counts.old) home steps g ≤ count_of (slice_index counts.old g) class }
     requires clean { (g : ℕ) → g < length counts.old → slice_index counts.old g ≡ 0 → IsClean tags.old g }

@@ -41,7 +41,7 @@ fn first_free(free: Option<usize>, row: &[u8; 16], start: usize) -> Option<usize
 // What marks a slot of a group whose pair goes: it is empty unless pairs stand past the group. None does where a slot is empty, and then the
 // counts needn't be read.
 #[inline(always)]
-fn left_mark(tags: &[u8], counts: &[u64], group: usize) -> u8
+fn left_mark(tags: &[u8], counts: &[u128], group: usize) -> u8
     requires group { group < length counts.now }
     requires tags { 16 * group + 16 ≤ length tags.now }
     ensures free { 128 ≤ result }

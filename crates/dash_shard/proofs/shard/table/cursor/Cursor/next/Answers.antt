@@ -25,11 +25,11 @@ loop-self-preserved c =
 pub returns-clause-next : goal.returns-clause-next
 returns-clause-next c =
     let at = c.loop-self.invariant in
-    let lane = c.lowest-lane.ensures in
-    let here = (at.cursor.bits c.lowest-lane.result lane.bound).0 lane.set in
+    let lane = c.split_lowest-lane.ensures in
+    let here = (at.cursor.bits c.split_lowest-lane.result.0 lane.bound).0 lane.set in
     let from = at.position in (
       omega (arith, here.0, from),
       here.1,
       here.2,
-      λ j past below. not-low _ (free-below _ _ _ at.cursor c.lowest-lane.result (omega (arith, lane.bound)) lane.first j (omega (arith, past, from)) below (let within = here.1 in omega (arith, below, within))),
+      λ j past below. not-low _ (free-below _ _ _ at.cursor c.split_lowest-lane.result.0 (omega (arith, lane.bound)) lane.first j (omega (arith, past, from)) below (let within = here.1 in omega (arith, below, within))),
     )
