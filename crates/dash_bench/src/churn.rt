@@ -2,8 +2,8 @@
 
 use crate::Refused;
 use crate::keys::key;
-use dashmap::hash::FixedState;
-use dashmap::shard::Shard;
+use dash_shard::hash::FixedState;
+use dash_shard::shard::Shard;
 use std::alloc::{AllocError, Global};
 use std::fmt;
 use std::rt::Clock;

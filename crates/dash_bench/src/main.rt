@@ -13,8 +13,11 @@ mod texts;
 mod work;
 mod worker;
 
-use dashmap::error::{ConstructError, EntryRefused, ExtendRefused, InsertRefused};
-use dashmap::hash::is_shard_amount;
+use dash_map::extend::ExtendRefused;
+use dash_ref::mapref::entry::EntryRefused;
+use dash_shard::error::ConstructError;
+use dash_shard::hash::is_shard_amount;
+use dash_shard::shard::InsertRefused;
 use lists::Call;
 use run::Measured;
 use std::alloc::{AllocError, Global};

@@ -4,7 +4,7 @@ use crate::Refused;
 use crate::keys::key;
 use crate::run::Measured;
 use crate::worker::share_of;
-use dashmap::DashMap;
+use dash_map::map::DashMap;
 use std::alloc::{AllocError, Global};
 use std::rt::Clock;
 use std::sync::Wait;
@@ -154,28 +154,45 @@ pub fn measure<R: Threads + Wait + Clock + Sync>(
     threads: usize,
     shards: usize,
 ) -> Result<Measured, Refused> {
-    let room = if text == Text::Insert0 { 0 } else { PAIRS };
-    let map = Map::with_capacity_and_shard_amount(alloc, room, shards)?;
-    for number in 0..room as u64 {
-        map.insert(rt, text_of(alloc, number)?, [number; 8])?;
-    }
+    let map = filled(rt, alloc, text, shards)?;
     let mut workers = idle_workers(alloc, threads)?;
     let one = |_: usize, worker: &mut Worker| worker.work(rt, &map, text);
     let start = Instant::now(rt)?;
     thread::for_each_mut(rt, workers.as_mut_slice(), threads.max(1), &one);
     let nanoseconds = start.elapsed(rt)?.as_nanos();
-    let mut all = Tally::new();
-    for worker in workers.iter() {
-        let done = worker.done?;
-        all.steps = all.steps.wrapping_add(done.steps);
-        all.sum = all.sum.wrapping_add(done.sum);
-    }
+    let all = sum_up(workers.as_slice())?;
     Ok(Measured {
         nanoseconds,
         steps: all.steps,
         sum: all.sum,
         bytes: 0,
     })
+}
+
+// The map of a work: with all texts, or where they are inserted without room.
+fn filled<R: Wait + Clock>(
+    rt: &R,
+    alloc: Global,
+    text: Text,
+    shards: usize,
+) -> Result<Map, Refused> {
+    let room = if text == Text::Insert0 { 0 } else { PAIRS };
+    let map = Map::with_capacity_and_shard_amount(alloc, room, shards)?;
+    for number in 0..room as u64 {
+        map.insert(rt, text_of(alloc, number)?, [number; 8])?;
+    }
+    Ok(map)
+}
+
+// What all workers came to.
+fn sum_up(workers: &[Worker]) -> Result<Tally, Refused> {
+    let mut all = Tally::new();
+    for worker in workers {
+        let done = worker.done?;
+        all.steps = all.steps.wrapping_add(done.steps);
+        all.sum = all.sum.wrapping_add(done.sum);
+    }
+    Ok(all)
 }
 
 // A worker for each thread, which has done nothing yet.

@@ -5,7 +5,7 @@
 use crate::Refused;
 use crate::keys::{Keys, Random, key};
 use crate::work::{ABSENT, HOLDS, PAIRS, STEPS, Work};
-use dashmap::DashMap;
+use dash_map::map::DashMap;
 use std::hash::BuildHasher;
 use std::rt::Clock;
 use std::sync::Wait;

@@ -6,11 +6,9 @@ ghost use Rattle.std.specs.Prelude.{◌<◌, IfOk};
 use dashmap::DashMap;
 use std::rt::Clock;
 use std::sync::Wait;
-use std::thread;
 
 fn main(rt: HostRuntime) -> anyhow::Result<()> {
-    let processors = thread::available_parallelism(&rt)?.get();
-    let seen = DashMap::new(rt.alloc(), processors)?;
+    let seen = DashMap::of(&rt)?;
     for page in [7, 8, 7] {
         println!(rt; "page {page}: {}", count(&rt, &seen, page)?)?;
     }
