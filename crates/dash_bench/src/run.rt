@@ -79,32 +79,32 @@ pub fn measure<R: Threads + Wait + Clock + Files + AllocGlobal + RandomSource + 
     match work.form() {
         Form::Mixed => {
             let map = DashMap::with_capacity_and_shard_amount(alloc, room, shards)?;
-            measure_by(rt, map, Mixed, work, threads, before)
+            measure_by(rt, &map, Mixed, work, threads, before)
         }
         Form::Masked => {
             let map = DashMap::with_capacity_and_shard_amount(alloc, room, shards)?;
-            measure_by(rt, map, Masked, work, threads, before)
+            measure_by(rt, &map, Masked, work, threads, before)
         }
         Form::Random => {
             let hasher = RandomState::new(rt)?;
             let map = DashMap::with_capacity_and_hasher_and_shard_amount(
                 alloc, room, hasher, shards,
             )?;
-            measure_by(rt, map, Mixed, work, threads, before)
+            measure_by(rt, &map, Mixed, work, threads, before)
         }
         Form::Zero => {
             let map = DashMap::with_capacity_and_hasher_and_shard_amount(
                 alloc, room, ZeroState, shards,
             )?;
-            measure_by(rt, map, Mixed, work, threads, before)
+            measure_by(rt, &map, Mixed, work, threads, before)
         }
     }
 }
 
 // Fills a map, and takes the time that so many threads need for the work with these keys. The process had `before` bytes without the map.
-fn measure_by<R, D: Keys, S: BuildHasher + Send + Sync + Drop>(
+fn measure_by<R, D: Keys, S: BuildHasher + Send + Sync>(
     rt: &R,
-    map: Map<S>,
+    map: &Map<S>,
     keys: D,
     work: Work,
     threads: usize,
@@ -121,7 +121,7 @@ where
     // Each thread counts on its own stack: workers share cache lines.
     let one = |_: usize, worker: &mut Worker<D>| {
         let mut own = *worker;
-        own.work(rt, &map, work);
+        own.work(rt, map, work);
         *worker = own;
     };
     let start = Instant::now(rt)?;

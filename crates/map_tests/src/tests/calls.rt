@@ -6,6 +6,7 @@ use dash_shard::error::TryReserveError;
 use dash_shard::hash::{FixedState, PlaceState, ZeroState};
 use std::alloc::{AllocError, Global};
 use std::hash::{BuildHasher, Hash, RandomState};
+use std::process::Abort;
 use std::rt::Clock;
 use std::sync::{Arc, Wait};
 use std::thread;
@@ -212,15 +213,20 @@ fn names_with_numbers(rt: HostRuntime) {
     for (key, value) in [("Wins", 5), ("Losses", 3), ("Goals", 8)] {
         has(&rt, &map, key, Some(value));
     }
-    for (name, age) in [("Albin", 15), ("Jones", 22), ("Charlie", 27)] {
-        put(&rt, &map, name, age);
-    }
-    is(&rt, keep_above(&rt, &map, 20), 2);
-    has(&rt, &map, "Albin", None);
-    put(&rt, &map, "Johnny", 21);
-    for (name, age) in [("Jones", 22), ("Charlie", 27), ("Johnny", 21)] {
-        is(&rt, map.remove(&rt, &name), Some((name, age)));
-    }
+    names_with_ages(&rt, &map);
     map.shrink_to_fit(&rt);
     is(&rt, (map.len(&rt), map.capacity(&rt)), (0, 0));
+}
+
+// Who is older than twenty stays until he is removed.
+fn names_with_ages<R: Abort + Wait + Clock>(rt: &R, map: &DashMap<&str, u64>) {
+    for (name, age) in [("Albin", 15), ("Jones", 22), ("Charlie", 27)] {
+        put(rt, map, name, age);
+    }
+    is(rt, keep_above(rt, map, 20), 2);
+    has(rt, map, "Albin", None);
+    put(rt, map, "Johnny", 21);
+    for (name, age) in [("Jones", 22), ("Charlie", 27), ("Johnny", 21)] {
+        is(rt, map.remove(rt, &name), Some((name, age)));
+    }
 }

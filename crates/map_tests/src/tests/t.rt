@@ -64,10 +64,15 @@ fn calls_on_all<R: Abort + Wait + Clock, M: Map<u64, u64, PlaceState>>(rt: &R, m
     is(rt, hasher.hash_one(&2u64), 1 << 56);
 }
 
+// All calls, on a map of four shards without pairs.
+fn calls<R: Abort + Wait + Clock, M: Map<u64, u64, PlaceState>>(rt: &R, map: &M) {
+    calls_on_pairs(rt, map);
+    calls_that_hold(rt, map);
+    calls_on_all(rt, map)
+}
+
 #[test]
 fn every_call(rt: HostRuntime) {
     let map = map_of_four(&rt, rt.alloc());
-    calls_on_pairs(&rt, &map);
-    calls_that_hold(&rt, &map);
-    calls_on_all(&rt, &map)
+    calls(&rt, &map)
 }
