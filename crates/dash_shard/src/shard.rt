@@ -213,35 +213,9 @@ impl<K: Eq + Hash, V, S: BuildHasher> Shard<K, V, S> {
         ensures inserts { Inserts K.eq self.old self.new key value result }
         ensures lawful { IsShard ⟦<Self as Keyed>⟧.by self.new }
     {
-        let Some(place) = self.table.look_home(hash, &key) else {
-            return self.insert_past(hash, key, value);
-        };
+        let place = self.table.find_or_place(hash, &key);
         if let Some(slot) = place.position {
             return Ok(Some(self.table.replace(slot, value)));
-        }
-        if self.table.len() < self.table.capacity() {
-            self.table.fill(place.free, place.steps, hash, key, value);
-            return Ok(None);
-        }
-        self.insert_past(hash, key, value)
-    }
-
-    // As `insert_hashed`, where the first group of the hash's way is full, or the table is. It takes the key itself, so that the callers'
-    // stays in registers.
-    #[cold]
-    #[inline(never)]
-    fn insert_past(&mut self, hash: u64, key: K, value: V) -> Result<Option<V>, InsertRefused<K, V>>
-    where
-        K: Drop,
-        V: Drop,
-        requires hash { hash ≡ ⟦<Self as Keyed>⟧.by.hash self.old.hasher key }
-        requires route { Routes ⟦<Self as Keyed>⟧.by self.old key }
-        ensures inserts { Inserts K.eq self.old self.new key value result }
-        ensures lawful { IsShard ⟦<Self as Keyed>⟧.by self.new }
-    {
-        let place = self.table.find_or_place(hash, &key);
-        if let Some(at) = place.position {
-            return Ok(Some(self.table.replace(at, value)));
         }
         if self.table.len() < self.table.capacity() {
             self.table.fill(place.free, place.steps, hash, key, value);

@@ -1,5 +1,5 @@
 -- An open table of pairs: slots in groups of sixteen, found by their marks.
-use Rattle.std.specs.Prelude.{ℕ, ◌≡◌, ◌⊎◌, ◌+◌, ◌-◌, ◌*◌, ◌/◌, ◌%◌, ◌<◌, ◌≤◌, true, false, Bool, List, [], length, slice_index, slice_set, Option, Some, None, IsSome, IfSome, IfNone}
+use Rattle.std.specs.Prelude.{ℕ, ◌≡◌, ◌⊎◌, ◌+◌, ◌-◌, ◌*◌, ◌/◌, ◌%◌, ◌<◌, ◌≤◌, true, false, Bool, List, [], length, slice_index, slice_set, Option, Some, None, IsSome}
 use Rattle.std.specs.Borrow.{Bor}
 use Rattle.std.specs.Cmp.{IsEquivalence}
 use Rattle.std.specs.Hash.{HashWrites}
@@ -14,7 +14,6 @@ use Rattle.dash_shard.specs.Shard.{ShardState, IsShard, shard_len, slot, taken}
 use Rattle.dash_shard.specs.Search.{class_of, groups}
 use Rattle.dash_shard.specs.inner.Marks.{step_to, group_at, IsFull, IsMarked, IsPlace}
 use Rattle.dash_shard.specs.declared.shard.table.Table.{Table}
-use Rattle.dash_shard.specs.declared.shard.table.places.Place.{Place}
 
 -- how many pairs there may be in n slots: seven in eight
 abbrev pub limit : ℕ → ℕ
@@ -100,13 +99,6 @@ module _ {K V : Type 0} where
     pub first : g ≡ hash % groups_in t
     pub full : IsFull t.tags.items g
     pub missed : (j : ℕ) (p : K × V) → j < 16 → slot (pairs_in t) (16 * g + j) ≡ Some p → slice_index (hashes_in t) (16 * g + j) ≡ hash → eq p.0 k ≡ false
-
-  -- where the pair of this hash stands whose key is equal, or that there is none, and where it may be put if there is room
-  pub record FindsPlace (eq : K → K → Bool) (t : Table K V) (hash : ℕ) (k : K) (at : Place) : Type 0 where
-    pub found : IfSome at.position (Holds eq (pairs_in t) k)
-    pub absent : IfNone at.position (IsAbsent eq t hash k)
-    pub free : IfNone at.position (t.len < limit (slots_in t) → IsSpot t hash at.free)
-    pub steps : IfNone at.position (at.steps ≡ steps_in t hash at.free)
 
   -- the taken slot i has the pair q, whose key has the same hash
   pub record IsRewritten (i : ℕ) (q : K × V) (old new : Table K V) : Type 0 where

@@ -82,7 +82,7 @@ impl<K, V> Table<K, V> {
         })
     }
 
-    /// An empty table with room for `capacity` pairs.
+    /// An empty table with room for `capacity` pairs, of a power of two of groups, among which a hash's first group is found soonest.
     pub fn with_capacity(alloc: Global, capacity: usize) -> Result<Self, AllocError>
         ensures table { IfOk result IsTable }
         ensures empty { IfOk result (λ t. taken (pairs_in t) ≡ []) }
@@ -92,7 +92,10 @@ impl<K, V> Table<K, V> {
         if capacity == 0 {
             return Ok(Table::new(alloc));
         }
-        Table::with_groups(alloc, groups_for(capacity)?)
+        let Some(count) = groups_for(capacity)?.checked_next_power_of_two() else {
+            return Err(AllocError);
+        };
+        Table::with_groups(alloc, count)
     }
 
     // Moves the pairs to a table of so many groups, which takes memory.

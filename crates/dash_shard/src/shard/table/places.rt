@@ -1,7 +1,7 @@
 //! The places of a table: which one a pair is put on, and what is left where one goes.
-ghost use Rattle.std.specs.Prelude.{ℕ, ◌≡◌, ◌+◌, ◌*◌, ◌/◌, ◌%◌, ◌^◌, ◌<◌, ◌≤◌, Some, None, IfSome, IfNone, IfOk, IfErr, OnErr, IsSome, length, slice_set, slice_index};
+ghost use Rattle.std.specs.Prelude.{ℕ, ◌≡◌, ◌+◌, ◌*◌, ◌/◌, ◌^◌, ◌<◌, ◌≤◌, Some, None, IfSome, IfNone, IfOk, IfErr, OnErr, IsSome, length, slice_set, slice_index};
 ghost use Rattle.dash_shard.specs.inner.Marks.{IsFull};
-ghost use Rattle.dash_shard.specs.inner.Table.{IsTable, IsSpot, Holds, IsAbsent, FindsPlace, PassesFirst, limit, slots_in, groups_in, pairs_in, hashes_in, steps_in};
+ghost use Rattle.dash_shard.specs.inner.Table.{IsTable, IsSpot, Holds, IsAbsent, PassesFirst, limit, slots_in, groups_in, pairs_in, hashes_in, steps_in};
 ghost use Rattle.dash_shard.specs.Shard.{slot};
 
 use super::marks::{
@@ -55,55 +55,41 @@ fn left_mark(tags: &[u8], counts: &[u128], group: usize) -> u8
 }
 
 impl<K, V> Table<K, V> {
-    /// As `find_or_place`, by the first group of the hash's way alone. None where the pair, or the place, may be in a later one.
-    #[inline(always)]
-    pub fn look_home(&self, hash: u64, key: &K) -> Option<Place>
-    where
-        K: Eq,
-        requires { IsTable self.now }
-        ensures finds { IfSome result (FindsPlace K.eq self.now hash key.now) }
-        ensures passes { IfNone result (PassesFirst K.eq self.now hash key.now (hash % groups_in self.now)) }
-    {
-        let count = self.counts.len();
-        if count == 0 {
-            return Some(Place {
-                position: None,
-                free: 0,
-                steps: 0,
-            });
-        }
-        let first = home(hash, count);
-        let seen = probe(group_of(&self.tags, first), tag(hash));
-        if let Some(position) = find_in(&self.slots, 16 * first, seen.matches, key) {
-            return Some(Place {
-                position: Some(position),
-                free: 0,
-                steps: 0,
-            });
-        }
-        if seen.empty == 0 {
-            return None;
-        }
-        Some(Place {
-            position: None,
-            free: 16 * first + lowest(seen.empty),
-            steps: 0,
-        })
-    }
-
     /// Looks for the pair of this hash whose key is equal, and for the first place on its way where it may be put, in one pass.
     #[inline(always)]
     pub fn find_or_place(&self, hash: u64, key: &K) -> Place
     where
         K: Eq,
         requires { IsTable self.now }
-        ensures { FindsPlace K.eq self.now hash key.now result }
+        ensures found { IfSome result.position (Holds K.eq (pairs_in self.now) key.now) }
+        ensures absent { IfNone result.position (IsAbsent K.eq self.now hash key.now) }
+        ensures free { IfNone result.position (self.now.len < limit (slots_in self.now) → IsSpot self.now hash result.free) }
+        ensures steps { IfNone result.position (result.steps ≡ steps_in self.now hash result.free) }
     {
-        if let Some(place) = self.look_home(hash, key) {
-            return place;
-        }
         let count = self.counts.len();
+        if count == 0 {
+            return Place {
+                position: None,
+                free: 0,
+                steps: 0,
+            };
+        }
         let first = home(hash, count);
+        let seen = probe(group_of(&self.tags, first), tag(hash));
+        if let Some(position) = find_in(&self.slots, 16 * first, seen.matches, key) {
+            return Place {
+                position: Some(position),
+                free: 0,
+                steps: 0,
+            };
+        }
+        if seen.empty != 0 {
+            return Place {
+                position: None,
+                free: 16 * first + lowest(seen.empty),
+                steps: 0,
+            };
+        }
         match self.place_past(hash, key, first) {
             Ok(position) => Place {
                 position: Some(position),
