@@ -277,32 +277,41 @@ impl<K: Eq + Hash, S: BuildHasher> DashSet<K, S> {
     /// It waits until no writer has a shard, for one shard after the other, and holds each for reading while `f` runs over its keys. It
     /// takes no memory, and can't be refused. The original has no such call.
     #[inline]
-    pub fn fold<R: Wait + Clock, T, F: FnMut(T, &K) -> T>(&self, rt: &R, first: T, mut f: F) -> T
+    pub fn fold<R: Wait + Clock, T, F: FnMut(T, &K) -> T>(&self, rt: &R, first: T, f: F) -> T
         requires { MayFoldKeys F.FnMut f first }
         ensures { SawShards ⟦<Self as Keyed>⟧.by self.now (λ a. FoldsKeys F.FnMut f first (keys_of (contents a)) result) }
     {
-        self.inner.fold(
+        let (folded, _) = self.inner.fold(
             rt,
-            first,
-            |folded: T, key: &K, _: &()| -> T
-                requires { F.pre f folded key }
-                ensures { F.step f.entry folded key.entry result f.exit }
-            { f(folded, key) },
-        )
+            (first, f),
+            |went: (T, F), key: &K, _: &()| -> (T, F)
+                requires { F.pre went.1 went.0 key }
+                ensures { F.step went.1 went.0 key.entry result.0 result.1 }
+            {
+                let (folded, mut f) = went;
+                let folded = f(folded, key);
+                (folded, f)
+            },
+        );
+        folded
     }
 
     /// Calls `f` at each key. It waits and holds as `fold` does.
     #[inline]
-    pub fn for_each<R: Wait + Clock, F: FnMut(&K)>(&self, rt: &R, mut f: F)
+    pub fn for_each<R: Wait + Clock, F: FnMut(&K)>(&self, rt: &R, f: F)
         requires { MayVisitKeys F.FnMut f }
         ensures { SawShards ⟦<Self as Keyed>⟧.by self.now (λ a. VisitsKeys F.FnMut f (keys_of (contents a))) }
     {
-        self.inner.for_each(
+        self.inner.fold(
             rt,
-            |key: &K, _: &()|
+            f,
+            |mut f: F, key: &K, _: &()| -> F
                 requires { F.pre f key }
-                ensures { F.step f.entry key.entry tt f.exit }
-            { f(key) },
+                ensures { F.step f key.entry tt result }
+            {
+                f(key);
+                f
+            },
         );
     }
 

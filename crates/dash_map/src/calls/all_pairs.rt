@@ -88,17 +88,20 @@ impl<K: Eq + Hash, V, S: BuildHasher> DashMap<K, V, S> {
 
     /// Calls `f` at each pair. It waits and holds as `fold` does.
     #[inline]
-    pub fn for_each<R: Wait + Clock, F: FnMut(&K, &V)>(&self, rt: &R, mut f: F)
+    pub fn for_each<R: Wait + Clock, F: FnMut(&K, &V)>(&self, rt: &R, f: F)
         requires { MayVisit F.FnMut f }
         ensures { SawShards ⟦<Self as Keyed>⟧.by self.now (λ a. VisitsPairs F.FnMut f (contents a)) }
     {
         self.fold(
             rt,
-            (),
-            |_: (), key: &K, value: &V|
+            f,
+            |mut f: F, key: &K, value: &V| -> F
                 requires { F.pre f key value }
-                ensures { F.step f.entry key.entry value.entry tt f.exit }
-            { f(key, value) },
+                ensures { F.step f key.entry value.entry tt result }
+            {
+                f(key, value);
+                f
+            },
         );
     }
 }

@@ -3,9 +3,9 @@ use Rattle.dash_map.proofs.Folding.{along-inside}
 use Rattle.dash_map.proofs.map.DashMap.for_each.Goals as goal
 
 pub fold-requires : goal.fold-requires
-fold-requires g c = λ ps to k v went. c.requires ps to.0.0.now k v (along-inside (FoldsPair _) (VisitsPair g.F.FnMut) (λ p. p.0.0.now) (λ p x q turn. (turn.0, turn.1, turn.2, turn.3, turn.4.met.1)) ps _ to went)
+fold-requires g c = λ ps to k v went. c.requires ps to.1 k v (along-inside (FoldsPair _) (VisitsPair g.F.FnMut) (λ p. p.1) (λ p x q turn. (turn.0, turn.1, turn.2, turn.3, turn.4.met)) ps _ to went)
 
 pub returns : goal.returns
 returns g c =
     let seen = c.fold.ensures in
-    (seen.0, seen.1, (seen.2.0.0.now, along-inside (FoldsPair _) (VisitsPair g.F.FnMut) (λ p. p.0.0.now) (λ p x q turn. (turn.0, turn.1, turn.2, turn.3, turn.4.met.1)) _ _ _ seen.2.1))
+    (seen.0, seen.1, (c.fold.result, along-inside (FoldsPair _) (VisitsPair g.F.FnMut) (λ p. p.1) (λ p x q turn. (turn.0, turn.1, turn.2, turn.3, turn.4.met)) _ _ _ seen.2.1))
