@@ -1,50 +1,74 @@
 -- A closure along pairs, one call after the other.
-use Rattle.std.proofs.Common.{Bor, ◌≡◌, List, [], ◌∷◌, ◌++◌, flat_map, append-nil, refl, sym, ap, subst, ◌∙◌}
+use Rattle.std.proofs.Common.{Bor, ◌≡◌, ℕ, ◌+◌, List, [], ◌∷◌, ◌++◌, map, flat_map, append-nil, refl, sym, ap, subst, ◌∙◌}
 use Rattle.std.proofs.lemmas.Grind.{flat_map-append}
-use Rattle.std.specs.Fn.{Mut, Called}
+use Rattle.std.proofs.lemmas.List.{map-append}
+use Rattle.std.specs.Fn.{Mut}
 use Rattle.std.specs.List.{FoldsTo}
-use Rattle.dash_shard.specs.Shard.{ShardState, pairs}
-use Rattle.dash_map.specs.Folds.{FoldsPair, MayFold}
+use Rattle.dash_lock.specs.Lock.{FoundBehind}
+use Rattle.dash_shard.specs.Hashing.{KeyHash}
+use Rattle.dash_shard.specs.Shard.{ShardState, IsTagged, pairs}
+use Rattle.dash_map.specs.Folds.{FoldsPair, FoldsKey, MayFold, MayFoldKeys, MayVisit, MayVisitKeys, VisitsPair, VisitsKey}
+use Rattle.dash_map.specs.Map.{MapState}
+use Rattle.dash_map.proofs.Seeing.{SeenSo, seen-more}
 
--- what is so of each turn is so of turns along two lists
-pub along-append : {P A : Type 0} (R : P → A → P → Type 0) (xs ys : List A) (p q r : P) → FoldsTo R p xs q → FoldsTo R q ys r → FoldsTo R p (xs ++ ys) r
-along-append R [] ys p q r h k = subst (λ s. FoldsTo R s ys r) (sym h) k
-along-append R (x ∷ xs) ys p q r h k = (h.0, h.1, along-append R xs ys h.0 q r h.2 k)
+-- the keys of pairs
+abbrev pub keys_of : {K V : Type 0} → List (K × V) → List K
+keys_of ps = map (λ p. p.0) ps
 
--- turns of a closure round another are turns of that one
-pub along-inside : {P P' A : Type 0} (R : P → A → P → Type 0) (R' : P' → A → P' → Type 0) (inner : P → P') → ((p : P) (x : A) (q : P) → R p x q → R' (inner p) x (inner q))
-    → (xs : List A) (p q : P) → FoldsTo R p xs q → FoldsTo R' (inner p) xs (inner q)
-along-inside R R' inner did [] p q h = ap inner h
-along-inside R R' inner did (x ∷ xs) p q h = (inner h.0, did p x h.0 h.1, along-inside R R' inner did xs h.0 q h.2)
+module _ {P A : Type 0} (R : P → A → P → Type 0) where
+  -- what is so of each turn is so of turns along two lists
+  pub along-append : (xs ys : List A) (p q r : P) → FoldsTo R p xs q → FoldsTo R q ys r → FoldsTo R p (xs ++ ys) r
+  along-append [] ys p q r h k = subst (λ s. FoldsTo R s ys r) (sym h) k
+  along-append (x ∷ xs) ys p q r h k = (h.0, h.1, along-append xs ys h.0 q r h.2 k)
 
-module _ {F K V T : Type 0} (g : Mut F (T × (Bor K × (Bor V × Unit {0}))) T) (first : F × T) (all : List (K × V)) where
-  -- the calls so far, and the pairs that are left to come: whatever calls follow along these, all go along all pairs
-  pub record Folding (left : List (K × V)) (to : F × T) : Type 0 where
-    pub ready : MayFold g to.0 to.1
-    pub goes : (last : F × T) → FoldsTo (FoldsPair g) to left last → FoldsTo (FoldsPair g) first all last
+  -- Q is so of whatever turns lead to from there
+  abbrev pub Ready : (P → Type 0) → P → Type 0
+  Ready Q p = (xs : List A) (to : P) → FoldsTo R p xs to → Q to
 
-  pub folding-first : MayFold g first.0 first.1 → (left : List (K × V)) → left ≡ all → Folding left first
-  folding-first may left e = record { ready = may; goes = λ last h. subst (λ l. FoldsTo (FoldsPair g) first l last) e h }
+  module _ (Q : P → Type 0) (first : P) (all : List A) where
+    -- the turns so far, and the items that are left to come: whatever turns follow along these, all go along all items
+    pub record Going (left : List A) (to : P) : Type 0 where
+      pub ready : Ready Q to
+      pub goes : (last : P) → FoldsTo R to left last → FoldsTo R first all last
 
-  pub folding-next : (left : List (K × V)) (to : F × T) → Folding left to → (k : Bor K) (v : Bor V) (rest : List (K × V)) → left ≡ (k.now, v.now) ∷ rest
-      → (u : T) (f : F) → Called g to.0 (to.1, (k, (v, tt))) u f → Folding rest (f, u)
-  folding-next left to so k v rest e u f called =
-      let turn : FoldsPair g to (k.now, v.now) (f, u) = (k, v, refl, refl, called) in
-      record {
-        ready = λ ps next j w h. so.ready ((k.now, v.now) ∷ ps) next j w ((f, u), turn, h);
-        goes = λ last h. so.goes last (subst (λ l. FoldsTo (FoldsPair g) to l last) (sym e) ((f, u), turn, h));
-      }
+    pub going-first : Ready Q first → (left : List A) → left ≡ all → Going left first
+    going-first may left e = record { ready = may; goes = λ last h. subst (λ l. FoldsTo R first l last) e h }
 
-  pub folding-last : (left : List (K × V)) (to : F × T) → Folding left to → left ≡ [] → FoldsTo (FoldsPair g) first all to
-  folding-last left to so e = so.goes to (subst (λ l. FoldsTo (FoldsPair g) to l to) (sym e) refl)
+    pub going-next : (left : List A) (to : P) → Going left to → (x : A) (rest : List A) → left ≡ x ∷ rest → (next : P) → R to x next → Going rest next
+    going-next left to so x rest e next turn = record {
+      ready = λ xs last h. so.ready (x ∷ xs) last (next, turn, h);
+      goes = λ last h. so.goes last (subst (λ l. FoldsTo R to l last) (sym e) (next, turn, h));
+    }
 
--- a closure that may be called along any pairs may go on so
-pub may-go-on : {F K V T : Type 0} (g : Mut F (T × (Bor K × (Bor V × Unit {0}))) T) (f : F) (t : T) (ps : List (K × V)) (to : F × T) → MayFold g f t → FoldsTo (FoldsPair g) (f, t) ps to → MayFold g to.0 to.1
-may-go-on g f t ps to may h = λ qs next k v more. may (ps ++ qs) next k v (along-append (FoldsPair g) ps qs (f, t) to next h more)
+    pub going-last : (left : List A) (to : P) → Going left to → left ≡ [] → FoldsTo R first all to
+    going-last left to so e = so.goes to (subst (λ l. FoldsTo R to l to) (sym e) refl)
 
--- along the pairs of one shard more
-pub along-more : {F K V T S : Type 0} (g : Mut F (T × (Bor K × (Bor V × Unit {0}))) T) (p q r : F × T) (row : List (ShardState K V S)) (s : ShardState K V S)
-    → FoldsTo (FoldsPair g) p (flat_map pairs row) q → FoldsTo (FoldsPair g) q (pairs s) r → FoldsTo (FoldsPair g) p (flat_map pairs (row ++ s ∷ [])) r
-along-more g p q r row s h more =
-    subst (λ l. FoldsTo (FoldsPair g) p l r) (sym (flat_map-append pairs row (s ∷ []) ∙ ap (λ l. flat_map pairs row ++ l) (append-nil (pairs s))))
-    (along-append (FoldsPair g) (flat_map pairs row) (pairs s) p q r h more)
+-- Turns along the items of shards that were seen, each as it stood when it was held.
+module _ {K V S P A : Type 0} (h : KeyHash K S) (m : MapState S) (R : P → A → P → Type 0) (items : ShardState K V S → List A) (first : P) where
+  -- of the shards in front of n
+  abbrev pub Along : ℕ → P → Type 0
+  Along n to = SeenSo h m n (λ row. FoldsTo R first (flat_map items row) to)
+
+  -- and of one shard more
+  pub along-shard : (n : ℕ) (q r : P) → Along n q → (s : ShardState K V S) → IsTagged h m.hasher m.amount n s → FoundBehind s → FoldsTo R q (items s) r → Along (n + 1) r
+  along-shard n q r so s tagged found turns =
+      let more = flat_map-append items so.0 (s ∷ []) ∙ ap (λ l. flat_map items so.0 ++ l) (append-nil (items s)) in
+      seen-more h m _ n so s tagged found (subst (λ l. FoldsTo R first l r) (sym more) (along-append R (flat_map items so.0) (items s) first q r so.2 turns))
+
+-- the keys of the pairs of some shards
+pub keys-flat : {K V S : Type 0} (row : List (ShardState K V S)) → flat_map (λ s. keys_of (pairs s)) row ≡ keys_of (flat_map pairs row)
+keys-flat [] = refl
+keys-flat (s ∷ row) = ap (λ l. keys_of (pairs s) ++ l) (keys-flat row) ∙ sym (map-append (λ p. p.0) (pairs s) (flat_map pairs row))
+
+-- a closure that may be called along any items may go on so
+pub fold-on : {F K V T : Type 0} (g : Mut F (T × (Bor K × (Bor V × Unit {0}))) T) (p q : F × T) (ps : List (K × V)) → MayFold g p.0 p.1 → FoldsTo (FoldsPair g) p ps q → MayFold g q.0 q.1
+fold-on g p q ps may h = λ qs next k v more. may (ps ++ qs) next k v (along-append (FoldsPair g) ps qs p q next h more)
+
+pub visit-on : {F K V : Type 0} (g : Mut F (Bor K × (Bor V × Unit {0})) (Unit {0})) (p q : F) (ps : List (K × V)) → MayVisit g p → FoldsTo (VisitsPair g) p ps q → MayVisit g q
+visit-on g p q ps may h = λ qs next k v more. may (ps ++ qs) next k v (along-append (VisitsPair g) ps qs p q next h more)
+
+pub fold-keys-on : {F K T : Type 0} (g : Mut F (T × (Bor K × Unit {0})) T) (p q : F × T) (ks : List K) → MayFoldKeys g p.0 p.1 → FoldsTo (FoldsKey g) p ks q → MayFoldKeys g q.0 q.1
+fold-keys-on g p q ks may h = λ js next k more. may (ks ++ js) next k (along-append (FoldsKey g) ks js p q next h more)
+
+pub visit-keys-on : {F K : Type 0} (g : Mut F (Bor K × Unit {0}) (Unit {0})) (p q : F) (ks : List K) → MayVisitKeys g p → FoldsTo (VisitsKey g) p ks q → MayVisitKeys g q
+visit-keys-on g p q ks may h = λ js next k more. may (ks ++ js) next k (along-append (VisitsKey g) ks js p q next h more)

@@ -1,9 +1,9 @@
 //! Lists of copies of a map's pairs, and what a closure makes of them.
-ghost use Rattle.std.specs.Prelude.{IfOk};
+ghost use Rattle.std.specs.Prelude.{IfOk, map};
 ghost use Rattle.std.specs.List.{FoldsTo};
 ghost use Rattle.dash_map.specs.Alone.{IsAlone};
 ghost use Rattle.dash_map.specs.Behind.{SawShards};
-ghost use Rattle.dash_map.specs.Folds.{FoldsPair, MayFold};
+ghost use Rattle.dash_map.specs.Folds.{FoldsPair, FoldsKey, MayFold, MayFoldKeys, MayVisit, MayVisitKeys, VisitsPair, VisitsKey};
 ghost use Rattle.dash_map.specs.Pairs.{CopiesPairs};
 
 use crate::alone::Alone;
@@ -32,6 +32,47 @@ pub(crate) fn fold_pairs<K, V, T, F: FnMut(T, &K, &V) -> T>(
         folded = f(folded, key, value);
     }
     (folded, f)
+}
+
+// The same of their keys.
+#[inline]
+pub(crate) fn fold_keys_of<K, V, T, F: FnMut(T, &K) -> T>(
+    pairs: Iter<'_, K, V>,
+    first: T,
+    mut f: F,
+) -> (T, F)
+    requires { MayFoldKeys F.FnMut f first }
+    ensures { FoldsTo (FoldsKey F.FnMut) (f, first) (map (λ p. p.0) pairs.entry) (result.1, result.0) }
+{
+    let mut folded = first;
+    for (key, _) in pairs {
+        folded = f(folded, key);
+    }
+    (folded, f)
+}
+
+// Calls `f` at each of these pairs in turn, and answers it as that leaves it.
+#[inline]
+pub(crate) fn visit_pairs<K, V, F: FnMut(&K, &V)>(pairs: Iter<'_, K, V>, mut f: F) -> F
+    requires { MayVisit F.FnMut f }
+    ensures { FoldsTo (VisitsPair F.FnMut) f pairs.entry result }
+{
+    for (key, value) in pairs {
+        f(key, value);
+    }
+    f
+}
+
+// The same of their keys.
+#[inline]
+pub(crate) fn visit_keys_of<K, V, F: FnMut(&K)>(pairs: Iter<'_, K, V>, mut f: F) -> F
+    requires { MayVisitKeys F.FnMut f }
+    ensures { FoldsTo (VisitsKey F.FnMut) f (map (λ p. p.0) pairs.entry) result }
+{
+    for (key, _) in pairs {
+        f(key);
+    }
+    f
 }
 
 impl<K: Eq + Hash + Kept + Drop, V: Kept + Drop, S: BuildHasher> Alone<K, V, S> {

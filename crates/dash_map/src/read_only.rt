@@ -161,20 +161,13 @@ impl<K: Eq + Hash, V, S: BuildHasher> ReadOnlyView<K, V, S> {
 
     /// Calls `f` at each pair, in the order of `iter`.
     #[inline]
-    pub fn for_each<F: FnMut(&K, &V)>(&self, f: F)
+    pub fn for_each<F: FnMut(&K, &V)>(&self, mut f: F)
         requires { MayVisit F.FnMut f }
         ensures { VisitsPairs F.FnMut f (contents self.now) }
     {
-        self.fold(
-            f,
-            |mut f: F, key: &K, value: &V| -> F
-                requires { F.pre f key value }
-                ensures { F.step f key.entry value.entry tt result }
-            {
-                f(key, value);
-                f
-            },
-        );
+        for (key, value) in self.iter() {
+            f(key, value);
+        }
     }
 
     /// The keys, in the order of `iter`.

@@ -81,9 +81,3 @@ module _ {C F K : Type 0} (inner : C → F) (T : C → K → Unit {0} → Bool �
     did = record { act = r.did.act; last = inner r.did.last; called = along r.did.act c _ r.did.last r.did.called; does = r.did.does };
     len = r.len;
   }
-
--- turns of a closure on pairs that calls the one inside it on their keys
-pub along-keys : {P P' K : Type 0} (R : P → K × Unit {0} → P → Type 0) (R' : P' → K → P' → Type 0) (inner : P → P') → ((p : P) (x : K × Unit {0}) (q : P) → R p x q → R' (inner p) x.0 (inner q))
-    → (ps : List (K × Unit {0})) (p q : P) → FoldsTo R p ps q → FoldsTo R' (inner p) (keys_of ps) (inner q)
-along-keys R R' inner did [] p q h = ap inner h
-along-keys R R' inner did (x ∷ ps) p q h = (inner h.0, did p x h.0 h.1, along-keys R R' inner did ps h.0 q h.2)

@@ -9,10 +9,11 @@ ghost use Rattle.dash_map.specs.Alone.{contents, len_in, room_in};
 ghost use Rattle.dash_map.specs.AllPairs.{ClearsAlone, RetainsAlone, ShrinksAlone};
 ghost use Rattle.dash_map.specs.Amounts.{IsDefault, IsParallelism, OverflowsDefault};
 ghost use Rattle.dash_map.specs.Behind.{CallableOnPairs, LeavesShard, LeavesShards, LeftShards, Removes, RemovesBy, SawAt, SawShards};
+ghost use Rattle.dash_map.specs.Folds.{FoldsKeys, MayFoldKeys, MayVisitKeys, VisitsKeys};
 ghost use Rattle.dash_map.specs.Gets.{IsGot};
 ghost use Rattle.dash_map.specs.Locks.{IsMap};
 ghost use Rattle.dash_map.specs.Walking.{at_start};
-ghost use Rattle.dash_set.specs.Set.{AnsweredKey, CalledAtKey, CopiesKeys, FoldsKeys, MayAskKey, MayFoldKeys, MayVisitKeys, TakesKey, VisitsKeys, inserted, keys_of, member};
+ghost use Rattle.dash_set.specs.Set.{AnsweredKey, CalledAtKey, CopiesKeys, MayAskKey, TakesKey, inserted, keys_of, member};
 
 use crate::iter_set::{Iter, OwningIter};
 use crate::setref::one::Ref;
@@ -281,19 +282,7 @@ impl<K: Eq + Hash, S: BuildHasher> DashSet<K, S> {
         requires { MayFoldKeys F.FnMut f first }
         ensures { SawShards ⟦<Self as Keyed>⟧.by self.now (λ a. FoldsKeys F.FnMut f first (keys_of (contents a)) result) }
     {
-        let (folded, _) = self.inner.fold(
-            rt,
-            (first, f),
-            |went: (T, F), key: &K, _: &()| -> (T, F)
-                requires { F.pre went.1 went.0 key }
-                ensures { F.step went.1 went.0 key.entry result.0 result.1 }
-            {
-                let (folded, mut f) = went;
-                let folded = f(folded, key);
-                (folded, f)
-            },
-        );
-        folded
+        self.inner.fold_keys(rt, first, f)
     }
 
     /// Calls `f` at each key. It waits and holds as `fold` does.
@@ -302,17 +291,7 @@ impl<K: Eq + Hash, S: BuildHasher> DashSet<K, S> {
         requires { MayVisitKeys F.FnMut f }
         ensures { SawShards ⟦<Self as Keyed>⟧.by self.now (λ a. VisitsKeys F.FnMut f (keys_of (contents a))) }
     {
-        self.inner.fold(
-            rt,
-            f,
-            |mut f: F, key: &K, _: &()| -> F
-                requires { F.pre f key }
-                ensures { F.step f key.entry tt result }
-            {
-                f(key);
-                f
-            },
-        );
+        self.inner.for_each_key(rt, f);
     }
 
     /// How many keys there are, saturating at 2^64 - 1. Waits until no writer has a shard, for one shard after the other: others may

@@ -21,7 +21,7 @@ pub use Rattle.dash_map.specs.Alone.{AloneState, contents, IsAlone, KeepsRoom, R
 pub use Rattle.dash_map.specs.AllPairs.{AltersAllAlone, ClearsAlone, RetainsAlone, ShrinksAlone}
 pub use Rattle.dash_map.specs.Amounts.{IsDefault, IsParallelism}
 pub use Rattle.dash_map.specs.Behind.{AreBehind, LeavesShard, LeavesShards, LeftShard, LeftShards, SawAt, SawShard, SawShards, IsShardOf, StandsAt, Removes, RemovesBy, AltersBy}
-pub use Rattle.dash_map.specs.Folds.{FoldsPair, FoldsPairs, MayFold, MayVisit, VisitsPair, VisitsPairs}
+pub use Rattle.dash_map.specs.Folds.{FoldsKey, FoldsKeys, FoldsPair, FoldsPairs, MayFold, MayFoldKeys, MayVisit, MayVisitKeys, VisitsKey, VisitsKeys, VisitsPair, VisitsPairs}
 pub use Rattle.dash_map.specs.Gets.{IsGot, IsGotMut, IsGotEntry}
 pub use Rattle.dash_map.specs.Lends.{with_value_at}
 pub use Rattle.dash_map.specs.Walking.{IterState, StepsOn, GivesPair, FindsEnd, at_start, steps_left}
@@ -34,4 +34,4 @@ pub use Rattle.dash_map.specs.Extend.{Extends, ExtendsBehind, Gains, Gave, HasNo
 pub use Rattle.dash_map.specs.Pairs.{CopiesPairs}
 pub use Rattle.dash_rows.specs.Parallel.{MayMap, Maps, MapsEach}
 pub use Rattle.dash_map.specs.Parallel.{MapsPairs, MayWrite, Writes}
-pub use Rattle.dash_set.specs.Set.{stood, member, inserted, keys_of, members, of_members, CopiesKeys, FoldsKey, FoldsKeys, MapsKeys, MayFoldKeys, MayMapKey, MayVisitKeys, VisitsKey, VisitsKeys}
+pub use Rattle.dash_set.specs.Set.{stood, member, inserted, keys_of, members, of_members, CopiesKeys, MapsKeys, MayMapKey}

@@ -1,13 +1,14 @@
 //! Calls of threads on all pairs of a map that they share: shard after shard, each in its turn held, by what changes pairs for writing.
+ghost use Rattle.std.specs.Prelude.{map};
 ghost use Rattle.std.specs.Map.Calls.{CalledAtPair, TakesPair};
 ghost use Rattle.dash_shard.specs.Each.{CalledOnPair, TakesOnPair};
 ghost use Rattle.dash_map.specs.Alone.{contents};
 ghost use Rattle.dash_map.specs.Behind.{CallableOnPairs, LeavesShards, SawShards};
-ghost use Rattle.dash_map.specs.Folds.{FoldsPairs, MayFold, MayVisit, VisitsPairs};
+ghost use Rattle.dash_map.specs.Folds.{FoldsKeys, FoldsPairs, MayFold, MayFoldKeys, MayVisit, MayVisitKeys, VisitsKeys, VisitsPairs};
 ghost use Rattle.dash_map.specs.AllPairs.{ClearsAlone, ShrinksAlone, RetainsAlone, AltersAllAlone};
 
 use crate::map::DashMap;
-use crate::pairs::fold_pairs;
+use crate::pairs::{fold_keys_of, fold_pairs, visit_keys_of, visit_pairs};
 use dash_shard::keyed::Keyed;
 use std::hash::{BuildHasher, Hash};
 use std::rt::Clock;
@@ -88,20 +89,39 @@ impl<K: Eq + Hash, V, S: BuildHasher> DashMap<K, V, S> {
 
     /// Calls `f` at each pair. It waits and holds as `fold` does.
     #[inline]
-    pub fn for_each<R: Wait + Clock, F: FnMut(&K, &V)>(&self, rt: &R, f: F)
+    pub fn for_each<R: Wait + Clock, F: FnMut(&K, &V)>(&self, rt: &R, mut f: F)
         requires { MayVisit F.FnMut f }
         ensures { SawShards ⟦<Self as Keyed>⟧.by self.now (λ a. VisitsPairs F.FnMut f (contents a)) }
     {
-        self.fold(
-            rt,
-            f,
-            |mut f: F, key: &K, value: &V| -> F
-                requires { F.pre f key value }
-                ensures { F.step f key.entry value.entry tt result }
-            {
-                f(key, value);
-                f
-            },
-        );
+        for idx in 0..self.row.len() {
+            let shard = self.read_shard(rt, idx);
+            f = visit_pairs(shard.iter(), f);
+        }
+    }
+
+    /// As `fold`, of the keys. For the crates here alone.
+    #[inline]
+    pub fn fold_keys<R: Wait + Clock, T, F: FnMut(T, &K) -> T>(&self, rt: &R, first: T, f: F) -> T
+        requires { MayFoldKeys F.FnMut f first }
+        ensures { SawShards {V = V} ⟦<Self as Keyed>⟧.by self.now (λ a. FoldsKeys F.FnMut f first (map (λ p. p.0) (contents a)) result) }
+    {
+        let (mut folded, mut f) = (first, f);
+        for idx in 0..self.row.len() {
+            let shard = self.read_shard(rt, idx);
+            (folded, f) = fold_keys_of(shard.iter(), folded, f);
+        }
+        folded
+    }
+
+    /// As `for_each`, of the keys. For the crates here alone.
+    #[inline]
+    pub fn for_each_key<R: Wait + Clock, F: FnMut(&K)>(&self, rt: &R, mut f: F)
+        requires { MayVisitKeys F.FnMut f }
+        ensures { SawShards {V = V} ⟦<Self as Keyed>⟧.by self.now (λ a. VisitsKeys F.FnMut f (map (λ p. p.0) (contents a))) }
+    {
+        for idx in 0..self.row.len() {
+            let shard = self.read_shard(rt, idx);
+            f = visit_keys_of(shard.iter(), f);
+        }
     }
 }

@@ -1,11 +1,15 @@
-use Rattle.dash_map.specs.Folds.{FoldsPair, VisitsPair}
-use Rattle.dash_map.proofs.Folding.{along-inside}
+use Rattle.std.proofs.Common.{[], refl, ◌∙◌}
+use Rattle.dash_map.proofs.Folding.{going-first, going-next, going-last}
 use Rattle.dash_map.proofs.read_only.ReadOnlyView.for_each.Goals as goal
 
-pub fold-requires : goal.fold-requires
-fold-requires g c = λ ps to k v went. c.requires ps to.1 k v (along-inside (FoldsPair _) (VisitsPair g.F.FnMut) (λ p. p.1) (λ p x q turn. (turn.0, turn.1, turn.2, turn.3, turn.4.met)) ps _ to went)
+pub loop-key-init : goal.loop-key-init
+loop-key-init g c = going-first _ _ _ _ (λ ps to went k v. c.requires ps to k v went) _ (c.into_iter-key-iterator.ensures.into_iter_gives ∙ c.iter-key-items.ensures.pairs)
+
+pub f-requires : goal.f-requires
+f-requires g c = c.loop-key.invariant.ready [] _ refl _ _
+
+pub loop-key-preserved : goal.loop-key-preserved
+loop-key-preserved g c = going-next _ _ _ _ _ c.loop-key.f c.loop-key.invariant (c.in-Some.key.now, c.in-Some.value.now) _ c.in-Some.ensures.steps _ (c.in-Some.key, c.in-Some.value, refl, refl, c.f.ensures)
 
 pub returns : goal.returns
-returns g c =
-    let went = c.fold.ensures in
-    (c.fold.result, along-inside (FoldsPair _) (VisitsPair g.F.FnMut) (λ p. p.1) (λ p x q turn. (turn.0, turn.1, turn.2, turn.3, turn.4.met)) _ _ _ went.1)
+returns g c = (c.loop-key.f, going-last _ _ _ _ _ _ c.loop-key.invariant c.in-None.ensures.steps.0)
