@@ -7,7 +7,7 @@ use Rattle.std.proofs.lemmas.Bool.{cases_eq, true≢false}
 use Rattle.dash_shard.specs.Hashing.{KeyHash}
 use Rattle.dash_lock.specs.Lock.{FoundBehind}
 use Rattle.dash_shard.specs.Shard.{ShardState, IsNextTaken, IsTagged}
-use Rattle.dash_ref.specs.Ref.{RefState}
+use Rattle.dash_ref.specs.Ref.{RefState, Stands}
 use Rattle.dash_map.specs.Walking.{IterState, IsDone, IsEnded, IsOver, SawNone, GivesPair, StepsOn, steps_left}
 use Rattle.dash_map.specs.inner.Walking.{IsWalk, GivesHere, IsLater, HasPassed}
 
@@ -19,6 +19,22 @@ pub more : {K V S : Type 0} (w : IterState K V S) → w.entered ≤ w.base.amoun
 more w within other = omega (arith, within, other)
 
 module _ {K V S : Type 0} (h : KeyHash K S) where
+  -- a step in the shard that is held came to its slot r
+  pub gives-here : (old new : IterState K V S) (item : RefState K V S) (s : ShardState K V S) (r : ℕ) → IsWalk h old → old.held ≡ Some s → new.held ≡ old.held → new.entered ≡ old.entered → IsNextTaken s.slots old.position (Some r)
+      → new.position ≡ r + 1 → item.shard ≡ s → item.position ≡ r → Stands item → GivesHere h old item new
+  gives-here old new item s r is here held entered next position shard at-r stands =
+      let of : (old.entered ≡ s.number + 1) × IsTagged h old.base.hasher old.base.amount s.number s = subst (λ o. IfSome o (λ t. (old.entered ≡ t.number + 1) × IsTagged h old.base.hasher old.base.amount t.number t)) here is.held in
+      record {
+        tagged = subst (λ t. IsTagged h old.base.hasher old.base.amount t.number t) (sym shard) of.1;
+        stands = stands;
+        here = here ∙ ap Some (sym shard);
+        number = of.0 ∙ ap (λ t. t.number + 1) (sym shard);
+        next = subst (λ t. IsNextTaken t.slots old.position (Some item.position)) (sym shard) (subst (λ i. IsNextTaken s.slots old.position (Some i)) (sym at-r) next);
+        held = held ∙ here ∙ ap Some (sym shard);
+        entered = entered;
+        position = position ∙ ap (λ i. i + 1) (sym at-r);
+      }
+
   -- a held shard with no pair from its first slot on was seen without pairs
   held-none : (m : IterState K V S) (e n : ℕ) (o : Option (ShardState K V S)) → IsSome o → IfSome o (λ s. (e ≡ s.number + 1) × IsTagged h m.base.hasher m.base.amount s.number s) → IfSome o FoundBehind → IfSome o (λ s. IsNextTaken s.slots 0 None)
       → e ≡ n + 1 → (s : ShardState K V S) × IsTagged h m.base.hasher m.base.amount n s × FoundBehind s × IsNextTaken s.slots 0 None
