@@ -6,7 +6,6 @@ use core::mem::replace_with;
 use dash_history::gather::{At, GatherError, gather};
 use dash_history::known::Recorded as Known;
 use dash_history::record::map::RecordedMap;
-use dash_shard::error::ConstructError;
 use refusing::keys::{FULL, Key, Value};
 use refusing::trial::{Ended, Outcome};
 use std::alloc::{AllocError, Global};
@@ -64,10 +63,7 @@ fn new<S: BuildHasher + Clone + Drop>(alloc: Global, hasher: S) -> Ended
 {
     match RecordedMap::<Key, Value, S>::new(alloc, hasher, 4, 2).err() {
         None => Ended::answered(FULL, true),
-        Some(refused) => {
-            let lawful = refused == ConstructError::Memory;
-            Ended::refused("ConstructError::Memory (8)", FULL, lawful)
-        }
+        Some(refused) => Ended::not_made(refused),
     }
 }
 

@@ -34,7 +34,7 @@ where
         "set_with_capacity" => set_made(rt, alloc, 0, DashSet::with_capacity(alloc, 20, 1)),
         "memo_new" => match Memo::<Key, Key, Echo>::new(alloc, Echo, 1) {
             Ok(cache) => Ended::answered(FULL, cache.len(rt) == 0),
-            Err(refused) => not_made(refused),
+            Err(refused) => Ended::not_made(refused),
         },
         _ => return take_list(rt, alloc, call),
     })
@@ -79,7 +79,7 @@ fn made_of<R: Wait + Clock>(
 
 fn not_made_of<K: Drop, V: Drop>(refused: FromRefused<K, V>) -> Ended {
     match refused {
-        FromRefused::Construct(refused) => not_made(refused),
+        FromRefused::Construct(refused) => Ended::not_made(refused),
         FromRefused::Pair(_) => Ended::refused("FromRefused::Pair (12)", FULL, true),
     }
 }
@@ -93,7 +93,7 @@ pub fn made<R: Wait + Clock, S: BuildHasher + Drop>(
 ) -> Ended {
     match map {
         Ok(map) => Ended::answered(FULL, has(rt, alloc, &map, pairs)),
-        Err(refused) => not_made(refused),
+        Err(refused) => Ended::not_made(refused),
     }
 }
 
@@ -106,11 +106,6 @@ fn set_made<R: Wait + Clock>(
 ) -> Ended {
     match set {
         Ok(set) => Ended::answered(FULL, set_has(rt, alloc, &set, keys)),
-        Err(refused) => not_made(refused),
+        Err(refused) => Ended::not_made(refused),
     }
-}
-
-fn not_made(refused: ConstructError) -> Ended {
-    let lawful = refused == ConstructError::Memory;
-    Ended::refused("ConstructError::Memory (8)", FULL, lawful)
 }

@@ -1,5 +1,7 @@
 //! What a call shows, and a trial of it: what the call left is looked at, and where it was refused it is taken again.
 
+use crate::keys::FULL;
+use dash_shard::error::ConstructError;
 use std::alloc::AllocError;
 use std::fmt;
 
@@ -79,6 +81,12 @@ impl Ended {
             outcome: Outcome::Refused(name).lawful(lawful),
             pairs,
         }
+    }
+
+    /// A constructor was refused, by this and no other name (8).
+    pub fn not_made(refused: ConstructError) -> Ended {
+        let lawful = refused == ConstructError::Memory;
+        Ended::refused("ConstructError::Memory (8)", FULL, lawful)
     }
 
     /// There is no such call.
