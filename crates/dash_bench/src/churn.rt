@@ -38,15 +38,16 @@ pub struct Churn {
     after: Searches,
 }
 
+impl fmt::Display for Searches {
+    fn fmt<W: fmt::Write>(&self, f: &mut fmt::Formatter<W>) -> fmt::Result {
+        write!(f, "ns {} visits {}", self.nanoseconds, self.visits)
+    }
+}
+
 impl fmt::Display for Churn {
     fn fmt<W: fmt::Write>(&self, f: &mut fmt::Formatter<W>) -> fmt::Result {
         let Churn { keys, fresh, after } = *self;
-        write!(
-            f,
-            "keys {keys} fresh ns {} visits {} ",
-            fresh.nanoseconds, fresh.visits
-        )?;
-        write!(f, "after ns {} visits {}", after.nanoseconds, after.visits)
+        write!(f, "keys {keys} fresh {fresh} after {after}")
     }
 }
 

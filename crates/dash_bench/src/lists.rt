@@ -74,7 +74,7 @@ pub fn measure<R: Threads + Wait + Clock + Sync>(
             map.extend(list)?;
             read(rt, map, call)
         }
-        _ => put(rt, map, list, call, workers),
+        _ => put(rt, &mut map, list, call, workers),
     }
 }
 
@@ -89,7 +89,7 @@ fn pairs(alloc: Global) -> Result<Vec<(u64, u64)>, AllocError> {
 
 fn put<R: Threads + Wait + Clock + Sync>(
     rt: &R,
-    mut map: Map,
+    map: &mut Map,
     list: Vec<(u64, u64)>,
     call: Call,
     workers: usize,

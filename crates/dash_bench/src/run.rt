@@ -1,12 +1,13 @@
 //! A map that is made and filled, the threads that work on it, and the time that they take.
+ghost use Rattle.dash_shard.specs.Hashing.{HashAlike};
 
 use crate::Refused;
 use crate::keys::{Keys, Masked, Mixed};
 use crate::memory::resident;
 use crate::work::{Form, Work};
 use crate::worker::{Map, Worker};
-use dash_map::map::DashMap;
-use dash_shard::hash::ZeroState;
+use dash_shard::hash::{FixedState, ZeroState};
+use dash_shard::keyed::Keyed;
 use std::alloc::{AllocError, Global};
 use std::fmt;
 use std::hash::{BuildHasher, RandomState};
@@ -26,29 +27,31 @@ pub struct Measured {
 }
 
 impl Measured {
-    // Adds what the workers came to.
-    fn add<D: Keys>(&mut self, workers: &[Worker<D>]) -> Result<(), Refused> {
+    // What the workers came to: of the work that asks for it the longest insert, in place of all.
+    fn of<D: Keys>(
+        work: Work,
+        workers: &[Worker<D>],
+        mut nanoseconds: u128,
+        bytes: u64,
+    ) -> Result<Measured, Refused> {
+        let (mut steps, mut sum, mut worst) = (0u64, 0u64, 0u128);
         for worker in workers {
             if let Some(refused) = worker.refused {
                 return Err(refused);
             }
-            self.steps = self.steps.wrapping_add(worker.steps);
-            self.sum = self.sum.wrapping_add(worker.sum);
+            steps = steps.wrapping_add(worker.steps);
+            sum = sum.wrapping_add(worker.sum);
+            worst = worst.max(worker.worst);
         }
-        Ok(())
-    }
-
-    // The longest insert in place of all.
-    fn of_worst<D: Keys>(self, workers: &[Worker<D>]) -> Self {
-        let mut nanoseconds: u128 = 0;
-        for worker in workers {
-            nanoseconds = nanoseconds.max(worker.worst);
+        if work == Work::Worst {
+            (nanoseconds, steps) = (worst, 1);
         }
-        Measured {
+        Ok(Measured {
             nanoseconds,
-            steps: 1,
-            ..self
-        }
+            steps,
+            sum,
+            bytes,
+        })
     }
 }
 
@@ -74,69 +77,74 @@ pub fn measure<R: Threads + Wait + Clock + Files + AllocGlobal + RandomSource + 
     threads: usize,
     shards: usize,
 ) -> Result<Measured, Refused> {
-    let before = resident(rt);
-    let room = work.room();
     match work.form() {
-        Form::Mixed => {
-            let map = DashMap::with_capacity_and_shard_amount(alloc, room, shards)?;
-            measure_by(rt, &map, Mixed, work, threads, before)
-        }
-        Form::Masked => {
-            let map = DashMap::with_capacity_and_shard_amount(alloc, room, shards)?;
-            measure_by(rt, &map, Masked, work, threads, before)
-        }
+        Form::Mixed => measure_by(rt, alloc, FixedState, Mixed, work, threads, shards),
+        Form::Masked => measure_by(rt, alloc, FixedState, Masked, work, threads, shards),
         Form::Random => {
             let hasher = RandomState::new(rt)?;
-            let map = DashMap::with_capacity_and_hasher_and_shard_amount(
-                alloc, room, hasher, shards,
-            )?;
-            measure_by(rt, &map, Mixed, work, threads, before)
+            measure_by(rt, alloc, hasher, Mixed, work, threads, shards)
         }
-        Form::Zero => {
-            let map = DashMap::with_capacity_and_hasher_and_shard_amount(
-                alloc, room, ZeroState, shards,
-            )?;
-            measure_by(rt, &map, Mixed, work, threads, before)
-        }
+        Form::Zero => measure_by(rt, alloc, ZeroState, Mixed, work, threads, shards),
     }
 }
 
-// Fills a map, and takes the time that so many threads need for the work with these keys. The process had `before` bytes without the map.
-fn measure_by<R, D: Keys, S: BuildHasher + Send + Sync>(
+// Measures a work on a map with this hasher and these keys.
+fn measure_by<R, D: Keys, S: BuildHasher + Clone + Send + Sync + Drop>(
     rt: &R,
-    map: &Map<S>,
+    alloc: Global,
+    hasher: S,
     keys: D,
     work: Work,
     threads: usize,
-    before: u64,
+    shards: usize,
 ) -> Result<Measured, Refused>
 where
     R: Threads + Wait + Clock + Files + AllocGlobal + Sync,
     S::Hasher: Send + Sync,
+    requires { (s t : S) → S.is_clone s t → HashAlike ⟦<Map<S> as Keyed>⟧.by s t }
 {
+    let before = resident(rt);
+    let map = Map::with_capacity_and_hasher_and_shard_amount(alloc, work.room(), hasher, shards)?;
+    fill(rt, &map, keys, work)?;
+    let mut workers = idle_workers(alloc, threads, work.pairs(), keys)?;
+    let nanoseconds = timed(rt, &map, work, workers.as_mut_slice())?;
+    let bytes = resident(rt).saturating_sub(before);
+    Measured::of(work, workers.as_slice(), nanoseconds, bytes)
+}
+
+// Puts the pairs that a work wants to be there.
+fn fill<R: Wait + Clock, D: Keys, S: BuildHasher>(
+    rt: &R,
+    map: &Map<S>,
+    keys: D,
+    work: Work,
+) -> Result<(), Refused> {
     for number in 0..work.filled() as u64 {
         map.insert(rt, keys.key(number), number)?;
     }
-    let mut workers = idle_workers(rt.alloc(), threads, work.pairs(), keys)?;
+    Ok(())
+}
+
+// The nanoseconds that the workers need, each on a thread.
+fn timed<R: Threads + Wait + Clock + Sync, D: Keys, S: BuildHasher + Send + Sync>(
+    rt: &R,
+    map: &Map<S>,
+    work: Work,
+    workers: &mut [Worker<D>],
+) -> Result<u128, Refused>
+where
+    S::Hasher: Send + Sync,
+{
     // Each thread counts on its own stack: workers share cache lines.
     let one = |_: usize, worker: &mut Worker<D>| {
         let mut own = *worker;
         own.work(rt, map, work);
         *worker = own;
     };
+    let threads = workers.len().max(1);
     let start = Instant::now(rt)?;
-    thread::for_each_mut(rt, workers.as_mut_slice(), threads.max(1), &one);
-    let mut measured = Measured {
-        nanoseconds: start.elapsed(rt)?.as_nanos(),
-        steps: 0,
-        sum: 0,
-        bytes: resident(rt).saturating_sub(before),
-    };
-    measured.add(workers.as_slice())?;
-    if work == Work::Worst {
-        measured = measured.of_worst(workers.as_slice());
-    }
-    Ok(measured)
+    thread::for_each_mut(rt, workers, threads, &one);
+    Ok(start.elapsed(rt)?.as_nanos())
 }
 
 // A worker for each thread, which has done nothing yet.

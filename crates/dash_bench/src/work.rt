@@ -61,6 +61,43 @@ pub enum Work {
     Memory,
 }
 
+// How a command line names each.
+static NAMES: [(&str, Work); 33] = [
+    ("hit", Work::Hit),
+    ("hit-mask", Work::HitMask),
+    ("random-hit", Work::RandomHit),
+    ("miss", Work::Miss),
+    ("miss-mask", Work::MissMask),
+    ("small-hit", Work::SmallHit),
+    ("small-miss", Work::SmallMiss),
+    ("hostile", Work::Hostile),
+    ("insert", Work::Insert),
+    ("insert0", Work::Insert0),
+    ("insert0-mask", Work::Insert0Mask),
+    ("random-insert0", Work::RandomInsert0),
+    ("worst", Work::Worst),
+    ("remove", Work::Remove),
+    ("remove-mask", Work::RemoveMask),
+    ("random-remove", Work::RandomRemove),
+    ("iterate", Work::Iterate),
+    ("retain", Work::Retain),
+    ("get-mut", Work::GetMut),
+    ("small-update", Work::SmallUpdate),
+    ("small-cycle", Work::SmallCycle),
+    ("alter", Work::Alter),
+    ("entry", Work::Entry),
+    ("contend", Work::Contend),
+    ("hold", Work::Hold),
+    ("wait", Work::Wait),
+    ("read", Work::Read),
+    ("read-mask", Work::ReadMask),
+    ("exchange", Work::Exchange),
+    ("exchange-mask", Work::ExchangeMask),
+    ("grow", Work::Grow),
+    ("grow-mask", Work::GrowMask),
+    ("memory", Work::Memory),
+];
+
 /// How the keys of a work are made, and hashed.
 #[derive(Clone, Copy)]
 pub enum Form {
@@ -76,42 +113,12 @@ pub enum Form {
 
 impl Work {
     pub fn of_name(name: &str) -> Option<Work> {
-        Some(match name {
-            "hit" => Work::Hit,
-            "hit-mask" => Work::HitMask,
-            "random-hit" => Work::RandomHit,
-            "miss" => Work::Miss,
-            "miss-mask" => Work::MissMask,
-            "small-hit" => Work::SmallHit,
-            "small-miss" => Work::SmallMiss,
-            "hostile" => Work::Hostile,
-            "insert" => Work::Insert,
-            "insert0" => Work::Insert0,
-            "insert0-mask" => Work::Insert0Mask,
-            "random-insert0" => Work::RandomInsert0,
-            "worst" => Work::Worst,
-            "remove" => Work::Remove,
-            "remove-mask" => Work::RemoveMask,
-            "random-remove" => Work::RandomRemove,
-            "iterate" => Work::Iterate,
-            "retain" => Work::Retain,
-            "get-mut" => Work::GetMut,
-            "small-update" => Work::SmallUpdate,
-            "small-cycle" => Work::SmallCycle,
-            "alter" => Work::Alter,
-            "entry" => Work::Entry,
-            "contend" => Work::Contend,
-            "hold" => Work::Hold,
-            "wait" => Work::Wait,
-            "read" => Work::Read,
-            "read-mask" => Work::ReadMask,
-            "exchange" => Work::Exchange,
-            "exchange-mask" => Work::ExchangeMask,
-            "grow" => Work::Grow,
-            "grow-mask" => Work::GrowMask,
-            "memory" => Work::Memory,
-            _ => return None,
-        })
+        for (named, work) in &NAMES {
+            if name == *named {
+                return Some(*work);
+            }
+        }
+        None
     }
 
     pub fn form(self) -> Form {

@@ -62,12 +62,22 @@ fn soak<R: Threads + Wait + Clock + Sync + Print + Eprint>(
 ) -> io::Result<ExitCode> {
     println!(rt; "seed {}, threads {}", asked.seed, asked.threads)?;
     let mut soak = Soak::new(alloc, asked.threads, asked.seed)?;
-    if let Err(wrong) = run(rt, alloc, &mut soak, asked)? {
+    judged(rt, alloc, &mut soak, asked)
+}
+
+// Takes the rounds, and prints what they came to.
+fn judged<R: Threads + Wait + Clock + Sync + Print + Eprint>(
+    rt: &R,
+    alloc: Global,
+    soak: &mut Soak,
+    asked: Asked,
+) -> io::Result<ExitCode> {
+    if let Err(wrong) = run(rt, alloc, soak, asked)? {
         tell_wrong(rt, wrong)?;
         return Ok(ExitCode::from(1));
     }
     if asked.in_minutes {
-        tell(rt, &soak)?;
+        tell(rt, soak)?;
     }
     println!(rt; "no wrong answer")?;
     Ok(ExitCode::from(0))
