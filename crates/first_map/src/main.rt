@@ -8,15 +8,13 @@ use std::rt::Clock;
 use std::sync::Wait;
 
 fn main(rt: HostRuntime) -> anyhow::Result<()> {
-    let seen = DashMap::of(&rt)?;
+    show_pages(&rt, &DashMap::of(&rt)?)?;
+    show_session(&rt, &DashMap::with_shard_amount(rt.alloc(), 4)?)
+}
+
+fn show_pages<R: Wait + Clock + Print>(rt: &R, seen: &DashMap<u64, u64>) -> anyhow::Result<()> {
     for page in [7, 8, 7] {
-        println!(rt; "page {page}: {}", count(&rt, &seen, page)?)?;
-    }
-    let sessions = DashMap::with_shard_amount(rt.alloc(), 4)?;
-    sessions.insert(&rt, "ada", Session { minutes: 2 })?;
-    pass_minute(&rt, &sessions);
-    if let Some(found) = sessions.get(&rt, &"ada") {
-        println!(rt; "ada: {}", found.minutes)?;
+        println!(rt; "page {page}: {}", count(rt, seen, page)?)?;
     }
     Ok(())
 }
@@ -35,6 +33,18 @@ fn count<R: Wait + Clock>(rt: &R, seen: &DashMap<u64, u64>, page: u64) -> anyhow
 #[derive(Debug, Drop)]
 struct Session {
     minutes: u64,
+}
+
+fn show_session<R: Wait + Clock + Print>(
+    rt: &R,
+    sessions: &DashMap<&str, Session>,
+) -> anyhow::Result<()> {
+    sessions.insert(rt, "ada", Session { minutes: 2 })?;
+    pass_minute(rt, sessions);
+    if let Some(found) = sessions.get(rt, &"ada") {
+        println!(rt; "ada: {}", found.minutes)?;
+    }
+    Ok(())
 }
 
 // Lets a minute pass, and logs out who has none left.

@@ -35,62 +35,84 @@ fn count_files<R: Threads + Wait + Clock + Files + Eprint + AllocGlobal + Sync, 
     is_told: bool,
     output: &mut W,
 ) -> anyhow::Result<ExitCode> {
-    let alloc = rt.alloc();
     let threads = match matches.get_one::<usize>("threads") {
         Some(threads) => threads,
         None => thread::available_parallelism(rt)?.get(),
     };
-    let mut status = ExitCode::SUCCESS;
-    let mut texts = Vec::new(alloc);
-    if let Some(names) = matches.get_strs("file") {
-        for name in names {
-            match fs::read(rt, *name) {
-                Ok(text) => texts.push((*name, text))?,
-                Err(error) => {
-                    eprintln!(rt; "wordcount: {name}: {error}")?;
-                    status = ExitCode::from(1);
-                }
-            }
+    let names = matches.get_strs("file").unwrap_or(&[]);
+    let texts = read_all(rt, names)?;
+    let top = matches.get_one::<usize>("top").unwrap_or(10);
+    count_all(rt, &texts, threads, is_told, top, output)?;
+    let is_read = texts.len() == names.len();
+    Ok(ExitCode::from(if is_read { 0 } else { 1 }))
+}
+
+// The texts of the files that can be read, each with its name. Says of each other why it can't.
+fn read_all<'n, R: Files + Eprint + AllocGlobal>(
+    rt: &R,
+    names: &[&'n str],
+) -> anyhow::Result<Vec<(&'n str, Vec<u8>)>> {
+    let mut texts = Vec::new(rt.alloc());
+    for name in names {
+        match fs::read(rt, *name) {
+            Ok(text) => texts.push((*name, text))?,
+            Err(error) => eprintln!(rt; "wordcount: {name}: {error}")?,
         }
     }
+    Ok(texts)
+}
+
+// Counts the words of all texts, and prints those that come most often.
+fn count_all<R: Threads + Wait + Clock + Eprint + AllocGlobal + Sync, W: Write>(
+    rt: &R,
+    texts: &[(&str, Vec<u8>)],
+    threads: usize,
+    is_told: bool,
+    top: usize,
+    output: &mut W,
+) -> anyhow::Result<()> {
+    let alloc = rt.alloc();
     let counts = Counts::new(alloc, threads)?;
-    for (name, text) in &texts {
+    for (name, text) in texts {
         count_text(rt, alloc, &counts, text.as_slice(), threads)?;
         if is_told {
             eprintln!(rt; "wordcount: {name}: {} bytes", text.len())?;
         }
     }
-    let top = matches.get_one::<usize>("top").unwrap_or(10);
     print(output, most_frequent(alloc, counts, top)?)?;
-    Ok(status)
+    Ok(())
 }
 
 // The command line.
 fn command<'a>(alloc: Global) -> Result<Command<'a>, AllocError> {
-    let threads = Arg::new(alloc, "threads")
-        .short('t')
-        .value_name("THREADS")
-        .value_parser(value_parser!(usize).range(1..=256))
-        .help("How many threads count [default: as many as there are processors]");
-    let top = Arg::new(alloc, "top")
-        .short('n')
-        .value_name("TOP")
-        .value_parser(value_parser!(usize))
-        .default_value("10")
-        .help("How many words are printed");
-    let verbose = Arg::new(alloc, "verbose")
-        .short('v')
-        .action(ArgAction::SetTrue)
-        .help("Says on standard error which file is counted, as on a terminal");
-    let file = Arg::new(alloc, "file")
-        .value_name("FILE")
-        .required(true)
-        .action(ArgAction::Append);
     Command::new(alloc, "wordcount")
-        .arg(threads)?
-        .arg(top)?
-        .arg(verbose)?
-        .arg(file)
+        .arg(
+            Arg::new(alloc, "threads")
+                .short('t')
+                .value_name("THREADS")
+                .value_parser(value_parser!(usize).range(1..=256))
+                .help("How many threads count [default: as many as there are processors]"),
+        )?
+        .arg(
+            Arg::new(alloc, "top")
+                .short('n')
+                .value_name("TOP")
+                .value_parser(value_parser!(usize))
+                .default_value("10")
+                .help("How many words are printed"),
+        )?
+        .arg(
+            Arg::new(alloc, "verbose")
+                .short('v')
+                .action(ArgAction::SetTrue)
+                .help("Says on standard error which file is counted, as on a terminal"),
+        )?
+        .arg(
+            Arg::new(alloc, "file")
+                .value_name("FILE")
+                .required(true)
+                .action(ArgAction::Append),
+        )
 }
 
 // Prints a line for each word: how often it came, and the word.
