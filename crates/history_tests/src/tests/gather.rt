@@ -1,6 +1,6 @@
 //! What is gathered of a map after three inserts by two callers, as worked by hand.
 use crate::tests::checks::{is, prints};
-use crate::tests::maps::{Alone, Log, Map, Step, answers, are_pairs, map_of_two, take};
+use crate::tests::maps::{Alone, Log, Map, Step, answers, are_pairs, map_of_two, put, take};
 use dash_history::gather::{At, gather};
 use std::alloc::Global;
 use std::process::Abort;
@@ -38,9 +38,9 @@ pub(crate) fn three_inserts<R: Abort + Wait + Clock>(
     waits: bool,
 ) -> (Map, Log, Log) {
     let (map, mut first, mut second) = map_of_two(rt, alloc, amount);
-    assert!(rt; take(rt, &map, &mut first, Step::Insert(1, 10), waits).is_ok());
-    assert!(rt; take(rt, &map, &mut second, Step::Insert(key, 30), waits).is_ok());
-    assert!(rt; take(rt, &map, &mut first, Step::Insert(0, 20), waits).is_ok());
+    put(rt, &map, &mut first, (1, 10), waits);
+    put(rt, &map, &mut second, (key, 30), waits);
+    put(rt, &map, &mut first, (0, 20), waits);
     (map, first, second)
 }
 

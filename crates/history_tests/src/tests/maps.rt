@@ -49,6 +49,17 @@ pub(crate) fn take<R: Abort + Wait + Clock>(
     }
 }
 
+/// Puts a pair by a step, and ends the test where it is refused.
+pub(crate) fn put<R: Abort + Wait + Clock>(
+    rt: &R,
+    map: &Map,
+    log: &mut Log,
+    pair: (u64, u64),
+    waits: bool,
+) {
+    assert!(rt; take(rt, map, log, Step::Insert(pair.0, pair.1), waits).is_ok());
+}
+
 /// Puts a value at each of these keys, which are new, and answers the caller's last stamp.
 pub(crate) fn insert_all<R: Abort + Wait + Clock>(
     rt: &R,

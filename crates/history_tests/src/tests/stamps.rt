@@ -1,7 +1,11 @@
 //! The stamps of steps by two callers, and which steps stand between which.
 use crate::tests::checks::is;
 use crate::tests::gather::{at, is_gathered};
-use crate::tests::maps::{Step, answers, are_pairs, insert_all, last_of, map_of_two, take};
+use crate::tests::maps::{Step, answers, are_pairs, insert_all, last_of, map_of_two, put};
+use std::alloc::Global;
+use std::process::Abort;
+use std::rt::Clock;
+use std::sync::Wait;
 
 #[test]
 fn a_stamp_is_above_the_last_of_shard_and_caller(rt: HostRuntime) {
@@ -28,7 +32,7 @@ fn what_was_learned_stands_before(rt: HostRuntime) {
         );
         second.learn(learned);
         is(&rt, second.last_stamp(), learned);
-        assert!(rt; take(&rt, &map, &mut second, Step::Insert(1, 1), true).is_ok());
+        put(&rt, &map, &mut second, (1, 1), true);
         is(&rt, (learned, second.last_stamp()), (learned, stamp));
         let places = map.alone().gather(&[first, second]).expect(&rt, "refused");
         assert!(rt; places.contains(&at(stamp, 1, 2, 1)), "{learned}");
@@ -58,38 +62,38 @@ fn the_last_stamp_is_the_last(rt: HostRuntime) {
     );
 }
 
+// Takes these steps by callers 0 and 1 on a new map, and ends the test where one doesn't answer so.
+fn all_answer<R: Abort + Wait + Clock>(rt: &R, alloc: Global, rows: [(u64, Step, &str); 7]) {
+    let (map, mut first, mut second) = map_of_two(rt, alloc, 4);
+    for (caller, step, text) in rows {
+        let log = if caller == 0 { &mut first } else { &mut second };
+        answers(rt, alloc, &map, log, step, text);
+    }
+    let history = map.alone().gather(&[first, second]).expect(rt, "refused");
+    is(rt, history.len(), 7);
+}
+
 // The sum of the counts is first 0, though the map is never empty, and then 2, though no two pairs ever stand together.
 #[test]
 fn sums_of_none_and_of_two(rt: HostRuntime) {
-    for rows in [
-        [
-            (0, Step::Insert(3, 30), "Ok(Old(None))"),
-            (0, Step::Count(0), "Ok(Number(0))"),
-            (0, Step::Count(1), "Ok(Number(0))"),
-            (0, Step::Count(2), "Ok(Number(0))"),
-            (1, Step::Insert(0, 5), "Ok(Old(None))"),
-            (1, Step::Remove(3), "Ok(Pair(Some((3, 30))))"),
-            (0, Step::Count(3), "Ok(Number(0))"),
-        ],
-        [
-            (0, Step::Insert(0, 5), "Ok(Old(None))"),
-            (0, Step::Count(0), "Ok(Number(1))"),
-            (0, Step::Count(1), "Ok(Number(0))"),
-            (0, Step::Count(2), "Ok(Number(0))"),
-            (1, Step::Remove(0), "Ok(Pair(Some((0, 5))))"),
-            (1, Step::Insert(3, 30), "Ok(Old(None))"),
-            (0, Step::Count(3), "Ok(Number(1))"),
-        ],
-    ] {
-        let (map, mut first, mut second) = map_of_two(&rt, rt.alloc(), 4);
-        for (caller, step, text) in rows {
-            if caller == 0 {
-                answers(&rt, rt.alloc(), &map, &mut first, step, text);
-            } else {
-                answers(&rt, rt.alloc(), &map, &mut second, step, text);
-            }
-        }
-        let history = map.alone().gather(&[first, second]).expect(&rt, "refused");
-        is(&rt, history.len(), 7);
-    }
+    let rows = [
+        (0, Step::Insert(3, 30), "Ok(Old(None))"),
+        (0, Step::Count(0), "Ok(Number(0))"),
+        (0, Step::Count(1), "Ok(Number(0))"),
+        (0, Step::Count(2), "Ok(Number(0))"),
+        (1, Step::Insert(0, 5), "Ok(Old(None))"),
+        (1, Step::Remove(3), "Ok(Pair(Some((3, 30))))"),
+        (0, Step::Count(3), "Ok(Number(0))"),
+    ];
+    all_answer(&rt, rt.alloc(), rows);
+    let rows = [
+        (0, Step::Insert(0, 5), "Ok(Old(None))"),
+        (0, Step::Count(0), "Ok(Number(1))"),
+        (0, Step::Count(1), "Ok(Number(0))"),
+        (0, Step::Count(2), "Ok(Number(0))"),
+        (1, Step::Remove(0), "Ok(Pair(Some((0, 5))))"),
+        (1, Step::Insert(3, 30), "Ok(Old(None))"),
+        (0, Step::Count(3), "Ok(Number(1))"),
+    ];
+    all_answer(&rt, rt.alloc(), rows);
 }

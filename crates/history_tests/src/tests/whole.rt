@@ -1,6 +1,6 @@
 //! Whole steps, as worked by hand.
 use crate::tests::checks::is;
-use crate::tests::maps::{Log, Map, Step, are_pairs, map_of_two, take};
+use crate::tests::maps::{Alone, Log, Map, are_pairs, map_of_two, put};
 use dash_history::record::RecordFault;
 use std::alloc::Global;
 use std::process::Abort;
@@ -12,40 +12,38 @@ const PAIRS: [(u64, u64); 3] = [(0, 1), (1, 2), (3, 4)];
 // Three pairs, in shards of the lasts 1, 2, 0 and 5, by two callers of the lasts 3 and 5.
 fn three_pairs<R: Abort + Wait + Clock>(rt: &R, alloc: Global) -> (Map, Log, Log) {
     let (map, mut first, mut second) = map_of_two(rt, alloc, 4);
-    assert!(rt; take(rt, &map, &mut first, Step::Insert(0, 1), true).is_ok());
-    assert!(rt; take(rt, &map, &mut first, Step::Insert(1, 2), true).is_ok());
+    put(rt, &map, &mut first, (0, 1), true);
+    put(rt, &map, &mut first, (1, 2), true);
     second.learn(4);
-    assert!(rt; take(rt, &map, &mut second, Step::Insert(3, 4), true).is_ok());
+    put(rt, &map, &mut second, (3, 4), true);
     first.learn(3);
     (map, first, second)
 }
 
-// Six whole steps of caller 0, each by another call. The first has the stamp 6.
+// Four whole steps on a map behind its locks. The first has the stamp 6.
+fn take_shared<R: Abort + Wait + Clock>(rt: &R, map: &Map, log: &mut Log) {
+    assert!(rt; log.caller() < map.callers());
+    is(rt, map.count_all(rt, log), Ok(3));
+    is(rt, (log.last_stamp(), log.entries().len()), (6, 6));
+    is(rt, map.try_count_all(log), Ok(3));
+    are_pairs(rt, map.clone_all(rt, log).expect(rt, "refused"), &PAIRS);
+    are_pairs(rt, map.try_clone_all(log).expect(rt, "refused"), &PAIRS);
+}
+
+// Two on a map of one owner.
+fn take_alone(rt: &impl Abort, alone: &mut Alone, log: &mut Log) {
+    assert!(rt; log.caller() < alone.callers());
+    is(rt, alone.count_all(log), Ok(3));
+    are_pairs(rt, alone.clone_all(log).expect(rt, "refused"), &PAIRS);
+}
+
+// Six whole steps of caller 0, each by another call.
 #[test]
 fn a_whole_step_stands_at_one_place(rt: HostRuntime) {
     let (map, mut first, second) = three_pairs(&rt, rt.alloc());
-    assert!(rt; first.caller() < map.callers());
-    is(&rt, map.count_all(&rt, &mut first), Ok(3));
-    is(&rt, (first.last_stamp(), first.entries().len()), (6, 6));
-    is(&rt, map.try_count_all(&mut first), Ok(3));
-    are_pairs(
-        &rt,
-        map.clone_all(&rt, &mut first).expect(&rt, "refused"),
-        &PAIRS,
-    );
-    are_pairs(
-        &rt,
-        map.try_clone_all(&mut first).expect(&rt, "refused"),
-        &PAIRS,
-    );
+    take_shared(&rt, &map, &mut first);
     let mut alone = map.alone();
-    assert!(rt; first.caller() < alone.callers());
-    is(&rt, alone.count_all(&mut first), Ok(3));
-    are_pairs(
-        &rt,
-        alone.clone_all(&mut first).expect(&rt, "refused"),
-        &PAIRS,
-    );
+    take_alone(&rt, &mut alone, &mut first);
 
     let ats = alone.gather(&[first, second]).expect(&rt, "refused");
     is(&rt, ats.len(), 27);
@@ -56,31 +54,26 @@ fn a_whole_step_stands_at_one_place(rt: HostRuntime) {
 }
 
 // A held shard is said before the last stamp.
+fn try_beside_a_hold<R: Abort + Wait + Clock>(rt: &R, map: &Map, log: &mut Log) {
+    assert!(rt; log.caller() < map.callers());
+    assert!(rt; 2 < map.shard_count());
+    let held = map.held(rt, 2);
+    is(rt, map.try_count_all(log), Err(RecordFault::Locked));
+    log.learn(u64::MAX);
+    let refused = map.try_clone_all(log).err();
+    is(rt, refused, Some(RecordFault::Locked));
+    is(rt, held.last_stamp(), 0);
+}
+
 #[test]
 fn a_held_shard_locks_the_try_forms_out(rt: HostRuntime) {
     let (map, mut first, second) = three_pairs(&rt, rt.alloc());
+    try_beside_a_hold(&rt, &map, &mut first);
     assert!(rt; first.caller() < map.callers());
-    assert!(rt; 2 < map.shard_count());
-    let held = map.held(&rt, 2);
-    is(&rt, map.try_count_all(&mut first), Err(RecordFault::Locked));
-    first.learn(u64::MAX);
-    is(
-        &rt,
-        map.try_clone_all(&mut first).err(),
-        Some(RecordFault::Locked),
-    );
-    is(&rt, held.last_stamp(), 0);
-    drop(held);
-    is(
-        &rt,
-        map.count_all(&rt, &mut first),
-        Err(RecordFault::LastStamp),
-    );
-    is(
-        &rt,
-        map.try_clone_all(&mut first).err(),
-        Some(RecordFault::LastStamp),
-    );
+    let refused = map.count_all(&rt, &mut first);
+    is(&rt, refused, Err(RecordFault::LastStamp));
+    let refused = map.try_clone_all(&mut first).err();
+    is(&rt, refused, Some(RecordFault::LastStamp));
     is(&rt, first.entries().len(), 2);
     is(
         &rt,
