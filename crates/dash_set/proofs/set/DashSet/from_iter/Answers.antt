@@ -4,3 +4,6 @@ pub returns-clause-made : goal.returns-clause-made
 returns-clause-made g c =
     let made = c.in_ok-from_iter.ensures.made in
     (made.0, made.1, made.2, made.3, made.4, (c.in_ok-from_iter.field-0, c.end.ensures.left, made.5))
+
+pub returns-clause-bad_parallelism : goal.returns-clause-bad_parallelism
+returns-clause-bad_parallelism g c = (λ e. absurd (cc), λ p. absurd (cc (c.in_ok-from_iter.ensures.bad_parallelism.1 p)))
