@@ -1,8 +1,7 @@
 //! Keys that are equal but differ, by hashers that spread them and by one that puts all in one place.
 use crate::tests::checks::is;
-use dash_kept::{Kept, KeptKey};
 use dashmap::hash::{FixedState, PlaceState, ZeroState};
-use dashmap::{Alone, DashMap};
+use dashmap::{Alone, DashMap, Kept, KeptKey};
 use std::alloc::{AllocError, Global};
 use std::hash::BuildHasher;
 use std::process::Abort;

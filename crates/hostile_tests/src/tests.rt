@@ -1,4 +1,0 @@
-//! The tests, by what is hostile.
-mod checks;
-mod constructors;
-mod keys;
