@@ -1,7 +1,13 @@
 use Rattle.std.proofs.Common.{Some, slice_get, ap, sym, ◌∙◌, arith}
 use Rattle.std.proofs.lemmas.Option.{slice_get-get_or, slice_get_within, same_Some}
-use Rattle.dash_gather.proofs.Following.{named}
+use Rattle.dash_gather.proofs.Following.{in_row, named}
 use Rattle.dash_gather.proofs.matching.record_at.Goals as goal
+
+pub offset_bounds-row-at : goal.offset_bounds-row-at
+offset_bounds-row-at g c = let lt = in_row c.args.row.now c.args.at c.requires in omega (arith, lt)
+
+pub bounds-row-at : goal.bounds-row-at
+bounds-row-at g c = in_row c.args.row.now c.args.at c.requires
 
 pub offset_bounds-history-at : goal.offset_bounds-history-at
 offset_bounds-history-at g c =
