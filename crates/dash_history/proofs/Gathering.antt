@@ -39,6 +39,10 @@ module _ {K V A S : Type 0} (w : Known K V A S) (a : RecAloneState K V A S) (alo
     callers = keeps;
   }
 
+-- a merge of what was read is one of the same read again
+pub merge-again : {K V A S : Type 0} (read again : List (RecState K V A S)) (ats places : List At) → again ≡ read → places ≡ ats → IsMerge (map (λ s. s.history) read) ats → IsMerge (map (λ s. s.history) again) places
+merge-again read again ats places same all merge = subst (IsMerge (map (λ s. s.history) again)) (sym all) (subst (λ r. IsMerge (map (λ s. s.history) r) ats) (sym same) merge)
+
 -- of the map, as its fields are seen
 module _ {K V A S : Type 0} (w : Known K V A S) (laws : (base : S) (n : ℕ) → Lawful (rules w.alike_key w.alike_value (keys w.keys.eq (route_by w.keys base n) n)))
     (base : S) (c : ℕ) (row : List (RecState K V A S)) (z : RecAloneState K V A S) (view : record { hasher = base; callers = c; row = row } ≡ z) (alone : IsRecAlone w (record { hasher = base; callers = c; row = row }))

@@ -1,11 +1,13 @@
-use Rattle.std.proofs.Common.{ap, sym, subst, refl, length, arith}
+use Rattle.std.proofs.Common.{ap, sym, subst, refl, ◌∙◌, length, arith}
 use Rattle.std.proofs.lemmas.Bool.{both_ways}
 use Rattle.std.specs.List.{Contains}
 use Rattle.dash_shard.proofs.Lawful.{lawful-of}
 use Rattle.dash_shard.specs.Hashing.{key_hash}
+use Rattle.dash_gather.specs.Merge.{AreCallers}
 use Rattle.dash_gather.specs.inner.Gathering.{EachRecorded, Finds}
 use Rattle.dash_steps.specs.Takes.{known_by}
-use Rattle.dash_history.proofs.Gathering.{below-seen, gathered-seen, mismatch-seen}
+use Rattle.dash_history.proofs.Gathering.{below-seen, gathered-seen, merge-again, mismatch-seen}
+use Rattle.dash_history.proofs.Refusals.{memory-mismatch}
 use Rattle.dash_history.proofs.Standing.{wholes-seen}
 use Rattle.dash_steps.proofs.Copies.{lawful-by}
 use Rattle.dash_record.proofs.Refusals.{made-refused}
@@ -13,6 +15,28 @@ use Rattle.dash_history.proofs.alone.RecAlone.gather.Goals as goal
 
 pub merge-requires : goal.merge-requires
 merge-requires g c = subst (EachRecorded _) (sym c.items.ensures) c.self.invariant.recorded
+
+pub returns-in_default : goal.returns-in_default
+returns-in_default g c = record { gathered = tt; wholes = tt; mismatch = λ e. absurd (memory-mismatch e) }
+
+pub returns-in-Ok-None : goal.returns-in-Ok-None
+returns-in-Ok-None g c =
+    let none = rw c.in-Ok-None.field-0-is at c.in-Ok-None.ensures in
+    record { gathered = tt; wholes = tt; mismatch = λ _ matches. none (subst (λ a. AreCallers a.callers c.args.logs.now) (sym c.self.view_is) matches.callers) }
+
+pub returns-in-Err : goal.returns-in-Err
+returns-in-Err g c = record { gathered = tt; wholes = tt; mismatch = λ e. absurd (memory-mismatch e) }
+
+pub returns-in-Err-follows : goal.returns-in-Err-follows
+returns-in-Err-follows g c = record { gathered = tt; wholes = tt; mismatch = λ e. absurd (memory-mismatch e) }
+
+pub follows-requires-clause-merge : goal.follows-requires-clause-merge
+follows-requires-clause-merge g c = merge-again c.items.result.now c.items-2.result.now c.in-Ok.ats.items c.deref.result.now (c.items-2.ensures ∙ sym c.items.ensures) c.deref.ensures.value c.in-Ok.ensures
+
+pub follows-requires-clause-owners : goal.follows-requires-clause-owners
+follows-requires-clause-owners g c =
+    let found = rw c.in-Ok-Some.field-0-is at c.in-Ok-Some.ensures in
+    subst (λ n. AreCallers n c.args.logs.now) (sym (ap length c.deref-2.ensures.value ∙ found.1.0)) found.0
 
 pub follows-requires-clause-callers : goal.follows-requires-clause-callers
 follows-requires-clause-callers g c =
