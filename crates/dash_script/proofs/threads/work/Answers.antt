@@ -1,8 +1,20 @@
-use Rattle.std.proofs.Common.{◌≡◌, length, ap, subst, None, ◌∙◌, arith}
+use Rattle.std.proofs.Common.{◌≡◌, length, ap, sym, subst, None, ◌∙◌, arith}
 use Rattle.std.specs.Prelude.{All}
+use Rattle.dash_script.specs.Threads.{IsSize}
 use Rattle.dash_script.specs.inner.Threads.{IsFirstRefusal}
 use Rattle.dash_script.proofs.Working.{written, logs-idle, many, all-idle, all-done, first-refused, works-of}
 use Rattle.dash_script.proofs.threads.work.Goals as goal
+
+pub take_all-requires-clause-size : goal.take_all-requires-clause-size
+take_all-requires-clause-size g c κs within = subst (λ callers. IsSize callers c.args.steps) (sym (ap (λ m. m.callers) c.in-Ok.ensures.made)) c.requires
+
+pub take_all-requires-clause-shards : goal.take_all-requires-clause-shards
+take_all-requires-clause-shards g c κs within = ap (λ m. m.amount) c.in-Ok.ensures.made
+
+pub take_all-requires-clause-some : goal.take_all-requires-clause-some
+take_all-requires-clause-some g c κs within =
+    let all = many c.args.callers c.in-Ok-idle_workers.workers.items (logs-idle _ _ c.in-Ok-idle_workers.ensures ∙ c.in-Ok.ensures.logs) in
+    omega (arith, ap length c.as_mut_slice.ensures.value, all, c.requires.some)
 
 pub take_all-requires-clause-idle : goal.take_all-requires-clause-idle
 take_all-requires-clause-idle g c κs within =
