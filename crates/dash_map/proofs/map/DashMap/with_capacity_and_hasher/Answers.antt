@@ -1,5 +1,16 @@
+use Rattle.std.proofs.Common.{ap, sym, subst}
+use Rattle.std.proofs.lemmas.Result.{IfOk-weaker}
 use Rattle.dash_map.proofs.Refusals.{with-amount, overflow-at}
+use Rattle.dash_map.specs.Amounts.{IsDefault}
 use Rattle.dash_map.proofs.map.DashMap.with_capacity_and_hasher.Goals as goal
+
+pub returns-clause-hasher : goal.returns-clause-hasher
+returns-clause-hasher g c =
+    IfOk-weaker c.with_capacity_and_hasher_and_shard_amount.result _ _ (λ m made. ap (λ x. x.hasher) made) c.with_capacity_and_hasher_and_shard_amount.ensures.made
+
+pub returns-clause-amount : goal.returns-clause-amount
+returns-clause-amount g c =
+    IfOk-weaker c.with_capacity_and_hasher_and_shard_amount.result _ _ (λ m made. subst (IsDefault c.args.parallelism) (sym (ap (λ x. x.amount) made)) c.in_ok-amount.ensures.default) c.with_capacity_and_hasher_and_shard_amount.ensures.made
 
 pub returns-clause-overflow : goal.returns-clause-overflow
 returns-clause-overflow g c =
