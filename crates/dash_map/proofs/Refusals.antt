@@ -56,3 +56,7 @@ module _ {T : Type 0} where
   pub overflow-at : (r : Result T ConstructError) (p c n : ℕ) → IsParallelism p → IsDefault p n → IsAmount n → (IsErrOf r CapacityOverflow ↔ (IsAmount n × Overflows c n))
       → IsErrOf r CapacityOverflow ↔ (IsParallelism p × (m : ℕ) × IsDefault p m × Overflows c m)
   overflow-at r p c n few a lawful over = (λ e. (few, n, a, (over.0 e).1), λ w. over.1 (lawful, subst (Overflows c) (one-default p w.1 n w.2 a) w.3))
+
+-- nothing that was made is an error
+pub none-told : {A M E P : Type 0} (a : A) (m : M) (f : E) → (IsErrOf (Ok a) f ↔ P) → IsErrOf (Ok m) f ↔ P
+none-told a m f bad = (λ e. absurd (cc), λ p. absurd (cc (bad.1 p)))

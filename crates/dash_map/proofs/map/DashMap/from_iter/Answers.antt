@@ -1,6 +1,10 @@
+use Rattle.dash_map.proofs.Refusals.{none-told}
 use Rattle.dash_map.proofs.map.DashMap.from_iter.Goals as goal
 
 pub returns-clause-made : goal.returns-clause-made
 returns-clause-made g c =
     let made = c.in_ok-from_iter.ensures.made in
     (made.0, made.1, made.2, made.3, made.4, (c.in_ok-from_iter.field-0, c.end.ensures.left, made.5))
+
+pub returns-clause-bad_parallelism : goal.returns-clause-bad_parallelism
+returns-clause-bad_parallelism g c = none-told c.in_ok-from_iter.field-0 c.end.result _ c.in_ok-from_iter.ensures.bad_parallelism

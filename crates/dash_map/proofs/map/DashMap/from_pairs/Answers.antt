@@ -1,3 +1,4 @@
+use Rattle.dash_map.proofs.Refusals.{none-told}
 use Rattle.dash_map.proofs.map.DashMap.from_pairs.Goals as goal
 
 pub returns-clause-made : goal.returns-clause-made
@@ -6,3 +7,6 @@ returns-clause-made g c = (
   c.end.ensures.left,
   c.in_ok-from_pairs.ensures.made,
 )
+
+pub returns-clause-bad_parallelism : goal.returns-clause-bad_parallelism
+returns-clause-bad_parallelism g c = none-told c.in_ok-from_pairs.field-0 c.end.result _ c.in_ok-from_pairs.ensures.bad_parallelism
