@@ -10,3 +10,15 @@ returns-in-Ok-clause-made g c =
     made-of (key_hash g.K.PartialEq.eq g.K.Hash.hash_input g.S.BuildHasher g.S.Hasher.Hasher) c.reserve_share.new.self c.args.list.items c.par_extend.new.self
     (none-of-length (contents c.reserve_share.new.self) (c.reserve_share.ensures.len ∙ ap length (none-in c.in_ok-alone.alone.row (λ i s e. (c.in_ok-alone.ensures.fresh i s e).0))))
     c.in-Ok.ensures.gains.steps
+
+pub returns-in-Ok-clause-hasher : goal.returns-in-Ok-clause-hasher
+returns-in-Ok-clause-hasher g c = rw (c.in-Ok.ensures.stays.hasher, c.reserve_share.ensures.stays.hasher, c.in_ok-alone.ensures.hasher) c.default.ensures
+
+pub returns-in-Ok-clause-amount : goal.returns-in-Ok-clause-amount
+returns-in-Ok-clause-amount g c = rw (c.in-Ok.ensures.stays.amount, c.reserve_share.ensures.stays.amount, c.in_ok-alone.ensures.amount) c.in_ok-amount.ensures.default
+
+pub returns-in-Ok-clause-bad_parallelism : goal.returns-in-Ok-clause-bad_parallelism
+returns-in-Ok-clause-bad_parallelism g c = (λ e. absurd (cc), λ bad. absurd (bad c.in_ok-amount.ensures.good))
+
+pub returns-in-Err-clause-bad_parallelism : goal.returns-in-Err-clause-bad_parallelism
+returns-in-Err-clause-bad_parallelism g c = (λ e. absurd (cc), λ bad. absurd (bad c.in_ok-amount.ensures.good))
