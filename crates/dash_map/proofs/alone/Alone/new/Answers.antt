@@ -19,3 +19,6 @@ pub returns-clause-fresh : goal.returns-clause-fresh
 returns-clause-fresh g c = λ i s e.
     let made = c.in_ok-row.ensures.fresh i s (subst (λ (row : List (ShardState g.row.K.Denot g.row.V.Denot g.row.S.Denot)). slice_get row i ≡ Some s) c.in-Ok.ensures e) in
     (made.0, subst (λ r. r / c.args.amount ≤ s.capacity) (search rules) made.1)
+
+pub returns-clause-bad_amount : goal.returns-clause-bad_amount
+returns-clause-bad_amount g c = (λ e. absurd (cc), λ bad. absurd (bad (c.is_shard_amount.ensures.0 c.if-not-is_shard_amount.false)))
