@@ -1,4 +1,5 @@
-use Rattle.std.proofs.Common.{rules, true, None, Some, refl, ◌∙◌, ap, set, get_or-set_same}
+use Rattle.std.proofs.Common.{rules, true, None, Some, length, refl, sym, subst, ◌<◌, ◌∙◌, ap, set, get_or-set_same}
+use Rattle.std.proofs.lemmas.List.{length-set}
 use Rattle.std.proofs.Math.Seq.{set-set}
 use Rattle.dash_shard.specs.Shard.{slot}
 use Rattle.dash_shard.specs.inner.Table.{pairs_in}
@@ -19,3 +20,9 @@ returns g c =
       slots = search rules;
       table = table-rewritten c.args.self.now _ c.args.position _ q c.requires.table c.take-key.ensures.value back (c.put_back.ensures.labels ∙ c.take-key.ensures.labels) refl refl refl;
     }
+
+pub put_back-requires-clause-within : goal.put_back-requires-clause-within
+put_back-requires-clause-within g c = subst (λ n. c.args.position < n) (sym (ap length c.take-key.ensures.values ∙ length-set _ c.args.position None)) (spot-within _ c.args.position c.requires.taken)
+
+pub put_back-requires-clause-empty : goal.put_back-requires-clause-empty
+put_back-requires-clause-empty g c = ap (λ ys. slot ys c.args.position) c.take-key.ensures.values ∙ get_or-set_same _ c.args.position None None (spot-within _ c.args.position c.requires.taken)
