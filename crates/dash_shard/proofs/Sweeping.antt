@@ -113,6 +113,10 @@ module _ {F K V : Type 0} (T : F → K → V → Bool → V → F → Type 0) (Q
     walked-all step =
         sweeping-last T Q leaves first old f now (length now) refl (sweeping-past T Q leaves first old f now c.position (length now) w.within (omega arith) (λ k from _. step.next k from) w.sweeping)
 
+-- behind a step fewer slots are left to visit
+pub fewer-left : {A : Type 0} (now : List (Option A)) (c c' : Cursor) (i n : ℕ) → Advances now c (Some i) c' → n ≡ length now → n - c'.position < length now - c.position
+fewer-left now c c' i n step same = let within = spot-within now i step.next.1 in omega (arith, same, within, step.next.0, step.position)
+
 -- a slot that is taken is counted
 pub taken-some : {A : Type 0} (xs : List (Option A)) (i : ℕ) → IsSome (slot xs i) → 0 < length (taken xs)
 taken-some {A} xs i some = from (slot xs i) refl some

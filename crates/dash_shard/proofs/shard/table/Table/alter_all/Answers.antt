@@ -1,5 +1,5 @@
 use Rattle.std.proofs.Common.{◌∙◌}
-use Rattle.dash_shard.proofs.Sweeping.{walked-ready, walked-next, walked-all}
+use Rattle.dash_shard.proofs.Sweeping.{walked-ready, walked-next, walked-all, fewer-left}
 use Rattle.dash_shard.proofs.shard.table.Table.alter_all.Goals as goal
 
 pub alter_at-requires-clause-callable : goal.alter_at-requires-clause-callable
@@ -19,3 +19,6 @@ loop-slot-preserved g c =
 
 pub returns-clause-swept : goal.returns-clause-swept
 returns-clause-swept g c = walked-all _ _ _ _ _ _ _ _ _ c.loop-slot.invariant.walked c.in_default.ensures
+
+pub loop-slot-smaller : goal.loop-slot-smaller
+loop-slot-smaller g c = fewer-left _ _ _ _ _ c.in-Some.ensures c.alter_at.ensures.slots

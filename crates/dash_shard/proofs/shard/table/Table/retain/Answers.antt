@@ -3,7 +3,7 @@ use Rattle.std.specs.Map.Calls.{CalledAtPair}
 use Rattle.dash_shard.specs.Hashing.{hash_of}
 use Rattle.dash_shard.specs.inner.Table.{pairs_in, hashes_in}
 use Rattle.dash_shard.proofs.Shards.{hashed-clear}
-use Rattle.dash_shard.proofs.Sweeping.{walked-ready, walked-next, walked-all, asked-yes, asked-no, asked-hashed, asked-cleared}
+use Rattle.dash_shard.proofs.Sweeping.{walked-ready, walked-next, walked-all, fewer-left, asked-yes, asked-no, asked-hashed, asked-cleared}
 use Rattle.dash_shard.proofs.Written.{spot-within}
 use Rattle.dash_shard.proofs.shard.table.Table.retain.Goals as goal
 
@@ -48,3 +48,9 @@ loop-slot-preserved g c =
 
 pub returns-clause-swept : goal.returns-clause-swept
 returns-clause-swept g c = walked-all _ _ _ _ _ _ _ _ _ c.loop-slot.invariant.walked c.in_default.ensures
+
+pub loop-slot-smaller-then-not-ask_at : goal.loop-slot-smaller-then-not-ask_at
+loop-slot-smaller-then-not-ask_at g c = fewer-left _ _ _ _ _ c.in-Some.ensures (c.take.ensures.slots ∙ c.ask_at.ensures.slots)
+
+pub loop-slot-smaller : goal.loop-slot-smaller
+loop-slot-smaller g c = fewer-left _ _ _ _ _ c.in-Some.ensures c.ask_at.ensures.slots
