@@ -11,7 +11,7 @@ use Rattle.dash_shard.specs.inner.Table.{IsTable, IsSpot, TellsTaken, limit, slo
 use Rattle.std.proofs.lemmas.List.{get_or-replicate}
 use Rattle.std.proofs.Math.ListN.{replicate, length-replicate}
 use Rattle.dash_shard.proofs.Marked.{marked-fresh, marked-fill, marked-clear}
-use Rattle.dash_shard.proofs.Written.{marked-as}
+use Rattle.dash_shard.proofs.Written.{marked-as, spot-within}
 use Rattle.dash_shard.proofs.Slots.{length-taken-fill, length-taken-clear}
 
 -- by the way of a hash to the slot i, where a call has the number of groups, the way's first group and its steps as numbers of its own
@@ -62,6 +62,10 @@ table-some t table i some =
     let gone = length-taken-clear (pairs_in t) i p.0 p.1 in
     let count = table.counted in
     omega (arith, gone, count)
+
+-- a pair's slot stands in one of the groups
+pub table-group : {K V : Type 0} (t : Table K V) → IsTable t → (i : ℕ) → IsSome (slot (pairs_in t) i) → i / 16 < groups_in t
+table-group t table i some = let within = spot-within (pairs_in t) i some in let slots = table.marked.slots_len in omega (arith, within, slots)
 
 nothing : {A : Type 0} (n i : ℕ) → slot (replicate {A = Option A} n None) i ≡ None
 nothing zero i = refl

@@ -6,7 +6,7 @@ use Rattle.dash_shard.specs.inner.Table.{groups_in, pairs_in, hashes_in}
 use Rattle.dash_shard.specs.Shard.{slot}
 use Rattle.dash_shard.proofs.Marked.{counted-there}
 use Rattle.dash_shard.proofs.Written.{written}
-use Rattle.dash_shard.proofs.Placing.{by-way, to-way, some-of, table-some, table-taken}
+use Rattle.dash_shard.proofs.Placing.{by-way, to-way, some-of, table-some, table-group, table-taken}
 use Rattle.dash_shard.proofs.shard.table.Table.take.Goals as goal
 
 pub uncount_past-requires-clause-some : goal.uncount_past-requires-clause-some
@@ -56,3 +56,18 @@ returns-clause-table g c =
     c.take.ensures.values
     c.take.ensures.labels
     (omega (arith, some))
+
+pub home-home-requires : goal.home-home-requires
+home-home-requires g c = let group = table-group c.args.self.now c.requires.table c.args.position c.requires.taken in omega (arith, group, c.len-count.ensures, c.args.self.now.counts.ok.0)
+
+pub steps_to-steps-requires-clause-group : goal.steps_to-steps-requires-clause-group
+steps_to-steps-requires-clause-group g c = let group = table-group c.args.self.now c.requires.table c.args.position c.requires.taken in omega (arith, group, c.len-count.ensures, c.args.self.now.counts.ok.0)
+
+pub left_mark-requires-clause-group : goal.left_mark-requires-clause-group
+left_mark-requires-clause-group g c = let group = table-group c.args.self.now c.requires.table c.args.position c.requires.taken in omega (arith, group, c.deref-2.ensures.len, c.args.self.now.counts.ok.0)
+
+pub left_mark-requires-clause-tags : goal.left_mark-requires-clause-tags
+left_mark-requires-clause-tags g c = let group = table-group c.args.self.now c.requires.table c.args.position c.requires.taken in omega (arith, group, c.deref.ensures.len, c.args.self.now.tags.ok.0, c.requires.table.marked.tags_len)
+
+pub index_mut-requires : goal.index_mut-requires
+index_mut-requires g c = let group = table-group c.args.self.now c.requires.table c.args.position c.requires.taken in omega (arith, group, c.args.self.now.tags.ok.0, c.requires.table.marked.tags_len)
