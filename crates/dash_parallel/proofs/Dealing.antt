@@ -20,6 +20,12 @@ module _ {T : Type 0} (goes : T → ℕ) where
   pub places-more : (rest : List T) (t : T) (places : List ℕ) (p : ℕ) → p ≡ goes t → map goes rest ++ reverse (places ++ p ∷ []) ≡ map goes (rest ++ t ∷ []) ++ reverse places
   places-more rest t places p is = rw is (simp (map-append, reverse-append, append_assoc))
 
+  -- the part of the last step is below n where that of each is
+  pub part-below : (items rest : List T) (t : T) (p n : ℕ) → items ≡ rest ++ t ∷ [] → p ≡ goes t → All (λ t. goes t < n) items → p < n
+  part-below items rest t p n cut is within =
+      let both : All (λ t. goes t < n) rest × (goes t < n) = All-pop (λ t. goes t < n) items rest (Some t) cut within in
+      omega (arith, both.1, is)
+
   module _ {Y : Type 0} (marks : T → ℕ → Type 0) (all : List T) where
     -- the last step that was not dealt is put at the end of the lane of its part
     dealt-more : (rest : List T) (t : T) (m p : ℕ) (lanes : List (Lane T Y)) (lane old : Lane T Y) → p ≡ goes t → marks t m → p < length lanes → lane.steps.items ≡ (get_or lanes p old).steps.items ++ (m, t) ∷ []

@@ -2,7 +2,7 @@ use Rattle.std.proofs.Common.{◌<◌, ◌++◌, map, length, length-set, sym, a
 use Rattle.std.specs.Prelude.{reverse}
 use Rattle.std.proofs.lemmas.Bool.{true≢false}
 use Rattle.std.proofs.lemmas.List.Elements.{All-pop}
-use Rattle.dash_parallel.proofs.Dealing.{next-dealt, places-more}
+use Rattle.dash_parallel.proofs.Dealing.{part-below, next-dealt, places-more}
 use Rattle.dash_parallel.proofs.deal.deal_each.Goals as goal
 
 pub loop-step-preserved-then-keeps_places : goal.loop-step-preserved-then-keeps_places
@@ -37,3 +37,13 @@ loop-step-preserved g c =
       room = λ keeps. absurd (true≢false (sym keeps ∙ c.if-keeps_places.false));
       places = λ keeps. absurd (true≢false (sym keeps ∙ c.if-keeps_places.false));
     }
+
+pub bounds-lanes-part : goal.bounds-lanes-part
+bounds-lanes-part g c =
+    let below = part-below (g.D.Dealer.goes c.args.dealer.now) c.loop-step.steps.items _ c.in-Some.step _ _ c.in-Some.ensures.items c.deal-mark.ensures.part c.loop-step.invariant.within in
+    omega (arith, below, c.loop-step.invariant.count)
+
+pub offset_bounds-lanes-part : goal.offset_bounds-lanes-part
+offset_bounds-lanes-part g c =
+    let below = part-below (g.D.Dealer.goes c.args.dealer.now) c.loop-step.steps.items _ c.in-Some.step _ _ c.in-Some.ensures.items c.deal-mark.ensures.part c.loop-step.invariant.within in
+    omega (arith, below, c.loop-step.invariant.count)

@@ -1,4 +1,5 @@
-use Rattle.std.proofs.Common.{◌<◌, All, None, length, replicate, refl, sym, ap, subst, ◌∙◌}
+use Rattle.std.proofs.Common.{◌<◌, All, None, length, replicate, refl, sym, ap, subst, ◌∙◌, arith}
+use Rattle.std.proofs.lemmas.List.{length-map, length-replicate, length-reverse}
 use Rattle.std.proofs.lemmas.Result.{IfOk-weaker}
 use Rattle.dash_parallel.specs.inner.Lanes.{AreReady}
 use Rattle.dash_parallel.proofs.Taking.{none-ran, par-ran, places-below, length-replies, replies-whole}
@@ -31,3 +32,12 @@ returns-in-Ok g c =
 pub returns-in-Err-clause-ran : goal.returns-in-Err-clause-ran
 returns-in-Err-clause-ran g c =
     none-ran g.P.Part.takes (g.D.Dealer.goes c.args.dealer.now) c.args.parts.now c.args.steps.items c.no_replies.new.replies.items (c.no_replies.ensures ∙ ap (λ n. replicate n None) (c.len-count.ensures ∙ c.args.steps.ok.0))
+
+pub hand_out-requires-clause-room : goal.hand_out-requires-clause-room
+hand_out-requires-clause-room g c =
+    let none = c.args.replies.now.ok.0 ∙ ap length c.requires.none in
+    let many = c.in-Ok.field-0.places.ok.0 ∙ sym (length-reverse c.in-Ok.field-0.places.items) ∙ ap length (c.in-Ok.ensures.places refl) ∙ length-map c.args.steps.items (g.D.Dealer.goes c.args.dealer.now) ∙ sym c.args.steps.ok.0 in
+    omega (arith, none, many, c.requires.room)
+
+pub returns-in-Err-clause-len : goal.returns-in-Err-clause-len
+returns-in-Err-clause-len g c = ap length c.no_replies.ensures ∙ length-replicate _ None ∙ c.len-count.ensures ∙ c.args.steps.ok.0
