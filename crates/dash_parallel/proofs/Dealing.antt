@@ -1,14 +1,19 @@
 -- Steps that are dealt from the last on, each to the lane of its part.
 use Rattle.std.proofs.Common.{◌≡◌, ◌≢◌, ℕ, ◌<◌, ◌==◌, cond, List, [], ◌∷◌, ◌++◌, All, map, length, get_or, set, sym, ap, subst, ◌∙◌, append_assoc, append-nil, Some, inl, inr, arith, eq-eqb, ne_eqb, length-set, get_or-set_same, get_or-set_other}
-use Rattle.std.specs.Prelude.{reverse}
+use Rattle.std.specs.Prelude.{reverse, take}
+use Rattle.std.proofs.Math.Seq.{take-append_seam}
 use Rattle.std.proofs.lemmas.List.{map-append, reverse-append, get_or_default}
 use Rattle.std.proofs.lemmas.List.Elements.{filter-append, All-pop, All-push}
 use Rattle.std.proofs.lemmas.Bool.{cases_eq}
 use Rattle.dash_parallel.specs.Apart.{steps_of}
-use Rattle.dash_parallel.specs.Lanes.{steps_in}
-use Rattle.dash_parallel.specs.inner.Lanes.{IsDealt, AreDealt}
+use Rattle.dash_parallel.specs.Lanes.{HasRoom, steps_in}
+use Rattle.dash_parallel.specs.inner.Lanes.{IsDealt, AreDealt, AreReady}
 use Rattle.dash_parallel.specs.declared.lane.Lane.{Lane}
 use Rattle.dash_parallel.proofs.Running.{steps-push}
+
+-- a whole slice written back into its vector
+pub given-back : {A : Type 0} (n : ℕ) (xs rest : List A) → length xs ≡ n → take n (xs ++ rest) ≡ xs
+given-back n xs rest e = subst (λ m. take m (xs ++ rest) ≡ xs) e (take-append_seam xs rest)
 
 module _ {T : Type 0} (goes : T → ℕ) where
   steps-here : (s : ℕ) (rest : List T) (t : T) → goes t ≡ s → steps_of goes s (rest ++ t ∷ []) ≡ steps_of goes s rest ++ t ∷ []
@@ -53,3 +58,21 @@ module _ {T : Type 0} (goes : T → ℕ) where
     next-dealt items rest t m p lanes n lane old cut is mark count pushed within dealt =
         let both : All (λ t. goes t < n) rest × (goes t < n) = All-pop (λ t. goes t < n) items rest (Some t) cut within in
         dealt-more rest t m p lanes lane old is mark (omega (arith, both.1, is, count)) pushed (subst (λ l. AreDealt goes marks l all lanes) cut dealt)
+
+    -- where the dealt lanes got room for their replies, they are ready
+    pub made-ready : (n : ℕ) (dealt again made : List (Lane T Y)) → length dealt ≡ n → again ≡ dealt → length made ≡ length again → ((s : ℕ) (d : Lane T Y) → s < length again → (get_or made s d).steps ≡ (get_or again s d).steps)
+        → ((s : ℕ) (d : Lane T Y) → s < length again → HasRoom (get_or made s d)) → AreDealt goes marks [] all dealt → AreReady goes marks n all made
+    made-ready n dealt again made long is count same room was =
+        let all_made = ap length is in
+        record {
+          count = count ∙ ap length is ∙ long;
+          dealt = λ s d lt.
+              let within : s < length again = omega (arith, lt, count) in
+              let steps : (get_or dealt s d).steps ≡ (get_or made s d).steps = ap (λ l. (get_or l s d).steps) (sym is) ∙ sym (same s d within) in
+              let here = was s d (omega (arith, within, all_made)) in
+              record {
+                steps = ap (λ v. steps_of goes s [] ++ steps_in v.items) (sym steps) ∙ here.steps;
+                marked = subst (λ v. All (λ e. (goes e.1 ≡ s) × marks e.1 e.0) v.items) steps here.marked;
+              };
+          room = λ s d lt. room s d (omega (arith, lt, all_made, long));
+        }
