@@ -19,6 +19,7 @@ memory-amount same = cc
 pub memory-callers : {T : Type 0} → ◌≡◌ {A = Result T ConstructError} (Err Memory) (Err Callers) → ⊥
 memory-callers same = cc
 
+-- want of memory is no mismatch of logs
 pub memory-mismatch : {T : Type 0} → ◌≡◌ {A = Result T GatherError} (Err gather.Memory) (Err gather.Mismatch) → ⊥
 memory-mismatch same = cc
 
@@ -27,6 +28,7 @@ pub passed-on : {T X E : Type 0} (P : Type 0) (r : Result X E) (e k : E) → IsE
 passed-on P (Ok x) e k told is = absurd told
 passed-on P (Err x) e k told is = (λ same. is.0 cc, λ p. let last = is.1 p in cc)
 
+-- the same, of what follows from a refusal
 pub passed-if : {T X E : Type 0} (P : Type 0) (r : Result X E) (e k : E) → IsErrAnd r (λ x. x ≡ e) → (◌≡◌ {A = Result T E} (Err e) (Err k) → P) → r ≡ Err k → P
 passed-if P (Ok x) e k told is = absurd told
 passed-if P (Err x) e k told is = λ same. is cc
