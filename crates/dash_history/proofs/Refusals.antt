@@ -28,11 +28,6 @@ pub passed-on : {T X E : Type 0} (P : Type 0) (r : Result X E) (e k : E) → IsE
 passed-on P (Ok x) e k told is = absurd told
 passed-on P (Err x) e k told is = (λ same. is.0 cc, λ p. let last = is.1 p in cc)
 
--- the same, of what follows from a refusal
-pub passed-if : {T X E : Type 0} (P : Type 0) (r : Result X E) (e k : E) → IsErrAnd r (λ x. x ≡ e) → (◌≡◌ {A = Result T E} (Err e) (Err k) → P) → r ≡ Err k → P
-passed-if P (Ok x) e k told is = absurd told
-passed-if P (Err x) e k told is = λ same. is cc
-
 -- what was made is refused as little as what it was made of
 pub made-too : {T X E : Type 0} (P : Type 0) (x : X) (t : T) (k : E) → (IsErrOf {T = X} (Ok x) k ↔ P) → IsErrOf {T = T} (Ok t) k ↔ P
 made-too P x t k is = (λ same. cc, λ p. let refused = is.1 p in cc)

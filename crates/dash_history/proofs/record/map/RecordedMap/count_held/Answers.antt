@@ -2,11 +2,8 @@ use Rattle.std.proofs.Common.{List, ap, sym, subst, ◌∙◌}
 use Rattle.dash_record.specs.History.{RecState}
 use Rattle.dash_record.specs.Joined.{joined_number}
 use Rattle.dash_record.specs.inner.Parts.{Planned}
-use Rattle.dash_record.specs.declared.record.RecordFault.TheVariants.{LastStamp}
 use Rattle.dash_steps.specs.Takes.{known_by}
 use Rattle.dash_steps.specs.declared.step.Whole.TheVariants as whole
-use Rattle.dash_history.specs.inner.Locks.{HoldsAll}
-use Rattle.dash_history.proofs.Refusals.{passed-if}
 use Rattle.dash_history.proofs.record.map.RecordedMap.count_held.Goals as goal
 
 pub returns-clause-ok : goal.returns-clause-ok
@@ -19,15 +16,3 @@ returns-clause-ok g c =
       logs = c.record_held.ensures.logs c.if-not-record_held.false whole.Count planned;
       joined = c.join_numbers-number.ensures ∙ ap joined_number c.deref-2.ensures.value;
     }
-
-pub returns-in_err-parts-clause-last_stamp : goal.returns-in_err-parts-clause-last_stamp
-returns-in_err-parts-clause-last_stamp g c = passed-if _ c.from_residual.result c.in_err-parts.field-0.0 LastStamp c.from_residual.ensures.1 c.in_err-parts.ensures.last_stamp
-
-pub returns-then-not-record_held-clause-refused : goal.returns-then-not-record_held-clause-refused
-returns-then-not-record_held-clause-refused g c = c.record_held.ensures.refused c.if-not-record_held.true
-
-pub plan_held-requires : goal.plan_held-requires
-plan_held-requires g c = subst (HoldsAll _ c.args.self.now) (sym c.deref.ensures.value) c.requires.held
-
-pub record_held-requires-clause-held : goal.record_held-requires-clause-held
-record_held-requires-clause-held g c = subst (HoldsAll _ c.args.self.now) (sym c.deref_mut.ensures.value) c.requires.held
