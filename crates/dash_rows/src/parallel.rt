@@ -1,10 +1,10 @@
 //! Parallel work on the pairs of shards that nobody else has. A thread takes shard after shard.
-ghost use Rattle.std.specs.Prelude.{◌≡◌, All, IfOk, flat_map, map};
-ghost use Rattle.std.specs.Map.Iter.{deref_pair};
+ghost use Rattle.std.specs.Prelude.{◌≡◌, List, Vec, Ok, ⊤, All, IfOk, flat_map, map};
+ghost use Rattle.std.specs.List.{AllZip};
 ghost use Rattle.dash_shard.specs.Shard.{pairs};
-ghost use Rattle.dash_rows.specs.Parallel.{MayMap, Maps, MapsEach};
+ghost use Rattle.dash_rows.specs.Parallel.{MayMap, MapsEach};
 
-use dash_shard::shard::{self, IntoIter, Shard};
+use dash_shard::shard::{self, Shard};
 use rayon::prelude::*;
 use std::alloc::{AllocError, Global};
 use std::hash::{BuildHasher, Hash};
@@ -42,21 +42,20 @@ where
 {
     /// The pairs in a list. Threads take the shards, and wait for nobody.
     ///
-    /// Each thread takes memory for a list of its own, and the lists are joined. Where there is none it is refused (4), and all pairs are
+    /// It takes memory for a list of each shard's pairs, and for the whole. Where there is none it is refused (4), and all pairs are
     /// dropped.
     pub fn collect<R: Threads + Sync>(self, rt: &R) -> Result<Vec<(K, V)>, AllocError>
         ensures { IfOk result (λ list. list.items ≡ self) }
     {
         let alloc = *self.shards.allocator();
-        self.shards
-            .into_par_iter()
-            .with_min_len(1)
-            .flat_map_iter(
-                |shard: Shard<K, V, S>| -> IntoIter<K, V>
-                    ensures { result ≡ pairs shard }
-                { shard.into_iter() },
-            )
-            .collect(rt, alloc)
+        gathered(
+            rt,
+            alloc,
+            self.shards.into_par_iter(),
+            |shard: Shard<K, V, S>| -> Result<Vec<(K, V)>, AllocError>
+                ensures { IfOk result (λ list. list.items ≡ pairs shard) }
+            { pairs_of(alloc, shard) },
+        )
     }
 
     /// The keys alone in a list, as `collect` takes the pairs. It is public for the sets of `dashmap`.
@@ -64,20 +63,14 @@ where
         ensures { IfOk result (λ list. list.items ≡ map (λ p. p.0) self) }
     {
         let alloc = *self.shards.allocator();
-        self.shards
-            .into_par_iter()
-            .with_min_len(1)
-            .flat_map_iter(
-                |shard: Shard<K, V, S>| -> IntoIter<K, V>
-                    ensures { result ≡ pairs shard }
-                { shard.into_iter() },
-            )
-            .map(
-                |pair: (K, V)| -> K
-                    ensures { result ≡ pair.0 }
-                { pair.0 },
-            )
-            .collect(rt, alloc)
+        gathered(
+            rt,
+            alloc,
+            self.shards.into_par_iter(),
+            |shard: Shard<K, V, S>| -> Result<Vec<K>, AllocError>
+                ensures { IfOk result (λ list. list.items ≡ map (λ p. p.0) (pairs shard)) }
+            { keys_of(alloc, shard) },
+        )
     }
 }
 
@@ -112,8 +105,8 @@ where
 {
     /// What `f` answers to each pair, in the order of the pairs. Threads take shards, and wait for nobody.
     ///
-    /// Each thread takes memory for a list of its own, and the lists are joined. Where there is none it is refused (4), and the answers
-    /// are dropped.
+    /// It takes memory for a list of each shard's answers, and for the whole. Where there is none it is refused (4), and the answers are
+    /// dropped.
     pub fn map_collect<R: Threads + Sync, T: Send + Drop, F: Fn(&K, &V) -> T + Sync>(
         self,
         rt: &R,
@@ -122,23 +115,61 @@ where
         requires { All (MayMap F.Fn f) self }
         ensures { IfOk result (λ answers. MapsEach F.Fn f self.entry answers.items) }
     {
-        let shards = self.shards;
-        shards
-            .par_iter()
-            .with_min_len(1)
-            .flat_map_iter(
-                |shard: &Shard<K, V, S>| -> shard::Iter<'_, K, V>
-                    ensures { result ≡ pairs shard.now }
-                { shard.iter() },
-            )
-            .map(
-                |pair: (&K, &V)| -> T
-                    requires { MayMap F.Fn f (deref_pair pair) }
-                    ensures { Maps F.Fn f (deref_pair pair.entry) result }
-                { f(pair.0, pair.1) },
-            )
-            .collect(rt, *shards.allocator())
+        let alloc = *self.shards.allocator();
+        gathered(
+            rt,
+            alloc,
+            self.shards.par_iter(),
+            |shard: &Shard<K, V, S>| -> Result<Vec<T>, AllocError>
+                requires { All (MayMap F.Fn f) (pairs shard.now) }
+                ensures { IfOk result (λ list. MapsEach F.Fn f (pairs shard.entry.now) list.items) }
+            { answers(alloc, shard.iter(), &f) },
+        )
     }
+}
+
+// The lists that `f` makes of the parts, joined in the order of the parts. Threads take part after part.
+fn gathered<
+    R: Threads + Sync,
+    P: ParallelIterator,
+    T: Send + Drop,
+    F: Fn(P::Item) -> Result<Vec<T>, AllocError> + Copy + Send + Sync,
+>(rt: &R, alloc: Global, parts: P, f: F) -> Result<Vec<T>, AllocError>
+    requires each { P.each parts (λ x. F.pre f x × ((r : _) → F.post f x r → ⊤)) }
+    ensures { IfOk result (λ all. (xs : List P.Item) × P.gives parts xs
+        × (lists : List (Vec T Global)) × AllZip (λ x list. F.post f x (Ok list)) xs lists
+        × (all.items ≡ flat_map (λ list. list.items) lists)) }
+{
+    let lists: Result<Vec<Vec<T>>, AllocError> = parts.with_min_len(1).map(f).collect(rt, alloc)?;
+    joined(alloc, lists?)
+}
+
+// The pairs of a shard in a list.
+fn pairs_of<K: Eq + Hash + Drop, V: Drop, S: BuildHasher + Drop>(
+    alloc: Global,
+    shard: Shard<K, V, S>,
+) -> Result<Vec<(K, V)>, AllocError>
+    ensures { IfOk result (λ list. list.items ≡ pairs shard) }
+{
+    let mut list = Vec::with_capacity(alloc, shard.len())?;
+    for pair in shard.into_iter() {
+        list.push(pair)?;
+    }
+    Ok(list)
+}
+
+// The keys of a shard in a list.
+fn keys_of<K: Eq + Hash + Drop, V: Drop, S: BuildHasher + Drop>(
+    alloc: Global,
+    shard: Shard<K, V, S>,
+) -> Result<Vec<K>, AllocError>
+    ensures { IfOk result (λ list. list.items ≡ map (λ p. p.0) (pairs shard)) }
+{
+    let mut list = Vec::with_capacity(alloc, shard.len())?;
+    for (key, _value) in shard.into_iter() {
+        list.push(key)?;
+    }
+    Ok(list)
 }
 
 /// What `f` answers to each pair of a shard. It takes memory for the list, and is refused (4) where there is none.
