@@ -21,23 +21,33 @@ pub fn take_fixed<R>(rt: &R, alloc: Global, call: &str) -> Result<Ended, AllocEr
 where
     R: Threads + Wait + Clock + Sync,
 {
-    Ok(match call {
-        "new" => made(rt, alloc, 0, DashMap::new(alloc, 1)),
-        "default" => made(rt, alloc, 0, DashMap::default(alloc, 1)),
-        "with_capacity" => made(rt, alloc, 0, DashMap::with_capacity(alloc, 20, 1)),
-        "with_shard_amount" => made(rt, alloc, 0, DashMap::with_shard_amount(alloc, 4)),
-        "with_capacity_and_shard_amount" => {
-            let map = DashMap::with_capacity_and_shard_amount(alloc, 20, 4);
-            made(rt, alloc, 0, map)
+    let map = match call {
+        "new" => DashMap::new(alloc, 1),
+        "default" => DashMap::default(alloc, 1),
+        "with_capacity" => DashMap::with_capacity(alloc, 20, 1),
+        "with_shard_amount" => DashMap::with_shard_amount(alloc, 4),
+        "with_capacity_and_shard_amount" => DashMap::with_capacity_and_shard_amount(alloc, 20, 4),
+        _ => return take_empty(rt, alloc, call),
+    };
+    Ok(made(rt, alloc, 0, map))
+}
+
+// How a call ended that makes a set or a cache with nothing in it.
+fn take_empty<R>(rt: &R, alloc: Global, call: &str) -> Result<Ended, AllocError>
+where
+    R: Threads + Wait + Clock + Sync,
+{
+    let is_empty = match call {
+        "set_new" => DashSet::new(alloc, 1).map(|set: DashSet<Key>| set.is_empty(rt)),
+        "set_with_capacity" => {
+            DashSet::with_capacity(alloc, 20, 1).map(|set: DashSet<Key>| set.is_empty(rt))
         }
-        "set_new" => set_made(rt, alloc, 0, DashSet::new(alloc, 1)),
-        "set_with_capacity" => set_made(rt, alloc, 0, DashSet::with_capacity(alloc, 20, 1)),
-        "memo_new" => match Memo::<Key, Key, Echo>::new(alloc, Echo, 1) {
-            Ok(cache) => Ended::answered(FULL, cache.len(rt) == 0),
-            Err(refused) => Ended::not_made(refused),
-        },
+        "memo_new" => {
+            Memo::new(alloc, Echo, 1).map(|cache: Memo<Key, Key, Echo>| cache.len(rt) == 0)
+        }
         _ => return take_list(rt, alloc, call),
-    })
+    };
+    Ok(ended(is_empty))
 }
 
 // How a call ended that makes a map or a set of a list.
@@ -53,13 +63,13 @@ where
             let map = DashMap::<Key, Value>::from_par_iter(rt, alloc, pairs, 1, 2);
             made(rt, alloc, LIST, map)
         }
-        "set_from_iter" => match DashSet::from_iter(alloc, keys, 1) {
-            Ok(set) => set_made(rt, alloc, LIST, Ok(set)),
+        "set_from_iter" => match DashSet::<Key>::from_iter(alloc, keys, 1) {
+            Ok(set) => Ended::answered(FULL, set_has(rt, alloc, &set, LIST)),
             Err(refused) => not_made_of(refused),
         },
         "set_from_par_iter" => {
-            let set = DashSet::from_par_iter(rt, alloc, keys, 1, 2);
-            set_made(rt, alloc, LIST, set)
+            let set = DashSet::<Key>::from_par_iter(rt, alloc, keys, 1, 2);
+            ended(set.map(|set: DashSet<Key>| set_has(rt, alloc, &set, LIST)))
         }
         _ => Ended::unknown(FULL),
     })
@@ -84,6 +94,14 @@ fn not_made_of<K: Drop, V: Drop>(refused: FromRefused<K, V>) -> Ended {
     }
 }
 
+// How a constructor ended: by 8, or with a map or set that has what it should have, or hasn't.
+fn ended(has_all: Result<bool, ConstructError>) -> Ended {
+    match has_all {
+        Ok(has_all) => Ended::answered(FULL, has_all),
+        Err(refused) => Ended::not_made(refused),
+    }
+}
+
 /// What a constructor shows that puts so many pairs into its map: it is refused by 8.
 pub fn made<R: Wait + Clock, S: BuildHasher + Drop>(
     rt: &R,
@@ -91,21 +109,5 @@ pub fn made<R: Wait + Clock, S: BuildHasher + Drop>(
     pairs: u64,
     map: Result<Map<S>, ConstructError>,
 ) -> Ended {
-    match map {
-        Ok(map) => Ended::answered(FULL, has(rt, alloc, &map, pairs)),
-        Err(refused) => Ended::not_made(refused),
-    }
-}
-
-// The same of a set.
-fn set_made<R: Wait + Clock>(
-    rt: &R,
-    alloc: Global,
-    keys: u64,
-    set: Result<DashSet<Key>, ConstructError>,
-) -> Ended {
-    match set {
-        Ok(set) => Ended::answered(FULL, set_has(rt, alloc, &set, keys)),
-        Err(refused) => Ended::not_made(refused),
-    }
+    ended(map.map(|map: Map<S>| has(rt, alloc, &map, pairs)))
 }
