@@ -2,9 +2,15 @@
 mod alone;
 mod calls;
 mod checks;
+mod entry;
 mod error;
+mod iter;
 mod map;
 mod maps;
 mod parallel;
+mod projection;
 mod run;
 mod t;
+mod tries;
+mod view;
+mod waiting;

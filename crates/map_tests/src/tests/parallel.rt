@@ -1,6 +1,6 @@
-//! Runs and lists that several workers share, as worked by hand.
+//! Runs, lists and walks that several workers share, as worked by hand.
 use crate::tests::checks::{is, prints};
-use crate::tests::maps::{has, map_of_four, put};
+use crate::tests::maps::{Places, has, map_of, map_of_four, put};
 use dash_map::parallel::run::{Gate, ParOutcome};
 use dash_map::run::Fault;
 use dash_steps::step::ShardStep;
@@ -119,4 +119,25 @@ fn two_workers_at_once(rt: HostRuntime) {
         is(&rt, alone.len(), 2);
         is(&rt, missed.load(Ordering::SeqCst), false);
     }
+}
+
+#[test]
+fn a_map_by_workers(rt: HostRuntime) {
+    let mut map: Places = map_of(&rt, rt.alloc(), []);
+    let list = vec![in rt.alloc(); (1, 10), (5, 50), (2, 20)].expect(&rt, "refused");
+    map.par_extend_shared(&rt, list, 2).expect(&rt, "refused");
+    let one_more = |_key: &u64, value: &mut u64| {
+        *value = value.wrapping_add(1);
+    };
+    map.par_iter_mut().for_each(&rt, one_more);
+    map.into_par_iter_mut().for_each(&rt, one_more);
+    let mut pairs = map
+        .par_iter()
+        .map_collect(&rt, |key: &u64, value: &u64| (*key, *value))
+        .expect(&rt, "refused");
+    pairs.sort_unstable();
+    prints(&rt, rt.alloc(), &pairs, "[(1, 12), (2, 22), (5, 52)]");
+    let mut pairs = map.into_par_iter().collect(&rt).expect(&rt, "refused");
+    pairs.sort_unstable();
+    prints(&rt, rt.alloc(), &pairs, "[(1, 12), (2, 22), (5, 52)]");
 }
