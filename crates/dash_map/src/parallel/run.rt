@@ -187,29 +187,24 @@ impl<K: KeptKey + Send + Drop, V: Kept + Send + Drop, S: BuildHasher + Send> Das
     {
         replace_with(
             self,
-            steps,
-            |map: Self, steps: Vec<ShardStep<K, V, A>>| -> (Self, ParOutcome<K, V>)
-                requires { IsSync R.row × IsSync G.row × IsSend A.row
-                    × IsSend K.row × IsSend V.row × IsSend S.row × IsSend S.Hasher.row }
-                ensures ran { ParRunsBehind (by K.Hash S.BuildHasher S.Hasher.Hasher) K.alike V.alike A.acts map steps.items result.1 }
-                ensures same { result.0 ≡ map }
-            { map.par_run_alone(rt, steps, workers, gate) },
+            (rt, steps, workers, gate),
+            Self::par_run_alone::<R, A, G>,
         )
     }
 
     // The run, and the map after it.
     fn par_run_alone<R: Threads + Sync, A: Action<K, V> + Send + Drop, G: Gate>(
         self,
-        rt: &R,
-        steps: Vec<ShardStep<K, V, A>>,
-        workers: usize,
-        gate: &G,
+        run: (&R, Vec<ShardStep<K, V, A>>, usize, &G),
     ) -> (Self, ParOutcome<K, V>)
     where
         S::Hasher: Send,
-        ensures ran { ParRunsBehind ⟦<Self as Keyed>⟧.by K.alike V.alike A.acts self steps.items result.1 }
+        requires { IsSync R.row × IsSync G.row × IsSend A.row
+            × IsSend K.row × IsSend V.row × IsSend S.row × IsSend S.Hasher.row }
+        ensures ran { ParRunsBehind ⟦<Self as Keyed>⟧.by K.alike V.alike A.acts self run.entry.1.items result.1 }
         ensures same { result.0 ≡ self }
     {
+        let (rt, steps, workers, gate) = run;
         let mut alone = self.alone();
         let outcome = alone.par_run_gated(rt, steps, workers, gate);
         (alone.end(), outcome)
