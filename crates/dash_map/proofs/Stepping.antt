@@ -7,6 +7,8 @@ use Rattle.std.proofs.lemmas.Bool.{cases_eq, true≢false}
 use Rattle.dash_shard.specs.Hashing.{KeyHash}
 use Rattle.dash_lock.specs.Lock.{FoundBehind}
 use Rattle.dash_shard.specs.Shard.{ShardState, IsNextTaken, IsTagged}
+use Rattle.dash_shard.specs.declared.shard.table.cursor.Cursor.{Cursor}
+use Rattle.dash_shard.specs.inner.Cursors.{IsSlotCursor}
 use Rattle.dash_ref.specs.Ref.{RefState, Stands}
 use Rattle.dash_map.specs.Walking.{IterState, IsDone, IsEnded, IsOver, SawNone, GivesPair, StepsOn, steps_left}
 use Rattle.dash_map.specs.inner.Walking.{IsWalk, GivesHere, IsLater, HasPassed}
@@ -17,6 +19,11 @@ not-so iff p = true≢false (sym (iff.1 p))
 -- a shard is left to enter
 pub more : {K V S : Type 0} (w : IterState K V S) → w.entered ≤ w.base.amount → ¬ (w.entered ≡ w.base.amount) → w.entered < w.base.amount
 more w within other = omega (arith, within, other)
+
+-- a cursor of the shard behind a guard is one of the shard that is held
+pub cursor-held : {G K V S : Type 0} (shard : G → ShardState K V S) (held : Option G) (g : G) (s : ShardState K V S) (c : Cursor) → Some g ≡ held → s ≡ shard g → IsSlotCursor s.slots c → IfSome held (λ r. IsSlotCursor (shard r).slots c)
+cursor-held shard held g s c is same cursor =
+    subst (λ o. IfSome o (λ r. IsSlotCursor (shard r).slots c)) is (subst (λ t. IsSlotCursor t.slots c) same cursor)
 
 module _ {K V S : Type 0} (h : KeyHash K S) where
   -- a step in the shard that is held came to its slot r
