@@ -1,7 +1,8 @@
-use Rattle.std.proofs.Common.{◌≡◌, ◌≤◌, Some, sym, ap, subst, ◌∙◌, arith, slice_get, slice_set, flat_map, length}
+use Rattle.std.proofs.Common.{◌≡◌, ◌≤◌, ℕ, List, get_or, Some, sym, ap, subst, ◌∙◌, arith, slice_get, slice_set, flat_map, length}
+use Rattle.std.proofs.lemmas.List.{set-get_or}
 use Rattle.std.proofs.lemmas.Option.{slice_get-get_or}
 use Rattle.dash_shard.specs.Hashing.{key_hash}
-use Rattle.dash_shard.specs.Shard.{SameShard, IsShard, pairs}
+use Rattle.dash_shard.specs.Shard.{ShardState, SameShard, IsShard, pairs}
 use Rattle.dash_shard.proofs.Lawful.{lawful-of}
 use Rattle.dash_steps.specs.Steps.{step_of, reply_of}
 use Rattle.dash_steps.specs.Takes.{Takes}
@@ -15,6 +16,13 @@ use Rattle.dash_map.proofs.Running.{goes-on, takes-on}
 use Rattle.dash_map.proofs.alone.Alone.take.Given.{Over}
 use Rattle.dash_map.proofs.alone.Alone.take.Goals.{After-index_mut, After-take-taken, in-Ok, in-Err}
 use Rattle.dash_map.proofs.alone.Alone.take.Goals as goal
+
+abbrev in-row : {K V S : Type 0} → S → List (ShardState K V S) → AloneState K V S
+in-row hasher row = record { hasher = hasher; row = row }
+
+-- a shard that is put back as it was
+put-back : {K V S : Type 0} (hasher : S) (row : List (ShardState K V S)) (i : ℕ) (s t : ShardState K V S) → s ≡ get_or row i s → t ≡ s → in-row hasher (slice_set row i t) ≡ in-row hasher row
+put-back hasher row i s t here same = ap (in-row hasher) (ap (slice_set row i) (same ∙ here) ∙ set-get_or row i s)
 
 -- the shard that is lent
 lent : (g : Over) (c : After-index_mut g) → slice_get c.self.inside.row c.route-hash.result.1 ≡ Some c.index_mut.result.now
@@ -64,3 +72,9 @@ returns-clause-taken g c =
           (c.route-hash.ensures.shard ∙ ap (λ n. shard_by g.A.Action.acts h c.self.inside.hasher n c.args.step) c.len-amount.ensures) w.in-Ok.ensures.taken))
       | in-Err w ↦ rw w.result-is tt
     ]
+
+pub returns-clause-refused : goal.returns-clause-refused
+returns-clause-refused g c = elim c.match-taken.branch [
+  | in-Ok w ↦ rw w.result-is tt
+  | in-Err w ↦ rw w.result-is (w.in-Err.ensures.refused.0, put-back c.self.inside.hasher c.self.inside.row c.route-hash.result.1 c.index_mut.result.now c.take-taken.new.shard c.index_mut.ensures.value w.in-Err.ensures.refused.1 ∙ c.self.view_is)
+]
