@@ -3,7 +3,7 @@ ghost use Rattle.std.specs.Prelude.{◌≡◌, ◌↔◌, ◌∷◌, [], IfOk, I
 ghost use Rattle.std.specs.Thread.{IsSync};
 ghost use denote.Param.Send.{IsSend};
 ghost use Rattle.dash_shard.specs.Errors.{IsOneOf};
-ghost use Rattle.dash_shard.specs.Hashing.{by, HashAlike};
+ghost use Rattle.dash_shard.specs.Hashing.{HashAlike};
 ghost use Rattle.dash_shard.specs.declared.error.ConstructError.TheVariants.{Memory, Parallelism};
 ghost use Rattle.dash_map.specs.Alone.{IsAlone};
 ghost use Rattle.dash_map.specs.Amounts.{IsDefault, IsParallelism};
@@ -129,29 +129,23 @@ impl<K: Eq + Hash + Send + Drop, V: Send + Drop, S: BuildHasher + Send> DashMap<
     {
         replace_with(
             self,
-            list,
-            |map: Self, list: Vec<(K, V)>| -> (Self, Result<(), AllocError>)
-                requires { IsSync R.row × IsSync G.row
-                    × IsSend K.row × IsSend V.row × IsSend S.row × IsSend S.Hasher.row }
-                ensures extends { ParExtendsBehind (by K.Hash S.BuildHasher S.Hasher.Hasher) map list.items result.1 }
-                ensures same { result.0 ≡ map }
-            { map.par_extend_alone(rt, list, workers, gate) },
+            (rt, list, workers, gate),
+            Self::par_extend_alone::<R, G>,
         )
     }
 
     // Inserts the pairs, and the map after it.
     fn par_extend_alone<R: Threads + Sync, G: Gate>(
         self,
-        rt: &R,
-        list: Vec<(K, V)>,
-        workers: usize,
-        gate: &G,
+        put: (&R, Vec<(K, V)>, usize, &G),
     ) -> (Self, Result<(), AllocError>)
     where
         S::Hasher: Send,
-        ensures extends { ParExtendsBehind ⟦<Self as Keyed>⟧.by self list.items result.1 }
+        requires { IsSync R.row × IsSync G.row × IsSend K.row × IsSend V.row × IsSend S.row × IsSend S.Hasher.row }
+        ensures extends { ParExtendsBehind ⟦<Self as Keyed>⟧.by self put.entry.1.items result.1 }
         ensures same { result.0 ≡ self }
     {
+        let (rt, list, workers, gate) = put;
         let mut alone = self.alone();
         let extended = alone.par_extend_gated(rt, list, workers, gate);
         (alone.end(), extended)

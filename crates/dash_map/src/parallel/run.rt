@@ -3,7 +3,6 @@ ghost use Rattle.std.specs.Prelude.{◌≡◌, ◌<◌, ◌≤◌, ◌↔◌, []
 ghost use Rattle.std.specs.List.{Any};
 ghost use Rattle.std.specs.Thread.{IsSync};
 ghost use denote.Param.Send.{IsSend};
-ghost use Rattle.dash_shard.specs.Hashing.{by};
 ghost use Rattle.dash_parallel.specs.Apart.{ParRan};
 ghost use Rattle.dash_map.specs.Alone.{IsAlone, KeepsRoom};
 ghost use Rattle.dash_map.specs.ParRun.{goes_to, TakesThere, ParRuns, ParRunsBehind};
