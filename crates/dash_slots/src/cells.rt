@@ -1,5 +1,5 @@
 //! A block of memory as a row of slots: where it begins, the slots that it has, and the right to give it back.
-ghost use Rattle.std.specs.Prelude.{◌≡◌, ℕ, ◌<◌, List, Option, None, Some, length, get_or, slice_set, replicate, IfOk, ⊤};
+ghost use Rattle.std.specs.Prelude.{◌≡◌, ℕ, ◌<◌, List, [], Option, None, Some, length, get_or, slice_set, replicate, IfOk, ⊤};
 ghost use Rattle.std.specs.Borrow.{sem};
 ghost use Rattle.std.specs.Vec.Ownership.{FitsInBlock};
 ghost use base.Fml.{ftrue};
@@ -68,6 +68,23 @@ unsafe impl<T, A: Allocator + Send> Send for Deed<T, A> {}
 
 // A `&` to it shows nothing.
 unsafe impl<T, A: Allocator> Sync for Deed<T, A> {}
+
+// The slots of a row that has none, at any place: they take no memory.
+pub(crate) fn no_slots<T>(at: &u8) -> (Start<T>, Cells<T>)
+    ensures { (result.1.at ≡ result.0.ptr) × (result.1.slots ≡ []) × (result.1.labels ≡ []) }
+{
+    let start = Start {
+        ptr: at as *const u8 as *mut T,
+    };
+    (start, Cells { mark: PhantomData })
+}
+
+// Lets the slots of a row go that has none.
+pub(crate) fn let_go<T>(cells: Cells<T>)
+    requires { cells.slots ≡ [] }
+{
+    let Cells { mark: _ } = cells;
+}
 
 // A block of `len` empty slots.
 pub(crate) fn allocate<T, A: Allocator>(

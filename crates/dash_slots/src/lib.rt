@@ -7,6 +7,4 @@ mod slots;
 // A crate can name a row in a contract only if the types of its fields are exported.
 #[doc(hidden)]
 pub use cells::{Cells, Deed, Start};
-#[doc(hidden)]
-pub use slots::Block;
 pub use slots::Slots;

@@ -4,38 +4,37 @@ ghost use Rattle.std.specs.Borrow.{sem};
 ghost use Rattle.dash_slots.specs.inner.Slots.{value_at, blank, IsBlank};
 ghost use Rattle.dash_slots.specs.inner.Lends.{lends_value};
 
-use crate::cells::{Cells, Deed, Start, allocate, deallocate};
+use crate::cells::{Cells, Deed, Start, allocate, deallocate, let_go, no_slots};
 use std::alloc::{AllocError, Global};
 use std::marker::Model;
 use std_alloc::room::may_hold;
 
-/// The memory of a row. Callers have no use for it.
-pub struct Block<T> {
-    start: Start<T>,
-    cells: Cells<T>,
-    deed: Deed<T, Global>,
-}
+// Where a row of no slots begins. Nobody reads it.
+static NOWHERE: u8 = 0;
 
 /// A row of slots, each empty or with a value. The memory of an empty slot is not written.
 ///
 /// Which slots have values a caller knows by marks of its own, and it takes each value out before the row ends.
 pub struct Slots<T> {
-    block: Option<Block<T>>,
+    start: Start<T>,
+    cells: Cells<T>,
+    // None for no slots.
+    deed: Option<Deed<T, Global>>,
     len: usize,
     alloc: Global,
 }
 
 impl<T> Model for Slots<T> {
     ghost use Rattle.dash_slots.specs.inner.Slots.{SlotsState, slots_code};
-    ghost use Rattle.dash_slots.specs.inner.Block.{seen, IsRow};
+    ghost use Rattle.dash_slots.specs.inner.Row.{seen, IsRow};
 
     ghost Value = { SlotsState T };
 
     ghost coded = { slots_code T.code };
 
-    ghost view = { λ s. seen s.block };
+    ghost view = { λ s. seen s.cells };
 
-    ghost invariant = { λ s. IsRow s.block s.len };
+    ghost invariant = { λ s. IsRow s.start s.cells s.deed s.len };
 }
 
 impl<T> Slots<T> {
@@ -44,8 +43,11 @@ impl<T> Slots<T> {
     pub fn new(alloc: Global) -> Self
         ensures { result ≡ blank 0 }
     {
+        let (start, cells) = no_slots(&NOWHERE);
         Slots {
-            block: None,
+            start,
+            cells,
+            deed: None,
             len: 0,
             alloc,
         }
@@ -64,7 +66,9 @@ impl<T> Slots<T> {
         }
         let (start, cells, deed) = allocate(&alloc, len)?;
         Ok(Slots {
-            block: Some(Block { start, cells, deed }),
+            start,
+            cells,
+            deed: Some(deed),
             len,
             alloc,
         })
@@ -92,13 +96,8 @@ impl<T> Slots<T> {
         ensures values { self.new.values ≡ slice_set self.old.values index (Some value) }
         ensures labels { self.new.labels ≡ slice_set self.old.labels index label }
     {
-        match &mut self.block {
-            Some(block) => {
-                block.cells.put(block.start, index, value);
-                block.cells.set_label(index, label);
-            }
-            None => unreachable!(),
-        }
+        self.cells.put(self.start, index, value);
+        self.cells.set_label(index, label);
     }
 
     /// Puts a value in an empty slot, which keeps its label.
@@ -109,10 +108,7 @@ impl<T> Slots<T> {
         ensures values { self.new.values ≡ slice_set self.old.values index (Some value) }
         ensures labels { self.new.labels ≡ self.old.labels }
     {
-        match &mut self.block {
-            Some(block) => block.cells.put(block.start, index, value),
-            None => unreachable!(),
-        }
+        self.cells.put(self.start, index, value)
     }
 
     /// Takes the value out of a slot.
@@ -123,10 +119,7 @@ impl<T> Slots<T> {
         ensures values { self.new.values ≡ slice_set self.old.values index None }
         ensures labels { self.new.labels ≡ self.old.labels }
     {
-        match &mut self.block {
-            Some(block) => block.cells.take(block.start, index),
-            None => unreachable!(),
-        }
+        self.cells.take(self.start, index)
     }
 
     /// The value of a slot that has one.
@@ -135,10 +128,7 @@ impl<T> Slots<T> {
         requires { IsSome (value_at self.now index) }
         ensures { value_at self.now index ≡ Some result.now }
     {
-        match &self.block {
-            Some(block) => block.cells.get(block.start, index),
-            None => unreachable!(),
-        }
+        self.cells.get(self.start, index)
     }
 
     /// The value of a slot that has one, to be written.
@@ -148,19 +138,23 @@ impl<T> Slots<T> {
         ensures* writes_back { sem 𝓛 (lends_value T.row self.entry index result) }
         ensures value { value_at self.old index ≡ Some result.now }
     {
-        let block = self.block.as_mut().unwrap();
-        let start = block.start;
-        block.cells.get_mut(start, index)
+        self.cells.get_mut(self.start, index)
     }
 
     /// Ends a row none of whose slots has a value, and gives its memory back.
     pub fn end(self)
         requires { IsBlank self }
     {
-        let Slots { block, len, alloc } = self;
-        match block {
-            Some(Block { start, cells, deed }) => deallocate(&alloc, start, len, cells, deed),
-            None => {}
+        let Slots {
+            start,
+            cells,
+            deed,
+            len,
+            alloc,
+        } = self;
+        match deed {
+            Some(deed) => deallocate(&alloc, start, len, cells, deed),
+            None => let_go(cells),
         }
     }
 }

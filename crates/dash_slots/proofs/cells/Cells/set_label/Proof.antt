@@ -1,5 +1,5 @@
 -- `set_label` changes what proofs know of a slot, and nothing in memory.
-use Rattle.dash_slots.proofs.Walking.{El, R, args, [], List, refl, w64, ℕ, ◌∷◌, ◌≡◌, leaves, proved, after, Fml, Lft, flft, fsep, ftrue, SProp, emp, fact, fact_i, tables, usize, no, yes, uint_Tells, uint_vals, owns, mut_Tells, mut_vals, plain, types_at, closes, nothing, opens, Goes-dropped, Goes-ref, Stays, stay_dropped, stay_ref, walk_of, inst_fn, named, Val, vint, vptr, vunit, alloc_all, env, free_all, look_at, pass_all, sets, !, at_ret, by, feq_i, fjoin, fjoin3, fsplit, fsplit3, join, keep, move, qed, raw, split, use0, ‵, ◌$◌, ◌∵◌, ◌⊛◌, blocks, enter, exec, first, of_opd, returns, unit_lit}
+use Rattle.dash_slots.proofs.Walking.{El, args, [], List, refl, w64, ℕ, ◌∷◌, ◌≡◌, leaves, proved, Fml, Lft, flft, fsep, ftrue, SProp, emp, fact, fact_i, tables, usize, yes, uint_Tells, uint_vals, owns, mut_Tells, mut_vals, plain, types_at, closes, nothing, opens, Goes-dropped, Goes-ref, Stays, stay_dropped, stay_ref, walk_of, inst_fn, named, Val, vint, vptr, vunit, alloc_all, env, free_all, look_at, pass_all, sets, !, by, feq_i, fjoin, fjoin3, fsplit, fsplit3, join, keep, move, qed, raw, split, use0, ‵, ◌$◌, ◌∵◌, ◌⊛◌, enter, of_opd, returns, unit_lit}
 use Rattle.dash_slots.proofs.Places.{Row}
 use Rattle.dash_slots.specs.inner.Cells.{with_label}
 use Rattle.dash_slots.specs.contracts.cells.Cells.set_label.{ended, clauses}

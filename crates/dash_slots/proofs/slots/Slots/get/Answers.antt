@@ -2,4 +2,4 @@ use Rattle.dash_slots.proofs.Rows.{reaches}
 use Rattle.dash_slots.proofs.slots.Slots.get.Goals as goal
 
 pub get-requires : goal.get-requires
-get-requires g c = reaches c.self.inside.block c.in-Some.block c.self.inside.len c.args.index c.args.self.now c.self.invariant c.in-Some.is c.self.view_is c.requires
+get-requires g c = let s = c.self.inside in reaches s.start s.cells s.deed s.len c.args.index c.args.self.now c.self.invariant c.self.view_is c.requires
