@@ -1,4 +1,4 @@
-//! The tests of `dash_slots`, `dash_kept`, `dash_shard`, `dash_held` and `dash_ref`, over their public items alone.
+//! The tests of `dash_slots`, `dash_kept`, `dash_lock`, `dash_shard` and `dash_held`, over their public items alone.
 //!
 //! They stand in a crate of their own, so that each library is proved once, without them.
 //! `values` has keys and values that tests of maps use too.

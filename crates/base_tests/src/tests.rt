@@ -4,6 +4,5 @@ mod checks;
 mod hash;
 mod kept;
 mod lock;
-mod mapref;
 mod shard;
 mod slots;

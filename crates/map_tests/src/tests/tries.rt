@@ -68,6 +68,7 @@ fn a_reference_goes_on_as_one_that_reads(rt: HostRuntime) {
     let found = found.downgrade();
     is(&rt, (is_written(&map, 1), is_held(&map, 1)), (false, true));
     is(&rt, *found, 11);
+    prints(&rt, rt.alloc(), &found, "Ref { k: 1, v: 11 }");
     drop(found);
     is(&rt, is_held(&map, 1), false);
     is(&rt, map.into_iter().next(), Some((1, 11)));
