@@ -7,7 +7,7 @@ use Rattle.dash_shard.specs.Shard.{ShardState}
 use Rattle.dash_lock.specs.Lock.{FoundBehind}
 use Rattle.dash_map.specs.Alone.{AloneState, IsAlone}
 use Rattle.dash_map.specs.Copies.{CopiesAlone}
-use Rattle.dash_rows.specs.Copies.{IsCopied, AreCopied}
+use Rattle.dash_rows.specs.inner.Copies.{IsCopied, AreCopied}
 use Rattle.dash_map.specs.Behind.{SawShards}
 use Rattle.dash_map.specs.Map.{MapState}
 use Rattle.dash_map.proofs.Seeing.{IsWhole, SeenSo, append-cases, all-seen}

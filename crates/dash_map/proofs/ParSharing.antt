@@ -3,7 +3,7 @@ use Rattle.std.proofs.Common.{◌≡◌, ℕ, ◌<◌, Bool, false, List, ◌++�
 use Rattle.std.specs.Prelude.{⊤, OnOk}
 use Rattle.std.proofs.lemmas.Result.{IfOk-weaker}
 use Rattle.dash_parallel.specs.Apart.{steps_of}
-use Rattle.dash_parallel.specs.Lanes.{LaneRan}
+use Rattle.dash_parallel.specs.inner.Lanes.{LaneRan}
 use Rattle.dash_shard.specs.Hashing.{KeyHash, route_by}
 use Rattle.dash_lock.specs.Lock.{FoundBehind, LeftBehind}
 use Rattle.dash_shard.specs.Shard.{ShardState, IsTagged}

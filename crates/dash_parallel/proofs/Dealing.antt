@@ -6,8 +6,7 @@ use Rattle.std.proofs.lemmas.List.{map-append, reverse-append, get_or_default}
 use Rattle.std.proofs.lemmas.List.Elements.{filter-append, All-pop, All-push}
 use Rattle.std.proofs.lemmas.Bool.{cases_eq}
 use Rattle.dash_parallel.specs.Apart.{steps_of}
-use Rattle.dash_parallel.specs.Lanes.{HasRoom, steps_in}
-use Rattle.dash_parallel.specs.inner.Lanes.{IsDealt, AreDealt, AreReady}
+use Rattle.dash_parallel.specs.inner.Lanes.{IsDealt, AreDealt, AreReady, HasRoom, steps_in}
 use Rattle.dash_parallel.specs.declared.lane.Lane.{Lane}
 use Rattle.dash_parallel.proofs.Running.{steps-push}
 

@@ -2,9 +2,8 @@
 use Rattle.std.proofs.Common.{◌≡◌, ℕ, zero, suc, ◌<◌, ◌==◌, cond, true, false, List, [], ◌∷◌, All, length, map, get_or, refl, sym, ap, subst, arith, eq-eqb}
 use Rattle.std.proofs.lemmas.List.{length-map, length-reverse}
 use Rattle.dash_parallel.specs.Apart.{steps_of}
-use Rattle.dash_parallel.specs.Lanes.{steps_in}
 use Rattle.dash_parallel.specs.inner.Held.{HasRunHeld}
-use Rattle.dash_parallel.specs.inner.Lanes.{AreReady}
+use Rattle.dash_parallel.specs.inner.Lanes.{AreReady, steps_in}
 use Rattle.dash_parallel.specs.declared.lane.Lane.{Lane}
 use Rattle.dash_parallel.proofs.Taking.{some-item}
 

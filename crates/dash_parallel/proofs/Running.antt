@@ -3,7 +3,7 @@ use Rattle.std.proofs.Common.{◌≡◌, ℕ, Bool, false, List, [], ◌∷◌, 
 use Rattle.std.specs.Prelude.{reverse}
 use Rattle.std.proofs.lemmas.List.{map-append, reverse-append}
 use Rattle.dash_parallel.specs.Apart.{TakenInTurn}
-use Rattle.dash_parallel.specs.Lanes.{LaneRan, steps_in}
+use Rattle.dash_parallel.specs.inner.Lanes.{LaneRan, steps_in}
 
 pub steps-push : {T : Type 0} (items : List (ℕ × T)) (e : ℕ × T) → steps_in (items ++ e ∷ []) ≡ e.1 ∷ steps_in items
 steps-push items e = ap reverse (map-append (λ e. e.1) items (e ∷ [])) ∙ reverse-append (map (λ e. e.1) items) (e.1 ∷ [])

@@ -6,8 +6,7 @@ use Rattle.std.proofs.lemmas.List.{length-map, length-reverse, reverse-reverse, 
 use Rattle.std.proofs.lemmas.List.Elements.{All-cons, All-nil, All-head, All-tail, All-map}
 use Rattle.dash_parallel.specs.Apart.{EachPart, ParRan, RanFront, RanWhole, of_part, steps_of, replied, untaken}
 use Rattle.dash_parallel.specs.inner.Halves.{EachBeside}
-use Rattle.dash_parallel.specs.Lanes.{HasRun, LaneRan}
-use Rattle.dash_parallel.specs.inner.Lanes.{AreReady, handed, queues}
+use Rattle.dash_parallel.specs.inner.Lanes.{AreReady, handed, queues, HasRun, LaneRan}
 use Rattle.dash_parallel.specs.declared.lane.Lane.{Lane}
 use Rattle.dash_parallel.proofs.Handing.{length-handed, pair_up, pair-front, part-handed}
 

@@ -18,10 +18,6 @@ replied d = (d.0, Some d.1)
 abbrev pub untaken : {T Y : Type 0} → T → T × Option Y
 untaken t = (t, None)
 
--- each part fits the steps that go to it, with the marks that they may get
-abbrev pub FitsAll : {P T : Type 0} → (P → T → ℕ → Type 0) → (T → ℕ) → (T → ℕ → Type 0) → List P → Type 0
-FitsAll {P} {T} fits goes marks ps = (t : T) (m s : ℕ) (d : P) → s < length ps → goes t ≡ s → marks t m → fits (get_or ps s d) t m
-
 -- R holds of each part: of the steps that go to it, of the part before and of the part after
 abbrev pub EachPart : {P T : Type 0} → (List T → P → P → Type 0) → (T → ℕ) → List T → List P → List P → Type 0
 EachPart {P} R goes steps ps qs = (s : ℕ) (d : P) → s < length ps → R (steps_of goes s steps) (get_or ps s d) (get_or qs s d)

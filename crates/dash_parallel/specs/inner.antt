@@ -1,4 +1,4 @@
--- What only private contracts and proofs use.
+-- What only proofs and the contracts of calls for the crates here alone use.
 pub mod Halves
 pub mod Held
 pub mod Lanes

@@ -1,7 +1,6 @@
 //! A list of steps that is dealt to the lanes of its parts.
 ghost use Rattle.std.specs.Prelude.{◌≡◌, ℕ, ◌≤◌, ◌<◌, [], All, IfOk, OnOk, IsTrue, length, map, reverse, vec_len, vec_capacity, get_or};
-ghost use Rattle.dash_parallel.specs.Lanes.{HasRoom};
-ghost use Rattle.dash_parallel.specs.inner.Lanes.{AreDealt, AreEmpty, AreReady};
+ghost use Rattle.dash_parallel.specs.inner.Lanes.{AreDealt, AreEmpty, AreReady, HasRoom};
 
 use crate::lane::Lane;
 use dash_traits::Dealer;

@@ -2,7 +2,7 @@
 ghost use Rattle.std.specs.Prelude.{◌≡◌, ℕ, ◌<◌, List, All, OnOk, false, length, get_or};
 ghost use Rattle.std.specs.Thread.{IsSync};
 ghost use Rattle.dash_parallel.specs.Apart.{steps_of};
-ghost use Rattle.dash_parallel.specs.Lanes.{HasRoom, steps_in};
+ghost use Rattle.dash_parallel.specs.inner.Lanes.{HasRoom, steps_in};
 ghost use Rattle.dash_parallel.specs.inner.Held.{HasRunHeld, IsReadyToHold};
 
 use crate::deal::deal;

@@ -1,6 +1,6 @@
 //! The steps of one part, and what they reply.
 ghost use Rattle.std.specs.Prelude.{◌≡◌, ◌≤◌, [], All, vec_len, vec_capacity};
-ghost use Rattle.dash_parallel.specs.Lanes.{HasRun, IsReady, LaneRan, steps_in};
+ghost use Rattle.dash_parallel.specs.inner.Lanes.{HasRun, IsReady, LaneRan, steps_in};
 
 use dash_traits::Part;
 

@@ -1,9 +1,8 @@
 //! Steps taken on a row of parts by several workers: each part's in their order, those of different parts at once.
 ghost use Rattle.std.specs.Prelude.{◌≡◌, ℕ, ◌≤◌, ◌<◌, ◌+◌, ◌++◌, [], All, OnOk, IsSome, None, false, length, replicate, reverse, vec_len, vec_capacity};
-ghost use Rattle.dash_parallel.specs.Apart.{EachPart, FitsAll, ParRan, RanFront, RanWhole};
+ghost use Rattle.dash_parallel.specs.Apart.{EachPart, ParRan, RanFront, RanWhole};
 ghost use Rattle.dash_parallel.specs.inner.Halves.{AllBeside, EachBeside};
-ghost use Rattle.dash_parallel.specs.Lanes.{HasRun, IsReady};
-ghost use Rattle.dash_parallel.specs.inner.Lanes.{handed, queues};
+ghost use Rattle.dash_parallel.specs.inner.Lanes.{handed, queues, HasRun, IsReady, FitsAll};
 
 use crate::deal::{Dealt, deal};
 use crate::gate::Gate;

@@ -1,9 +1,8 @@
 -- A copy of a shard: the same pairs, each alike its source.
-use Rattle.std.specs.Prelude.{ℕ, ◌≡◌, Bool, IsTrue, List, length, Some, slice_get}
+use Rattle.std.specs.Prelude.{◌≡◌, Bool, IsTrue}
 use Rattle.std.specs.Option.{option_eq}
-use Rattle.dash_shard.specs.Hashing.{KeyHash, HashAlike}
 use Rattle.dash_shard.specs.Contents.{at}
-use Rattle.dash_shard.specs.Shard.{ShardState, pairs, shard_len, IsShard}
+use Rattle.dash_shard.specs.Shard.{ShardState, pairs, shard_len}
 use Rattle.dash_kept.specs.Alike.{alike_pair}
 
 -- by which keys are equal, which keys and values are alike, and which hasher is a clone
@@ -15,14 +14,3 @@ module _ {K V S : Type 0} (eq like_key : K → K → Bool) (like_value : V → V
     pub number : t.number ≡ s.number
     pub amount : t.amount ≡ s.amount
     pub hasher : is_clone s.hasher t.hasher
-
-  -- all that a copy of a shard promises
-  pub record IsCopied (h : KeyHash K S) (s t : ShardState K V S) : Type 0 where
-    pub copies : CopiesShard s t
-    pub hashes : HashAlike h s.hasher t.hasher
-    pub lawful : IsShard h t
-
-  -- each shard of a row was copied
-  pub record AreCopied (h : KeyHash K S) (row copies : List (ShardState K V S)) : Type 0 where
-    pub len : length copies ≡ length row
-    pub each : (i : ℕ) (s t : ShardState K V S) → slice_get row i ≡ Some s → slice_get copies i ≡ Some t → IsCopied h s t

@@ -1,2 +1,2 @@
--- What only proofs and the contracts of private functions use.
+-- What only proofs and the contracts of calls for the crates here alone use.
 pub mod Copies

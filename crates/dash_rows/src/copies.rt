@@ -3,8 +3,7 @@ ghost use Rattle.std.specs.Prelude.{◌≡◌, ◌<◌, None, IfOk, OnOk};
 ghost use Rattle.dash_shard.specs.Hashing.{HashAlike};
 ghost use Rattle.dash_shard.specs.Contents.{at};
 ghost use Rattle.dash_shard.specs.Shard.{pairs, shard_len, Routes, IsShard};
-ghost use Rattle.dash_rows.specs.Copies.{IsCopied, AreCopied};
-ghost use Rattle.dash_rows.specs.inner.Copies.{PutsCopy};
+ghost use Rattle.dash_rows.specs.inner.Copies.{PutsCopy, IsCopied, AreCopied};
 
 use dash_kept::{Kept, KeptKey};
 use dash_shard::keyed::Keyed;

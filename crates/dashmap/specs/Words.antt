@@ -11,7 +11,8 @@ pub use Rattle.dash_shard.specs.Shard.{ShardState, slot, pairs, shard_len, HasKe
 pub use Rattle.dash_shard.specs.Steps.{Step, Reply, Get, Contains, Insert, Remove, RemoveIf, RemoveIfMut, Alter, Read, Count, AlterAll, Retain, Pair, Found, Old, Number, Pairs, Done}
 pub use Rattle.dash_shard.specs.declared.error.ConstructError.{ConstructError}
 pub use Rattle.dash_shard.specs.declared.error.ConstructError.TheVariants.{CapacityOverflow, Memory, Parallelism, ShardAmount}
-pub use Rattle.dash_ref.specs.Part.{IsPart, field_is_part, payload_is_part, with_payload}
+pub use Rattle.dash_ref.specs.Part.{IsPart, with_payload}
+pub use Rattle.dash_ref.specs.inner.Parts.{field_is_part, payload_is_part}
 pub use Rattle.dash_ref.specs.Ref.{RefState, Stands, pair_of}
 pub use Rattle.dash_ref.specs.RefMut.{RefMutState, GetsMut, stored, rewritten}
 pub use Rattle.dash_ref.specs.Entry.{OccupiedOf, VacantOf, Puts}

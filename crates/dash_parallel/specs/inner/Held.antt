@@ -1,6 +1,6 @@
 -- A lane whose part is held while its steps are taken.
 use Rattle.std.specs.Prelude.{◌≡◌, ℕ, ◌<◌, false, List, All, length}
-use Rattle.dash_parallel.specs.Lanes.{HasRoom, steps_in}
+use Rattle.dash_parallel.specs.inner.Lanes.{HasRoom, steps_in}
 use Rattle.dash_parallel.specs.declared.lane.Lane.{Lane}
 
 -- before: there is such a part, its steps go to it, and there is room for their replies

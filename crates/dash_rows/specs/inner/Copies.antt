@@ -1,5 +1,5 @@
--- A shard that is being copied.
-use Rattle.std.specs.Prelude.{◌≡◌, ◌+◌, ◌≤◌, Bool, IsTrue, List, length, Option, Some, None}
+-- A shard that is being copied, and one that was.
+use Rattle.std.specs.Prelude.{ℕ, ◌≡◌, ◌+◌, ◌≤◌, Bool, IsTrue, List, length, Option, Some, None, slice_get}
 use Rattle.std.specs.Option.{option_eq}
 use Rattle.dash_shard.specs.Hashing.{KeyHash, HashAlike}
 use Rattle.dash_shard.specs.Contents.{at, IsOnShard}
@@ -7,6 +7,7 @@ use Rattle.dash_shard.specs.Steps.{Insert, Old}
 use Rattle.dash_shard.specs.Shard.{ShardState, pairs, shard_len, IsShard, TakesInPlace}
 use Rattle.dash_shard.specs.inner.Keys.{keys_of}
 use Rattle.dash_kept.specs.Alike.{alike_pair}
+use Rattle.dash_rows.specs.Copies.{CopiesShard}
 
 -- the one, or where it is none the other
 abbrev pub or_else : {A : Type 0} → Option A → Option A → Option A
@@ -35,3 +36,14 @@ module _ {K V S : Type 0} (eq like_key : K → K → Bool) (like_value : V → V
     pub clone : is_clone s.hasher t.hasher
     pub hashes : HashAlike h s.hasher t.hasher
     pub lawful : IsShard h t
+
+  -- all that a copy of a shard promises
+  pub record IsCopied (h : KeyHash K S) (s t : ShardState K V S) : Type 0 where
+    pub copies : CopiesShard eq like_key like_value is_clone s t
+    pub hashes : HashAlike h s.hasher t.hasher
+    pub lawful : IsShard h t
+
+  -- each shard of a row was copied
+  pub record AreCopied (h : KeyHash K S) (row copies : List (ShardState K V S)) : Type 0 where
+    pub len : length copies ≡ length row
+    pub each : (i : ℕ) (s t : ShardState K V S) → slice_get row i ≡ Some s → slice_get copies i ≡ Some t → IsCopied h s t

@@ -1,6 +1,6 @@
 use Rattle.std.proofs.Common.{◌≡◌, ℕ, ◌<◌, length, get_or}
 use Rattle.dash_parallel.specs.declared.lane.Lane.{Lane}
-use Rattle.dash_parallel.specs.Lanes.{HasRoom}
+use Rattle.dash_parallel.specs.inner.Lanes.{HasRoom}
 use Rattle.dash_parallel.proofs.deal.make_room.Given as goal
 
 abbrev pub invariant-loop-lane : goal.invariant-loop-lane

@@ -1,7 +1,7 @@
 use Rattle.std.proofs.Common.{◌≡◌, sym, ap, subst, ◌∙◌}
 use Rattle.std.specs.Prelude.{reverse}
 use Rattle.std.proofs.lemmas.List.{reverse-reverse}
-use Rattle.dash_parallel.specs.Lanes.{LaneRan, steps_in}
+use Rattle.dash_parallel.specs.inner.Lanes.{LaneRan, steps_in}
 use Rattle.dash_parallel.proofs.lane.run_lane.Goals as goal
 
 pub returns : goal.returns

@@ -1,7 +1,7 @@
 use Rattle.std.proofs.Common.{◌≡◌, true, false, [], ◌∷◌, ap, subst, ◌∙◌, arith}
 use Rattle.std.proofs.lemmas.List.{nil_from_length}
 use Rattle.std.proofs.lemmas.List.Elements.{All-pop}
-use Rattle.dash_parallel.specs.Lanes.{steps_in}
+use Rattle.dash_parallel.specs.inner.Lanes.{steps_in}
 use Rattle.dash_parallel.proofs.Running.{Running, steps-push, running-more, fits-after, lane-ran}
 use Rattle.dash_parallel.proofs.lane.take_steps.Goals as goal
 

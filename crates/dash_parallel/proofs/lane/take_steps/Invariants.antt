@@ -1,5 +1,5 @@
 use Rattle.std.proofs.Common.{◌+◌, ◌≤◌, All, vec_len, vec_capacity}
-use Rattle.dash_parallel.specs.Lanes.{steps_in}
+use Rattle.dash_parallel.specs.inner.Lanes.{steps_in}
 use Rattle.dash_parallel.proofs.Running.{Running}
 use Rattle.dash_parallel.proofs.lane.take_steps.Given as goal
 

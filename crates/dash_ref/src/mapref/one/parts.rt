@@ -10,7 +10,8 @@ use crate::mapref::one::projection::Projection;
 pub struct Payload;
 
 impl<T> Projection<Option<T>> for Payload {
-    ghost use Rattle.dash_ref.specs.Part.{payload_is_part, with_payload};
+    ghost use Rattle.dash_ref.specs.Part.{with_payload};
+    ghost use Rattle.dash_ref.specs.inner.Parts.{payload_is_part};
 
     type Target = T;
 
@@ -48,7 +49,7 @@ pub struct First;
 
 impl<A, B> Projection<(A, B)> for First {
     ghost use Rattle.std.specs.Prelude.{Some, refl};
-    ghost use Rattle.dash_ref.specs.Part.{field_is_part};
+    ghost use Rattle.dash_ref.specs.inner.Parts.{field_is_part};
 
     type Target = A;
 
@@ -80,7 +81,7 @@ pub struct Second;
 
 impl<A, B> Projection<(A, B)> for Second {
     ghost use Rattle.std.specs.Prelude.{Some, refl};
-    ghost use Rattle.dash_ref.specs.Part.{field_is_part};
+    ghost use Rattle.dash_ref.specs.inner.Parts.{field_is_part};
 
     type Target = B;
 

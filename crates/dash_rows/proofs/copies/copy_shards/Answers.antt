@@ -3,7 +3,7 @@ use Rattle.std.proofs.lemmas.Option.{slice_get-get_or, same_Some}
 use Rattle.dash_shard.specs.Hashing.{key_hash}
 use Rattle.dash_shard.specs.Shard.{ShardState}
 use Rattle.dash_shard.proofs.Rows.{each-more}
-use Rattle.dash_rows.specs.Copies.{IsCopied}
+use Rattle.dash_rows.specs.inner.Copies.{IsCopied}
 use Rattle.dash_rows.proofs.copies.copy_shards.Goals as goal
 
 pub loop-shard-preserved : goal.loop-shard-preserved

@@ -1,6 +1,6 @@
 use Rattle.std.proofs.Common.{◌≡◌, ◌≤◌, ℕ, Some, length, slice_get, vec_capacity}
 use Rattle.dash_shard.specs.Hashing.{key_hash}
-use Rattle.dash_rows.specs.Copies.{IsCopied}
+use Rattle.dash_rows.specs.inner.Copies.{IsCopied}
 use Rattle.dash_rows.proofs.copies.copy_shards.Given as goal
 
 abbrev pub invariant-loop-shard : goal.invariant-loop-shard

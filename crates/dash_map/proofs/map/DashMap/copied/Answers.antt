@@ -3,7 +3,7 @@ use Rattle.dash_shard.specs.Hashing.{key_hash}
 use Rattle.dash_map.specs.Alone.{IsAlone}
 use Rattle.dash_map.specs.Behind.{SawShards}
 use Rattle.dash_map.specs.Copies.{CopiesAlone}
-use Rattle.dash_rows.specs.Copies.{AreCopied, IsCopied}
+use Rattle.dash_rows.specs.inner.Copies.{AreCopied, IsCopied}
 use Rattle.dash_map.proofs.CopyingMaps.{more-copied, copied-map}
 use Rattle.dash_map.proofs.Seeing.{at-end, seen-more}
 use Rattle.dash_map.proofs.map.DashMap.copied.Given.{Over}

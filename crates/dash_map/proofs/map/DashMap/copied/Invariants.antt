@@ -1,6 +1,6 @@
 use Rattle.std.proofs.Common.{◌≤◌, vec_capacity}
 use Rattle.dash_shard.specs.Hashing.{key_hash}
-use Rattle.dash_rows.specs.Copies.{AreCopied}
+use Rattle.dash_rows.specs.inner.Copies.{AreCopied}
 use Rattle.dash_map.proofs.Seeing.{SeenSo}
 use Rattle.dash_map.proofs.map.DashMap.copied.Given as goal
 

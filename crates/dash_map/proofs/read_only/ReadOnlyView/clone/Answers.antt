@@ -3,7 +3,7 @@ use Rattle.dash_shard.specs.Hashing.{key_hash}
 use Rattle.dash_shard.specs.Shard.{ShardState}
 use Rattle.dash_map.specs.Alone.{AloneState}
 use Rattle.dash_map.specs.Copies.{CopiesAlone}
-use Rattle.dash_rows.specs.Copies.{AreCopied}
+use Rattle.dash_rows.specs.inner.Copies.{AreCopied}
 use Rattle.dash_map.proofs.CopyingMaps.{all-copied, copied-lawful}
 use Rattle.dash_map.proofs.read_only.ReadOnlyView.clone.Goals as goal
 
