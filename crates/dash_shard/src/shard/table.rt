@@ -12,7 +12,9 @@ ghost use Rattle.std.specs.Map.Iter.{deref_pair};
 use crate::shard::group::probe;
 use cursor::Cursor;
 use dash_slots::Slots;
-use marks::{class, count_at, group_of, home, next_group, next_pair, split_lowest, steps_to, tag};
+use marks::{
+    class, count_at, group_of, home, next_group, next_pair, own_lane, split_lowest, steps_to, tag,
+};
 use std::alloc::Global;
 use std::hash::{BuildHasher, Hash};
 use std::mem;
@@ -45,24 +47,42 @@ pub struct Search {
     pub visits: usize,
 }
 
-// Of the slots of a group that the mask names, the one whose key is equal.
+// Of the slots of a group that the mask names, the one whose key is equal. It looks at the own lane of the key's hash first, where most pairs
+// stand: a processor that expects that fetches the slot while it waits for the tags.
 #[inline(always)]
-fn find_in<K: Eq, V>(slots: &Slots<(K, V)>, start: usize, mask: u16, key: &K) -> Option<usize>
+fn find_in<K: Eq, V>(
+    slots: &Slots<(K, V)>,
+    start: usize,
+    own: usize,
+    mask: u16,
+    key: &K,
+) -> Option<usize>
     requires fits { start + 16 < 2 ^ 64 }
+    requires own { own < 16 }
     requires taken { AreTaken slots.now.values start mask }
     ensures found { IfSome result (Holds K.eq slots.now.values key.now) }
     ensures lies { IfSome result (λ i. (start ≤ i) × (i < start + 16)) }
     ensures absent { IfNone result (MissesLanes K.eq slots.now.values key.now start mask) }
 {
+    if mask == 0 {
+        return None;
+    }
+    if (mask >> own) & 1 == 1 {
+        if &slots.get(start + own).0 == key {
+            return Some(start + own);
+        }
+    }
     let mut left = mask;
-    while left != 0 {
+    loop {
         let (lane, rest) = split_lowest(left);
         if &slots.get(start + lane).0 == key {
             return Some(start + lane);
         }
+        if rest == 0 {
+            return None;
+        }
         left = rest;
     }
-    None
 }
 
 impl<K, V> Table<K, V> {
@@ -149,7 +169,8 @@ impl<K, V> Table<K, V> {
         }
         let first = home(hash, count);
         let seen = probe(group_of(&self.tags, first), tag(hash));
-        if let Some(position) = find_in(&self.slots, 16 * first, seen.matches, key) {
+        let own = own_lane(hash);
+        if let Some(position) = find_in(&self.slots, 16 * first, own, seen.matches, key) {
             return Search {
                 position: Some(position),
                 visits: 1,
@@ -188,7 +209,7 @@ impl<K, V> Table<K, V> {
         ensures ended { IfErr result (MayEnd self.now hash) }
     {
         let count = self.counts.len();
-        let (tag, class) = (tag(hash), class(hash));
+        let (tag, class, own) = (tag(hash), class(hash), own_lane(hash));
         let mut group = first;
         for visits in 1..count {
             if count_at(self.counts[group], class) == 0 {
@@ -196,7 +217,7 @@ impl<K, V> Table<K, V> {
             }
             group = next_group(group, count);
             let seen = probe(group_of(&self.tags, group), tag);
-            if let Some(position) = find_in(&self.slots, 16 * group, seen.matches, key) {
+            if let Some(position) = find_in(&self.slots, 16 * group, own, seen.matches, key) {
                 return Ok(position);
             }
             if seen.empty != 0 {

@@ -25,6 +25,21 @@ pub(super) fn lowest(mask: u16) -> usize
     mask.trailing_zeros() as usize
 }
 
+// The own lane of a hash, if a mask names it, or else the lowest that it names.
+#[inline(always)]
+pub(super) fn own_or_lowest(mask: u16, own: usize) -> usize
+    requires some { 0 < mask }
+    requires own { own < 16 }
+    ensures bound { result < 16 }
+    ensures set { bit_at mask result ≡ 1 }
+{
+    if (mask >> own) & 1 == 1 {
+        own
+    } else {
+        lowest(mask)
+    }
+}
+
 // The lowest bit of a mask, and the mask without it.
 #[inline(always)]
 pub(super) fn split_lowest(mask: u16) -> (usize, u16)
@@ -148,6 +163,14 @@ pub(super) fn tag(hash: u64) -> u8
     ensures below { result < 128 }
 {
     (hash >> 57) as u8
+}
+
+// The lane that a pair of the hash takes in its first group where it is free: one of eight, so that few pairs stand close together.
+#[inline(always)]
+pub(super) fn own_lane(hash: u64) -> usize
+    ensures { result < 16 }
+{
+    tag(hash) as usize % 8
 }
 
 // The class of a hash, by bits that are not the tag's, and seldom the shard's or the home group's.

@@ -5,8 +5,8 @@ ghost use Rattle.dash_shard.specs.inner.Table.{IsTable, IsSpot, Holds, IsAbsent,
 ghost use Rattle.dash_shard.specs.Shard.{slot};
 
 use super::marks::{
-    EMPTY, REMOVED, class, count_at, count_way, group_of, home, lowest, next_group, steps_to, tag,
-    uncount_past,
+    EMPTY, REMOVED, class, count_at, count_way, group_of, home, lowest, next_group, own_lane,
+    own_or_lowest, steps_to, tag, uncount_past,
 };
 use super::{Table, find_in};
 use crate::shard::group::probe;
@@ -76,7 +76,8 @@ impl<K, V> Table<K, V> {
         }
         let first = home(hash, count);
         let seen = probe(group_of(&self.tags, first), tag(hash));
-        if let Some(position) = find_in(&self.slots, 16 * first, seen.matches, key) {
+        let own = own_lane(hash);
+        if let Some(position) = find_in(&self.slots, 16 * first, own, seen.matches, key) {
             return Place {
                 position: Some(position),
                 free: 0,
@@ -86,7 +87,7 @@ impl<K, V> Table<K, V> {
         if seen.empty != 0 {
             return Place {
                 position: None,
-                free: 16 * first + lowest(seen.empty),
+                free: 16 * first + own_or_lowest(seen.empty, own),
                 steps: 0,
             };
         }
@@ -118,7 +119,7 @@ impl<K, V> Table<K, V> {
         ensures free { IfErr result (λ free. self.now.len < limit (slots_in self.now) → IsSpot self.now hash free) }
     {
         let count = self.counts.len();
-        let (tag, class) = (tag(hash), class(hash));
+        let (tag, class, own) = (tag(hash), class(hash), own_lane(hash));
         let mut group = first;
         let mut free = first_free(None, group_of(&self.tags, first), 16 * first);
         for _visits in 1..count {
@@ -129,7 +130,7 @@ impl<K, V> Table<K, V> {
             group = next_group(group, count);
             let row = group_of(&self.tags, group);
             let seen = probe(row, tag);
-            if let Some(position) = find_in(&self.slots, 16 * group, seen.matches, key) {
+            if let Some(position) = find_in(&self.slots, 16 * group, own, seen.matches, key) {
                 return Ok(position);
             }
             free = first_free(free, row, 16 * group);
@@ -152,7 +153,7 @@ impl<K, V> Table<K, V> {
         let first = home(hash, count);
         let free = free_lanes(group_of(&self.tags, first));
         if free != 0 {
-            return (16 * first + lowest(free), 0);
+            return (16 * first + own_or_lowest(free, own_lane(hash)), 0);
         }
         let position = self.place_on_way(hash);
         (position, steps_to(first, position / 16, count))

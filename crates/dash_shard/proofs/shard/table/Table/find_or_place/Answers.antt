@@ -25,14 +25,14 @@ returns-then-seen-ne0-clause-free g c room =
     let some : 0 < groups_in t = omega (arith, c.home-first.ensures.below, long) in
     let at = at-first t c.args.hash c.home-first.result some (c.home-first.ensures.is ∙ ap (λ n. c.args.hash % n) long) in
     let row = subst (λ (l : List ℕ). IsRow l c.home-first.result c.group_of.result.now) c.deref.ensures.value c.group_of.ensures in
-    let lane = ((c.probe-seen.ensures.empty c.lowest.result).0 c.lowest.ensures.set).1 in
-    spot-here t c.args.hash 0 c.home-first.result _ at row c.requires some (placing-first _ _) (16 * c.home-first.result + c.lowest.result) c.lowest.result c.lowest.ensures.bound refl (omega (arith, lane))
+    let lane = ((c.probe-seen.ensures.empty c.own_or_lowest.result).0 c.own_or_lowest.ensures.set).1 in
+    spot-here t c.args.hash 0 c.home-first.result _ at row c.requires some (placing-first _ _) (16 * c.home-first.result + c.own_or_lowest.result) c.own_or_lowest.result c.own_or_lowest.ensures.bound refl (omega (arith, lane))
 
 pub returns-then-seen-ne0-clause-steps : goal.returns-then-seen-ne0-clause-steps
 returns-then-seen-ne0-clause-steps g c =
     let t = c.args.self.now in
     let long : c.len-count.result ≡ groups_in t = omega (arith, c.len-count.ensures, t.counts.ok.0) in
-    no-steps t c.args.hash c.home-first.result _ (c.home-first.ensures.is ∙ ap (λ n. c.args.hash % n) long) (omega (arith, c.lowest.ensures.bound))
+    no-steps t c.args.hash c.home-first.result _ (c.home-first.ensures.is ∙ ap (λ n. c.args.hash % n) long) (omega (arith, c.own_or_lowest.ensures.bound))
 
 pub place_past-requires-clause-passes : goal.place_past-requires-clause-passes
 place_past-requires-clause-passes g c =
