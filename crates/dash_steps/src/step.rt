@@ -129,7 +129,7 @@ impl<K, V: Kept, A> ShardStep<K, V, A> {
         }
     }
 
-    /// The step's key, or the number of the shard that it names.
+    /// The step's key, or the number of the shard that it names. For the crates here alone.
     #[inline]
     pub fn key(&self) -> Result<&K, usize>
     where
@@ -178,7 +178,7 @@ impl<K, V: Kept, A> ShardStep<K, V, A> {
         }
     }
 
-    /// As `asked_key`, out of the step.
+    /// As `asked_key`, out of the step. For the crates here alone.
     pub fn into_asked_key(self) -> K
     where
         K: Kept + Drop,

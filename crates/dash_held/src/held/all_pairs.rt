@@ -36,7 +36,7 @@ impl<K: Eq + Hash, V, S: BuildHasher> ShardMut<'_, K, V, S> {
         )
     }
 
-    /// As `retain`, and hands `f` back, so that the caller may go on with it.
+    /// As `retain`, and hands `f` back, so that the caller may go on with it. For the crates here alone.
     pub fn retain_by<F: FnMut(&K, &mut V) -> bool>(&mut self, f: F) -> F
     where
         K: Drop,
@@ -71,7 +71,7 @@ impl<K: Eq + Hash, V, S: BuildHasher> ShardMut<'_, K, V, S> {
         )
     }
 
-    /// As `alter_all`, and hands `f` back, so that the caller may go on with it.
+    /// As `alter_all`, and hands `f` back, so that the caller may go on with it. For the crates here alone.
     pub fn alter_all_by<F: FnMut(&K, V) -> V>(&mut self, f: F) -> F
         requires { CallableOnEachPair (CalledOnPair F.FnMut) (TakesOnPair F.FnMut) f (pairs self.old) }
         ensures sweeps { SweepsShard (CalledOnPair F.FnMut) altered f result self.old self.new }

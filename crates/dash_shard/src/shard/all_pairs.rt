@@ -30,7 +30,7 @@ impl<K: Eq + Hash, V, S: BuildHasher> Shard<K, V, S> {
         self.retain_by(&mut f);
     }
 
-    /// As `retain`, with an `f` that is lent: the caller may go on with it.
+    /// As `retain`, with an `f` that is lent: the caller may go on with it. For the crates here alone.
     pub fn retain_by<F: FnMut(&K, &mut V) -> bool>(&mut self, f: &mut F)
     where
         K: Drop,
@@ -55,7 +55,7 @@ impl<K: Eq + Hash, V, S: BuildHasher> Shard<K, V, S> {
         self.alter_all_by(&mut f);
     }
 
-    /// As `alter_all`, with an `f` that is lent: the caller may go on with it.
+    /// As `alter_all`, with an `f` that is lent: the caller may go on with it. For the crates here alone.
     pub fn alter_all_by<F: FnMut(&K, V) -> V>(&mut self, f: &mut F)
         requires { CallableOnEachPair (CalledOnPair F.FnMut) (TakesOnPair F.FnMut) f.old (pairs self.old) }
         ensures sweeps { SweepsShard (CalledOnPair F.FnMut) altered f.old f.new self.old self.new }
