@@ -4,7 +4,8 @@
 # usage: bench/run.sh [WORK..]     with no WORK: all of them
 #
 # It wants Debian's packages librust-dashmap-dev and librust-bstr-dev, cargo, and rt. It proves and builds `dash_bench`, builds the Rust program offline from
-# Debian's packages, runs both by turns, five times each, takes the best of each, and ends with status 1 where two checksums differ.
+# Debian's packages, runs both by turns, five times each, and ends with status 1 where two checksums differ. Of both it takes the best time and
+# the median: it prints the best, and the Rust crate's by ours of both, above 1 where this map is faster.
 set -euo pipefail
 top=$(CDPATH='' cd -- "$(dirname -- "$0")/.." && pwd)
 registry=/usr/share/cargo/registry
@@ -23,21 +24,22 @@ ours=$top/crates/dash_bench/out/dash_bench
 (cd "$top/crates/dash_bench" && rt run -- none 1 >/dev/null 2>&1 || true)
 [ -x "$ours" ] || { echo "run.sh: dash_bench is not built" >&2; exit 1; }
 
-# Best of the rounds for both programs: prints NS BYTES SUM of ours, then of theirs.
-best() {
+# The rounds of both programs: prints the best NS, the median NS and the BYTES an operation of ours, then of theirs.
+rounds_of() {
     local work=$1 threads=$2 shards=$3
     for _ in $(seq "$rounds"); do
         echo "ours $("$ours" "$work" "$threads" "$shards")"
         echo "theirs $("$theirs" "$work" "$threads" "$shards")"
-    done | awk '{ ns = $3; if (!($1 in best) || ns < best[$1]) best[$1] = ns; bytes[$1] = $9; ops[$1] = $5
+    done | sort -k1,1 -k3,3n | awk '{ ns[$1, ++n[$1]] = $3; ops[$1] = $5; if (n[$1] == 1) bytes[$1] = $9
                   if (($1 in sum) && sum[$1] != $7) bad = 1; sum[$1] = $7 }
+                function of(who) { return ns[who, 1] / ops[who] " " ns[who, int((n[who] + 1) / 2)] / ops[who] " " bytes[who] / ops[who] }
                 END { if (bad || sum["ours"] != sum["theirs"]) { print "DIFFER"; exit }
-                      print best["ours"] / ops["ours"], bytes["ours"] / ops["ours"], best["theirs"] / ops["theirs"], bytes["theirs"] / ops["theirs"] }'
+                      print of("ours"), of("theirs") }'
 }
 
 theirs_is=$(cd "$registry" && ls -d dashmap-* | head -1)
-echo "| work | threads | shards | ours | $theirs_is | ratio |"
-echo '|---|---|---|---|---|---|'
+echo "| work | threads | shards | ours | $theirs_is | best | median |"
+echo '|---|---|---|---|---|---|---|'
 status=0
 for work in "${works[@]}"; do
     # How many threads, over how many shards.
@@ -50,15 +52,15 @@ for work in "${works[@]}"; do
     esac
     for place in $places; do
         threads=${place%/*} shards=${place#*/}
-        found=$(best "$work" "$threads" "$shards")
+        found=$(rounds_of "$work" "$threads" "$shards")
         if [ "$found" = DIFFER ]; then
-            echo "| $work | $threads | $shards | the checksums differ | | |"
+            echo "| $work | $threads | $shards | the checksums differ | | | |"
             status=1
         elif [ "$work" = memory ]; then
-            echo "$found" | awk '{ printf "| memory | 1 | 16 | %.1f bytes | %.1f bytes | %.2f |\n", $2, $4, $4 / $2 }'
+            echo "$found" | awk '{ printf "| memory | 1 | 16 | %.1f bytes | %.1f bytes | %.2f | |\n", $3, $6, $6 / $3 }'
         else
             echo "$found" | awk -v w="$work" -v t="$threads" -v s="$shards" \
-                '{ printf "| %s | %s | %s | %.1f ns | %.1f ns | %.2f |\n", w, t, s, $1, $3, $3 / $1 }'
+                '{ printf "| %s | %s | %s | %.1f ns | %.1f ns | %.2f | %.2f |\n", w, t, s, $1, $4, $4 / $1, $5 / $2 }'
         fi
     done
 done
