@@ -4,8 +4,8 @@
 # usage: bench/run.sh [WORK..]     with no WORK: all of them
 #
 # It wants Debian's packages librust-dashmap-dev and librust-bstr-dev, cargo, and rt. It proves and builds `dash_bench`, builds the Rust program offline from
-# Debian's packages, runs both by turns, five times each, and ends with status 1 where two checksums differ. Of both it takes the best time and
-# the median: it prints the best, and the Rust crate's by ours of both, above 1 where this map is faster.
+# Debian's packages, runs both by turns, five times each, and ends with status 1 where two checksums differ. It prints the best times, and the Rust
+# crate's time by ours, above 1 where this map is faster: of the best, and the median of the rounds.
 set -euo pipefail
 top=$(CDPATH='' cd -- "$(dirname -- "$0")/.." && pwd)
 registry=/usr/share/cargo/registry
@@ -24,17 +24,15 @@ ours=$top/crates/dash_bench/out/dash_bench
 (cd "$top/crates/dash_bench" && rt run -- none 1 >/dev/null 2>&1 || true)
 [ -x "$ours" ] || { echo "run.sh: dash_bench is not built" >&2; exit 1; }
 
-# The rounds of both programs: prints the best NS, the median NS and the BYTES an operation of ours, then of theirs.
+# Both programs, by turns: prints the best NS an operation of ours and of theirs, the BYTES of both, and the median of the rounds' ratios.
 rounds_of() {
-    local work=$1 threads=$2 shards=$3
     for _ in $(seq "$rounds"); do
-        echo "ours $("$ours" "$work" "$threads" "$shards")"
-        echo "theirs $("$theirs" "$work" "$threads" "$shards")"
-    done | sort -k1,1 -k3,3n | awk '{ ns[$1, ++n[$1]] = $3; ops[$1] = $5; if (n[$1] == 1) bytes[$1] = $9
-                  if (($1 in sum) && sum[$1] != $7) bad = 1; sum[$1] = $7 }
-                function of(who) { return ns[who, 1] / ops[who] " " ns[who, int((n[who] + 1) / 2)] / ops[who] " " bytes[who] / ops[who] }
-                END { if (bad || sum["ours"] != sum["theirs"]) { print "DIFFER"; exit }
-                      print of("ours"), of("theirs") }'
+        echo "$("$ours" "$@") $("$theirs" "$@")"
+    done | awk '{ o = $2 / $4; t = $10 / $12; bytes = $8 / $4 " " $16 / $12
+                  if ($6 != $14 || (NR > 1 && $6 != sum)) bad = 1; sum = $6
+                  if (NR == 1 || o < ours) ours = o; if (NR == 1 || t < theirs) theirs = t
+                  for (i = NR; i > 1 && ratio[i - 1] > t / o; i--) ratio[i] = ratio[i - 1]; ratio[i] = t / o }
+                END { if (bad) print "DIFFER"; else print ours, theirs, bytes, ratio[int((NR + 1) / 2)] }'
 }
 
 theirs_is=$(cd "$registry" && ls -d dashmap-* | head -1)
@@ -57,10 +55,10 @@ for work in "${works[@]}"; do
             echo "| $work | $threads | $shards | the checksums differ | | | |"
             status=1
         elif [ "$work" = memory ]; then
-            echo "$found" | awk '{ printf "| memory | 1 | 16 | %.1f bytes | %.1f bytes | %.2f | |\n", $3, $6, $6 / $3 }'
+            echo "$found" | awk '{ printf "| memory | 1 | 16 | %.1f bytes | %.1f bytes | %.2f | |\n", $3, $4, $4 / $3 }'
         else
             echo "$found" | awk -v w="$work" -v t="$threads" -v s="$shards" \
-                '{ printf "| %s | %s | %s | %.1f ns | %.1f ns | %.2f | %.2f |\n", w, t, s, $1, $4, $4 / $1, $5 / $2 }'
+                '{ printf "| %s | %s | %s | %.1f ns | %.1f ns | %.2f | %.2f |\n", w, t, s, $1, $2, $2 / $1, $5 }'
         fi
     done
 done
