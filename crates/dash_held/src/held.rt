@@ -167,8 +167,19 @@ impl<K: Eq + Hash, V, S: BuildHasher> ShardMut<'_, K, V, S> {
         ensures inserts { Inserts K.eq self.old self.new key value result }
         ensures lawful { IsShard ⟦<Self as Keyed>⟧.by self.new }
     {
-        self.hold
-            .change(|shard| shard.insert_hashed(hash, key, value))
+        // By its parts: a closure's answer of this size is handed on from place to place.
+        let place = match self.find_or_place(hash, &key) {
+            Ok(slot) => {
+                let old = self.hold.change(|shard| shard.set_at(slot, value));
+                return Ok(Some(old));
+            }
+            Err(place) => place,
+        };
+        let Ok(place) = self.make_place(hash, place) else {
+            return Err(InsertRefused { key, value });
+        };
+        self.insert_new_at(place, hash, key, value);
+        Ok(None)
     }
 
     /// Takes the pair whose key equals `key` out, and answers it. It takes no memory, and can't be refused.

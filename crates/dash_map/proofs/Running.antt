@@ -20,7 +20,7 @@ use Rattle.dash_steps.specs.inner.Hashed.{OfKey, IsHashBy, shard_by}
 use Rattle.dash_steps.specs.inner.Take.{Goes}
 use Rattle.dash_map.specs.Alone.{AloneState, IsAlone}
 use Rattle.dash_map.specs.declared.run.Fault.{Fault}
-use Rattle.dash_map.specs.declared.run.Fault.TheVariants.{NoSuchShard, Memory}
+use Rattle.dash_map.specs.declared.run.Fault.TheVariants.{NoSuchShard}
 use Rattle.dash_map.specs.Run.{IsRefused}
 use Rattle.dash_map.specs.inner.Run.{rules_in}
 use Rattle.dash_map.specs.inner.Run.{answered}
@@ -58,13 +58,6 @@ module _ {K V A : Type 0} (m : Rules K V) (acts : A → table.Act K V) where
   pub refused-first : (left rest : List (ShardStep K V A)) (step : ShardStep K V A) (fault : Fault) → rest ≡ reverse (left ++ step ∷ []) → (fault ≡ NoSuchShard) ↔ (m.keys.shards ≤ step_shard m.keys (step_of acts step))
       → IsRefused m acts rest fault
   refused-first left rest step fault e why = subst (λ l. IsRefused m acts l fault) (sym (e ∙ turned left step)) why
-
--- a step whose shard is there is refused for want of memory
-pub not-missing : (n p : ℕ) → p < n → (Memory ≡ NoSuchShard) ↔ (n ≤ p)
-not-missing n p below = (λ e. absurd (other e), λ le. absurd (omega (arith, le, below)))
-  where
-    other : Memory ≡ NoSuchShard → ⊥
-    other e = cc
 
 -- the shard of the step's index is the one that the step goes to
 module _ {K V A S : Type 0} (acts : A → table.Act K V) (h : KeyHash K S) (base : S) (n i : ℕ) (s : ShardState K V S) (p : IsTagged h base n i s) (step : ShardStep K V A) (hash : ℕ) where

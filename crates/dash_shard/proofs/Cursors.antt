@@ -42,32 +42,6 @@ module _ (n : ℕ) (Taken : ℕ → Type 0) (c : Cursor) (at : IsCursor n Taken 
     );
   }
 
-  -- the lowest bit is taken off
-  pub comes-to : (k : ℕ) → k < 16 → bit_at c.left k ≡ 1 → (rest : ℕ) → bit_at rest k ≡ 0 → ((j : ℕ) → j < k → bit_at c.left j ≡ 0) → ((j : ℕ) → j < 16 → (j ≡ k → ⊥) → bit_at rest j ≡ bit_at c.left j)
-      → IsCursor n Taken (record { position = c.start + k + 1; start = c.start; left = rest })
-  comes-to k lt set rest cleared first kept = record {
-    groups = at.groups;
-    group = at.group;
-    within = at.within;
-    ahead = omega (arith, lt);
-    passed = λ i from less _. omega (arith, from, less);
-    bits = λ j below. elim (cases_lt k j) as (λ _. (bit_at rest j ≡ 1) ↔ ((c.start + k + 1 ≤ c.start + j) × (c.start + j < n) × Taken (c.start + j))) [
-      | inl more ↦
-          let same = kept j below (λ e. omega (arith, more, e)) in
-          let here = ((at.bits k lt).0 set).0 in (
-            λ one. let was = (at.bits j below).0 (sym same ∙ one) in (omega (arith, more), was.1, was.2),
-            λ t. same ∙ (at.bits j below).1 (omega (arith, here, more), t.1, t.2),
-          )
-      | inr less ↦ (λ one. absurd (no-bit j below less one), λ t. absurd (let far = t.0 in omega (arith, far, less)))
-    ];
-  }
-    where
-      no-bit : (j : ℕ) → j < 16 → j ≤ k → bit_at rest j ≡ 1 → ⊥
-      no-bit j below le one = elim (cases_lt j k) as (λ _. ⊥) [
-        | inl less ↦ let zero = kept j below (λ e. omega (arith, less, e)) ∙ first j less in omega (arith, zero, one)
-        | inr more ↦ let same = ap (bit_at rest) (let e : j ≡ k = omega (arith, le, more) in e) in omega (arith, same, cleared, one)
-      ]
-
   -- what is taken from the position on tells where a cursor stands
   pub as-told : (m : ℕ) (Told : ℕ → Type 0) → n ≡ m → ((i : ℕ) → c.position ≤ i → i < n → Taken i ↔ Told i) → IsCursor m Told c
   as-told m Told same told = record {
@@ -93,9 +67,6 @@ module _ {A : Type 0} (tags : List ℕ) (xs : List (Option A)) (t : TellsTaken 0
 
   pub by-slots : (c : Cursor) → IsTagCursor tags c → IsSlotCursor xs c
   by-slots c at = as-told (length tags) _ c at (length xs) _ t.len (λ i _ within. told i within)
-
-  pub by-tags : (c : Cursor) → IsSlotCursor xs c → IsTagCursor tags c
-  by-tags c at = as-told (length xs) _ c at (length tags) _ (sym t.len) (λ i _ within. let both = told i (let same = t.len in omega (arith, within, same)) in (both.1, both.0))
 
   pub next-by-slots : (i : ℕ) (r : Option ℕ) → IsNextTag tags i r → IsNextTaken xs i r
   next-by-slots i None none = λ j from. elim (cases_lt j (length tags)) as (λ _. slot xs j ≡ None) [

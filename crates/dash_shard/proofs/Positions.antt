@@ -1,6 +1,7 @@
 -- What a look-up answers, by the shard's slots.
-use Rattle.std.proofs.Common.{◌≡◌, ◌⊎◌, ℕ, ◌+◌, ◌-◌, ◌/◌, ◌%◌, ◌<◌, ◌≤◌, arith, slice_index, Option, Some, None, IfSome, IfNone, refl, sym, ap, subst, ◌∙◌, inl, inr}
-use Rattle.std.specs.Prelude.{IsNone}
+use Rattle.std.proofs.Common.{◌≡◌, ◌⊎◌, ℕ, ◌+◌, ◌-◌, ◌/◌, ◌%◌, ◌<◌, ◌≤◌, arith, slice_index, Option, Some, None, IfSome, IfNone, Ok, Err, refl, sym, ap, subst, ◌∙◌, inl, inr}
+use Rattle.std.specs.Prelude.{IsNone, Result, IfOk, OnErr}
+use Rattle.core.specs.Result.{result_ok}
 use Rattle.std.specs.Option.{IsSomeAnd}
 use Rattle.std.proofs.lemmas.Bool.{cases_eq, both_ways, true≢false}
 use Rattle.std.proofs.lemmas.Option.{none-some, same_Some}
@@ -57,6 +58,11 @@ module _ {K V S : Type 0} (h : KeyHash K S) where
     pub located : (z : ShardState K V S) → state h law s number amount t ≡ z → (r : Option ℕ) → IfSome r (Holds h.eq (pairs_in t) k) → IfNone r (IsAbsent h.eq t hash k) → Finds h.eq z k r
     located z view None some none = subst (λ x. Finds h.eq x k None) view (misses none)
     located z view (Some m) some none = subst (λ x. Finds h.eq x k (Some m)) view (finds m some)
+
+    -- the same, with a place for the key where there is none
+    pub located-or : {E : Type 0} (z : ShardState K V S) → state h law s number amount t ≡ z → (r : Result ℕ E) → IfOk r (Holds h.eq (pairs_in t) k) → OnErr r (IsAbsent h.eq t hash k) → Finds h.eq z k (result_ok r)
+    located-or z view (Ok m) some none = located z view (Some m) some tt
+    located-or z view (Err free) some none = located z view None tt none
 
     -- no pair of the class stands past a group that ends the ways
     none-past : (visits : ℕ) → visits ≤ groups_in t → groups (state h law s number amount t) ≡ groups_in t → EndsWays t hash (group_at (groups_in t) hash (visits - 1))

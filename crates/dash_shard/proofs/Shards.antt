@@ -1,5 +1,5 @@
 -- A shard's state after each change of its table.
-use Rattle.std.proofs.Common.{◌≡◌, ◌⊎◌, ℕ, zero, suc, ◌+◌, ◌<◌, Bool, true, false, cond, List, [], ◌∷◌, length, get_or, set, Option, Some, None, refl, sym, ap, subst, ◌∙◌, inl, inr, arith, add-zero, is_some, IsTrue, Ok, Err, get_or-set_same, get_or-set_other}
+use Rattle.std.proofs.Common.{◌≡◌, ◌⊎◌, ℕ, zero, suc, ◌+◌, ◌<◌, Bool, true, false, cond, List, [], ◌∷◌, length, get_or, set, Option, Some, None, refl, sym, ap, subst, ◌∙◌, inl, inr, arith, add-zero, is_some, IsTrue, Ok, get_or-set_same, get_or-set_other}
 use Rattle.std.specs.Prelude.{IfSome}
 use Rattle.std.specs.Option.{option_map, IsSomeAnd}
 use Rattle.std.proofs.lemmas.Bool.{cases_Bool, cases_eq}
@@ -109,24 +109,6 @@ module _ {K V S : Type 0} (h : KeyHash K S)
       absent = tt;
       full = tt;
     }
-
-  -- what an insert that finds no memory leaves
-  pub refuses : (old new : Table K V) (k : K) (v : V) (z : ShardState K V S) → state old ≡ z → Inside old → new ≡ old → (old.len < limit (slots_in old) → ⊥) → at h.eq (pairs (state old)) k ≡ None
-      → Inserts h.eq z (state new) k v (Err (record { key = k; value = v }))
-  refuses old new k v z view inside same full none =
-      let back : state new ≡ z = ap state same ∙ view in
-      let fits = inside.table.fits in
-      record {
-        taken = tt;
-        len = tt;
-        room = λ _. ap (λ x. x.capacity) back;
-        over = λ _. ap (λ x. x.capacity) back;
-        grows = let same = ap (λ x. x.capacity) back in omega (arith, same);
-        slots = tt;
-        refused = (refl, refl, back);
-        absent = subst (λ x. at h.eq (pairs x) k ≡ None) view none;
-        full = subst (λ x. shard_len x ≡ x.capacity) view (omega (arith, inside.counted, full, fits));
-      }
 
   module _ (t : Table K V) (inside : Inside t) (k : K) where
     abbrev w : Keys K

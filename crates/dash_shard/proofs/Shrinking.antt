@@ -1,18 +1,14 @@
 -- A shard whose pairs were moved to other slots.
-use Rattle.std.proofs.Common.{◌≡◌, ℕ, ◌+◌, ◌<◌, ◌≤◌, length, set, Some, None, refl, sym, ap, ◌∙◌, subst, arith, Ok, Err}
-use Rattle.std.specs.Prelude.{IsSome, Result, OnOk, OnErr}
-use Rattle.std.specs.Option.{option_map}
-use Rattle.std.proofs.lemmas.Bool.{false≢true}
-use Rattle.dash_shard.specs.Contents.{at, EachOnce}
-use Rattle.dash_shard.specs.Steps.{Insert, Old}
-use Rattle.dash_shard.specs.inner.Steps.{after}
-use Rattle.dash_shard.specs.Shard.{ShardState, slot, taken, pairs, own_keys, Routes, IsShard, TakesStep}
+use Rattle.std.proofs.Common.{◌≡◌, ℕ, ◌+◌, ◌<◌, ◌≤◌, length, refl, sym, ap, ◌∙◌, subst, arith, Ok, Err}
+use Rattle.std.specs.Prelude.{Result, OnOk, OnErr}
+use Rattle.dash_shard.specs.Contents.{EachOnce}
+use Rattle.dash_shard.specs.Shard.{ShardState, taken, pairs, IsShard}
 use Rattle.dash_shard.specs.inner.Keys.{keys_of, IsLawful}
 use Rattle.dash_shard.specs.Each.{Shrinks}
-use Rattle.dash_shard.specs.Held.{Inserts, Reserves}
+use Rattle.dash_shard.specs.Held.{Reserves}
 use Rattle.dash_shard.specs.declared.shard.table.Table.{Table}
-use Rattle.dash_shard.specs.inner.Table.{pairs_in, hashes_in, limit, IsTable, IsMoved, IsAbsent, slots_in}
-use Rattle.dash_shard.proofs.Shards.{state, Inside, Inserted, filled, at-missing}
+use Rattle.dash_shard.specs.inner.Table.{pairs_in, limit, IsMoved, slots_in}
+use Rattle.dash_shard.proofs.Shards.{state, Inside}
 use Rattle.dash_shard.specs.Hashing.{KeyHash}
 
 module _ {K V S : Type 0} (h : KeyHash K S)
@@ -50,46 +46,6 @@ module _ {K V S : Type 0} (h : KeyHash K S)
     none = λ e. let gone : slots_in new ≡ 0 = none (inside.counted ∙ e) in omega (arith, gone);
     stays = record { number = refl; amount = refl; hasher = refl };
   })
-
-  -- a new pair in a table that has grown
-  module _ (last : Table K V) (k : K) (v : V) (hash : ℕ) (i : ℕ) (z : ShardState K V S) (view : of t ≡ z) (here : Routes h z k) (free : i < slots_in new) (empty : slot (pairs_in new) i ≡ None)
-      (is : hash ≡ h.hash s k) (absent : IsAbsent h.eq t hash k) (slots : pairs_in last ≡ set (pairs_in new) i (Some (k, v)))
-      (hashes : hashes_in last ≡ set (hashes_in new) i hash) (longer : last.len ≡ new.len + 1) (lawful : IsTable last) where
-    none : at h.eq (pairs (of t)) k ≡ None
-    none = at-missing h law s number amount t inside k hash is absent
-
-    pub pushed : Inserted h law s number amount new last k v None
-    pushed = filled h law s number amount new moved-inside k (of new) refl (subst (λ x. Routes h x k) (sym view) here) v last i hash free empty is (each.same k ∙ none) slots hashes longer lawful
-
-    pub pushed-takes : TakesStep h.eq (of t) (of last) (Insert k v) (Old None)
-    pushed-takes = record {
-      table = record {
-        replies = ap (λ o. Old (option_map (λ p. p.1) o)) (sym none);
-        becomes = λ j. pushed.takes.table.becomes j ∙ ap (after (own_keys h.eq (of t)) (Insert k v) j) (each.same j);
-      };
-      stays = record { number = refl; amount = refl; hasher = refl };
-    }
-
-    pub pushed-inserts : (t.len < limit (slots_in t) → ⊥) → Inserts h.eq z (of last) k v (Ok None)
-    pushed-inserts full = subst (λ x. Inserts h.eq x (of last) k v (Ok None)) view (record {
-      taken = pushed-takes;
-      len = pushed.len ∙ ap (λ n. n + 1) moved-len;
-      room = λ room. absurd (full (omega (arith, room, inside.counted)));
-      over = λ some. absurd (false≢true (subst IsSome none some));
-      grows =
-          let more = lawful.fits in
-          let was = moved.len in
-          let fits = inside.table.fits in
-          omega (arith, more, longer, was, full, fits);
-      slots = λ same. absurd (
-          let more = lawful.fits in
-          let was = moved.len in
-          let fits = inside.table.fits in
-          omega (arith, same, more, longer, was, full, fits));
-      refused = tt;
-      absent = tt;
-      full = tt;
-    })
 
 -- a shard for which room was made, or not
 module _ {K V S : Type 0} (h : KeyHash K S)

@@ -20,11 +20,6 @@ pub step-high : (n a g : ℕ) → g < a → step_to n a g ≡ n - a + g
 unfolding step_to
 step-high n a g lt = search (arith, lt)
 
--- no group is a step away where there are none
-pub step-none : (n a : ℕ) → n ≡ 0 → 0 ≡ step_to n a 0
-unfolding step_to
-step-none n a none = search (arith, none)
-
 pub round_below : (n a s : ℕ) → a < n → s ≤ n → round n (a + s) < n
 round_below n a s below within =
     elim (cases_lt (a + s) n) as (λ _. round n (a + s) < n) [

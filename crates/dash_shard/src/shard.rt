@@ -19,10 +19,10 @@ use std::alloc::{AllocError, Global};
 use std::fmt::Debug;
 use std::hash::{BuildHasher, Hash};
 use std::marker::Model;
-pub use table::Search;
 use table::Table;
 pub use table::cursor::Cursor;
 pub use table::walk::{IntoIter, Iter};
+pub use table::{Place, Search};
 use thiserror::Error;
 
 mod all_pairs;
@@ -213,18 +213,14 @@ impl<K: Eq + Hash, V, S: BuildHasher> Shard<K, V, S> {
         ensures inserts { Inserts K.eq self.old self.new key value result }
         ensures lawful { IsShard ⟦<Self as Keyed>⟧.by self.new }
     {
-        let place = self.table.find_or_place(hash, &key);
-        if let Some(slot) = place.position {
-            return Ok(Some(self.table.replace(slot, value)));
-        }
-        if self.table.len() < self.table.capacity() {
-            self.table.fill(place.free, place.steps, hash, key, value);
-            return Ok(None);
-        }
-        let Ok(()) = self.table.grow(&self.hasher) else {
+        let place = match self.find_or_place(hash, &key) {
+            Ok(slot) => return Ok(Some(self.set_at(slot, value))),
+            Err(place) => place,
+        };
+        let Ok(place) = self.make_place(hash, place) else {
             return Err(InsertRefused { key, value });
         };
-        self.table.push(hash, key, value);
+        self.insert_new_at(place, hash, key, value);
         Ok(None)
     }
 

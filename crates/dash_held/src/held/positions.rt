@@ -1,5 +1,5 @@
 //! A held shard's calls by slot, which change it.
-ghost use Rattle.std.specs.Prelude.{◌≡◌, ◌+◌, ◌-◌, ◌^◌, ◌<◌, IsSome, IfSome, IfOk, IfErr, Some, None};
+ghost use Rattle.std.specs.Prelude.{◌≡◌, ◌+◌, ◌-◌, ◌^◌, ◌<◌, IsSome, IfSome, IfOk, IfErr, OnErr, Some, None};
 ghost use Rattle.std.specs.Map.Iter.{deref_pair};
 ghost use Rattle.core.specs.Result.{result_ok};
 ghost use Rattle.dash_shard.specs.Hashing.{by};
@@ -12,6 +12,7 @@ ghost use Rattle.dash_shard.specs.Steps.{Insert, Remove, Old, Pair};
 use super::ShardMut;
 use dash_shard::error::TryReserveError;
 use dash_shard::keyed::Keyed;
+use dash_shard::shard::Place;
 use std::hash::{BuildHasher, Hash};
 
 impl<K: Eq + Hash, V, S: BuildHasher> ShardMut<'_, K, V, S> {
@@ -32,22 +33,23 @@ impl<K: Eq + Hash, V, S: BuildHasher> ShardMut<'_, K, V, S> {
         self.hold.change(|shard| shard.insert_new(key, value))
     }
 
-    /// The free slot that a search found for a new key, or another in room that is made, where there was none. For the crates here alone.
+    /// The place that a search found for a new key, or another in room that is made, where there was none. For the crates here alone.
     ///
     /// Takes memory where the shard is full, and is refused (11) only then.
     #[inline]
-    pub fn make_place(&mut self, hash: u64, free: usize) -> Result<usize, TryReserveError>
-        requires { MayTake self.old hash free }
+    pub fn make_place(&mut self, hash: u64, place: Place) -> Result<Place, TryReserveError>
+        requires { MayTake self.old hash place }
         ensures reserves { Reserves K.eq 1 self.old self.new result }
         ensures place { IfOk result (IsPlaceFor self.new hash) }
+        ensures full { OnErr result (shard_len self.old ≡ self.old.capacity) }
         ensures lawful { IsShard ⟦<Self as Keyed>⟧.by self.new }
     {
-        self.hold.change(|shard| shard.make_place(hash, free))
+        self.hold.change(|shard| shard.make_place(hash, place))
     }
 
-    /// As `insert_new`, for a caller who has the key's hash and a free slot for it. For the crates here alone.
+    /// As `insert_new`, for a caller who has the key's hash and a place for it. For the crates here alone.
     #[inline]
-    pub fn insert_new_at(&mut self, free: usize, hash: u64, key: K, value: V)
+    pub fn insert_new_at(&mut self, place: Place, hash: u64, key: K, value: V)
     where
         K: Drop,
         V: Drop,
@@ -55,14 +57,14 @@ impl<K: Eq + Hash, V, S: BuildHasher> ShardMut<'_, K, V, S> {
         requires route { Routes ⟦<Self as Keyed>⟧.by self.old key }
         requires absent { at K.eq (pairs self.old) key ≡ None }
         requires room { shard_len self.old < self.old.capacity }
-        requires place { IsPlaceFor self.old hash free }
+        requires place { IsPlaceFor self.old hash place }
         ensures inserts { TakesInPlace K.eq self.old self.new (Insert key value) (Old None) }
-        ensures slot { slot self.new.slots free ≡ Some (key, value) }
+        ensures slot { slot self.new.slots place.slot ≡ Some (key, value) }
         ensures len { shard_len self.new ≡ shard_len self.old + 1 }
         ensures lawful { IsShard ⟦<Self as Keyed>⟧.by self.new }
     {
         self.hold
-            .change(|shard| shard.insert_new_at(free, hash, key, value));
+            .change(|shard| shard.insert_new_at(place, hash, key, value));
     }
 
     /// Puts a pair in the slot of the one with an equal key, and answers that one: the new key is stored too. It makes no look-up, takes

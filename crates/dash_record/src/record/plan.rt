@@ -12,7 +12,7 @@ use crate::known::Recorded;
 use crate::record::RecShard;
 use dash_kept::{Kept, KeptKey};
 use dash_shard::keyed::Keyed;
-use dash_shard::shard::{InsertRefused, Shard};
+use dash_shard::shard::{InsertRefused, Place, Shard};
 use dash_steps::action::KeptAction;
 use dash_steps::change::{Change, copy_found, look, make_change, plan_asked};
 use dash_steps::step::{Reply, ShardStep};
@@ -20,23 +20,23 @@ use dash_steps::sweep::{ask_each, copy_pairs, put_each};
 use std::alloc::{AllocError, Global};
 use std::hash::BuildHasher;
 
-/// The slot of the pair at the step's key, or else the free slot for one, if the step is an insert, and there is room.
+/// The slot of the pair at the step's key, or else the place for one, if the step is an insert, and there is room.
 pub(super) fn find<K: KeptKey, V: Kept, S: BuildHasher, A: KeptAction<K, V>>(
     shard: &Shard<K, V, S>,
     hash: u64,
     step: &ShardStep<K, V, A>,
-) -> Result<usize, usize>
+) -> Result<usize, Place>
     requires { HasHash ⟦<RecShard<K, V, S, A> as Recorded>⟧.known shard.now step.now hash }
     ensures found { IsFound ⟦<RecShard<K, V, S, A> as Recorded>⟧.known shard.now step.now (result_ok result) }
-    ensures free { IfErr result (HasPlace shard.now step.now hash) }
+    ensures place { IfErr result (HasPlace shard.now step.now hash) }
 {
     if let ShardStep::Insert(key, _) = step {
         return shard.find_or_place(hash, key);
     }
     let Ok(key) = step.key() else {
-        return Err(0);
+        return Err(Place::default());
     };
-    shard.position_of_hashed(hash, key).ok_or(0)
+    shard.position_of_hashed(hash, key).ok_or(Place::default())
 }
 
 /// What the step may reply now, and what it makes of the pair at its key, or its action of each pair. It takes memory for copies.
@@ -85,18 +85,18 @@ pub(super) fn prepare<
     }
 }
 
-// Puts the pair in the slot that was found, under the stored key, or in the free one, or in room that is made for it.
+// Puts the pair in the slot that was found, under the stored key, or on the place, or in room that is made for it.
 fn put<K: KeptKey + Drop, V: Kept + Drop, S: BuildHasher>(
     shard: &mut Shard<K, V, S>,
     hash: u64,
-    found: Result<usize, usize>,
+    found: Result<usize, Place>,
     key: K,
     value: V,
 ) -> Result<(), InsertRefused<K, V>>
     requires hash { hash ≡ ⟦<Shard<K, V, S> as Keyed>⟧.by.hash shard.old.hasher key }
     requires route { Routes ⟦<Shard<K, V, S> as Keyed>⟧.by shard.old key }
     requires found { Finds K.eq shard.old key (result_ok found) }
-    requires free { IfErr found (MayTake shard.old hash) }
+    requires place { IfErr found (MayTake shard.old hash) }
     ensures puts { OnOk result (Makes ⟦<Shard<K, V, S> as Keyed>⟧.by shard.old shard.new key (Change.Becomes value)) }
     ensures refused { IfErr result (λ e. (e.key ≡ key) × (e.value ≡ value) × (shard.new ≡ shard.old)) }
     ensures stays { SameShard shard.old shard.new }
@@ -104,11 +104,11 @@ fn put<K: KeptKey + Drop, V: Kept + Drop, S: BuildHasher>(
 {
     match found {
         Ok(slot) => drop(shard.set_at(slot, value)),
-        Err(free) => {
-            let Ok(free) = shard.make_place(hash, free) else {
+        Err(place) => {
+            let Ok(place) = shard.make_place(hash, place) else {
                 return Err(InsertRefused { key, value });
             };
-            shard.insert_new_at(free, hash, key, value);
+            shard.insert_new_at(place, hash, key, value);
         }
     }
     Ok(())
@@ -123,14 +123,14 @@ pub(super) fn carry_out<
 >(
     shard: &mut Shard<K, V, S>,
     hash: u64,
-    found: Result<usize, usize>,
+    found: Result<usize, Place>,
     step: ShardStep<K, V, A>,
     decided: Change<V>,
 ) -> Result<(), ShardStep<K, V, A>>
     requires goes { GoesTo ⟦<RecShard<K, V, S, A> as Recorded>⟧.known shard.old step }
     requires hash { HasHash ⟦<RecShard<K, V, S, A> as Recorded>⟧.known shard.old step hash }
     requires found { IsFound ⟦<RecShard<K, V, S, A> as Recorded>⟧.known shard.old step (result_ok found) }
-    requires free { IfErr found (HasPlace shard.old step hash) }
+    requires place { IfErr found (HasPlace shard.old step hash) }
     requires decides { Decides ⟦<RecShard<K, V, S, A> as Recorded>⟧.known shard.old step decided }
     ensures ok { OnOk result (Leaves ⟦<RecShard<K, V, S, A> as Recorded>⟧.known shard.old step shard.new) }
     ensures stays { SameShard shard.old shard.new }

@@ -113,8 +113,8 @@ impl<'a, K: Eq + Hash + Drop, V: Drop, S: BuildHasher> Entry<'a, K, V, S> {
     {
         match shard.find_or_place(hash, &key) {
             Ok(position) => Ok(Entry::Occupied(OccupiedEntry::new(shard, position, key))),
-            Err(free) => match shard.make_place(hash, free) {
-                Ok(free) => Ok(Entry::Vacant(VacantEntry::new(shard, hash, free, key))),
+            Err(place) => match shard.make_place(hash, place) {
+                Ok(place) => Ok(Entry::Vacant(VacantEntry::new(shard, hash, place, key))),
                 Err(_) => Err(EntryRefused { key }),
             },
         }

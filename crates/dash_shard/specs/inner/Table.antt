@@ -13,6 +13,7 @@ use Rattle.dash_shard.specs.Contents.{Keys, Distinct, EachOnce}
 use Rattle.dash_shard.specs.Shard.{ShardState, IsShard, shard_len, slot, taken}
 use Rattle.dash_shard.specs.Search.{class_of, groups}
 use Rattle.dash_shard.specs.inner.Marks.{step_to, group_at, IsFull, IsMarked, IsPlace}
+use Rattle.dash_shard.specs.declared.shard.table.Place.{Place}
 use Rattle.dash_shard.specs.declared.shard.table.Table.{Table}
 
 -- how many pairs there may be in n slots: seven in eight
@@ -60,6 +61,10 @@ module _ {K V : Type 0} where
   -- how many groups after the first of the hash's way the slot i stands
   abbrev pub steps_in : Table K V → ℕ → ℕ → ℕ
   steps_in t hash i = step_to (groups_in t) (hash % groups_in t) (i / 16)
+
+  -- the place is such a slot, and says how far it stands on the hash's way
+  abbrev pub IsOnWay : Table K V → ℕ → Place → Type 0
+  IsOnWay t hash place = IsSpot t hash place.slot × (place.steps ≡ steps_in t hash place.slot)
 
   -- the table with another value in the pair of the slot i
   abbrev pub with_value_at : Table K V → ℕ → V → Table K V
@@ -136,13 +141,13 @@ module _ {K V S : Type 0} where
   abbrev pub with_table : ShardState K V S → Table K V → ShardState K V S
   with_table s t = record s { slots = pairs_in t; capacity = limit (slots_in t) }
 
-  -- a pair of this hash may be put on the free slot i
-  abbrev pub IsPlaceFor : ShardState K V S → ℕ → ℕ → Type 0
-  IsPlaceFor s hash i = IsPlace (groups s) hash s.slots i
+  -- a pair of this hash may be put on the place
+  abbrev pub IsPlaceFor : ShardState K V S → ℕ → Place → Type 0
+  IsPlaceFor s hash place = IsPlace (groups s) hash s.slots place.slot × (place.steps ≡ step_to (groups s) (hash % groups s) (place.slot / 16))
 
   -- the same where there is room
-  abbrev pub MayTake : ShardState K V S → ℕ → ℕ → Type 0
-  MayTake s hash i = shard_len s < s.capacity → IsPlaceFor s hash i
+  abbrev pub MayTake : ShardState K V S → ℕ → Place → Type 0
+  MayTake s hash place = shard_len s < s.capacity → IsPlaceFor s hash place
 
 -- a shard's table and state
 module _ {K V S : Type 0} (h : KeyHash K S) where

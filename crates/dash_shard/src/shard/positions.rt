@@ -1,5 +1,5 @@
 //! A shard's calls by slot: a look-up's answer for calls that make no other.
-ghost use Rattle.std.specs.Prelude.{◌≡◌, ◌+◌, ◌-◌, ◌^◌, ◌<◌, IsSome, Some, None, ℕ, ◌↔◌, IfSome, IsNone, IfOk, IfErr};
+ghost use Rattle.std.specs.Prelude.{◌≡◌, ◌+◌, ◌-◌, ◌^◌, ◌<◌, IsSome, Some, None, ℕ, ◌↔◌, IfSome, IsNone, IfOk, IfErr, OnErr};
 ghost use Rattle.std.specs.Option.{option_map};
 ghost use Rattle.core.specs.Result.{result_ok};
 ghost use Rattle.std.specs.Map.Iter.{deref_pair, deref_pair_mut};
@@ -12,7 +12,7 @@ ghost use Rattle.dash_shard.specs.inner.Cursors.{IsSlotCursor, Advances};
 ghost use Rattle.dash_shard.specs.Search.{groups, Searches};
 ghost use Rattle.dash_shard.specs.Steps.{Insert, Remove, Old, Pair};
 
-use super::{Cursor, Search, Shard};
+use super::{Cursor, Place, Search, Shard};
 use crate::error::TryReserveError;
 use crate::keyed::{Keyed, Lender};
 use std::hash::{BuildHasher, Hash};
@@ -37,16 +37,15 @@ impl<K: Eq + Hash, V, S: BuildHasher> Shard<K, V, S> {
         self.table.find(hash, key)
     }
 
-    /// As `position_of_hashed`, or else the free slot for a pair of this key, where there is room. For the crates here alone.
+    /// As `position_of_hashed`, or else the place for a pair of this key, where there is room. For the crates here alone.
     #[inline(always)]
-    pub fn find_or_place(&self, hash: u64, key: &K) -> Result<usize, usize>
+    pub fn find_or_place(&self, hash: u64, key: &K) -> Result<usize, Place>
         requires { hash ≡ ⟦<Self as Keyed>⟧.by.hash self.now.hasher key.now }
         ensures finds { Finds K.eq self.now key.now (result_ok result) }
         ensures place { IfErr result (MayTake self.now hash) }
         ensures lawful { IsShard ⟦<Self as Keyed>⟧.by self.now }
     {
-        let place = self.table.find_or_place(hash, key);
-        place.position.ok_or(place.free)
+        self.table.find_or_place(hash, key)
     }
 
     /// How many groups of sixteen slots there are.
@@ -103,33 +102,34 @@ impl<K: Eq + Hash, V, S: BuildHasher> Shard<K, V, S> {
         ensures lawful { IsShard ⟦<Self as Keyed>⟧.by self.new }
     {
         let hash = self.hash_one(&key);
-        let (free, _) = self.table.place_for(hash);
-        self.insert_new_at(free, hash, key, value);
-        free
+        let place = self.table.place_for(hash);
+        self.insert_new_at(place, hash, key, value);
+        place.slot
     }
 
-    /// The free slot that a search found for a new key, or another in room that is made, where there was none. For the crates here alone.
+    /// The place that a search found for a new key, or another in room that is made, where there was none. For the crates here alone.
     ///
     /// Takes memory where the shard is full, and is refused (11) only then.
     #[inline]
-    pub fn make_place(&mut self, hash: u64, free: usize) -> Result<usize, TryReserveError>
-        requires { MayTake self.old hash free }
+    pub fn make_place(&mut self, hash: u64, place: Place) -> Result<Place, TryReserveError>
+        requires { MayTake self.old hash place }
         ensures reserves { Reserves K.eq 1 self.old self.new result }
         ensures place { IfOk result (IsPlaceFor self.new hash) }
+        ensures full { OnErr result (shard_len self.old ≡ self.old.capacity) }
         ensures lawful { IsShard ⟦<Self as Keyed>⟧.by self.new }
     {
         if self.table.len() < self.table.capacity() {
-            return Ok(free);
+            return Ok(place);
         }
         let Ok(()) = self.table.grow(&self.hasher) else {
             return Err(TryReserveError {});
         };
-        Ok(self.table.place_for(hash).0)
+        Ok(self.table.place_for(hash))
     }
 
-    /// As `insert_new`, for a caller who has the key's hash and a free slot for it. For the crates here alone.
+    /// As `insert_new`, for a caller who has the key's hash and a place for it. For the crates here alone.
     #[inline]
-    pub fn insert_new_at(&mut self, free: usize, hash: u64, key: K, value: V)
+    pub fn insert_new_at(&mut self, place: Place, hash: u64, key: K, value: V)
     where
         K: Drop,
         V: Drop,
@@ -137,13 +137,13 @@ impl<K: Eq + Hash, V, S: BuildHasher> Shard<K, V, S> {
         requires route { Routes ⟦<Self as Keyed>⟧.by self.old key }
         requires absent { at K.eq (pairs self.old) key ≡ None }
         requires room { shard_len self.old < self.old.capacity }
-        requires place { IsPlaceFor self.old hash free }
+        requires place { IsPlaceFor self.old hash place }
         ensures inserts { TakesInPlace K.eq self.old self.new (Insert key value) (Old None) }
-        ensures slot { slot self.new.slots free ≡ Some (key, value) }
+        ensures slot { slot self.new.slots place.slot ≡ Some (key, value) }
         ensures len { shard_len self.new ≡ shard_len self.old + 1 }
         ensures lawful { IsShard ⟦<Self as Keyed>⟧.by self.new }
     {
-        self.table.put(free, hash, key, value);
+        self.table.put(place, hash, key, value);
     }
 
     /// Puts a value in the pair of a taken slot, and answers the old one. It makes no look-up, takes no memory, and can't be refused.

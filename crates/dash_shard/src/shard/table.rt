@@ -13,7 +13,8 @@ use crate::shard::group::probe;
 use cursor::Cursor;
 use dash_slots::Slots;
 use marks::{
-    class, count_at, group_of, home, next_group, next_pair, own_lane, split_lowest, steps_to, tag,
+    class, count_at, group_of, has_lane, home, next_group, next_pair, own_lane, split_lowest,
+    steps_to, tag,
 };
 use std::alloc::Global;
 use std::hash::{BuildHasher, Hash};
@@ -47,7 +48,14 @@ pub struct Search {
     pub visits: usize,
 }
 
-// Of the slots of a group that the mask names, the one whose key is equal. It looks at the own lane of the key's hash first, where most pairs
+/// A free slot where a pair may be put, so many groups after the first of its hash's way. For the crates here alone.
+#[derive(Clone, Copy, PartialEq, Eq, Debug, Default)]
+pub struct Place {
+    pub slot: usize,
+    pub steps: usize,
+}
+
+// Of the slots of a group that the mask names, the one whose key is equal. It looks at the own lane of the key's hash first, where many pairs
 // stand: a processor that expects that fetches the slot while it waits for the tags.
 #[inline(always)]
 fn find_in<K: Eq, V>(
@@ -67,10 +75,8 @@ fn find_in<K: Eq, V>(
     if mask == 0 {
         return None;
     }
-    if (mask >> own) & 1 == 1 {
-        if &slots.get(start + own).0 == key {
-            return Some(start + own);
-        }
+    if has_lane(mask, own) && &slots.get(start + own).0 == key {
+        return Some(start + own);
     }
     let mut left = mask;
     loop {

@@ -19,6 +19,7 @@ use Rattle.dash_steps.specs.inner.Kinds.{kinds_of}
 use Rattle.dash_steps.specs.inner.Sweep.{keeping, GivesEach, SweptTo}
 use Rattle.dash_shard.specs.Held.{Finds}
 use Rattle.dash_shard.specs.inner.Table.{MayTake}
+use Rattle.dash_shard.specs.declared.shard.table.Place.{Place}
 use Rattle.dash_steps.specs.declared.step.ShardStep.{ShardStep}
 use Rattle.dash_steps.specs.declared.step.ShardStep.TheVariants.{Insert, Remove, RemoveIf, RemoveIfMut, Alter, AlterAll, Retain}
 use Rattle.dash_steps.specs.declared.step.Reply.{Reply}
@@ -91,10 +92,10 @@ module _ {K V : Type 0} where
     FitsLine (at_key key becomes replies) o change = Fits key becomes o change
     FitsLine (on_shard i becomes replies) o change = ⊥
 
--- the slot is free for a pair of the step's key and this hash, if the step is an insert, and there is room
-abbrev pub HasPlace : {K V A S : Type 0} → ShardState K V S → ShardStep K V A → ℕ → ℕ → Type 0
-HasPlace s (Insert k v) hash free = MayTake s hash free
-HasPlace s _ hash free = ⊤
+-- a pair of the step's key and this hash may be put on the place, if the step is an insert, and there is room
+abbrev pub HasPlace : {K V A S : Type 0} → ShardState K V S → ShardStep K V A → ℕ → Place → Type 0
+HasPlace s (Insert k v) hash place = MayTake s hash place
+HasPlace s _ hash place = ⊤
 
 module _ {K V A S : Type 0} (w : Known K V A S) (s : ShardState K V S) where
   -- the change of the pair at a key is what the line makes of it

@@ -12,6 +12,7 @@ use crate::mapref::one::RefMut;
 use dash_held::held::ShardMut;
 use dash_kept::KeptKey;
 use dash_shard::keyed::Keyed;
+use dash_shard::shard::Place;
 use std::hash::{BuildHasher, Hash};
 use std::marker::Model;
 
@@ -21,8 +22,8 @@ pub struct VacantEntry<'a, K: Eq + Hash, V, S: BuildHasher> {
     key: K,
     // That of the key.
     hash: u64,
-    // The slot for its pair.
-    free: usize,
+    // Where its pair goes.
+    place: Place,
 }
 
 impl<'a, K: Eq + Hash, V, S: BuildHasher> Model for VacantEntry<'a, K, V, S> {
@@ -36,7 +37,7 @@ impl<'a, K: Eq + Hash, V, S: BuildHasher> Model for VacantEntry<'a, K, V, S> {
 
     ghost view = { λ e. record { shard = e.shard; key = e.key } };
 
-    ghost invariant = { λ e. IsVacant (key_hash K.eq K.hash_input S.BuildHasher S.Hasher.Hasher) e.shard e.key e.hash e.free };
+    ghost invariant = { λ e. IsVacant (key_hash K.eq K.hash_input S.BuildHasher S.Hasher.Hasher) e.shard e.key e.hash e.place };
 }
 
 impl<K: Eq + Hash, V, S: BuildHasher> Keyed for VacantEntry<'_, K, V, S> {
@@ -56,34 +57,34 @@ impl<K: Eq + Hash + Drop, V, S: BuildHasher> Drop for VacantEntry<'_, K, V, S> {
             shard,
             key: _,
             hash: _,
-            free: _,
+            place: _,
         } = self;
         drop(shard);
     }
 }
 
 impl<'a, K: Eq + Hash + Drop, V: Drop, S: BuildHasher> VacantEntry<'a, K, V, S> {
-    /// The entry of a key that goes to the held shard, which has no equal one, and room, for a caller who has the key's hash and a free slot
+    /// The entry of a key that goes to the held shard, which has no equal one, and room, for a caller who has the key's hash and a place
     /// for it. For the crates here alone.
     #[inline]
     pub fn new(
         shard: ShardMut<'a, K, V, S>,
         hash: u64,
-        free: usize,
+        place: Place,
         key: K,
     ) -> VacantEntry<'a, K, V, S>
         requires hash { hash ≡ ⟦<Self as Keyed>⟧.by.hash shard.hasher key }
         requires routes { Routes ⟦<Self as Keyed>⟧.by shard key }
         requires absent { at K.eq (pairs shard) key ≡ None }
         requires room { shard_len shard < shard.capacity }
-        requires place { IsPlaceFor shard hash free }
+        requires place { IsPlaceFor shard hash place }
         ensures { result ≡ record { shard = shard.entry; key = key } }
     {
         VacantEntry {
             shard,
             key,
             hash,
-            free,
+            place,
         }
     }
 
@@ -96,10 +97,10 @@ impl<'a, K: Eq + Hash + Drop, V: Drop, S: BuildHasher> VacantEntry<'a, K, V, S> 
             mut shard,
             key,
             hash,
-            free,
+            place,
         } = self;
-        shard.insert_new_at(free, hash, key, value);
-        RefMut::new(shard, free)
+        shard.insert_new_at(place, hash, key, value);
+        RefMut::new(shard, place.slot)
     }
 
     /// Puts the pair of a copy of the key and the value, and answers its entry, which keeps the key that was handed in.
@@ -122,10 +123,10 @@ impl<'a, K: Eq + Hash + Drop, V: Drop, S: BuildHasher> VacantEntry<'a, K, V, S> 
             mut shard,
             key,
             hash,
-            free,
+            place,
         } = self;
-        shard.insert_new_at(free, hash, copy, value);
-        Ok(OccupiedEntry::new(shard, free, key))
+        shard.insert_new_at(place, hash, copy, value);
+        Ok(OccupiedEntry::new(shard, place.slot, key))
     }
 
     /// The key that was handed in.
@@ -138,7 +139,7 @@ impl<'a, K: Eq + Hash + Drop, V: Drop, S: BuildHasher> VacantEntry<'a, K, V, S> 
             shard: _,
             key,
             hash: _,
-            free: _,
+            place: _,
         } = self;
         key
     }

@@ -25,6 +25,15 @@ pub(super) fn lowest(mask: u16) -> usize
     mask.trailing_zeros() as usize
 }
 
+// Whether a mask names a lane.
+#[inline(always)]
+pub(super) fn has_lane(mask: u16, lane: usize) -> bool
+    requires { lane < 16 }
+    ensures { IsTrue result → bit_at mask lane ≡ 1 }
+{
+    (mask >> lane) & 1 == 1
+}
+
 // The own lane of a hash, if a mask names it, or else the lowest that it names.
 #[inline(always)]
 pub(super) fn own_or_lowest(mask: u16, own: usize) -> usize
@@ -33,7 +42,7 @@ pub(super) fn own_or_lowest(mask: u16, own: usize) -> usize
     ensures bound { result < 16 }
     ensures set { bit_at mask result ≡ 1 }
 {
-    if (mask >> own) & 1 == 1 {
+    if has_lane(mask, own) {
         own
     } else {
         lowest(mask)

@@ -1,24 +1,16 @@
 //! The places of a table: which one a pair is put on, and what is left where one goes.
 ghost use Rattle.std.specs.Prelude.{ℕ, ◌≡◌, ◌+◌, ◌*◌, ◌/◌, ◌^◌, ◌<◌, ◌≤◌, Some, None, IfSome, IfNone, IfOk, IfErr, OnErr, IsSome, length, slice_set, slice_index};
 ghost use Rattle.dash_shard.specs.inner.Marks.{IsFull};
-ghost use Rattle.dash_shard.specs.inner.Table.{IsTable, IsSpot, Holds, IsAbsent, PassesFirst, limit, slots_in, groups_in, pairs_in, hashes_in, steps_in};
+ghost use Rattle.dash_shard.specs.inner.Table.{IsTable, IsSpot, IsOnWay, Holds, IsAbsent, PassesFirst, limit, slots_in, groups_in, pairs_in, hashes_in};
 ghost use Rattle.dash_shard.specs.Shard.{slot};
 
 use super::marks::{
     EMPTY, REMOVED, class, count_at, count_way, group_of, home, lowest, next_group, own_lane,
     own_or_lowest, steps_to, tag, uncount_past,
 };
-use super::{Table, find_in};
+use super::{Place, Table, find_in};
 use crate::shard::group::probe;
 use crate::shard::lanes::free_lanes;
-
-// Where a key's pair stands, or else a place for it where there is room, so many groups after the first of its way.
-#[derive(Clone, Copy)]
-pub struct Place {
-    pub position: Option<usize>,
-    pub free: usize,
-    pub steps: usize,
-}
 
 // The place that was found before, or else the first free lane of a group.
 #[inline(always)]
@@ -55,53 +47,38 @@ fn left_mark(tags: &[u8], counts: &[u128], group: usize) -> u8
 }
 
 impl<K, V> Table<K, V> {
-    /// Looks for the pair of this hash whose key is equal, and for the first place on its way where it may be put, in one pass.
+    /// The slot of the pair of this hash whose key is equal, or else the first place on its way where it may be put, in one pass.
     #[inline(always)]
-    pub fn find_or_place(&self, hash: u64, key: &K) -> Place
+    pub fn find_or_place(&self, hash: u64, key: &K) -> Result<usize, Place>
     where
         K: Eq,
         requires { IsTable self.now }
-        ensures found { IfSome result.position (Holds K.eq (pairs_in self.now) key.now) }
-        ensures absent { IfNone result.position (IsAbsent K.eq self.now hash key.now) }
-        ensures free { IfNone result.position (self.now.len < limit (slots_in self.now) → IsSpot self.now hash result.free) }
-        ensures steps { IfNone result.position (result.steps ≡ steps_in self.now hash result.free) }
+        ensures found { IfOk result (Holds K.eq (pairs_in self.now) key.now) }
+        ensures absent { OnErr result (IsAbsent K.eq self.now hash key.now) }
+        ensures place { IfErr result (λ place. self.now.len < limit (slots_in self.now) → IsOnWay self.now hash place) }
     {
         let count = self.counts.len();
         if count == 0 {
-            return Place {
-                position: None,
-                free: 0,
-                steps: 0,
-            };
+            return Err(Place { slot: 0, steps: 0 });
         }
         let first = home(hash, count);
         let seen = probe(group_of(&self.tags, first), tag(hash));
         let own = own_lane(hash);
         if let Some(position) = find_in(&self.slots, 16 * first, own, seen.matches, key) {
-            return Place {
-                position: Some(position),
-                free: 0,
-                steps: 0,
-            };
+            return Ok(position);
         }
         if seen.empty != 0 {
-            return Place {
-                position: None,
-                free: 16 * first + own_or_lowest(seen.empty, own),
+            return Err(Place {
+                slot: 16 * first + own_or_lowest(seen.empty, own),
                 steps: 0,
-            };
+            });
         }
         match self.place_past(hash, key, first) {
-            Ok(position) => Place {
-                position: Some(position),
-                free: 0,
-                steps: 0,
-            },
-            Err(free) => Place {
-                position: None,
-                free,
-                steps: steps_to(first, free / 16, count),
-            },
+            Ok(position) => Ok(position),
+            Err(slot) => Err(Place {
+                slot,
+                steps: steps_to(first, slot / 16, count),
+            }),
         }
     }
 
@@ -141,22 +118,27 @@ impl<K, V> Table<K, V> {
         Err(free.unwrap_or(0))
     }
 
-    /// The first place on a hash's way where a pair of it may be put, and how many groups after the first it stands.
+    /// The first place on a hash's way where a pair of it may be put.
     #[inline(always)]
-    pub fn place_for(&self, hash: u64) -> (usize, usize)
+    pub fn place_for(&self, hash: u64) -> Place
         requires table { IsTable self.now }
         requires room { self.now.len < limit (slots_in self.now) }
-        ensures spot { IsSpot self.now hash result.0 }
-        ensures steps { result.1 ≡ steps_in self.now hash result.0 }
+        ensures { IsOnWay self.now hash result }
     {
         let count = self.counts.len();
         let first = home(hash, count);
         let free = free_lanes(group_of(&self.tags, first));
         if free != 0 {
-            return (16 * first + own_or_lowest(free, own_lane(hash)), 0);
+            return Place {
+                slot: 16 * first + own_or_lowest(free, own_lane(hash)),
+                steps: 0,
+            };
         }
-        let position = self.place_on_way(hash);
-        (position, steps_to(first, position / 16, count))
+        let slot = self.place_on_way(hash);
+        Place {
+            slot,
+            steps: steps_to(first, slot / 16, count),
+        }
     }
 
     // The first place on a hash's way, from its first group on. Few first groups are full, so it is seldom called.
@@ -179,40 +161,22 @@ impl<K, V> Table<K, V> {
         unreachable!()
     }
 
-    /// Puts a pair on a place where it may be put, so many groups after the first of its way.
-    #[inline(always)]
-    pub fn fill(&mut self, position: usize, steps: usize, hash: u64, key: K, value: V)
-        requires table { IsTable self.old }
-        requires room { self.old.len < limit (slots_in self.old) }
-        requires spot { IsSpot self.old hash position }
-        requires steps { steps ≡ steps_in self.old hash position }
-        ensures pairs { pairs_in self.new ≡ slice_set (pairs_in self.old) position (Some (key, value)) }
-        ensures hashes { hashes_in self.new ≡ slice_set (hashes_in self.old) position hash }
-        ensures len { self.new.len ≡ self.old.len + 1 }
-        ensures slots { slots_in self.new ≡ slots_in self.old }
-        ensures table { IsTable self.new }
-    {
-        count_way(&mut self.counts, hash, steps);
-        self.tags[position] = tag(hash);
-        self.slots.put(position, hash, (key, value));
-        self.len += 1;
-    }
-
     /// Puts a pair on a place where it may be put.
-    #[inline]
-    pub fn put(&mut self, position: usize, hash: u64, key: K, value: V)
+    #[inline(always)]
+    pub fn put(&mut self, place: Place, hash: u64, key: K, value: V)
         requires table { IsTable self.old }
         requires room { self.old.len < limit (slots_in self.old) }
-        requires spot { IsSpot self.old hash position }
-        ensures pairs { pairs_in self.new ≡ slice_set (pairs_in self.old) position (Some (key, value)) }
-        ensures hashes { hashes_in self.new ≡ slice_set (hashes_in self.old) position hash }
+        requires place { IsOnWay self.old hash place }
+        ensures pairs { pairs_in self.new ≡ slice_set (pairs_in self.old) place.slot (Some (key, value)) }
+        ensures hashes { hashes_in self.new ≡ slice_set (hashes_in self.old) place.slot hash }
         ensures len { self.new.len ≡ self.old.len + 1 }
         ensures slots { slots_in self.new ≡ slots_in self.old }
         ensures table { IsTable self.new }
     {
-        let count = self.counts.len();
-        let steps = steps_to(home(hash, count), position / 16, count);
-        self.fill(position, steps, hash, key, value);
+        count_way(&mut self.counts, hash, place.steps);
+        self.tags[place.slot] = tag(hash);
+        self.slots.put(place.slot, hash, (key, value));
+        self.len += 1;
     }
 
     /// Puts a pair on the first place of its way, and answers the slot.
@@ -228,9 +192,9 @@ impl<K, V> Table<K, V> {
         ensures slots { slots_in self.new ≡ slots_in self.old }
         ensures table { IsTable self.new }
     {
-        let (position, steps) = self.place_for(hash);
-        self.fill(position, steps, hash, key, value);
-        position
+        let place = self.place_for(hash);
+        self.put(place, hash, key, value);
+        place.slot
     }
 
     /// Takes the pair of a taken slot, by the hash of its key. The slot is empty then, or marked as one whose pair was removed where others

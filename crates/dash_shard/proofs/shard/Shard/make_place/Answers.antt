@@ -13,3 +13,6 @@ returns-clause-reserves g c =
 
 pub returns-clause-lawful : goal.returns-clause-lawful
 returns-clause-lawful g c = (moved-inside _ (lawful-of g.S.BuildHasher g.S.Hasher.Hasher g.met.K.Eq.laws g.met.K.Hash.respects_eq) _ _ _ c.self.inside.table c.grow.new.self c.self.invariant c.in-Ok.ensures.moved).shard
+
+pub returns-clause-full : goal.returns-clause-full
+returns-clause-full g c = let fits = c.self.invariant.table.fits in omega (arith, fits, c.self.invariant.counted, c.if-len-capacity.false, c.len.ensures, c.capacity.ensures)

@@ -14,4 +14,4 @@ new-requires g c =
     let h = key_hash g.K.PartialEq.eq g.K.Hash.hash_input g.S.BuildHasher g.S.Hasher.Hasher in
     let law = lawful-of g.S.BuildHasher g.S.Hasher.Hasher g.met.K.Eq.laws g.met.K.Hash.respects_eq in
     let put = c.insert_new_at in
-    copy-there h law put.new.self c.self.inside.key c.in-Ok.copy (g.met.K.KeptKey.alike_equal _ _ c.in-Ok.ensures) c.self.inside.free c.args.value put.ensures.slot
+    copy-there h law put.new.self c.self.inside.key c.in-Ok.copy (g.met.K.KeptKey.alike_equal _ _ c.in-Ok.ensures) c.self.inside.place.slot c.args.value put.ensures.slot
