@@ -24,10 +24,15 @@ ours=$top/crates/dash_bench/out/dash_bench
 (cd "$top/crates/dash_bench" && rt run -- none 1 >/dev/null 2>&1 || true)
 [ -x "$ours" ] || { echo "run.sh: dash_bench is not built" >&2; exit 1; }
 
-# Both programs, by turns: prints the best NS an operation of ours and of theirs, the BYTES of both, and the median of the rounds' ratios.
+# Both programs, by turns, each first in every other round: prints the best NS an operation of ours and of theirs, the BYTES of both, and the median of the rounds' ratios.
 rounds_of() {
-    for _ in $(seq "$rounds"); do
-        echo "$("$ours" "$@") $("$theirs" "$@")"
+    for round in $(seq "$rounds"); do
+        if ((round % 2)); then
+            o=$("$ours" "$@") t=$("$theirs" "$@")
+        else
+            t=$("$theirs" "$@") o=$("$ours" "$@")
+        fi
+        echo "$o $t"
     done | awk '{ o = $2 / $4; t = $10 / $12; bytes = $8 / $4 " " $16 / $12
                   if ($6 != $14 || (NR > 1 && $6 != sum)) bad = 1; sum = $6
                   if (NR == 1 || o < ours) ours = o; if (NR == 1 || t < theirs) theirs = t
