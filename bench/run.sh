@@ -24,7 +24,8 @@ ours=$top/crates/dash_bench/out/dash_bench
 (cd "$top/crates/dash_bench" && rt run -- none 1 >/dev/null 2>&1 || true)
 [ -x "$ours" ] || { echo "run.sh: dash_bench is not built" >&2; exit 1; }
 
-# Both programs, by turns, each first in every other round: prints the best NS an operation of ours and of theirs, the BYTES of both, and the median of the rounds' ratios.
+# Both programs, by turns, each first in every other round: prints the best NS an operation of ours and of theirs, the BYTES of both, and the
+# median of the rounds' ratios.
 rounds_of() {
     for round in $(seq "$rounds"); do
         if ((round % 2)); then
