@@ -85,7 +85,7 @@ fn put(shard: &mut Pairs, number: u64) -> Result<bool, Refused> {
     Ok(true)
 }
 
-// Puts the pair of the next number, from this one on, whose key goes to the shard, and answers the number behind it.
+// Puts the pair of the next number, from this one on, whose key goes to the shard, and returns the number behind it.
 fn put_next(shard: &mut Pairs, from: u64) -> Result<u64, Refused> {
     let mut number = from;
     for _ in 0..1_000u64 {
@@ -98,7 +98,7 @@ fn put_next(shard: &mut Pairs, from: u64) -> Result<u64, Refused> {
     Ok(number)
 }
 
-// Puts pairs of the lowest numbers till the shard is full, and answers the number behind them.
+// Puts pairs of the lowest numbers till the shard is full, and returns the number behind them.
 fn fill(shard: &mut Pairs) -> Result<u64, Refused> {
     let mut number = 0;
     for _ in 0..PAIRS {

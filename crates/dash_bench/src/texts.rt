@@ -124,7 +124,7 @@ impl Worker {
     // A thread's texts, in an order that looks random.
     fn new(alloc: Global, index: usize, threads: usize) -> Result<Self, AllocError> {
         let (first, end) = share_of(PAIRS, index, threads);
-        let mut keys = Vec::new(alloc);
+        let mut keys = Vec::with_capacity(alloc, end.saturating_sub(first) as usize)?;
         for number in first..end {
             let number = number.wrapping_mul(77_773) % PAIRS as u64;
             keys.push(text_of(alloc, number)?)?;

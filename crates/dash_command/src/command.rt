@@ -150,7 +150,7 @@ fn print_usage<E: Write>(errors: &mut E) -> io::Result<()>
     writeln!(errors, "{USAGE}")
 }
 
-/// Says that no memory was found for the words themselves. It answers the exit status, also where that couldn't be said.
+/// Says that no memory was found for the words themselves. It returns the exit status, also where that couldn't be said.
 pub fn refuse_memory<E: Write>(errors: &mut E) -> u8
     ensures { result ≡ code_of Status.Refused }
 {

@@ -54,7 +54,7 @@ fn take_all<R: Wait + Clock, S: BuildHasher + Drop, W: Write>(
     out.flush()
 }
 
-// Takes one call, and answers its word and what it answered.
+// Takes one call, and returns its word and what it answered.
 fn take<R: Wait + Clock, S: BuildHasher + Drop>(
     rt: &R,
     alloc: Global,

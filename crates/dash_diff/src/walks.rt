@@ -22,7 +22,7 @@ pub fn take<R: Wait + Clock, S: BuildHasher>(
     Ok((call, answer))
 }
 
-// Takes the call, if it is one that changes pairs, and answers its word.
+// Takes the call, if it is one that changes pairs, and returns its word.
 fn change<R: Wait + Clock, S: BuildHasher>(rt: &R, map: &Map<S>, draw: Draw) -> &'static str {
     match draw.kind {
         0..=3 => "iter",

@@ -135,7 +135,7 @@ impl<'a, K: Eq + Hash, V, S: BuildHasher> ShardMut<'a, K, V, S> {
 }
 
 impl<K: Eq + Hash, V, S: BuildHasher> ShardMut<'_, K, V, S> {
-    /// Puts the pair, or where an equal key is there the value under the stored key, and answers the old value.
+    /// Puts the pair, or where an equal key is there the value under the stored key, and returns the old value.
     ///
     /// Takes memory for a new key where the shard is full, and is refused (1) only then.
     #[inline]
@@ -167,7 +167,7 @@ impl<K: Eq + Hash, V, S: BuildHasher> ShardMut<'_, K, V, S> {
         ensures inserts { Inserts K.eq self.old self.new key value result }
         ensures lawful { IsShard ⟦<Self as Keyed>⟧.by self.new }
     {
-        // By its parts: a closure's answer of this size is handed on from place to place.
+        // As `insert_found`, by its parts: an answer of this size is copied by each closure that hands it on.
         let place = match self.find_or_place(hash, &key) {
             Ok(slot) => {
                 let old = self.hold.change(|shard| shard.set_at(slot, value));
@@ -182,7 +182,7 @@ impl<K: Eq + Hash, V, S: BuildHasher> ShardMut<'_, K, V, S> {
         Ok(None)
     }
 
-    /// Takes the pair whose key equals `key` out, and answers it. It takes no memory, and can't be refused.
+    /// Takes the pair whose key equals `key` out, and returns it. It takes no memory, and can't be refused.
     ///
     /// The room stays, for pairs that come later.
     #[inline]
@@ -208,7 +208,7 @@ impl<K: Eq + Hash, V, S: BuildHasher> ShardMut<'_, K, V, S> {
         self.hold.change(|shard| shard.remove_hashed(hash, key))
     }
 
-    /// Takes the pair whose key equals `key` out if `f` answers yes on it, and answers it. It takes no memory, and can't be refused.
+    /// Takes the pair whose key equals `key` out if `f` returns true on it, and returns it. It takes no memory, and can't be refused.
     #[inline]
     pub fn remove_if<F: FnOnce(&K, &V) -> bool>(&mut self, key: &K, f: F) -> Option<(K, V)>
         requires route { Routes ⟦<Self as Keyed>⟧.by self.old key.now }
@@ -248,7 +248,7 @@ impl<K: Eq + Hash, V, S: BuildHasher> ShardMut<'_, K, V, S> {
         )
     }
 
-    /// As `remove_if`, where `f` may write the value. On yes the pair is answered as `f` left it, and on no it stays so.
+    /// As `remove_if`, where `f` may write the value. On `true` the pair is returned as `f` left it, and on `false` it stays so.
     #[inline]
     pub fn remove_if_mut<F: FnOnce(&K, &mut V) -> bool>(&mut self, key: &K, f: F) -> Option<(K, V)>
         requires route { Routes ⟦<Self as Keyed>⟧.by self.old key.now }

@@ -88,7 +88,7 @@ module _ {X Y : Type 0} (f : X → Option Y) where
       go None e rest = rest
       go (Some v) e rest = (λ y h. let r = has-mapped xs y h in g x r.0 v y (inl refl) (inr r.1) e r.2 (o.0 r.0 r.1), rest)
 
--- what `get` of a slice answers
+-- what `get` of a slice returns
 pub got : {X : Type 0} (xs : List X) (i : ℕ) (P : Bor X → Type 0) (r : Option (Bor X)) → IfSome r (λ x. x.now ≡ slice_index_or xs i x.now) → MatchOption r (length xs ≤ i) (λ x. (i < length xs) × P x) → option_map (λ x. x.now) r ≡ slice_get xs i
 got xs i P None is m = sym (slice_get_past xs i m)
 got xs i P (Some x) is m = ap Some is ∙ sym (slice_get-get_or xs i x.now m.0)

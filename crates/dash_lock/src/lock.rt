@@ -220,7 +220,7 @@ impl<'a, T: Tagged> Deref for RwLockWriteGuard<'a, T> {
 }
 
 impl<T: Tagged> RwLockWriteGuard<'_, T> {
-    /// Puts `new` in place, and answers what was there.
+    /// Puts `new` in place, and returns what was there.
     #[inline]
     pub fn replace(&mut self, new: T) -> T
         requires fits { T.fits self.old.tag new }

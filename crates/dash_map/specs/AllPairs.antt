@@ -26,7 +26,7 @@ module _ {K V S : Type 0} where
       pub room : EachShard (λ s t. t.capacity ≡ s.capacity) old new
       pub stays : SameMap old new
 
-    -- all that `retain` promises: a pair stays, with its new value, where the action, which is what f did, answers yes
+    -- all that `retain` promises: a pair stays, with its new value, where the action, which is what f did, returns true
     pub record RetainsAlone {F : Type 0} (T : F → K → V → Bool → V → F → Type 0) (f : F) (old new : AloneState K V S) : Type 0 where
       pub did : ByCalls T f (contents old) (λ act. Remakes (λ p. if_yes act p (changed act p)) old new)
       pub len : length (contents new) ≤ length (contents old)

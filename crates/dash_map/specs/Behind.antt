@@ -39,7 +39,7 @@ module _ {K V S : Type 0} (h : KeyHash K S) where
   abbrev pub LeavesShard : MapState S → K → (ShardState K V S → ShardState K V S → Type 0) → Type 0
   LeavesShard m key R = SawShard m key (λ s. LeftShard m key (R s))
 
-  -- the pair that is answered, if one is, was taken out in place
+  -- the pair that is returned, if one is, was taken out in place
   abbrev pub Removes : MapState S → K → Option (K × V) → Type 0
   Removes m key result = LeavesShard m key (λ s t. TakesInPlace h.eq s t (Remove key) (Pair result) × Loses s t result)
 

@@ -18,7 +18,7 @@ module _ {F K V T : Type 0} (g : Mut F (T × (Bor K × (Bor V × Unit {0}))) T) 
   abbrev pub MayFold : F → T → Type 0
   MayFold f first = (ps : List (K × V)) (to : F × T) (k : Bor K) (v : Bor V) → FoldsTo FoldsPair (f, first) ps to → Takes g to.0 (to.1, (k, (v, tt)))
 
--- f answers nothing
+-- f returns nothing
 module _ {F K V : Type 0} (g : Mut F (Bor K × (Bor V × Unit {0})) (Unit {0})) where
   abbrev pub VisitsPair : F → K × V → F → Type 0
   VisitsPair f p to = (k : Bor K) × (v : Bor V) × (k.now ≡ p.0) × (v.now ≡ p.1) × Called g f (k, (v, tt)) tt to
@@ -45,7 +45,7 @@ module _ {F K T : Type 0} (g : Mut F (T × (Bor K × Unit {0})) T) where
   abbrev pub MayFoldKeys : F → T → Type 0
   MayFoldKeys f first = (ks : List K) (to : F × T) (p : Bor K) → FoldsTo FoldsKey (f, first) ks to → Takes g to.0 (to.1, (p, tt))
 
--- f answers nothing
+-- f returns nothing
 module _ {F K : Type 0} (g : Mut F (Bor K × Unit {0}) (Unit {0})) where
   abbrev pub VisitsKey : F → K → F → Type 0
   VisitsKey f k to = (p : Bor K) × (p.now ≡ k) × Called g f (p, tt) tt to

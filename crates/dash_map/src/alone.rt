@@ -168,7 +168,7 @@ impl<K: Eq + Hash + Drop, V: Drop, S: BuildHasher> Alone<K, V, S> {
         self.lent().route_of(key)
     }
 
-    /// Puts the pair, or where an equal key is there the value under the stored key, and answers the old value.
+    /// Puts the pair, or where an equal key is there the value under the stored key, and returns the old value.
     ///
     /// Takes memory for a new key where its shard is full, and is refused (1) only then. It waits for nobody.
     #[inline]
@@ -181,7 +181,7 @@ impl<K: Eq + Hash + Drop, V: Drop, S: BuildHasher> Alone<K, V, S> {
         self.row[idx].insert_hashed(hash, key, value)
     }
 
-    /// Takes the pair whose key equals `key` out, and answers it. It takes no memory, and can't be refused.
+    /// Takes the pair whose key equals `key` out, and returns it. It takes no memory, and can't be refused.
     #[inline]
     pub fn remove(&mut self, key: &K) -> Option<(K, V)>
         ensures { TakesAlone ⟦<Self as Keyed>⟧.by self.old self.new (Remove key.now) (Pair result) }
@@ -201,7 +201,7 @@ impl<K: Eq + Hash + Drop, V: Drop, S: BuildHasher> Alone<K, V, S> {
         self.row[idx].remove_hashed(hash, key)
     }
 
-    /// Takes the pair whose key equals `key` out if `f` answers yes on it, and answers it. It takes no memory, and can't be refused.
+    /// Takes the pair whose key equals `key` out if `f` returns true on it, and returns it. It takes no memory, and can't be refused.
     #[inline]
     pub fn remove_if<F: FnOnce(&K, &V) -> bool>(&mut self, key: &K, f: F) -> Option<(K, V)>
         requires { IfSome (at K.eq (contents self.old) key.now) (MayAsk F.FnOnce f) }
@@ -229,7 +229,7 @@ impl<K: Eq + Hash + Drop, V: Drop, S: BuildHasher> Alone<K, V, S> {
         self.get(key).is_some()
     }
 
-    /// What `f` answers on the pair whose key equals `key`.
+    /// What `f` returns on the pair whose key equals `key`.
     #[inline]
     pub fn view<R, F: FnOnce(&K, &V) -> R>(&self, key: &K, f: F) -> Option<R>
         requires { IfSome (at K.eq (contents self.now) key.now) (MayAsk F.FnOnce f) }

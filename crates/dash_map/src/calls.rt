@@ -94,7 +94,7 @@ impl<K: Eq + Hash, V, S: BuildHasher> DashMap<K, V, S> {
         self.lock_of(shard).write(rt).shard()
     }
 
-    /// Puts the pair, or where an equal key is there the value under the stored key, and answers the old value. Waits for the key's
+    /// Puts the pair, or where an equal key is there the value under the stored key, and returns the old value. Waits for the key's
     /// shard.
     ///
     /// Takes memory for a new key where its shard is full, and is refused (1) only then.
@@ -115,7 +115,7 @@ impl<K: Eq + Hash, V, S: BuildHasher> DashMap<K, V, S> {
         shard.insert_hashed(hash, key, value)
     }
 
-    /// Takes the pair whose key equals `key` out, and answers it. Waits for the key's shard. It takes no memory.
+    /// Takes the pair whose key equals `key` out, and returns it. Waits for the key's shard. It takes no memory.
     #[inline]
     pub fn remove<R: Wait + Clock>(&self, rt: &R, key: &K) -> Option<(K, V)>
         ensures equal { IfSome result (λ pair. IsTrue (K.eq pair.0 key.now)) }
@@ -156,7 +156,7 @@ impl<K: Eq + Hash, V, S: BuildHasher> DashMap<K, V, S> {
         RefMut::find(self.lock_of(idx).write(rt).shard(), hash, key)
     }
 
-    /// Takes the pair whose key equals `key` out if `f` answers yes on it, and answers it. Waits for the key's shard. It takes no memory.
+    /// Takes the pair whose key equals `key` out if `f` returns true on it, and returns it. Waits for the key's shard. It takes no memory.
     ///
     /// The shard is held while `f` runs.
     #[inline]
@@ -174,7 +174,7 @@ impl<K: Eq + Hash, V, S: BuildHasher> DashMap<K, V, S> {
         shard.remove_if_hashed(hash, key, f)
     }
 
-    /// As `remove_if`, where `f` may write the value. On yes the pair is answered as `f` left it, and on no it stays so. Waits for the
+    /// As `remove_if`, where `f` may write the value. On `true` the pair is returned as `f` left it, and on `false` it stays so. Waits for the
     /// key's shard. It takes no memory.
     ///
     /// The shard is held while `f` runs: a call of this map from `f` on a key of that shard deadlocks.
@@ -193,7 +193,7 @@ impl<K: Eq + Hash, V, S: BuildHasher> DashMap<K, V, S> {
         shard.remove_if_mut_hashed(hash, key, f)
     }
 
-    /// What `f` answers on the pair whose key equals `key`. Waits until no writer has the key's shard. It takes no memory.
+    /// What `f` returns on the pair whose key equals `key`. Waits until no writer has the key's shard. It takes no memory.
     ///
     /// The shard is held for reading while `f` runs.
     #[inline]

@@ -51,7 +51,7 @@ pub(crate) fn fold_keys_of<K, V, T, F: FnMut(T, &K) -> T>(
     (folded, f)
 }
 
-// Calls `f` at each of these pairs in turn, and answers it as that leaves it.
+// Calls `f` at each of these pairs in turn, and returns it as that leaves it.
 #[inline]
 pub(crate) fn visit_pairs<K, V, F: FnMut(&K, &V)>(pairs: Iter<'_, K, V>, mut f: F) -> F
     requires { MayVisit F.FnMut f }

@@ -28,7 +28,7 @@ pub enum Fault {
     Memory,
 }
 
-/// What a run answers: the replies to the steps that were taken, in their order, and where it stopped the steps from the refused one on,
+/// What a run returns: the replies to the steps that were taken, in their order, and where it stopped the steps from the refused one on,
 /// with the reason.
 #[derive(Debug, Drop)]
 pub struct RunOutcome<K, V, A = ()> {
@@ -76,11 +76,11 @@ impl<K: KeptKey + Drop, V: Kept + Drop, S: BuildHasher> Alone<K, V, S> {
         }
     }
 
-    /// Takes the steps in their order, each on the step's shard, up to the first that is refused (13, 14), and answers what they
+    /// Takes the steps in their order, each on the step's shard, up to the first that is refused (13, 14), and returns what they
     /// reply. It waits for nobody.
     ///
     /// It takes memory for the replies, before the first step, for an `Insert` as `insert` does, and for copies of pairs: those that a
-    /// `Get` or a `Read` answers, and the one that an action is asked of. `AlterAll` and `Retain` change the shard in place, and take
+    /// `Get` or a `Read` returns, and the one that an action is asked of. `AlterAll` and `Retain` change the shard in place, and take
     /// none, nor do the steps that it leaves. The original has no such call.
     pub fn run<A: Action<K, V> + Drop>(
         &mut self,

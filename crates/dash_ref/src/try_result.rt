@@ -1,4 +1,4 @@
-//! What a call that waits for nobody answers.
+//! What a call that waits for nobody returns.
 ghost use Rattle.std.specs.Prelude.{◌≡◌, ◌↔◌, IsTrue, IsSome};
 ghost use Rattle.dash_ref.specs.Try.{found};
 ghost use Rattle.dash_ref.specs.declared.try_result.TryResult.TheVariants.{Present, Absent, Locked};

@@ -9,7 +9,7 @@ module _ {F K V T : Type 0} (g : Shared F (Bor K × (Bor V × Unit {0})) T) (f :
   abbrev pub MayMap : K × V → Type 0
   MayMap p = (k : Bor K) (v : Bor V) → k.now ≡ p.0 → v.now ≡ p.1 → g.pre f (k, (v, tt))
 
-  -- and may answer t there
+  -- and may return t there
   abbrev pub Maps : K × V → T → Type 0
   Maps p t = (k : Bor K) × (v : Bor V) × (k.now ≡ p.0) × (v.now ≡ p.1) × g.post f (k, (v, tt)) t
 

@@ -103,7 +103,7 @@ impl<K: Eq + Hash + Sync, V: Sync, S: BuildHasher + Sync> Iter<'_, K, V, S>
 where
     S::Hasher: Sync,
 {
-    /// What `f` answers to each pair, in the order of the pairs. Threads take shards, and wait for nobody.
+    /// What `f` returns for each pair, in the order of the pairs. Threads take shards, and wait for nobody.
     ///
     /// It takes memory for a list of each shard's answers, and for the whole. Where there is none it is refused (4), and the answers are
     /// dropped.
@@ -172,7 +172,7 @@ fn keys_of<K: Eq + Hash + Drop, V: Drop, S: BuildHasher + Drop>(
     Ok(list)
 }
 
-/// What `f` answers to each pair of a shard. It takes memory for the list, and is refused (4) where there is none.
+/// What `f` returns for each pair of a shard. It takes memory for the list, and is refused (4) where there is none.
 pub fn answers<K, V, T: Drop, F: Fn(&K, &V) -> T>(
     alloc: Global,
     pairs: shard::Iter<'_, K, V>,

@@ -1,4 +1,4 @@
--- What a recorded map answers.
+-- What a recorded map returns.
 use Rattle.std.proofs.Common.{◌≡◌, ℕ, ◌<◌, ◌≤◌, Ok, Err, refl, ap, subst, ◌∙◌, inl, inr, arith}
 use Rattle.std.specs.Prelude.{◌↔◌, ◌⊎◌, Result, IfErr, IsErrAnd, IsErrOf, nat_eq}
 use Rattle.dash_shard.specs.Contents.{keys}

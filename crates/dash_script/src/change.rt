@@ -10,11 +10,11 @@ use std::alloc::AllocError;
 /// What a step of a script does with a value.
 #[derive(Clone, Copy, Debug, PartialEq, Eq, Drop)]
 pub enum Change {
-    /// Adds the number, wrapped at 2^64. It answers yes.
+    /// Adds the number, wrapped at 2^64. It returns true.
     Add(u64),
-    /// Leaves the value. It answers yes where the value is below the number.
+    /// Leaves the value. It returns true where the value is below the number.
     Below(u64),
-    /// Adds the first number, wrapped. It answers yes where the new value is below the second.
+    /// Adds the first number, wrapped. It returns true where the new value is below the second.
     AddBelow(u64, u64),
 }
 

@@ -1,4 +1,4 @@
--- A set is a map to unit: what its calls ask and answer, in the words of that map.
+-- A set is a map to unit: what its calls ask and return, in the words of that map.
 use Rattle.std.specs.Prelude.{◌≡◌, Bool, List, Option, Some, None, Result, Ok, Err, map, true, if◌then◌else◌}
 use Rattle.std.specs.Option.{option_map}
 use Rattle.std.specs.Fn.{Once, Mut, Shared, FnOnceReturnsAt, FnReturnsAt, CalledAt, TakesAt}
@@ -17,7 +17,7 @@ module _ {K : Type 0} where
   abbrev pub member : Option K → Option (K × Unit {0})
   member o = option_map (λ k. (k, tt)) o
 
-  -- what the map's `insert` answers where the set's answers this
+  -- what the map's `insert` returns where the set's returns this
   abbrev pub inserted : Result Bool K → Result (Option (Unit {0})) (InsertRefused K (Unit {0}))
   inserted (Ok new) = Ok (stood new)
   inserted (Err k) = Err (record { key = k; value = tt })
@@ -51,7 +51,7 @@ module _ {F K : Type 0} where
   abbrev pub TakesKey : Mut F (Bor K × Unit {0}) Bool → F → K → Unit {0} → Type 0
   TakesKey g f k v = TakesAt g f k
 
-  -- and such a call may answer b, and leave f'
+  -- and such a call may return b, and leave f'
   abbrev pub CalledAtKey : Mut F (Bor K × Unit {0}) Bool → F → K → Unit {0} → Bool → Unit {0} → F → Type 0
   CalledAtKey g f k v b w f' = CalledAt g f k b f'
 

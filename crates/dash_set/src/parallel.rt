@@ -231,7 +231,7 @@ impl<K: Eq + Hash + Send + Sync, S: BuildHasher + Send + Sync> Iter<'_, K, S>
 where
     S::Hasher: Send + Sync,
 {
-    /// What `f` answers to each key, in the order of the keys. It waits, takes memory and is refused (4) as the map's `map_collect`.
+    /// What `f` returns for each key, in the order of the keys. It waits, takes memory and is refused (4) as the map's `map_collect`.
     ///
     /// A call of this set from `f` that writes may deadlock: this thread or another holds the shard.
     pub fn map_collect<R: Threads + Wait + Clock + Sync, T: Send + Drop, F: Fn(&K) -> T + Sync>(

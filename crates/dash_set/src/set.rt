@@ -192,7 +192,7 @@ impl<K: Eq + Hash, S: BuildHasher> DashSet<K, S> {
         }
     }
 
-    /// Takes the key that equals `key` out, and answers it. Waits for the key's shard. It takes no memory.
+    /// Takes the key that equals `key` out, and returns it. Waits for the key's shard. It takes no memory.
     #[inline]
     pub fn remove<R: Wait + Clock>(&self, rt: &R, key: &K) -> Option<K>
         ensures equal { IfSome result (λ found. IsTrue (K.eq found key.now)) }
@@ -202,7 +202,7 @@ impl<K: Eq + Hash, S: BuildHasher> DashSet<K, S> {
         Some(key)
     }
 
-    /// Takes the key that equals `key` out if `f` answers yes on it, and answers it. Waits for the key's shard. It takes no memory.
+    /// Takes the key that equals `key` out if `f` returns true on it, and returns it. Waits for the key's shard. It takes no memory.
     ///
     /// The shard is held while `f` runs.
     #[inline]
@@ -255,7 +255,7 @@ impl<K: Eq + Hash, S: BuildHasher> DashSet<K, S> {
         self.inner.shrink_to_fit(rt);
     }
 
-    /// Keeps the keys on which `f` answers yes, and lets the others go. It waits until nobody has a shard, for one shard after the
+    /// Keeps the keys on which `f` returns true, and lets the others go. It waits until nobody has a shard, for one shard after the
     /// other, in rising order. It takes no memory, and can't be refused.
     ///
     /// `f` is called once at each key, while the key's shard is held: a call of this set from `f` deadlocks where it wants that shard.

@@ -85,7 +85,7 @@ module _ {K V S : Type 0} (eq : K → K → Bool) where
         slots = λ i p e. e ∙ kept w f idle-keeps k p.0 (Some p);
       }
 
-  -- a removal takes a pair that stood there, and answers it with the value v
+  -- a removal takes a pair that stood there, and returns it with the value v
   pub removed-changed : (z n : ShardState K V S) (k : K) (p : K × V) (v : V) → at eq (pairs z) k ≡ Some p → TakesInPlace eq z n (Remove k) (Pair (Some p)) → TakesInPlace eq z n (RemoveIfMut k (to v true)) (Pair (Some (p.0, v)))
   removed-changed z n k p v there x =
       let w = own_keys eq z in
@@ -151,7 +151,7 @@ module _ {K V S : Type 0} (h : KeyHash K S) where
     pub stood : (P : K × V → Type 0) → P found.pair → IfSome (at h.eq (pairs z) k) P
     stood P holds = subst (λ x. IfSome (at h.eq (pairs x) k) P) view (rw (at-found h law s number amount t inside k i found) holds)
 
-    -- it stays with the value v, by a call that answers no
+    -- it stays with the value v, by a call that returns false
     pub stays-by : (v : V) → IsRewritten i (valued v) t new → (P : K × V → V × Bool → Type 0) → P found.pair (v, false) → TakesBy h.eq z now RemoveIfMut k (Pair None) P
     stays-by v r P holds = (to v false, stays-changed v r, stood (λ p. P p (v, false)) holds)
 

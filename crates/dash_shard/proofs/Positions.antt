@@ -1,4 +1,4 @@
--- What a look-up answers, by the shard's slots.
+-- What a look-up returns, by the shard's slots.
 use Rattle.std.proofs.Common.{◌≡◌, ◌⊎◌, ℕ, ◌+◌, ◌-◌, ◌/◌, ◌%◌, ◌<◌, ◌≤◌, arith, slice_index, Option, Some, None, IfSome, IfNone, Ok, Err, refl, sym, ap, subst, ◌∙◌, inl, inr}
 use Rattle.std.specs.Prelude.{IsNone, Result, IfOk, OnErr}
 use Rattle.core.specs.Result.{result_ok}

@@ -88,7 +88,7 @@ module _ {K V S : Type 0} (h : KeyHash K S)
     pub len : length (pairs (state new)) ≡ length (pairs (state old)) + cond (is_some o) 0 1
     pub stays : StaysPut h.eq (state old) (state new) (Insert k v)
 
-  -- what a removal leaves, where o is the pair that it answers
+  -- what a removal leaves, where o is the pair that it returns
   pub record Removed (old new : Table K V) (k : K) (o : Option (K × V)) : Type 0 where
     pub inside : Inside new
     pub takes : TakesStep h.eq (state old) (state new) (Remove k) (Pair o)

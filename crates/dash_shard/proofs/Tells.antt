@@ -1,15 +1,21 @@
 -- A walk along the slots of a row, by what its tags tell.
-use Rattle.std.proofs.Common.{false, ◌≡◌, ◌↔◌, ℕ, zero, suc, ◌+◌, ◌-◌, ◌<◌, ◌≤◌, List, [], ◌∷◌, length, set, slice_index, Option, Some, None, IsSome, refl, sym, ap, ◌∙◌, inl, inr, arith}
-use Rattle.std.proofs.lemmas.Bool.{both_ways, cases_lt}
+use Rattle.std.proofs.Common.{false, ◌≡◌, ◌↔◌, ℕ, zero, suc, ◌+◌, ◌-◌, ◌<◌, ◌≤◌, List, [], ◌∷◌, length, set, slice_index, Option, Some, None, IsSome, refl, sym, ap, subst, ◌∙◌, inl, inr, arith, get_or-set_other}
+use Rattle.std.proofs.lemmas.Bool.{both_ways, cases_eq, cases_lt}
 use Rattle.std.proofs.lemmas.List.{get_or_past}
 use Rattle.std.proofs.lemmas.Option.{none-some}
 use Rattle.std.specs.Int.{bit_at}
-use Rattle.std.proofs.Math.ListN.{drop, drop_of_length-le}
+use Rattle.std.proofs.Math.ListN.{drop, drop_of_length-le, length-set}
 use Rattle.std.proofs.Math.Seq.{drop-cons}
 use Rattle.dash_shard.specs.Shard.{slot, taken}
 use Rattle.dash_shard.specs.inner.Table.{TellsTaken}
 
 module _ {A : Type 0} where
+  -- nothing stands in a slot that was emptied
+  pub emptied : (xs : List (Option A)) (i : ℕ) → slot (set xs i None) i ≡ None
+  emptied [] i = refl
+  emptied (x ∷ xs) zero = refl
+  emptied (x ∷ xs) (suc i) = emptied xs i
+
   -- the slots from i on are a slot and those behind it
   begins : (xs : List (Option A)) (i : ℕ) → i < length xs → drop i xs ≡ slot xs i ∷ drop (i + 1) xs
   begins xs i lt = drop-cons xs i None lt ∙ ap (λ n. slot xs i ∷ drop n xs) (let s : suc i ≡ i + 1 = omega arith in s)
@@ -63,6 +69,31 @@ module _ {A : Type 0} where
 
     pub passed-none : (n : ℕ) → ((j : ℕ) → i ≤ j → j < n → 128 ≤ slice_index tags j) → (j : ℕ) → j < n → slot xs j ≡ None
     passed-none n free j below = elim (cases_lt j i) as (λ _. slot xs j ≡ None) [ inl less ↦ t.behind j less | inr more ↦ tells-none j (free j more below) ]
+
+    -- no slot from i on is taken
+    pub tells-end : ((j : ℕ) → i ≤ j → j < length tags → 128 ≤ slice_index tags j) → (j : ℕ) → slot xs j ≡ None
+    tells-end free j = elim (cases_lt j (length tags)) as (λ _. slot xs j ≡ None) [
+      | inl less ↦ passed-none (length tags) free j less
+      | inr more ↦ get_or_past xs j None (let long = t.len in omega (arith, more, long))
+    ]
+
+    -- the value of a slot is taken out, and those of the slots before it were
+    pub tells-on : (r : ℕ) → i ≤ r → ((j : ℕ) → i ≤ j → j < r → 128 ≤ slice_index tags j) → TellsTaken (r + 1) tags (set xs r None)
+    tells-on r from free = record {
+      len = t.len ∙ sym (length-set xs r None);
+      behind = λ j below. elim (cases_eq j r) as (λ _. slot (set xs r None) j ≡ None) [
+        | inl same ↦ ap (slot (set xs r None)) same ∙ emptied xs r
+        | inr other ↦ get_or-set_other xs r j None None other ∙ passed-none r free j (omega (arith, below, other))
+      ];
+      low = λ j p e. elim (cases_eq j r) as (λ _. slice_index tags j < 128) [
+        | inl same ↦ absurd (none-some p (sym (emptied xs r) ∙ ap (slot (set xs r None)) (sym same) ∙ e))
+        | inr other ↦ t.low j p (sym (get_or-set_other xs r j None None other) ∙ e)
+      ];
+      some = λ j after within low.
+          let other : j ≡ r → ⊥ = λ same. omega (arith, after, same) in
+          let long = length-set xs r None in
+          subst IsSome (sym (get_or-set_other xs r j None None other)) (t.some j (omega (arith, after, from)) (omega (arith, within, long)) low);
+    }
 
     -- all slots were passed
     pub tells-all : length tags ≤ i → (j : ℕ) → slot xs j ≡ None

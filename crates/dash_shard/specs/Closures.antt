@@ -7,11 +7,11 @@ use denote.Ref.{Bor, MutBor}
 abbrev pub MayAsk : {F K V R : Type 0} → Once F (Bor K × (Bor V × Unit {0})) R → F → K × V → Type 0
 MayAsk {K = K} {V = V} g f p = (k : Bor K) (v : Bor V) → k.now ≡ p.0 → v.now ≡ p.1 → g.pre f (k, (v, tt))
 
--- and may answer r there
+-- and may return r there
 abbrev pub AnswersOn : {F K V R : Type 0} → Once F (Bor K × (Bor V × Unit {0})) R → F → K × V → R → Type 0
 AnswersOn {K = K} {V = V} g f p r = (k : Bor K) × (v : Bor V) × (k.now ≡ p.0) × (v.now ≡ p.1) × g.post f (k, (v, tt)) r
 
--- the result is what f may answer at the pair that is there, and none where there is none
+-- the result is what f may return at the pair that is there, and none where there is none
 abbrev pub Viewed : {F K V R : Type 0} → Once F (Bor K × (Bor V × Unit {0})) R → F → Option (K × V) → Option R → Type 0
 Viewed g f there result = MatchOption there (result ≡ None) (λ p. IsSomeAnd result (AnswersOn g f p))
 
@@ -23,7 +23,7 @@ Answered g f p d = AnswersOn g f p d.1
 abbrev pub MayChange : {F K V : Type 0} → Once F (Bor K × (MutBor V × Unit {0})) (Bool × (MutBor V × Unit {0})) → F → K × V → Type 0
 MayChange {K = K} {V = V} g f p = (k : Bor K) (v : MutBor V) → k.now ≡ p.0 → v.now ≡ p.1 → g.pre f (k, (v, tt))
 
--- and may leave the value d.0 there and answer d.1
+-- and may leave the value d.0 there and return d.1
 abbrev pub ChangesOn : {F K V : Type 0} → Once F (Bor K × (MutBor V × Unit {0})) (Bool × (MutBor V × Unit {0})) → F → K × V → V × Bool → Type 0
 ChangesOn {K = K} {V = V} g f p d = (k : Bor K) × (v : MutBor V) × (w : MutBor V) × (k.now ≡ p.0) × (v.now ≡ p.1) × (w.now ≡ d.0) × g.post f (k, (v, tt)) (d.1, (w, tt))
 

@@ -15,7 +15,7 @@ abbrev pub CalledOnPair : {F K V : Type 0} → Mut F (Bor K × (V × Unit {0})) 
 CalledOnPair {K = K} g f k v b w f' = (p : Bor K) × (p.now ≡ k) × Called g f (p, (v, tt)) w f'
 
 -- The calls of f along these pairs, one after the other, did at each what the action says, and left f as the last. T f k v b w f' says
--- that f at the pair of k and v may answer b, and leave the value w and itself as f'.
+-- that f at the pair of k and v may return b, and leave the value w and itself as f'.
 abbrev pub CalledAlong : {F K V : Type 0} → (F → K → V → Bool → V → F → Type 0) → Act K V → F → List (K × V) → F → Type 0
 CalledAlong T act f [] last = f ≡ last
 CalledAlong {F = F} T act f (p ∷ ps) last = (f' : F) × T f p.0 p.1 (act p.0 p.1).1 (act p.0 p.1).0 f' × CalledAlong T act f' ps last

@@ -1,4 +1,4 @@
--- Which errors a call may answer.
+-- Which errors a call may return.
 use Rattle.std.specs.Prelude.{◌≡◌, ◌⊎◌, List, [], ◌∷◌}
 
 -- it is one of these

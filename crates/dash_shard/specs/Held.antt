@@ -32,7 +32,7 @@ pub record Replaces {K V S : Type 0} (eq : K → K → Bool) (old new : ShardSta
   pub contents : (j : K) → at eq (pairs new) j ≡ (if eq key j then Some (key, value) else at eq (pairs old) j)
   pub len : shard_len new ≡ shard_len old
 
--- the pair that is answered, if one is, is one less
+-- the pair that is returned, if one is, is one less
 abbrev pub Loses : {K V S : Type 0} → ShardState K V S → ShardState K V S → Option (K × V) → Type 0
 Loses old new result = shard_len old ≡ shard_len new + (if is_some result then 1 else 0)
 

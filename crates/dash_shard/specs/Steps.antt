@@ -3,7 +3,7 @@ use Rattle.std.specs.Prelude.{ℕ, ◌≡◌, ◌-◌, ◌^◌, ◌==◌, min, B
 use Rattle.std.specs.Option.{option_map_or}
 use Rattle.dash_shard.specs.Contents.{Keys, at, on, EachOnce}
 
--- what an action makes of a pair's value, and what it answers: yes or no
+-- what an action makes of a pair's value, and what it returns
 abbrev pub Act : Type 0 → Type 0 → Type 0
 Act K V = K → V → V × Bool
 
@@ -33,7 +33,7 @@ module _ {K V : Type 0} where
   abbrev pub changed : Act K V → K × V → K × V
   changed f p = (p.0, (f p.0 p.1).0)
 
-  -- p where the action answers yes to q, else none; and the other way round
+  -- p where the action returns true to q, else none; and the other way round
   abbrev pub if_yes : Act K V → K × V → K × V → Option (K × V)
   if_yes f q p = if (f q.0 q.1).1 then Some p else None
 

@@ -181,7 +181,7 @@ impl<K: Eq + Hash, V, S: BuildHasher> Shard<K, V, S> {
         self.hasher.hash_one(key)
     }
 
-    /// Puts the pair, or where an equal key is there the value under the stored key, and answers the old value.
+    /// Puts the pair, or where an equal key is there the value under the stored key, and returns the old value.
     ///
     /// Takes memory for a new key where the shard is full, and is refused (1) only then.
     #[inline]
@@ -213,18 +213,11 @@ impl<K: Eq + Hash, V, S: BuildHasher> Shard<K, V, S> {
         ensures inserts { Inserts K.eq self.old self.new key value result }
         ensures lawful { IsShard ⟦<Self as Keyed>⟧.by self.new }
     {
-        let place = match self.find_or_place(hash, &key) {
-            Ok(slot) => return Ok(Some(self.set_at(slot, value))),
-            Err(place) => place,
-        };
-        let Ok(place) = self.make_place(hash, place) else {
-            return Err(InsertRefused { key, value });
-        };
-        self.insert_new_at(place, hash, key, value);
-        Ok(None)
+        let found = self.find_or_place(hash, &key);
+        self.insert_found(found, hash, key, value)
     }
 
-    /// Takes the pair whose key equals `key` out, and answers it. It takes no memory, and can't be refused.
+    /// Takes the pair whose key equals `key` out, and returns it. It takes no memory, and can't be refused.
     ///
     /// The room stays, for pairs that come later.
     #[inline]
@@ -251,7 +244,7 @@ impl<K: Eq + Hash, V, S: BuildHasher> Shard<K, V, S> {
         Some(self.take_at(position, hash))
     }
 
-    /// Takes the pair whose key equals `key` out if `f` answers yes on it, and answers it. It takes no memory, and can't be refused.
+    /// Takes the pair whose key equals `key` out if `f` returns true on it, and returns it. It takes no memory, and can't be refused.
     #[inline]
     pub fn remove_if<F: FnOnce(&K, &V) -> bool>(&mut self, key: &K, f: F) -> Option<(K, V)>
         requires route { Routes ⟦<Self as Keyed>⟧.by self.old key.now }
@@ -287,7 +280,7 @@ impl<K: Eq + Hash, V, S: BuildHasher> Shard<K, V, S> {
         None
     }
 
-    /// As `remove_if`, where `f` may write the value. On yes the pair is answered as `f` left it, and on no it stays so.
+    /// As `remove_if`, where `f` may write the value. On `true` the pair is returned as `f` left it, and on `false` it stays so.
     #[inline]
     pub fn remove_if_mut<F: FnOnce(&K, &mut V) -> bool>(&mut self, key: &K, f: F) -> Option<(K, V)>
         requires route { Routes ⟦<Self as Keyed>⟧.by self.old key.now }
@@ -407,7 +400,7 @@ impl<K: Eq + Hash, V, S: BuildHasher> Shard<K, V, S> {
         self.get(key).is_some()
     }
 
-    /// What `f` answers on the pair whose key equals `key`.
+    /// What `f` returns on the pair whose key equals `key`.
     #[inline]
     pub fn view<R, F: FnOnce(&K, &V) -> R>(&self, key: &K, f: F) -> Option<R>
         requires { IfSome (at K.eq (pairs self.now) key.now) (MayAsk F.FnOnce f) }

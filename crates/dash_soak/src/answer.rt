@@ -1,4 +1,4 @@
-//! What a call answers, and whether it is right.
+//! What a call returns, and whether it is right.
 ghost use Rattle.std.specs.Prelude.{◌≡◌, ◌↔◌, Ok, IfErr};
 
 use crate::call::Call;

@@ -68,7 +68,7 @@ fn replay_steps(list: &mut List, alone: &Alone, ats: &[At], tally: &mut Tally) -
     Ok(())
 }
 
-// Judges whether a step is the part of a whole step that is to come, if any, and answers the next one.
+// Judges whether a step is the part of a whole step that is to come, if any, and returns the next one.
 fn judge_part(step: &Step, part: u64) -> Result<u64, Wrong> {
     let (came, next) = if step.is_part() {
         (key_of(step), key_of(step).wrapping_add(1) % SHARDS)
@@ -79,7 +79,7 @@ fn judge_part(step: &Step, part: u64) -> Result<u64, Wrong> {
     Ok(next)
 }
 
-// Takes a step on the list, and answers its kind and what its reply has to be.
+// Takes a step on the list, and returns its kind and what its reply has to be.
 fn take(list: &mut List, step: &Step) -> (Call, Answer) {
     let key = key_of(step);
     let stood = list.at(key);
@@ -125,7 +125,7 @@ fn take(list: &mut List, step: &Step) -> (Call, Answer) {
     }
 }
 
-// What a change makes of a value, and whether it is there and the change answers yes.
+// What a change makes of a value, and whether it is there and the change returns true.
 fn acted(change: Change, stood: Option<u64>) -> (Option<u64>, bool) {
     let Some(mut value) = stood else {
         return (None, false);
@@ -134,13 +134,13 @@ fn acted(change: Change, stood: Option<u64>) -> (Option<u64>, bool) {
     (Some(value), yes)
 }
 
-// Leaves a value at a key, or takes it out and answers it.
+// Leaves a value at a key, or takes it out and returns it.
 fn take_out(list: &mut List, key: u64, left: Option<u64>, goes: bool) -> Answer {
     list.put(key, if goes { None } else { left });
     Answer::at(key, if goes { left } else { None })
 }
 
-// Changes each value of a shard. If asked to, it takes out the values on which the change answers no.
+// Changes each value of a shard. If asked to, it takes out the values on which the change returns false.
 fn change_all(list: &mut List, shard: u64, change: Change, takes_out: bool) {
     for key in 0..KEYS {
         if key % SHARDS == shard {

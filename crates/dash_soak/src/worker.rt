@@ -101,7 +101,7 @@ fn raise(value: &mut u64) {
     *value = raised(*value);
 }
 
-// Raises a value by a reference, and answers the pair that stood there.
+// Raises a value by a reference, and returns the pair that stood there.
 fn raise_found(found: Option<RefMut<'_, u64, u64, FixedState>>) -> Answer {
     let Some(mut found) = found else {
         return Answer::Nothing;

@@ -12,7 +12,7 @@ use Rattle.dash_steps.specs.Takes.{Rules}
 use Rattle.dash_steps.specs.inner.Copied.{AlikeAt}
 use Rattle.dash_steps.proofs.Copies.{Lawful}
 
--- along the pairs the actions answer the same, and give the same values
+-- along the pairs the actions return the same, and give the same values
 abbrev pub Agree : {K V : Type 0} → (V → V → Bool) → Act K V → Act K V → List (K × V) → Type 0
 Agree same f g [] = Unit {0}
 Agree same f g (p ∷ ps) = IsTrue (same (f p.0 p.1).0 (g p.0 p.1).0) × ((g p.0 p.1).1 ≡ (f p.0 p.1).1) × Agree same f g ps

@@ -3,14 +3,14 @@ ghost use Rattle.std.specs.Prelude.{◌≡◌, Bool, true, IsTrue, refl};
 
 use dash_kept::Kept;
 
-/// A change of a pair's value, with an answer: yes or no. It stands where the original takes a closure, since a record keeps it.
+/// A change of a pair's value, which returns a `bool` too. It stands where the original takes a closure, since a record keeps it.
 ///
-/// The new value and the answer depend on the action and the pair alone, and are alike for alike pairs.
+/// The new value and what it returns depend on the action and the pair alone, and are alike for alike pairs.
 pub trait Action<K: Kept, V: Kept>: Sized {
-    // The new value and the answer.
+    // The new value, and what it returns.
     ghost acts: { Self → K → V → V × Bool };
 
-    /// Changes the value, and answers.
+    /// Changes the value, and returns what the original's closure would.
     fn act(&self, key: &K, value: &mut V) -> bool
         ensures value { IsTrue (V.alike (acts self.now key.now value.old).0 value.new) }
         ensures answer { result ≡ (acts self.now key.now value.old).1 };
@@ -23,7 +23,7 @@ pub trait KeptAction<K: Kept, V: Kept>: Action<K, V> + Kept {
     ghost alike_acts: { (f g : Self) (k : K) (v : V) → Self.alike f g ≡ true → (V.alike (Self.acts f k v).0 (Self.acts g k v).0 ≡ true) × ((Self.acts f k v).1 ≡ (Self.acts g k v).1) };
 }
 
-/// The action of a map whose steps have none: it leaves the value, and answers yes.
+/// The action of a map whose steps have none: it leaves the value, and returns true.
 impl<K: Kept, V: Kept> Action<K, V> for () {
     ghost acts = { λ _ _ v. (v, true) };
 

@@ -19,19 +19,19 @@ pub enum ShardStep<K, V, A = ()> {
     Insert(K, V),
     /// Takes the pair whose key equals the key out.
     Remove(K),
-    /// Takes it out if the action answers yes. What the action makes of the value is thrown away.
+    /// Takes it out if the action returns true. What the action makes of the value is thrown away.
     RemoveIf(K, A),
-    /// Changes its value, and takes it out if the action answers yes.
+    /// Changes its value, and takes it out if the action returns true.
     RemoveIfMut(K, A),
-    /// Changes its value, whatever the action answers.
+    /// Changes its value, whatever the action returns.
     Alter(K, A),
     /// The pairs of the shard.
     Read(usize),
     /// How many pairs the shard has.
     Count(usize),
-    /// Changes each value of the shard, whatever the action answers.
+    /// Changes each value of the shard, whatever the action returns.
     AlterAll(usize, A),
-    /// Changes each value of the shard, and takes out the pairs on which the action answers no.
+    /// Changes each value of the shard, and takes out the pairs on which the action returns false.
     Retain(usize, A),
     /// The part of a count of the whole map in one shard: what `Count` is.
     CountPart(usize),

@@ -41,7 +41,7 @@ fn take_asked<K: KeptKey + Drop, V: Kept + Drop, S: BuildHasher, A: Action<K, V>
 
 /// Takes the step, which goes to this shard and whose key, if it has one, has this hash, or hands it back where there is no memory.
 ///
-/// It takes memory for an `Insert` as the shard's `insert` does, and for copies of pairs: those that a `Get` or a `Read` answers, and
+/// It takes memory for an `Insert` as the shard's `insert` does, and for copies of pairs: those that a `Get` or a `Read` returns, and
 /// the one that an action is asked of.
 pub fn take<K: KeptKey + Drop, V: Kept + Drop, S: BuildHasher, A: Action<K, V> + Drop>(
     shard: &mut Shard<K, V, S>,

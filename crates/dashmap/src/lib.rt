@@ -4,7 +4,7 @@
 //!
 //! - *Who waits.* A call that takes `rt` waits for a shard's lock. A reference, an entry or a walk holds its shard until it is dropped: a
 //!   call on that shard from the same thread then deadlocks, unless both only read. The `try_` calls wait for nobody.
-//! - *Who allocates.* Constructors, `insert` and `entry` of a new key in a full shard, `try_reserve` and `into_inner`. Each answers a
+//! - *Who allocates.* Constructors, `insert` and `entry` of a new key in a full shard, `try_reserve` and `into_inner`. Each returns a
 //!   `Result`, and what is refused comes back. Look-ups take no memory.
 //! - *How many shards.* `of` asks the system for its processors, and `new` is told; they take four for each, rounded up to a power of
 //!   two. More shards means less waiting, and some cache lines each; a map of few keys does with two.
@@ -146,7 +146,7 @@ pub mod t {
     pub use dash_t::Map;
 }
 
-/// What a look-up that waits for nobody answers.
+/// What a look-up that waits for nobody returns.
 pub mod try_result {
     pub use dash_ref::try_result::TryResult;
 }

@@ -14,7 +14,7 @@ pub type Names = DashSet<String>;
 
 /// The stored name that equals this one, of which a copy is stored first where there is none. It is held till the answer is dropped.
 ///
-/// None is answered only where somebody took the name out between the two looks.
+/// None is returned only where somebody took the name out between the two looks.
 pub fn intern<'a, R: Wait + Clock>(
     rt: &R,
     names: &'a Names,

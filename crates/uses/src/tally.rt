@@ -16,7 +16,7 @@ fn count<R: Wait + Clock>(rt: &R, votes: &Votes, ballot: u64) -> Result<(), Entr
     Ok(())
 }
 
-/// Counts the ballots on four threads, and says how many of them found no memory.
+/// Counts the ballots on four threads, and returns how many were not counted for lack of memory.
 pub fn tally<R: Threads + Wait + Clock + Sync>(rt: &R, votes: &Votes, ballots: &mut [u64]) -> u64 {
     let lost = AtomicU64::new(0);
     let count_one = |_: usize, ballot: &mut u64| {
@@ -28,7 +28,7 @@ pub fn tally<R: Threads + Wait + Clock + Sync>(rt: &R, votes: &Votes, ballots: &
     lost.into_inner()
 }
 
-/// How many votes a candidate has, who is on the list.
+/// A candidate's votes, or none where nobody voted for them.
 pub fn votes_of<R: Wait + Clock>(rt: &R, votes: &Votes, candidate: u64) -> Option<u64> {
     let found = votes.get(rt, &candidate)?;
     Some(*found.value())

@@ -50,7 +50,7 @@ pub(crate) fn lock_of_one<V: PartialEq + fmt::Debug + Drop, const N: usize>(
     RwLock::new(shard, &tag)
 }
 
-/// Puts a pair, which has to go to the shard, and answers the old value.
+/// Puts a pair, which has to go to the shard, and returns the old value.
 pub(crate) fn put<K: fmt::Debug + Drop, V: fmt::Debug + Drop, S: BuildHasher>(
     rt: &impl Abort,
     shard: &mut Shard<K, V, S>,

@@ -16,7 +16,7 @@ use dash_shard::shard::Place;
 use std::hash::{BuildHasher, Hash};
 
 impl<K: Eq + Hash, V, S: BuildHasher> ShardMut<'_, K, V, S> {
-    /// Puts a pair whose key is new in room that is there, and answers its slot. It takes no memory, and can't be refused.
+    /// Puts a pair whose key is new in room that is there, and returns its slot. It takes no memory, and can't be refused.
     #[inline]
     pub fn insert_new(&mut self, key: K, value: V) -> usize
     where
@@ -67,7 +67,7 @@ impl<K: Eq + Hash, V, S: BuildHasher> ShardMut<'_, K, V, S> {
             .change(|shard| shard.insert_new_at(place, hash, key, value));
     }
 
-    /// Puts a pair in the slot of the one with an equal key, and answers that one: the new key is stored too. It makes no look-up, takes
+    /// Puts a pair in the slot of the one with an equal key, and returns that one: the new key is stored too. It makes no look-up, takes
     /// no memory, and can't be refused.
     #[inline]
     pub fn replace_at(&mut self, position: usize, key: K, value: V) -> (K, V)
@@ -82,7 +82,7 @@ impl<K: Eq + Hash, V, S: BuildHasher> ShardMut<'_, K, V, S> {
             .change(|shard| shard.replace_at(position, key, value))
     }
 
-    /// Takes the pair of a taken slot out, and answers it. It makes no look-up, takes no memory, and can't be refused.
+    /// Takes the pair of a taken slot out, and returns it. It makes no look-up, takes no memory, and can't be refused.
     #[inline]
     pub fn remove_at(&mut self, position: usize) -> (K, V)
     where

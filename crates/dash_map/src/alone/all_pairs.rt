@@ -9,7 +9,7 @@ use dash_shard::keyed::Keyed;
 use std::hash::{BuildHasher, Hash};
 
 impl<K: Eq + Hash + Drop, V: Drop, S: BuildHasher> Alone<K, V, S> {
-    /// Keeps the pairs on which `f` answers yes, each with the value that `f` leaves, and lets the others go.
+    /// Keeps the pairs on which `f` returns true, each with the value that `f` leaves, and lets the others go.
     ///
     /// `f` is called once at each pair, shard after shard. The room stays. It takes no memory, can't be refused, and waits for nobody.
     pub fn retain<F: FnMut(&K, &mut V) -> bool>(&mut self, mut f: F)

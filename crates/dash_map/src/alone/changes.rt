@@ -19,7 +19,7 @@ impl<K: Eq + Hash, V, S: BuildHasher> Lender for Alone<K, V, S> {
 }
 
 impl<K: Eq + Hash + Drop, V: Drop, S: BuildHasher> Alone<K, V, S> {
-    /// As `remove_if`, where `f` may write the value. On yes the pair is answered as `f` left it, and on no it stays so. It takes no
+    /// As `remove_if`, where `f` may write the value. On `true` the pair is returned as `f` left it, and on `false` it stays so. It takes no
     /// memory, can't be refused, and waits for nobody.
     #[inline]
     pub fn remove_if_mut<F: FnOnce(&K, &mut V) -> bool>(&mut self, key: &K, f: F) -> Option<(K, V)>

@@ -15,7 +15,7 @@ use std::rt::Clock;
 use std::sync::Wait;
 
 impl<K: Eq + Hash + Drop, V: Drop, S: BuildHasher> DashMap<K, V, S> {
-    /// Keeps the pairs on which `f` answers yes, each with the value that `f` leaves, and lets the others go. It waits until nobody has a
+    /// Keeps the pairs on which `f` returns true, each with the value that `f` leaves, and lets the others go. It waits until nobody has a
     /// shard, for one shard after the other, in rising order. It takes no memory, and can't be refused.
     ///
     /// `f` is called once at each pair, while the pair's shard is held: a call of this map from `f` deadlocks where it wants that shard.

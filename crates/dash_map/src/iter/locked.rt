@@ -23,7 +23,7 @@ use std::sync::Wait;
 ///
 /// A step that comes to the end of its shard waits until no writer has the next one, holds that, and gives up the old one. So between two
 /// steps others may change every shard but the one that is held. A walk at its end holds the last shard until it is dropped. To enter a
-/// shard takes memory, once; where there is none the step answers the refusal (4), the walk gives up its hold, and it has ended. So it is
+/// shard takes memory, once; where there is none the step returns the refusal (4), the walk gives up its hold, and it has ended. So it is
 /// where more references to one shard are kept than can be counted in 64 bits.
 ///
 /// A contract sees the map, how many shards were entered, the one that is held, and the position in it where the walk goes on.

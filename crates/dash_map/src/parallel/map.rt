@@ -47,7 +47,7 @@ impl<K: Eq + Hash + Send + Sync, V: Send + Sync, S: BuildHasher + Send + Sync> I
 where
     S::Hasher: Send + Sync,
 {
-    /// What `f` answers to each pair, in the order of the pairs. A thread holds the shard that it is in for reading, and waits until no
+    /// What `f` returns for each pair, in the order of the pairs. A thread holds the shard that it is in for reading, and waits until no
     /// writer has it: others may change those that were left, and those that are still to come.
     ///
     /// It takes memory for a list of each shard's answers, and for the whole. Where there is none it is refused (4), and the answers are
@@ -159,7 +159,7 @@ impl<K: Eq + Hash, V, S: BuildHasher> DashMap<K, V, S> {
         IterMut { map: self }
     }
 
-    // What `f` answers to each pair of a shard, which is held for reading.
+    // What `f` returns for each pair of a shard, which is held for reading.
     fn answers_of<R: Wait + Clock, T: Drop, F: Fn(&K, &V) -> T>(
         &self,
         rt: &R,

@@ -22,7 +22,7 @@ use std::alloc::AllocError;
 use std::hash::BuildHasher;
 use std::thread::Threads;
 
-/// What a parallel run answers: at the place of each step in the list its reply, or none where it was not taken, and why some were not.
+/// What a parallel run returns: at the place of each step in the list its reply, or none where it was not taken, and why some were not.
 #[derive(Debug, Drop)]
 pub struct ParOutcome<K, V> {
     pub replies: Vec<Option<Reply<K, V>>>,

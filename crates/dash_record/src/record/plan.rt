@@ -85,35 +85,6 @@ pub(super) fn prepare<
     }
 }
 
-// Puts the pair in the slot that was found, under the stored key, or on the place, or in room that is made for it.
-fn put<K: KeptKey + Drop, V: Kept + Drop, S: BuildHasher>(
-    shard: &mut Shard<K, V, S>,
-    hash: u64,
-    found: Result<usize, Place>,
-    key: K,
-    value: V,
-) -> Result<(), InsertRefused<K, V>>
-    requires hash { hash ≡ ⟦<Shard<K, V, S> as Keyed>⟧.by.hash shard.old.hasher key }
-    requires route { Routes ⟦<Shard<K, V, S> as Keyed>⟧.by shard.old key }
-    requires found { Finds K.eq shard.old key (result_ok found) }
-    requires place { IfErr found (MayTake shard.old hash) }
-    ensures puts { OnOk result (Makes ⟦<Shard<K, V, S> as Keyed>⟧.by shard.old shard.new key (Change.Becomes value)) }
-    ensures refused { IfErr result (λ e. (e.key ≡ key) × (e.value ≡ value) × (shard.new ≡ shard.old)) }
-    ensures stays { SameShard shard.old shard.new }
-    ensures lawful { StaysLawful ⟦<Shard<K, V, S> as Keyed>⟧.by shard.old shard.new }
-{
-    match found {
-        Ok(slot) => drop(shard.set_at(slot, value)),
-        Err(place) => {
-            let Ok(place) = shard.make_place(hash, place) else {
-                return Err(InsertRefused { key, value });
-            };
-            shard.insert_new_at(place, hash, key, value);
-        }
-    }
-    Ok(())
-}
-
 /// Does to the shard what the step says and what was decided, or hands the step back, where there is no memory for a new key.
 pub(super) fn carry_out<
     K: KeptKey + Drop,
@@ -139,8 +110,8 @@ pub(super) fn carry_out<
 {
     match step {
         ShardStep::Get(_key) | ShardStep::Contains(_key) => Ok(()),
-        ShardStep::Insert(key, value) => match put(shard, hash, found, key, value) {
-            Ok(()) => Ok(()),
+        ShardStep::Insert(key, value) => match shard.insert_found(found, hash, key, value) {
+            Ok(_old) => Ok(()),
             Err(InsertRefused { key, value }) => Err(ShardStep::Insert(key, value)),
         },
         ShardStep::Remove(_key) => {

@@ -184,7 +184,7 @@ impl<'a, K: Eq + Hash + Drop, V: Drop, S: BuildHasher> Entry<'a, K, V, S> {
         }
     }
 
-    /// The stored pair, or the pair of the key and what `value` answers, which it puts. `value` runs only then, while the shard is held.
+    /// The stored pair, or the pair of the key and what `value` returns, which it puts. `value` runs only then, while the shard is held.
     #[inline]
     pub fn or_insert_with<F: FnOnce() -> V + Drop>(self, value: F) -> RefMut<'a, K, V, S>
         requires { MatchEntry self (λ _. ⊤) (λ _. F.pre value) }
@@ -227,7 +227,7 @@ impl<'a, K: Eq + Hash + Drop, V: Drop, S: BuildHasher> Entry<'a, K, V, S> {
         }
     }
 
-    /// Puts the value, under the stored key or under a copy of the one that was handed in, and answers the pair's entry.
+    /// Puts the value, under the stored key or under a copy of the one that was handed in, and returns the pair's entry.
     ///
     /// It takes memory for the copy of a vacant key alone, before anything changes, and is refused (3) only for want of it.
     #[inline]

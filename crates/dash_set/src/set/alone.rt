@@ -60,7 +60,7 @@ impl<K: Eq + Hash + Drop, S: BuildHasher> AloneSet<K, S> {
         }
     }
 
-    /// Takes the key that equals `key` out, and answers it. It takes no memory, and can't be refused.
+    /// Takes the key that equals `key` out, and returns it. It takes no memory, and can't be refused.
     #[inline]
     pub fn remove(&mut self, key: &K) -> Option<K>
         ensures { TakesAlone ⟦<Self as Keyed>⟧.by self.old self.new (Remove key.now) (Pair (member result)) }
@@ -69,7 +69,7 @@ impl<K: Eq + Hash + Drop, S: BuildHasher> AloneSet<K, S> {
         Some(key)
     }
 
-    /// Takes the key that equals `key` out if `f` answers yes on it, and answers it. It takes no memory, and can't be refused.
+    /// Takes the key that equals `key` out if `f` returns true on it, and returns it. It takes no memory, and can't be refused.
     #[inline]
     pub fn remove_if<F: FnOnce(&K) -> bool>(&mut self, key: &K, f: F) -> Option<K>
         requires { IfSome (at K.eq (contents self.old) key.now) (λ p. MayAskKey F.FnOnce f p.0) }
@@ -104,7 +104,7 @@ impl<K: Eq + Hash + Drop, S: BuildHasher> AloneSet<K, S> {
         self.inner.contains_key(key)
     }
 
-    /// Keeps the keys on which `f` answers yes, and lets the others go.
+    /// Keeps the keys on which `f` returns true, and lets the others go.
     ///
     /// `f` is called once at each key, shard after shard. The room stays. It takes no memory, can't be refused, and waits for nobody.
     pub fn retain<F: FnMut(&K) -> bool>(&mut self, mut f: F)

@@ -27,6 +27,10 @@ pub record TellsTaken {A : Type 0} (from : ℕ) (tags : List ℕ) (slots : List 
   pub low : (i : ℕ) (p : A) → slot slots i ≡ Some p → slice_index tags i < 128
   pub some : (i : ℕ) → from ≤ i → i < length slots → slice_index tags i < 128 → IsSome (slot slots i)
 
+-- a pair of this hash may be put on the place, which says how many groups after the first of the hash's way it stands
+abbrev pub IsPlaceOnWay : {A : Type 0} → ℕ → ℕ → List (Option A) → Place → Type 0
+IsPlaceOnWay count hash slots place = IsPlace count hash slots place.slot × (place.steps ≡ step_to count (hash % count) (place.slot / 16))
+
 -- the values of a row of slots, if there is one
 abbrev pub values_of : {X : Type 0} → Option (Bor (SlotsState X)) → List (Option X)
 values_of None = []
@@ -58,13 +62,13 @@ module _ {K V : Type 0} where
   abbrev pub IsSpot : Table K V → ℕ → ℕ → Type 0
   IsSpot t hash i = IsPlace (groups_in t) hash (pairs_in t) i
 
+  -- the place is such a slot, and says its steps
+  abbrev pub IsOnWay : Table K V → ℕ → Place → Type 0
+  IsOnWay t hash = IsPlaceOnWay (groups_in t) hash (pairs_in t)
+
   -- how many groups after the first of the hash's way the slot i stands
   abbrev pub steps_in : Table K V → ℕ → ℕ → ℕ
   steps_in t hash i = step_to (groups_in t) (hash % groups_in t) (i / 16)
-
-  -- the place is such a slot, and says how far it stands on the hash's way
-  abbrev pub IsOnWay : Table K V → ℕ → Place → Type 0
-  IsOnWay t hash place = IsSpot t hash place.slot × (place.steps ≡ steps_in t hash place.slot)
 
   -- the table with another value in the pair of the slot i
   abbrev pub with_value_at : Table K V → ℕ → V → Table K V
@@ -141,9 +145,9 @@ module _ {K V S : Type 0} where
   abbrev pub with_table : ShardState K V S → Table K V → ShardState K V S
   with_table s t = record s { slots = pairs_in t; capacity = limit (slots_in t) }
 
-  -- a pair of this hash may be put on the place
+  -- such a place of a shard
   abbrev pub IsPlaceFor : ShardState K V S → ℕ → Place → Type 0
-  IsPlaceFor s hash place = IsPlace (groups s) hash s.slots place.slot × (place.steps ≡ step_to (groups s) (hash % groups s) (place.slot / 16))
+  IsPlaceFor s hash = IsPlaceOnWay (groups s) hash s.slots
 
   -- the same where there is room
   abbrev pub MayTake : ShardState K V S → ℕ → Place → Type 0

@@ -2,7 +2,7 @@
 use Rattle.std.specs.Prelude.{◌≡◌, Bool, true, List, [], ◌∷◌, Option, Some, None, if◌then◌else◌}
 use Rattle.dash_shard.specs.Shard.{ShardState, SameShard}
 
--- T f k v b w f': f at the pair of k and v may answer b, and leave the value w and itself as f'
+-- T f k v b w f': f at the pair of k and v may return b, and leave the value w and itself as f'
 module _ {F K V : Type 0} (T : F → K → V → Bool → V → F → Type 0) where
   -- f was called at the pair of a slot, if it has one, and left what `leaves` says there
   abbrev pub Visits : (K → V × Bool → Option (K × V)) → F → Option (K × V) → Option (K × V) → F → Type 0
@@ -14,7 +14,7 @@ module _ {F K V : Type 0} (T : F → K → V → Bool → V → F → Type 0) wh
   Sweeps leaves f [] news last = (news ≡ []) × (f ≡ last)
   Sweeps leaves f (o ∷ olds) news last = (new : Option (K × V)) × (f' : F) × (rest : List (Option (K × V))) × Visits leaves f o new f' × (news ≡ new ∷ rest) × Sweeps leaves f' olds rest last
 
--- f was asked at the pair of a slot, if it has one, answered b and left its value there; at none the answer is yes
+-- f was asked at the pair of a slot, if it has one, returned b and left its value there; at none it is true
 abbrev pub Asks : {F K V : Type 0} → (F → K → V → Bool → V → F → Type 0) → F → Option (K × V) → Bool → Option (K × V) → F → Type 0
 Asks T f None b new f' = (b ≡ true) × (new ≡ None) × (f ≡ f')
 Asks {V = V} T f (Some p) b new f' = (w : V) × T f p.0 p.1 b w f' × (new ≡ Some (p.0, w))

@@ -14,7 +14,7 @@ use crate::keyed::Keyed;
 use std::hash::{BuildHasher, Hash};
 
 impl<K: Eq + Hash, V, S: BuildHasher> Shard<K, V, S> {
-    /// Keeps the pairs on which `f` answers yes, each with the value that `f` leaves, and lets the others go.
+    /// Keeps the pairs on which `f` returns true, each with the value that `f` leaves, and lets the others go.
     ///
     /// `f` is called once at each pair, in rising order of slots. The pairs that stay keep their slots, and the room stays. It takes
     /// no memory, and can't be refused.

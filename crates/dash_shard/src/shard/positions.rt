@@ -6,13 +6,13 @@ ghost use Rattle.std.specs.Map.Iter.{deref_pair, deref_pair_mut};
 ghost use Rattle.std.specs.Borrow.{Lends, sem};
 ghost use Rattle.dash_shard.specs.Contents.{at};
 ghost use Rattle.dash_shard.specs.Shard.{slot, pairs, shard_len, HasKey, IsNextTaken, Routes, IsShard, TakesInPlace, with_value_in, SameShard, TakesAt};
-ghost use Rattle.dash_shard.specs.Held.{Finds, Replaces, Reserves};
+ghost use Rattle.dash_shard.specs.Held.{Finds, Inserts, Replaces, Reserves};
 ghost use Rattle.dash_shard.specs.inner.Table.{IsPlaceFor, MayTake};
 ghost use Rattle.dash_shard.specs.inner.Cursors.{IsSlotCursor, Advances};
 ghost use Rattle.dash_shard.specs.Search.{groups, Searches};
 ghost use Rattle.dash_shard.specs.Steps.{Insert, Remove, Old, Pair};
 
-use super::{Cursor, Place, Search, Shard};
+use super::{Cursor, InsertRefused, Place, Search, Shard};
 use crate::error::TryReserveError;
 use crate::keyed::{Keyed, Lender};
 use std::hash::{BuildHasher, Hash};
@@ -87,7 +87,7 @@ impl<K: Eq + Hash, V, S: BuildHasher> Shard<K, V, S> {
         self.table.pair_mut(position)
     }
 
-    /// Puts a pair whose key is new in room that is there, and answers its slot. It takes no memory, and can't be refused.
+    /// Puts a pair whose key is new in room that is there, and returns its slot. It takes no memory, and can't be refused.
     #[inline]
     pub fn insert_new(&mut self, key: K, value: V) -> usize
     where
@@ -146,7 +146,37 @@ impl<K: Eq + Hash, V, S: BuildHasher> Shard<K, V, S> {
         self.table.put(place, hash, key, value);
     }
 
-    /// Puts a value in the pair of a taken slot, and answers the old one. It makes no look-up, takes no memory, and can't be refused.
+    /// As `Shard::insert_hashed`, for a caller who has what a search found. For the crates here alone.
+    #[inline(always)]
+    pub fn insert_found(
+        &mut self,
+        found: Result<usize, Place>,
+        hash: u64,
+        key: K,
+        value: V,
+    ) -> Result<Option<V>, InsertRefused<K, V>>
+    where
+        K: Drop,
+        V: Drop,
+        requires hash { hash ≡ ⟦<Self as Keyed>⟧.by.hash self.old.hasher key }
+        requires route { Routes ⟦<Self as Keyed>⟧.by self.old key }
+        requires found { Finds K.eq self.old key (result_ok found) }
+        requires place { IfErr found (MayTake self.old hash) }
+        ensures inserts { Inserts K.eq self.old self.new key value result }
+        ensures lawful { IsShard ⟦<Self as Keyed>⟧.by self.new }
+    {
+        let place = match found {
+            Ok(slot) => return Ok(Some(self.set_at(slot, value))),
+            Err(place) => place,
+        };
+        let Ok(place) = self.make_place(hash, place) else {
+            return Err(InsertRefused { key, value });
+        };
+        self.insert_new_at(place, hash, key, value);
+        Ok(None)
+    }
+
+    /// Puts a value in the pair of a taken slot, and returns the old one. It makes no look-up, takes no memory, and can't be refused.
     #[inline]
     pub fn set_at(&mut self, position: usize, value: V) -> V
         requires { IsSome (slot self.old.slots position) }
@@ -160,7 +190,7 @@ impl<K: Eq + Hash, V, S: BuildHasher> Shard<K, V, S> {
         self.table.replace(position, value)
     }
 
-    /// Takes the pair of a taken slot out, and answers it. It makes no look-up, takes no memory, and can't be refused.
+    /// Takes the pair of a taken slot out, and returns it. It makes no look-up, takes no memory, and can't be refused.
     #[inline]
     pub fn remove_at(&mut self, position: usize) -> (K, V)
         requires { IsSome (slot self.old.slots position) }
@@ -188,7 +218,7 @@ impl<K: Eq + Hash, V, S: BuildHasher> Shard<K, V, S> {
         self.table.take(position, hash)
     }
 
-    /// Puts a pair in the slot of the one with an equal key, and answers that one: the new key is stored too. It makes no look-up, takes
+    /// Puts a pair in the slot of the one with an equal key, and returns that one: the new key is stored too. It makes no look-up, takes
     /// no memory, and can't be refused.
     #[inline]
     pub fn replace_at(&mut self, position: usize, key: K, value: V) -> (K, V)

@@ -201,7 +201,7 @@ impl<K, V> Table<K, V> {
     }
 
     // Where a search past the first group of the way finds the pair, or else how many groups it looked at with the first. Few groups are
-    // full, so it is seldom called. What it answers fits registers, and costs no caller anything that doesn't call it.
+    // full, so it is seldom called. What it returns fits registers, and costs no caller anything that doesn't call it.
     #[cold]
     #[inline(never)]
     fn search_past(&self, hash: u64, key: &K, first: usize) -> Result<usize, usize>

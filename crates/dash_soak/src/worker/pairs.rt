@@ -244,7 +244,7 @@ fn on_set<R: Wait + Clock>(rt: &R, set: &Set, draw: Draw, stood: Option<u64>) ->
     }
 }
 
-// Raises a counter, and answers what stood there, or later.
+// Raises a counter, and returns what stood there, or later.
 fn count<R: Wait + Clock>(rt: &R, map: &Map, kind: u64, key: u64) -> (Call, Answer) {
     match kind {
         0..=3 => match map.entry(rt, key) {

@@ -11,7 +11,7 @@ abbrev pub AddsAlike : {K V : Type 0} → (K → K → Bool) → (V → V → Bo
 AddsAlike {K} {V} k v ps old new = (copies : List (K × V)) × (new ≡ old ++ copies) × IsTrue (alike_pairs k v ps copies)
 
 module _ {K V : Type 0} where
-  -- the action, which answers yes always where all pairs stay
+  -- the action, which returns true always where all pairs stay
   abbrev pub keeping : Bool → Act K V → Act K V
   keeping all f k v = ((f k v).0, all || (f k v).1)
 
@@ -21,7 +21,7 @@ module _ {K V : Type 0} where
   GivesEach same f (p ∷ ps) [] = ⊥
   GivesEach same f (p ∷ ps) (d ∷ ds) = IsTrue (same (f p.0 p.1).0 d.0) × (d.1 ≡ (f p.0 p.1).1) × GivesEach same f ps ds
 
-  -- Q has at each key what the action makes of the pair that P has there, up to alike: none where it answers no
+  -- Q has at each key what the action makes of the pair that P has there, up to alike: none where it returns false
   abbrev pub SweptTo : (K → K → Bool) → (K → K → Bool) → (V → V → Bool) → Act K V → List (K × V) → List (K × V) → Type 0
   SweptTo eq k v f P Q = (j : K) → IsTrue (option_eq (alike_pair k v) (option_and_then (λ p. if_yes f p (changed f p)) (at eq P j)) (at eq Q j))
 

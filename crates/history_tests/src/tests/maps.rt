@@ -22,7 +22,7 @@ pub(crate) type Log = CallerLog<u64, u64>;
 /// A step.
 pub(crate) type Step = ShardStep<u64, u64>;
 
-/// What a step answers.
+/// What a step returns.
 pub(crate) type Answer = Result<Reply<u64, u64>, (Step, RecordFault)>;
 
 /// A map of so many shards and two callers, beside the logs of caller 0 and of caller 1.
@@ -60,7 +60,7 @@ pub(crate) fn put<R: Abort + Wait + Clock>(
     assert!(rt; take(rt, map, log, Step::Insert(pair.0, pair.1), waits).is_ok());
 }
 
-/// Puts a value at each of these keys, which are new, and answers the caller's last stamp.
+/// Puts a value at each of these keys, which are new, and returns the caller's last stamp.
 pub(crate) fn insert_all<R: Abort + Wait + Clock>(
     rt: &R,
     map: &Map,

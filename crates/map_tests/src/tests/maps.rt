@@ -37,7 +37,7 @@ pub(crate) fn three_pairs<R: Abort + Wait + Clock>(rt: &R, alloc: Global) -> Pla
     map_of(rt, alloc, [(3, 30), (0, 5), (1, 10)])
 }
 
-/// Puts a pair, which the map must take, and answers the old value.
+/// Puts a pair, which the map must take, and returns the old value.
 pub(crate) fn put<R: Abort + Wait + Clock, K, V: fmt::Debug + Drop, S: BuildHasher>(
     rt: &R,
     map: &DashMap<K, V, S>,
@@ -84,7 +84,7 @@ pub(crate) fn is_held<K: Eq + Hash + Drop, S: BuildHasher>(
     map.try_get_mut(&key).is_locked()
 }
 
-/// What `try_get` answers at a key, with the value in the place of the reference.
+/// What `try_get` returns at a key, with the value in the place of the reference.
 pub(crate) fn tried<K: Eq + Hash + Drop, S: BuildHasher>(
     map: &DashMap<K, u64, S>,
     key: K,

@@ -74,7 +74,7 @@ fn counts_may_see_pairs_that_never_met(rt: HostRuntime) {
     );
 }
 
-// Adds the number, wrapped, and answers yes where the new value is even.
+// Adds the number, wrapped, and returns true where the new value is even.
 #[derive(Debug, Drop)]
 struct Adds(u64);
 

@@ -39,7 +39,7 @@ fn words(alloc: Global, line: &str) -> Result<Vec<String>, AllocError> {
     Ok(words)
 }
 
-// Runs the words of a line, and answers the exit status.
+// Runs the words of a line, and returns the exit status.
 fn run<T: Threads + Wait + Clock + Abort + Sync, O: Write, E: Write>(
     rt: &T,
     alloc: Global,

@@ -8,7 +8,7 @@ use std::process::Abort;
 
 type Held<'a> = ShardMut<'a, u64, u64, PlaceState>;
 
-// Puts a pair, which has to go to the held shard, and answers the old value.
+// Puts a pair, which has to go to the held shard, and returns the old value.
 fn put(rt: &impl Abort, held: &mut Held<'_>, key: u64, value: u64) -> Option<u64> {
     assert!(rt; held.routes(&key), "the key goes to another shard");
     held.insert(key, value).expect(rt, "refused")

@@ -94,7 +94,7 @@ impl<K: Eq + Hash, V, S: BuildHasher, H: Holds<Key = K, Value = V, State = S>> H
         f(self.get_mut());
     }
 
-    /// Puts a value under the stored key, and answers the old one.
+    /// Puts a value under the stored key, and returns the old one.
     #[inline]
     pub fn insert(&mut self, value: V) -> V
         ensures old { option_map (λ p. p.1) (stored self.old.pair) ≡ Some result }
@@ -144,7 +144,7 @@ impl<'a, K: Eq + Hash + Drop, V: Drop, S: BuildHasher> OccupiedEntry<'a, K, V, S
         key
     }
 
-    /// Takes the stored pair out, and answers its value.
+    /// Takes the stored pair out, and returns its value.
     #[inline]
     pub fn remove(self) -> V
         ensures value { option_map (λ p. p.1) (stored self.entry.pair) ≡ Some result }
@@ -154,7 +154,7 @@ impl<'a, K: Eq + Hash + Drop, V: Drop, S: BuildHasher> OccupiedEntry<'a, K, V, S
         self.remove_entry().1
     }
 
-    /// Takes the stored pair out, and answers it.
+    /// Takes the stored pair out, and returns it.
     #[inline]
     pub fn remove_entry(self) -> (K, V)
         ensures pair { stored self.entry.pair ≡ Some result }
@@ -163,7 +163,7 @@ impl<'a, K: Eq + Hash + Drop, V: Drop, S: BuildHasher> OccupiedEntry<'a, K, V, S
         self.remove_held().0
     }
 
-    /// As `remove_entry`, and answers the shard too, held on. The original has no such call.
+    /// As `remove_entry`, and returns the shard too, held on. The original has no such call.
     #[inline]
     pub fn remove_held(self) -> ((K, V), ShardMut<'a, K, V, S>)
         ensures pair { stored self.entry.pair ≡ Some result.0 }
@@ -173,7 +173,7 @@ impl<'a, K: Eq + Hash + Drop, V: Drop, S: BuildHasher> OccupiedEntry<'a, K, V, S
         (shard.remove_at(position), shard)
     }
 
-    /// Stores the key that was handed in with the value, and answers the pair that stood there.
+    /// Stores the key that was handed in with the value, and returns the pair that stood there.
     #[inline]
     pub fn replace_entry(self, value: V) -> (K, V)
         ensures { Leaves (λ s. Replaces K.eq self.entry.pair.shard s self.entry.pair.position self.entry.key value result) }
@@ -181,7 +181,7 @@ impl<'a, K: Eq + Hash + Drop, V: Drop, S: BuildHasher> OccupiedEntry<'a, K, V, S
         self.replace_held(value).0
     }
 
-    /// As `replace_entry`, and answers the shard too, held on. The original has no such call.
+    /// As `replace_entry`, and returns the shard too, held on. The original has no such call.
     #[inline]
     pub fn replace_held(self, value: V) -> ((K, V), ShardMut<'a, K, V, S>)
         ensures { Replaces K.eq self.entry.pair.shard result.1 self.entry.pair.position self.entry.key value result.0 }

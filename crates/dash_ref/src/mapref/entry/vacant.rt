@@ -103,7 +103,7 @@ impl<'a, K: Eq + Hash + Drop, V: Drop, S: BuildHasher> VacantEntry<'a, K, V, S> 
         RefMut::new(shard, place.slot)
     }
 
-    /// Puts the pair of a copy of the key and the value, and answers its entry, which keeps the key that was handed in.
+    /// Puts the pair of a copy of the key and the value, and returns its entry, which keeps the key that was handed in.
     ///
     /// It takes memory for the copy alone, before anything changes, and is refused (3) only for want of it.
     #[inline]

@@ -1,10 +1,12 @@
 //! A table that takes memory, and one that gives it back: the pairs move to other slots.
 ghost use Rattle.std.specs.Prelude.{ℕ, ◌≡◌, ◌+◌, ◌*◌, ◌<◌, ◌≤◌, [], None, IsOk, IfOk, OnOk, OnErr, length, replicate};
 ghost use Rattle.dash_shard.specs.inner.Table.{IsTable, IsHashedBy, CarriesOnce, IsCarried, IsMoved, TellsTaken, limit, slots_in, groups_in, pairs_in, hashes_in};
+ghost use Rattle.dash_shard.specs.inner.Cursors.{ComesInGroups};
 ghost use Rattle.dash_shard.specs.Shard.{taken};
 ghost use Rattle.dash_slots.specs.inner.Slots.{IsBlank};
 
 use super::Table;
+use super::cursor::Cursor;
 use super::marks::EMPTY;
 use dash_slots::Slots;
 use std::alloc::{AllocError, Global};
@@ -38,6 +40,7 @@ fn move_pairs<K: Eq + Hash, V, S: BuildHasher>(
     table: &mut Table<K, V>,
     hasher: &S,
 )
+    requires groups { ComesInGroups (length tags.now) }
     requires tells { TellsTaken 0 tags.now slots.old.values }
     requires table { IsTable table.old }
     requires empty { taken (pairs_in table.old) ≡ [] }
@@ -50,14 +53,11 @@ fn move_pairs<K: Eq + Hash, V, S: BuildHasher>(
     ensures table { IsTable table.new }
     ensures none { IsBlank slots.new }
 {
-    let mut slot = tags.len();
-    while slot > 0 {
-        slot -= 1;
-        if tags[slot] < EMPTY {
-            let (key, value) = slots.take(slot);
-            let hash = hasher.hash_one(&key);
-            table.push(hash, key, value);
-        }
+    let mut cursor = Cursor::new(tags);
+    while let Some(slot) = cursor.next(tags) {
+        let (key, value) = slots.take(slot);
+        let hash = hasher.hash_one(&key);
+        table.push(hash, key, value);
     }
 }
 

@@ -29,7 +29,7 @@ pub(super) fn lowest(mask: u16) -> usize
 #[inline(always)]
 pub(super) fn has_lane(mask: u16, lane: usize) -> bool
     requires { lane < 16 }
-    ensures { IsTrue result → bit_at mask lane ≡ 1 }
+    ensures { IsTrue result ↔ (bit_at mask lane ≡ 1) }
 {
     (mask >> lane) & 1 == 1
 }

@@ -59,7 +59,7 @@ impl<K, V> Table<K, V> {
     {
         let count = self.counts.len();
         if count == 0 {
-            return Err(Place { slot: 0, steps: 0 });
+            return Err(Place::default());
         }
         let first = home(hash, count);
         let seen = probe(group_of(&self.tags, first), tag(hash));
@@ -179,7 +179,7 @@ impl<K, V> Table<K, V> {
         self.len += 1;
     }
 
-    /// Puts a pair on the first place of its way, and answers the slot.
+    /// Puts a pair on the first place of its way, and returns the slot.
     #[inline]
     pub fn push(&mut self, hash: u64, key: K, value: V) -> usize
         requires table { IsTable self.old }

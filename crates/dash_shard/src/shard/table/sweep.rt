@@ -41,7 +41,7 @@ impl<K, V> Table<K, V> {
         f(&pair.0, &mut pair.1)
     }
 
-    /// Keeps the pairs on which `f` answers yes, with the values that it leaves.
+    /// Keeps the pairs on which `f` returns true, with the values that it leaves.
     pub fn retain<S: BuildHasher, F: FnMut(&K, &mut V) -> bool>(&mut self, f: &mut F, hasher: &S)
     where
         K: Eq + Hash + Drop,

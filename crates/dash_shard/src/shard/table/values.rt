@@ -24,7 +24,7 @@ impl<K, V> Table<K, V> {
         (&pair.0, &mut pair.1)
     }
 
-    /// Puts a pair in the slot of one whose key has the same hash, and answers that one.
+    /// Puts a pair in the slot of one whose key has the same hash, and returns that one.
     #[inline(always)]
     pub fn exchange(&mut self, position: usize, key: K, value: V) -> (K, V)
         requires table { IsTable self.old }

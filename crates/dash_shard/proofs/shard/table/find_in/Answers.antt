@@ -8,7 +8,7 @@ holds : {K V : Type 0} (eq : K → K → Bool) (slots : List (Option (K × V))) 
 holds eq slots k i p is equal = record { within = spot-within slots i (ap is_some is); pair = p; is = is; equal = equal }
 
 pub get-requires : goal.get-requires
-get-requires g c = c.requires.taken c.args.own c.requires.own (c.has_lane.ensures c.if-has_lane.true)
+get-requires g c = c.requires.taken c.args.own c.requires.own (c.has_lane.ensures.0 c.if-has_lane.true)
 
 pub returns-then-eq-clause-found : goal.returns-then-eq-clause-found
 returns-then-eq-clause-found g c = holds g.K.PartialEq.eq c.args.slots.now.values c.args.key.now (c.args.start + c.args.own) c.get.result.now c.get.ensures (sym c.eq.ensures ∙ c.if-eq.true)

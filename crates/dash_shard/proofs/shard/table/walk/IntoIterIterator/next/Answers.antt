@@ -1,8 +1,6 @@
-use Rattle.std.proofs.Common.{◌≡◌, ◌∷◌, None, length, slice_index, ap, sym, ◌∙◌, arith, inl, inr}
-use Rattle.std.proofs.lemmas.Bool.{cases_lt}
-use Rattle.std.proofs.lemmas.List.{get_or_past}
-use Rattle.dash_shard.specs.Shard.{slot, taken}
-use Rattle.dash_shard.proofs.Tells.{first-taken, passed-none, none-taken}
+use Rattle.std.proofs.Common.{◌≡◌, ◌∷◌, ℕ, length, slice_index, ap, sym, subst, ◌∙◌, ◌≤◌, ◌<◌, arith}
+use Rattle.dash_shard.specs.Shard.{taken}
+use Rattle.dash_shard.proofs.Tells.{first-taken, passed-none, none-taken, tells-end}
 use Rattle.dash_shard.proofs.shard.table.walk.IntoIterIterator.next.Given.{Over}
 use Rattle.dash_shard.proofs.shard.table.walk.IntoIterIterator.next.Goals.{After-take}
 use Rattle.dash_shard.proofs.shard.table.walk.IntoIterIterator.next.Goals as goal
@@ -10,17 +8,8 @@ use Rattle.dash_shard.proofs.shard.table.walk.IntoIterIterator.next.Goals as goa
 pub returns-in_err-slot-clause-steps : goal.returns-in_err-slot-clause-steps
 returns-in_err-slot-clause-steps g c =
     let xs = c.self.inside.slots.values in
-    let tells = c.self.invariant.0 in
     let same = c.deref.ensures.value in
-    let none = passed-none _ _ _ tells (length c.self.inside.tags.items) (λ j from below.
-    let long = ap length same in
-    let at = ap (λ l. slice_index l j) same in
-    let high = c.in_err-slot.ensures.next j from (omega (arith, below, long)) in
-    omega (arith, high, at)) in
-    let gone = none-taken xs (λ j. elim (cases_lt j (length c.self.inside.tags.items)) as (λ _. slot xs j ≡ None) [
-      | inl less ↦ none j less
-      | inr more ↦ get_or_past xs j None (let len = tells.len in omega (arith, more, len))
-    ]) in
+    let gone = none-taken xs (tells-end _ _ _ c.self.invariant.0 (subst (λ l. (j : ℕ) → c.self.inside.cursor.position ≤ j → j < length l → 128 ≤ slice_index l j) same c.in_err-slot.ensures.next)) in
     rw c.from_residual.ensures (sym c.self.view_is ∙ gone, gone)
 
 -- the pair of the slot comes first
