@@ -108,7 +108,7 @@ impl<T: Tagged> Hold<'_, T> {
         let Hold { cell: _, marker: _ } = self;
     }
 
-    /// Ends a hold for reading: one reader less. Answers the word as it was.
+    /// Ends a hold for reading: one reader less. Returns the word as it was.
     #[inline]
     pub fn leave(self) -> u64
         requires { self.right ≡ 1 }
@@ -118,7 +118,7 @@ impl<T: Tagged> Hold<'_, T> {
         unsafe { raw::fetch_sub::<Brand>(&raw const (*cell).word, ONE_READER, SeqCst) }
     }
 
-    /// Ends a hold for writing: the lock is free, with no mark. Answers the word as it was.
+    /// Ends a hold for writing: the lock is free, with no mark. Returns the word as it was.
     #[inline]
     pub fn open(self) -> u64
         requires { self.right ≡ 2 }
@@ -128,7 +128,7 @@ impl<T: Tagged> Hold<'_, T> {
         unsafe { raw::swap::<Brand>(&raw const (*cell).word, 0, SeqCst) }
     }
 
-    /// Turns a hold for writing into one for reading, of the same value. Answers the word as it was.
+    /// Turns a hold for writing into one for reading, of the same value. Returns the word as it was.
     #[inline]
     pub fn soften(self) -> (u64, Self)
         requires { self.right ≡ 2 }

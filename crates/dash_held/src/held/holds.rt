@@ -53,7 +53,7 @@ pub trait Holds {
         ensures pair { slot (value self.old).slots position ≡ Some (deref_pair_mut result) }
         ensures keeps { KeepsTag (by Self.Key.Hash Self.State.BuildHasher Self.State.Hasher.Hasher) (tag self.old) (value self.old) position };
 
-    /// Ends the hold: the lock is free. Answers its word as it was.
+    /// Ends the hold: the lock is free. Returns its word as it was.
     fn release(self) -> u64
         requires { right self ≡ 2 }
         ensures left { LeftBehind (value self) };
