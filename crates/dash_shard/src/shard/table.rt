@@ -32,13 +32,14 @@ pub mod walk;
 ///
 /// It has no `Drop`: `end` lets its pairs go.
 pub struct Table<K, V> {
+    // It stands first, so that an insert or a removal writes the cache line of its lock's word alone.
+    len: usize,
     // To proofs, the label of a taken slot is the hash of its key.
     slots: Slots<(K, V)>,
     // A tag for each slot, in groups of sixteen.
     tags: Vec<u8>,
     // For each group, how many pairs of each class stand past it on their ways: 32 counts of four bits.
     counts: Vec<u128>,
-    len: usize,
 }
 
 /// Where a key's pair stands, and how many groups of slots were looked at to find it.
