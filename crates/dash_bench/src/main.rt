@@ -20,7 +20,7 @@ use dash_shard::hash::is_shard_amount;
 use dash_shard::shard::InsertRefused;
 use lists::Call;
 use run::Measured;
-use std::alloc::{AllocError, Global};
+use std::alloc::{AllocError, AllocFailed, Global};
 use std::io::Eprint;
 use std::process::ExitCode;
 use std::random::RandomSource;
@@ -47,10 +47,18 @@ pub enum Refused {
     Memory,
     #[error("no clock, or no random bytes")]
     Clock,
+    #[error("no thread")]
+    Thread,
 }
 
 impl From<AllocError> for Refused {
     fn from(_: AllocError) -> Refused {
+        Refused::Memory
+    }
+}
+
+impl<T: Drop> From<AllocFailed<T>> for Refused {
+    fn from(_: AllocFailed<T>) -> Refused {
         Refused::Memory
     }
 }

@@ -106,8 +106,8 @@ where
     let before = resident(rt);
     let map = Map::with_capacity_and_hasher_and_shard_amount(alloc, work.room(), hasher, shards)?;
     fill(rt, &map, keys, work)?;
-    let mut workers = idle_workers(alloc, threads, work.pairs(), keys)?;
-    let nanoseconds = timed(rt, &map, work, workers.as_mut_slice())?;
+    let workers = idle_workers(alloc, threads, work.pairs(), keys)?;
+    let (nanoseconds, workers) = timed(rt, alloc, &map, work, workers)?;
     let bytes = resident(rt).saturating_sub(before);
     Measured::of(work, workers.as_slice(), nanoseconds, bytes)
 }
@@ -125,26 +125,61 @@ fn fill<R: Wait + Clock, D: Keys, S: BuildHasher>(
     Ok(())
 }
 
-// The nanoseconds that the workers need, each on a thread.
+// The nanoseconds that the workers need, each on a thread, and the workers.
 fn timed<R: Threads + Wait + Clock + Sync, D: Keys, S: BuildHasher + Send + Sync>(
     rt: &R,
+    alloc: Global,
     map: &Map<S>,
     work: Work,
-    workers: &mut [Worker<D>],
-) -> Result<u128, Refused>
+    workers: Vec<Worker<D>>,
+) -> Result<(u128, Vec<Worker<D>>), Refused>
 where
     S::Hasher: Send + Sync,
 {
-    // Each thread counts on its own stack: workers share cache lines.
-    let one = |_: usize, worker: &mut Worker<D>| {
-        let mut own = *worker;
-        own.work(rt, map, work);
-        *worker = own;
+    let one = |mut worker: Worker<D>| -> Worker<D> {
+        worker.work(rt, map, work);
+        worker
     };
-    let threads = workers.len().max(1);
     let start = Instant::now(rt)?;
-    thread::for_each_mut(rt, workers, threads, &one);
-    Ok(start.elapsed(rt)?.as_nanos())
+    let workers = on_threads(rt, alloc, workers, &one)?;
+    Ok((start.elapsed(rt)?.as_nanos(), workers))
+}
+
+/// Lets each worker work and returns all: the first works here, and each other in a thread that this one makes, as in the Rust program. Where
+/// threads make threads at one time, the system may put two of them on one processor.
+pub fn on_threads<R: Threads + Wait + Sync, W: Send + Drop, F: Fn(W) -> W + Sync>(
+    rt: &R,
+    alloc: Global,
+    workers: Vec<W>,
+    one: &F,
+) -> Result<Vec<W>, Refused>
+    requires { (w : W) → F.pre one.now w }
+{
+    thread::scope(
+        thread::scope_env(),
+        rt,
+        move |scope| -> Result<Vec<W>, Refused>
+            requires { (w : W) → F.pre one.now w }
+        {
+            let mut done = Vec::with_capacity(alloc, workers.len())?;
+            let mut threads = Vec::with_capacity(alloc, workers.len())?;
+            let mut workers = workers.into_iter();
+            let first = workers.next();
+            for worker in workers {
+                let Ok(thread) = scope.spawn(move || one(worker)) else {
+                    return Err(Refused::Thread);
+                };
+                threads.push(thread)?;
+            }
+            if let Some(worker) = first {
+                done.push(one(worker))?;
+            }
+            for thread in threads {
+                done.push(thread.join(rt))?;
+            }
+            Ok(done)
+        },
+    )
 }
 
 // A worker for each thread, which has done nothing yet.

@@ -2,13 +2,13 @@
 
 use crate::Refused;
 use crate::keys::key;
-use crate::run::Measured;
+use crate::run::{Measured, on_threads};
 use crate::worker::share_of;
 use dash_map::map::DashMap;
 use std::alloc::{AllocError, Global};
 use std::rt::Clock;
 use std::sync::Wait;
-use std::thread::{self, Threads};
+use std::thread::Threads;
 use std::time::Instant;
 
 /// How many pairs there are.
@@ -155,10 +155,13 @@ pub fn measure<R: Threads + Wait + Clock + Sync>(
     shards: usize,
 ) -> Result<Measured, Refused> {
     let map = filled(rt, alloc, text, shards)?;
-    let mut workers = idle_workers(alloc, threads)?;
-    let one = |_: usize, worker: &mut Worker| worker.work(rt, &map, text);
+    let workers = idle_workers(alloc, threads)?;
+    let one = |mut worker: Worker| -> Worker {
+        worker.work(rt, &map, text);
+        worker
+    };
     let start = Instant::now(rt)?;
-    thread::for_each_mut(rt, workers.as_mut_slice(), threads.max(1), &one);
+    let workers = on_threads(rt, alloc, workers, &one)?;
     let nanoseconds = start.elapsed(rt)?.as_nanos();
     let all = sum_up(workers.as_slice())?;
     Ok(Measured {
