@@ -16,10 +16,9 @@ use std::sync::Wait;
 const TRIES: u32 = 8;
 
 // How often a waiter pauses before each look at the word, until it sleeps. The first seven pauses are spins, each twice as long, and then it
-// yields its processor, which who has the lock may want: once, and twice as often before each look, up to sixteen times. Looks are seldom,
-// the first ones too, since each holds that one up.
+// yields its processor, which who has the lock may want. Looks are seldom, the first ones too, since each holds that one up.
 const PAUSES: [u32; 20] = [
-    4, 2, 1, 1, 2, 4, 8, 16, 16, 16, 16, 16, 16, 16, 16, 16, 16, 16, 16, 16,
+    4, 2, 1, 16, 16, 16, 16, 16, 16, 16, 16, 16, 16, 16, 16, 16, 16, 16, 16, 16,
 ];
 
 // What a raw lock guards.

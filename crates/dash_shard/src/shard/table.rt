@@ -32,7 +32,7 @@ pub mod walk;
 ///
 /// It has no `Drop`: `end` lets its pairs go.
 pub struct Table<K, V> {
-    // It stands first, so that an insert or a removal writes the cache line of its lock's word alone.
+    // It stands first, beside the lock's word: an insert or a removal writes both, and no second line of the shard.
     len: usize,
     // To proofs, the label of a taken slot is the hash of its key.
     slots: Slots<(K, V)>,
