@@ -7,13 +7,13 @@ use Rattle.std.proofs.Math.ListN.{drop, length-set}
 use Rattle.std.specs.Int.{bit_at}
 use Rattle.dash_shard.specs.Shard.{slot, taken, IsNextTaken}
 use Rattle.dash_shard.specs.declared.shard.table.cursor.Cursor.{Cursor}
-use Rattle.dash_shard.specs.inner.Cursors.{IsCursor, IsTagCursor, IsSlotCursor, IsNextTag}
+use Rattle.dash_shard.specs.inner.Cursors.{ComesInGroups, IsCursor, IsTagCursor, IsSlotCursor, IsNextTag}
 use Rattle.dash_shard.specs.inner.Table.{TellsTaken}
 use Rattle.dash_shard.proofs.Tells.{tells-none, passes-all}
 
 module _ (n : ℕ) (Taken : ℕ → Type 0) (c : Cursor) (at : IsCursor n Taken c) where
   -- no slot is taken from the position on to a lane, where the lanes below have no bit
-  pub free-below : (k : ℕ) → k ≤ 16 → ((j : ℕ) → j < k → bit_at c.left j ≡ 0) → (i : ℕ) → c.position ≤ i → i < c.start + k → i < n → Taken i → ⊥
+  pub free-below : (k : ℕ) → k ≤ 64 → ((j : ℕ) → j < k → bit_at c.left j ≡ 0) → (i : ℕ) → c.position ≤ i → i < c.start + k → i < c.end → Taken i → ⊥
   free-below k le none i from below within t = elim (cases_lt i c.start) as (λ _. ⊥) [
     | inl less ↦ at.passed i from less t
     | inr more ↦
@@ -25,34 +25,35 @@ module _ (n : ℕ) (Taken : ℕ → Type 0) (c : Cursor) (at : IsCursor n Taken 
   ]
 
   -- where no bit is left
-  pub free-to : c.left ≡ 0 → (i : ℕ) → c.position ≤ i → i < c.start + 16 → i < n → Taken i → ⊥
-  free-to none = free-below 16 (omega arith) (λ j _. ap (λ m. bit_at m j) none ∙ bit_at-zero j)
+  pub free-to : c.left ≡ 0 → (i : ℕ) → c.position ≤ i → i < c.end → Taken i → ⊥
+  free-to none i from within = free-below 64 (omega arith) (λ j _. ap (λ m. bit_at m j) none ∙ bit_at-zero j) i from (omega (arith, within, at.width.1)) within
 
-  -- the next group is looked at
-  pub looks-on : c.left ≡ 0 → c.start + 16 < n → (mask : ℕ) → ((j : ℕ) → j < 16 → (bit_at mask j ≡ 1) ↔ Taken (c.start + 16 + j)) → IsCursor n Taken (record c { start = c.start + 16; left = mask })
-  looks-on none more mask bits = record {
+  -- the next ones are looked at
+  pub looks-on : c.left ≡ 0 → (e : ℕ) → ComesInGroups e → c.end ≤ e → e ≤ c.end + 64 → e ≤ n → (mask : ℕ)
+      → ((j : ℕ) → j < 64 → (bit_at mask j ≡ 1) ↔ ((c.end + j < e) × Taken (c.end + j)))
+      → IsCursor n Taken (record c { start = c.end; end = e; left = mask })
+  looks-on none e looked more most within mask bits = record {
     groups = at.groups;
-    group = (at.group.0 + 1, omega (arith, at.group.1));
-    within = omega (arith, more);
-    ahead = omega (arith, at.ahead);
-    passed = λ i from less. free-to none i from less (omega (arith, less, more));
-    bits = λ j lt. (
-      λ one. (omega (arith, at.ahead), omega (arith, lt, more, at.groups.1, at.group.1), (bits j lt).0 one),
-      λ t. (bits j lt).1 t.2,
-    );
+    looked = looked;
+    width = (more, most);
+    within = within;
+    ahead = omega (arith, at.ahead, more);
+    passed = λ i from less. free-to none i from less;
+    bits = λ j lt. (λ one. let was = (bits j lt).0 one in (omega (arith, at.ahead), was.0, was.1), λ t. (bits j lt).1 (t.1, t.2));
   }
 
   -- what is taken from the position on tells where a cursor stands
   pub as-told : (m : ℕ) (Told : ℕ → Type 0) → n ≡ m → ((i : ℕ) → c.position ≤ i → i < n → Taken i ↔ Told i) → IsCursor m Told c
   as-told m Told same told = record {
     groups = (at.groups.0, sym same ∙ at.groups.1);
-    group = at.group;
+    looked = at.looked;
+    width = at.width;
     within = omega (arith, at.within, same);
     ahead = at.ahead;
-    passed = λ i from less t. at.passed i from less ((told i from (omega (arith, less, at.within))).1 t);
+    passed = λ i from less t. at.passed i from less ((told i from (omega (arith, less, at.width.0, at.within))).1 t);
     bits = λ j below. (
-      λ one. let was = (at.bits j below).0 one in (was.0, omega (arith, was.1, same), (told (c.start + j) was.0 was.1).0 was.2),
-      λ t. let within : c.start + j < n = omega (arith, t.1, same) in (at.bits j below).1 (t.0, within, (told (c.start + j) t.0 within).1 t.2),
+      λ one. let was = (at.bits j below).0 one in (was.0, was.1, (told (c.start + j) was.0 (let here = was.1 in omega (arith, here, at.within))).0 was.2),
+      λ t. (at.bits j below).1 (t.0, t.1, (told (c.start + j) t.0 (let here = t.1 in omega (arith, here, at.within))).1 t.2),
     );
   }
 

@@ -9,14 +9,15 @@ use Rattle.dash_shard.specs.declared.shard.table.cursor.Cursor.{Cursor}
 abbrev pub ComesInGroups : ℕ → Type 0
 ComesInGroups n = (groups : ℕ) × (n ≡ 16 * groups)
 
--- the cursor is in a group of n slots, and has a bit for each slot of it that is taken, from its position on; none is taken between that and the group
+-- the cursor looks at some of n slots, and has a bit for each of them that is taken, from its position on; none is taken between that and those
 pub record IsCursor (n : ℕ) (Taken : ℕ → Type 0) (c : Cursor) : Type 0 where
   pub groups : ComesInGroups n
-  pub group : ComesInGroups c.start
-  pub within : c.start ≤ n
-  pub ahead : c.position ≤ c.start + 16
+  pub looked : ComesInGroups c.end
+  pub width : (c.start ≤ c.end) × (c.end ≤ c.start + 64)
+  pub within : c.end ≤ n
+  pub ahead : c.position ≤ c.end
   pub passed : (i : ℕ) → c.position ≤ i → i < c.start → Taken i → ⊥
-  pub bits : (j : ℕ) → j < 16 → (bit_at c.left j ≡ 1) ↔ ((c.position ≤ c.start + j) × (c.start + j < n) × Taken (c.start + j))
+  pub bits : (j : ℕ) → j < 64 → (bit_at c.left j ≡ 1) ↔ ((c.position ≤ c.start + j) × (c.start + j < c.end) × Taken (c.start + j))
 
 -- by the tags of the slots
 abbrev pub IsTagCursor : List ℕ → Cursor → Type 0

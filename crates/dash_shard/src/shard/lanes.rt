@@ -1,4 +1,4 @@
-//! Sixteen tags at once.
+//! Sixteen tags at once, or four times as many.
 ghost use Rattle.std.specs.Prelude.{◌≡◌, ℕ, ◌<◌, ◌≤◌, ◌↔◌, slice_index};
 ghost use Rattle.std.specs.Int.{bit_at};
 ghost use Rattle.dash_shard.specs.Search.{IsMask};
@@ -40,4 +40,14 @@ pub(super) fn taken_lanes(group: &[u8; 16]) -> u16
     u8x16::from_array(*group)
         .simd_lt(u8x16::splat(128))
         .to_bitmask() as u16
+}
+
+// The same of four groups.
+#[inline(always)]
+pub(super) fn taken_lanes_of_four(groups: &[u8; 64]) -> u64
+    ensures { (i : ℕ) → (bit_at result i ≡ 1) ↔ ((i < 64) × (slice_index groups.now i < 128)) }
+{
+    u8x64::from_array(*groups)
+        .simd_lt(u8x64::splat(128))
+        .to_bitmask()
 }

@@ -247,7 +247,7 @@ impl<K: Eq + Hash, V, S: BuildHasher> Shard<K, V, S> {
         self.table.cursor()
     }
 
-    /// As `next_taken`, by a cursor, which looks at the tags of sixteen slots once. For the crates here alone.
+    /// As `next_taken`, by a cursor, which looks at the tags of four groups at once. For the crates here alone.
     #[inline(always)]
     pub fn advance(&self, cursor: &mut Cursor) -> Option<usize>
         requires { IsSlotCursor self.now.slots cursor.old }

@@ -306,7 +306,7 @@ impl<K, V> Table<K, V> {
         ensures first { result.position ≡ 0 }
         ensures cursor { IsSlotCursor (pairs_in self.now) result }
     {
-        Cursor::new(&self.tags)
+        Cursor::new()
     }
 
     /// The lowest taken slot from the cursor's position on. The cursor goes on behind it, and stays where there is none.

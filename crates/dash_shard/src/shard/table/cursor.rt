@@ -1,40 +1,32 @@
 //! Where a walk over the slots of a table goes on.
-ghost use Rattle.std.specs.Prelude.{◌≡◌, ◌+◌, length};
+ghost use Rattle.std.specs.Prelude.{ℕ, List, ◌≡◌, ◌+◌, length};
 ghost use Rattle.std.specs.Option.{option_map_or};
 ghost use Rattle.dash_shard.specs.inner.Cursors.{ComesInGroups, IsTagCursor, IsNextTag};
 
-use super::marks::{group_of, split_lowest, tags_at};
-use crate::shard::lanes::taken_lanes;
+use super::marks::{split_lowest_of_four, tags_at};
+use crate::shard::lanes::{taken_lanes, taken_lanes_of_four};
 
-/// Where a walk over the slots of a shard goes on, and what the tags of sixteen of them say, looked at once. For the crates here alone.
+/// Where a walk over the slots of a shard goes on, and what the tags of a group or of four say, looked at once. For the crates here alone.
 #[derive(Clone, Copy, PartialEq, Eq, Debug, Default)]
 pub struct Cursor {
     /// The slot where the walk goes on.
     pub position: usize,
-    /// The first slot of the group that the walk is in.
+    /// The first slot that was looked at.
     pub start: usize,
-    /// A bit for each taken slot of that group from the position on.
-    pub left: u16,
+    /// The slot behind the last that was looked at.
+    pub end: usize,
+    /// A bit for each taken slot of those from the position on.
+    pub left: u64,
 }
 
 impl Cursor {
     // A cursor before the first slot.
     #[inline(always)]
-    pub(super) fn new(tags: &[u8]) -> Self
-        requires { ComesInGroups (length tags.now) }
+    pub(super) fn new() -> Self
         ensures first { result.position ≡ 0 }
-        ensures cursor { IsTagCursor tags.now result }
+        ensures cursor { (tags : List ℕ) → ComesInGroups (length tags) → IsTagCursor tags result }
     {
-        let left = if tags.is_empty() {
-            0
-        } else {
-            taken_lanes(group_of(tags, 0))
-        };
-        Cursor {
-            position: 0,
-            start: 0,
-            left,
-        }
+        Cursor::default()
     }
 
     // The lowest taken slot from the position on, by its tag. The cursor goes on behind it, and stays where there is none.
@@ -46,13 +38,19 @@ impl Cursor {
         ensures cursor { IsTagCursor tags.now self.new }
     {
         while self.left == 0 {
-            if tags.len() - self.start <= 16 {
+            if self.end == tags.len() {
                 return None;
             }
-            self.start += 16;
-            self.left = taken_lanes(tags_at(tags, self.start));
+            self.start = self.end;
+            if tags.len() - self.start >= 64 {
+                self.end += 64;
+                self.left = taken_lanes_of_four(tags_at(tags, self.start));
+            } else {
+                self.end += 16;
+                self.left = taken_lanes(tags_at(tags, self.start)) as u64;
+            }
         }
-        let (lane, rest) = split_lowest(self.left);
+        let (lane, rest) = split_lowest_of_four(self.left);
         self.left = rest;
         let slot = self.start + lane;
         self.position = slot + 1;

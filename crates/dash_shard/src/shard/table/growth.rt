@@ -53,7 +53,7 @@ fn move_pairs<K: Eq + Hash, V, S: BuildHasher>(
     ensures table { IsTable table.new }
     ensures none { IsBlank slots.new }
 {
-    let mut cursor = Cursor::new(tags);
+    let mut cursor = Cursor::new();
     while let Some(slot) = cursor.next(tags) {
         let (key, value) = slots.take(slot);
         let hash = hasher.hash_one(&key);

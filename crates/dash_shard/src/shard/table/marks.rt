@@ -63,13 +63,26 @@ pub(super) fn split_lowest(mask: u16) -> (usize, u16)
     (lowest(mask), mask & (mask - 1))
 }
 
-// Sixteen tags from a slot on.
+// The same of a mask of four groups.
 #[inline(always)]
-pub(super) fn tags_at(tags: &[u8], start: usize) -> &[u8; 16]
-    requires { start + 16 ≤ length tags.now }
-    ensures { (j : ℕ) → j < 16 → slice_index result.now j ≡ slice_index tags.now (start + j) }
+pub(super) fn split_lowest_of_four(mask: u64) -> (usize, u64)
+    requires { 0 < mask }
+    ensures bound { result.0 < 64 }
+    ensures set { bit_at mask result.0 ≡ 1 }
+    ensures first { (j : ℕ) → j < result.0 → bit_at mask j ≡ 0 }
+    ensures cleared { bit_at result.1 result.0 ≡ 0 }
+    ensures kept { (j : ℕ) → j < 64 → (j ≡ result.0 → ⊥) → bit_at result.1 j ≡ bit_at mask j }
 {
-    match <&[u8; 16]>::try_from(&tags[start..start + 16]) {
+    (mask.trailing_zeros() as usize, mask & (mask - 1))
+}
+
+// So many tags from a slot on.
+#[inline(always)]
+pub(super) fn tags_at<const N: usize>(tags: &[u8], start: usize) -> &[u8; N]
+    requires { start + N ≤ length tags.now }
+    ensures { (j : ℕ) → j < N → slice_index result.now j ≡ slice_index tags.now (start + j) }
+{
+    match <&[u8; N]>::try_from(&tags[start..start + N]) {
         Ok(row) => row,
         Err(_) => unreachable!(),
     }

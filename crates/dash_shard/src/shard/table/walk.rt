@@ -109,7 +109,7 @@ impl<'a, K, V> Default for Iter<'a, K, V> {
         Iter {
             slots: None,
             tags: Default::default(),
-            cursor: Cursor::new(&[]),
+            cursor: Cursor::new(),
             len: 0,
         }
     }

@@ -13,7 +13,7 @@ pub loop-slot-init : goal.loop-slot-init
 loop-slot-init g c = record {
   carrying = carrying-first _ _ c.requires.table c.requires.empty;
   tells = subst (λ i. TellsTaken i c.args.tags.now c.args.slots.now.values) (sym c.new-cursor.ensures.first) c.requires.tells;
-  cursor = c.new-cursor.ensures.cursor;
+  cursor = c.new-cursor.ensures.cursor _ c.requires.groups;
   slots = refl;
 }
 

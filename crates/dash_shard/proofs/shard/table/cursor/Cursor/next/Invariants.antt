@@ -9,4 +9,4 @@ invariant-loop-self l = record {
 }
 
 abbrev pub decreases-loop-self : goal.decreases-loop-self
-decreases-loop-self l = length l.tags - l.self.start
+decreases-loop-self l = length l.tags - l.self.end
