@@ -2,7 +2,9 @@
 use Rattle.std.proofs.Common.{◌≡◌, ℕ, zero, suc, min, ◌-◌, ◌/◌, ◌%◌, ◌<◌, sym, ap, ◌∙◌, inl, inr, arith, bit_and}
 use Rattle.std.proofs.lemmas.Bool.{cases_lt}
 use Rattle.std.proofs.lemmas.Nat.Bits.{bit_at_lowest, bit_at-suc, bit_at-zero, bit_at_and}
+use Rattle.std.proofs.lemmas.Nat.{and_le_r}
 use Rattle.std.specs.Int.{bit_at}
+use Rattle.dash_shard.specs.inner.Marks.{IsSplit}
 
 -- k is the lowest bit of m
 abbrev pub IsFirst : ℕ → ℕ → Type 0
@@ -34,11 +36,21 @@ one-less (suc k) m set first =
     )
 
 module _ (m k : ℕ) (set : bit_at m k ≡ 1) (first : IsFirst m k) where
-  pub lowest-cleared : bit_at (bit_and m (m - 1)) k ≡ 0
+  lowest-cleared : bit_at (bit_and m (m - 1)) k ≡ 0
   lowest-cleared = bit_at_and m (m - 1) k ∙ omega (arith, (one-less k m set first).0)
 
-  pub others-kept : (j : ℕ) → (j ≡ k → ⊥) → bit_at (bit_and m (m - 1)) j ≡ bit_at m j
+  others-kept : (j : ℕ) → (j ≡ k → ⊥) → bit_at (bit_and m (m - 1)) j ≡ bit_at m j
   others-kept j apart = bit_at_and m (m - 1) j ∙ elim (cases_lt j k) as (λ _. min (bit_at m j) (bit_at (m - 1) j) ≡ bit_at m j) [
     | inl below ↦ omega (arith, first j below)
     | inr not ↦ let above : k < j = omega (arith, not, apart) in omega (arith, (one-less k m set first).1 j above)
   ]
+
+  pub splits : (bits : ℕ) → 0 < m → k < bits → IsSplit bits m (k, bit_and m (m - 1))
+  splits bits some bound = record {
+    bound = bound;
+    set = set;
+    first = first;
+    smaller = let most = and_le_r m (m - 1) in omega (arith, most, some);
+    cleared = lowest-cleared;
+    kept = λ j _ apart. others-kept j apart;
+  }

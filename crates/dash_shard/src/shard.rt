@@ -214,7 +214,7 @@ impl<K: Eq + Hash, V, S: BuildHasher> Shard<K, V, S> {
         ensures lawful { IsShard ⟦<Self as Keyed>⟧.by self.new }
     {
         let found = self.find_or_place(hash, &key);
-        self.insert_found(found, hash, key, value)
+        self.insert_found(hash, key, value, found)
     }
 
     /// Takes the pair whose key equals `key` out, and returns it. It takes no memory, and can't be refused.

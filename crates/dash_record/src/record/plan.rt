@@ -110,7 +110,7 @@ pub(super) fn carry_out<
 {
     match step {
         ShardStep::Get(_key) | ShardStep::Contains(_key) => Ok(()),
-        ShardStep::Insert(key, value) => match shard.insert_found(found, hash, key, value) {
+        ShardStep::Insert(key, value) => match shard.insert_found(hash, key, value, found) {
             Ok(_old) => Ok(()),
             Err(InsertRefused { key, value }) => Err(ShardStep::Insert(key, value)),
         },

@@ -1,6 +1,7 @@
 -- The marks of an open table: a tag for each slot, in groups of sixteen, and for each group how many pairs of each class stand past it. The tag 128 marks
 -- an empty slot, 129 one whose pair was removed, and a lower one is the top seven bits of a stored pair's hash.
 use Rattle.std.specs.Prelude.{◌≡◌, ◌≢◌, ◌⊎◌, ℕ, suc, ◌+◌, ◌-◌, ◌*◌, ◌/◌, ◌%◌, ◌^◌, ◌<◌, ◌≤◌, List, [], ◌∷◌, length, Option, Some, None, IsSome, slice_index, nat_lt, ◌==◌, if◌then◌else◌}
+use Rattle.std.specs.Int.{bit_at}
 use Rattle.dash_shard.specs.Shard.{slot}
 use Rattle.dash_shard.specs.Search.{class_of}
 
@@ -23,6 +24,15 @@ step_to n a g = if nat_lt g a then n - a + g else g - a
 -- 1 where a way from the group a goes past the group g in its first s steps
 abbrev pub goes_past : ℕ → ℕ → ℕ → ℕ → ℕ
 goes_past n a s g = if nat_lt (step_to n a g) s then 1 else 0
+
+-- the lowest of the bits of a mask, and the mask without it
+pub record IsSplit (bits mask : ℕ) (r : ℕ × ℕ) : Type 0 where
+  pub bound : r.0 < bits
+  pub set : bit_at mask r.0 ≡ 1
+  pub first : (j : ℕ) → j < r.0 → bit_at mask j ≡ 0
+  pub smaller : r.1 < mask
+  pub cleared : bit_at r.1 r.0 ≡ 0
+  pub kept : (j : ℕ) → j < bits → (j ≡ r.0 → ⊥) → bit_at r.1 j ≡ bit_at mask j
 
 -- of the 32 counts in a word, four bits each, the one of a class
 unfoldable pub count_of : ℕ → ℕ → ℕ

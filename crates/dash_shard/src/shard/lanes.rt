@@ -45,9 +45,8 @@ pub(super) fn taken_lanes(group: &[u8; 16]) -> u16
 // The same of four groups.
 #[inline(always)]
 pub(super) fn taken_lanes_of_four(groups: &[u8; 64]) -> u64
-    ensures { (i : ℕ) → (bit_at result i ≡ 1) ↔ ((i < 64) × (slice_index groups.now i < 128)) }
+    ensures taken { (i : ℕ) → (bit_at result i ≡ 1) ↔ ((i < 64) × (slice_index groups.now i < 128)) }
 {
-    u8x64::from_array(*groups)
-        .simd_lt(u8x64::splat(128))
-        .to_bitmask()
+    let tags = u8x64::from_array(*groups);
+    tags.simd_lt(u8x64::splat(128)).to_bitmask()
 }

@@ -150,30 +150,31 @@ impl<K: Eq + Hash, V, S: BuildHasher> Shard<K, V, S> {
     #[inline(always)]
     pub fn insert_found(
         &mut self,
-        found: Result<usize, Place>,
         hash: u64,
         key: K,
         value: V,
+        found: Result<usize, Place>,
     ) -> Result<Option<V>, InsertRefused<K, V>>
     where
         K: Drop,
         V: Drop,
-        requires hash { hash ≡ ⟦<Self as Keyed>⟧.by.hash self.old.hasher key }
-        requires route { Routes ⟦<Self as Keyed>⟧.by self.old key }
         requires found { Finds K.eq self.old key (result_ok found) }
         requires place { IfErr found (MayTake self.old hash) }
+        requires hash { hash ≡ ⟦<Self as Keyed>⟧.by.hash self.old.hasher key }
+        requires route { Routes ⟦<Self as Keyed>⟧.by self.old key }
         ensures inserts { Inserts K.eq self.old self.new key value result }
         ensures lawful { IsShard ⟦<Self as Keyed>⟧.by self.new }
     {
-        let place = match found {
-            Ok(slot) => return Ok(Some(self.set_at(slot, value))),
-            Err(place) => place,
-        };
-        let Ok(place) = self.make_place(hash, place) else {
-            return Err(InsertRefused { key, value });
-        };
-        self.insert_new_at(place, hash, key, value);
-        Ok(None)
+        match found {
+            Ok(slot) => Ok(Some(self.set_at(slot, value))),
+            Err(place) => match self.make_place(hash, place) {
+                Ok(place) => {
+                    self.insert_new_at(place, hash, key, value);
+                    Ok(None)
+                }
+                Err(_) => Err(InsertRefused { key, value }),
+            },
+        }
     }
 
     /// Puts a value in the pair of a taken slot, and returns the old one. It makes no look-up, takes no memory, and can't be refused.

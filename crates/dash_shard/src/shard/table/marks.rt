@@ -2,7 +2,7 @@
 ghost use Rattle.std.specs.Prelude.{◌≡◌, ◌⊎◌, ℕ, ◌+◌, ◌*◌, ◌/◌, ◌%◌, ◌-◌, ◌^◌, ◌<◌, ◌≤◌, ◌↔◌, IsTrue, length, slice_index};
 ghost use Rattle.std.specs.Int.{bit_at};
 ghost use Rattle.dash_shard.specs.Search.{class_of};
-ghost use Rattle.dash_shard.specs.inner.Marks.{round, step_to, goes_past, tag_of, count_of, IsRaised, IsLowered, OthersStay, CountsPast, UncountsPast, IsClean, KeepsTags};
+ghost use Rattle.dash_shard.specs.inner.Marks.{round, step_to, goes_past, tag_of, count_of, IsRaised, IsLowered, OthersStay, CountsPast, UncountsPast, IsClean, KeepsTags, IsSplit};
 
 use crate::shard::lanes::taken_lanes;
 
@@ -53,12 +53,7 @@ pub(super) fn own_or_lowest(mask: u16, own: usize) -> usize
 #[inline(always)]
 pub(super) fn split_lowest(mask: u16) -> (usize, u16)
     requires { 0 < mask }
-    ensures bound { result.0 < 16 }
-    ensures set { bit_at mask result.0 ≡ 1 }
-    ensures first { (j : ℕ) → j < result.0 → bit_at mask j ≡ 0 }
-    ensures smaller { result.1 < mask }
-    ensures cleared { bit_at result.1 result.0 ≡ 0 }
-    ensures kept { (j : ℕ) → j < 16 → (j ≡ result.0 → ⊥) → bit_at result.1 j ≡ bit_at mask j }
+    ensures { IsSplit 16 mask result }
 {
     (lowest(mask), mask & (mask - 1))
 }
@@ -67,11 +62,7 @@ pub(super) fn split_lowest(mask: u16) -> (usize, u16)
 #[inline(always)]
 pub(super) fn split_lowest_of_four(mask: u64) -> (usize, u64)
     requires { 0 < mask }
-    ensures bound { result.0 < 64 }
-    ensures set { bit_at mask result.0 ≡ 1 }
-    ensures first { (j : ℕ) → j < result.0 → bit_at mask j ≡ 0 }
-    ensures cleared { bit_at result.1 result.0 ≡ 0 }
-    ensures kept { (j : ℕ) → j < 64 → (j ≡ result.0 → ⊥) → bit_at result.1 j ≡ bit_at mask j }
+    ensures { IsSplit 64 mask result }
 {
     (mask.trailing_zeros() as usize, mask & (mask - 1))
 }

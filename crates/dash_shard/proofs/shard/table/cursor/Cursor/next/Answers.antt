@@ -13,8 +13,8 @@ loop-self-preserved-then-tags-self-ge64 c =
     let looked = at.cursor.looked in
     record {
       cursor = looks-on _ _ _ at.cursor c.loop-self-test.true _ (looked.0 + 4, omega (arith, looked.1)) (omega arith) (omega arith) (omega (arith, c.if-tags-self-ge64.true)) _ (λ j lt. (
-        λ one. (omega (arith, lt), subst (λ x. x < 128) (c.tags_at.ensures j lt) ((c.taken_lanes_of_four-self.ensures j).0 one).1),
-        λ t. (c.taken_lanes_of_four-self.ensures j).1 (lt, subst (λ x. x < 128) (sym (c.tags_at.ensures j lt)) t.1),
+        λ one. (omega (arith, lt), subst (λ x. x < 128) (c.tags_at.ensures j lt) ((c.taken_lanes_of_four-self.ensures.taken j).0 one).1),
+        λ t. (c.taken_lanes_of_four-self.ensures.taken j).1 (lt, subst (λ x. x < 128) (sym (c.tags_at.ensures j lt)) t.1),
       ));
       position = at.position;
     }
