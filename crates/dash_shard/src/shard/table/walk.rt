@@ -61,7 +61,7 @@ impl<'a, K, V> Iterator for Iter<'a, K, V> {
 
     ghost remaining = { λ s. at_most (length s) };
 
-    #[inline]
+    #[inline(always)]
     fn next(&mut self) -> Option<(&'a K, &'a V)> {
         let slots = self.slots?;
         let slot = self.cursor.next(self.tags)?;
@@ -171,7 +171,7 @@ impl<K: Drop, V: Drop> Iterator for IntoIter<K, V> {
 
     ghost remaining = { λ s. at_most (length s) };
 
-    #[inline]
+    #[inline(always)]
     fn next(&mut self) -> Option<(K, V)> {
         let slot = self.cursor.next(&self.tags)?;
         Some(self.slots.take(slot))
