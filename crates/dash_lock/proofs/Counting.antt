@@ -9,7 +9,7 @@ use native.Mathlib.Decide.{dec_le, ℕ_discrete}
 use Rattle.dash_lock.specs.declared.word.Mark.{Mark}
 use Rattle.dash_lock.specs.declared.word.Mark.TheVariants.{Readers, Writers}
 use Rattle.dash_lock.specs.inner.Holding.{count, IsTake, IsMark, IsCounted}
-use Rattle.dash_lock.specs.LockState.{Holders, readers, writer, LockState, most, bit, word_of, state_of, free, joined, seized, left, if_writer, if_held, marked, Steps}
+use Rattle.dash_lock.specs.LockState.{Holders, readers, writer, LockState, most, word_of, state_of, free, after_by, marked, Steps}
 
 abbrev or_zero : Option ℕ → ℕ
 or_zero None = 0
@@ -17,6 +17,9 @@ or_zero (Some n) = n
 
 none : {A : Type 0} {n : ℕ} → Option ℕ → None ≡ Some n → A
 none o e = absurd (false≢true (ap is_some e))
+
+abbrev bit : Bool → ℕ
+bit b = if b then 1 else 0
 
 bit_le : (b : Bool) → bit b ≤ 1
 bit_le true = omega arith
@@ -38,22 +41,22 @@ holders_by w b = if b then readers (w / 4) else writer
 pub shared_counts : (w v : ℕ) → Steps TakeShared w v → (count v ≡ count w + 1) × (count v ≤ most)
 shared_counts w v = by (nat_le (w / 4) most) refl
   where
-    on : (b : Bool) → nat_lt (w / 4) most ≡ b → option_map word_of (option_map (λ h. record (state_of w) { holders = h }) (if b then Some (readers (w / 4 + 1)) else None)) ≡ Some v → (count v ≡ count w + 1) × (count v ≤ most)
+    on : (b : Bool) → nat_lt (w / 4) most ≡ b → option_map word_of (if b then Some (with_holders w (readers (w / 4 + 1))) else None) ≡ Some v → (count v ≡ count w + 1) × (count v ≤ most)
     on false le e = none None e
     on true lt e = let is : 4 * (w / 4 + 1) + marks w ≡ v = ap or_zero e in let few = ltb-true (w / 4) most lt in let m = marks_le w in (omega arith, omega arith)
 
-    by : (b : Bool) → nat_le (w / 4) most ≡ b → option_map word_of (option_map (λ h. record (state_of w) { holders = h }) (joined (holders_by w b))) ≡ Some v → (count v ≡ count w + 1) × (count v ≤ most)
+    by : (b : Bool) → nat_le (w / 4) most ≡ b → option_map word_of (after_by TakeShared (holders_by w b) (state_of w)) ≡ Some v → (count v ≡ count w + 1) × (count v ≤ most)
     by false le e = none None e
     by true le e = on (nat_lt (w / 4) most) refl e
 
 pub exclusive_counts : (w v : ℕ) → Steps TakeExclusive w v → (count w ≡ 0) × (most < count v)
 exclusive_counts w v = by (nat_le (w / 4) most) refl
   where
-    on : (b : Bool) → (w / 4 == 0) ≡ b → option_map word_of (option_map (λ h. record (state_of w) { holders = h }) (if b then Some writer else None)) ≡ Some v → (count w ≡ 0) × (most < count v)
+    on : (b : Bool) → (w / 4 == 0) ≡ b → option_map word_of (if b then Some (with_holders w writer) else None) ≡ Some v → (count w ≡ 0) × (most < count v)
     on false le e = none None e
     on true zero e = let is : (2 ^ 64 - 4) + marks w ≡ v = ap or_zero e in let m = marks_le w in (eqb-true (w / 4) 0 zero, omega arith)
 
-    by : (b : Bool) → nat_le (w / 4) most ≡ b → option_map word_of (option_map (λ h. record (state_of w) { holders = h }) (seized (holders_by w b))) ≡ Some v → (count w ≡ 0) × (most < count v)
+    by : (b : Bool) → nat_le (w / 4) most ≡ b → option_map word_of (after_by TakeExclusive (holders_by w b) (state_of w)) ≡ Some v → (count w ≡ 0) × (most < count v)
     by false le e = none None e
     by true le e = on (w / 4 == 0) refl e
 
@@ -72,7 +75,7 @@ mark_counts m w v fits = by (nat_le (w / 4) most) refl
     all h Readers e = let is : (2 ^ 64 - 4) + (1 + 2 * bit ((w / 2) % 2 == 1)) ≡ v = ap or_zero e in let b = bit_le ((w / 2) % 2 == 1) in omega arith
     all h Writers e = let is : (2 ^ 64 - 4) + (bit (w % 2 == 1) + 2 * 1) ≡ v = ap or_zero e in let b = bit_le (w % 2 == 1) in omega arith
 
-    by : (b : Bool) → nat_le (w / 4) most ≡ b → option_map word_of (if_held (holders_by w b) (marked m (with_holders w (holders_by w b)))) ≡ Some v → count v ≡ count w
+    by : (b : Bool) → nat_le (w / 4) most ≡ b → option_map word_of (after_by (SetMark m) (holders_by w b) (with_holders w (holders_by w b))) ≡ Some v → count v ≡ count w
     by true le e = on (w / 4 == 0) refl e
     by false gt e = all (dite (dec_le (w / 4) most) (λ l. absurd (false≢true (sym gt ∙ le-leb (w / 4) most l))) (λ n. omega arith)) m e
 
@@ -94,13 +97,13 @@ word_of_state w fits = by (nat_le (w / 4) most) refl
 pub shared_leaves : (n : ℕ) → 0 < count n → count n ≤ most → Steps ReleaseShared n (n - 4)
 shared_leaves n some few =
     let is = word_is n in let last : Some (4 * (n / 4 - 1) + marks n) ≡ Some (n - 4) = ap Some (omega arith) in
-    subst (λ b. option_map word_of (option_map (λ h. record (state_of n) { holders = h }) (left (holders_by n b))) ≡ Some (n - 4)) (sym (le-leb (n / 4) most few))
-    (subst (λ b. option_map word_of (option_map (λ h. record (state_of n) { holders = h }) (if b then None else Some (readers (n / 4 - 1)))) ≡ Some (n - 4)) (sym (ne_eqb (n / 4) 0 (λ z. omega arith))) last)
+    subst (λ b. option_map word_of (after_by ReleaseShared (holders_by n b) (state_of n)) ≡ Some (n - 4)) (sym (le-leb (n / 4) most few))
+    (subst (λ b. option_map word_of (if b then None else Some (with_holders n (readers (n / 4 - 1)))) ≡ Some (n - 4)) (sym (ne_eqb (n / 4) 0 (λ z. omega arith))) last)
 
 pub exclusive_leaves : (n : ℕ) → most < count n → Steps ReleaseExclusive n 0
 exclusive_leaves n held = by (nat_le (n / 4) most) refl
   where
-    by : (b : Bool) → nat_le (n / 4) most ≡ b → option_map word_of (if_writer (holders_by n b) free) ≡ Some 0
+    by : (b : Bool) → nat_le (n / 4) most ≡ b → option_map word_of (after_by ReleaseExclusive (holders_by n b) (state_of n)) ≡ Some 0
     by true le = let l = leb-true (n / 4) most le in absurd (omega arith)
     by false gt = refl
 

@@ -25,58 +25,39 @@ most = 2 ^ 62 - 2
 abbrev pub free : LockState
 free = record { holders = readers 0; readers_wait = false; writers_wait = false }
 
-abbrev pub bit : Bool → ℕ
-bit true = 1
-bit false = 0
-
+-- what the holders say in the word
 abbrev pub held_word : Holders → ℕ
 held_word (readers r) = 4 * r
 held_word writer = 2 ^ 64 - 4
 
 -- the word of a state
 abbrev pub word_of : LockState → ℕ
-word_of s = held_word s.holders + (bit s.readers_wait + 2 * bit s.writers_wait)
-
-abbrev pub holders_of : ℕ → Holders
-holders_of w = if nat_le (w / 4) most then readers (w / 4) else writer
+word_of s = held_word s.holders + ((if s.readers_wait then 1 else 0) + 2 * (if s.writers_wait then 1 else 0))
 
 -- the state that a word says
 abbrev pub state_of : ℕ → LockState
-state_of w = record { holders = holders_of w; readers_wait = w % 2 == 1; writers_wait = (w / 2) % 2 == 1 }
+state_of w = record { holders = if nat_le (w / 4) most then readers (w / 4) else writer; readers_wait = w % 2 == 1; writers_wait = (w / 2) % 2 == 1 }
 
--- what an event makes of the holders, and of a state, if it is lawful there
-abbrev pub joined : Holders → Option Holders
-joined (readers r) = if nat_lt r most then Some (readers (r + 1)) else None
-joined writer = None
-
-abbrev pub seized : Holders → Option Holders
-seized (readers r) = if r == 0 then Some writer else None
-seized writer = None
-
-abbrev pub left : Holders → Option Holders
-left (readers r) = if r == 0 then None else Some (readers (r - 1))
-left writer = None
-
-abbrev pub if_writer : {A : Type 0} → Holders → A → Option A
-if_writer (readers r) a = None
-if_writer writer a = Some a
-
-abbrev pub if_held : {A : Type 0} → Holders → A → Option A
-if_held (readers r) a = if r == 0 then None else Some a
-if_held writer a = Some a
-
+-- with a mark set
 abbrev pub marked : Mark → LockState → LockState
 marked Readers s = record s { readers_wait = true }
 marked Writers s = record s { writers_wait = true }
 
+-- what an event makes of a state with these holders, where it is lawful
+abbrev pub after_by : LockEvent → Holders → LockState → Option LockState
+after_by TakeShared (readers r) s = if nat_lt r most then Some (record s { holders = readers (r + 1) }) else None
+after_by TakeExclusive (readers r) s = if r == 0 then Some (record s { holders = writer }) else None
+after_by ReleaseShared (readers r) s = if r == 0 then None else Some (record s { holders = readers (r - 1) })
+after_by ReleaseExclusive writer s = Some free
+after_by Downgrade writer s = Some (record s { holders = readers 1; readers_wait = false })
+after_by (SetMark m) (readers r) s = if r == 0 then None else Some (marked m s)
+after_by (SetMark m) writer s = Some (marked m s)
+after_by ClearWriters _ s = if word_of s == 2 then Some free else None
+after_by _ _ s = None
+
+-- and of a state with its own
 abbrev pub after : LockEvent → LockState → Option LockState
-after TakeShared s = option_map (λ h. record s { holders = h }) (joined s.holders)
-after TakeExclusive s = option_map (λ h. record s { holders = h }) (seized s.holders)
-after ReleaseShared s = option_map (λ h. record s { holders = h }) (left s.holders)
-after ReleaseExclusive s = if_writer s.holders free
-after Downgrade s = if_writer s.holders (record s { holders = readers 1; readers_wait = false })
-after (SetMark m) s = if_held s.holders (marked m s)
-after ClearWriters s = if word_of s == 2 then Some free else None
+after e s = after_by e s.holders s
 
 -- the state after a list of events, if each is lawful in its turn
 abbrev pub reach : List LockEvent → LockState → Option LockState
