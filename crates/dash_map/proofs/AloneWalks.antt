@@ -333,7 +333,7 @@ module _ {K V S H : Type 0} where
   -- the law of a whole run
   pub leaves-each : (w : AloneIterMut K V S H) → LeavesEach w
   leaves-each w [] z same end =
-      whole z.map.now.row z.shard_i z.position ∙ ap (λ l. passed z ++ l) end ∙ ap (λ l. passed l ++ []) same ∙ ap (λ l. passed w ++ l) (sym (zip-none (map (λ p. p.0) (to_come w))))
+      whole z.map.now.row z.shard_i z.position ∙ ap (λ l. passed z ++ l) end ∙ ap (λ l. passed l ++ []) (sym same) ∙ ap (λ l. passed w ++ l) (sym (zip-none (map (λ p. p.0) (to_come w))))
   leaves-each w (v ∷ vs) z (u, (item, p), rest) end =
       leaves-each u vs z rest end ∙ ap (λ l. l ++ zip (map (λ p. p.0) (to_come u)) vs) p.left ∙ append_assoc (passed w) ((item.0, v) ∷ []) (zip (map (λ p. p.0) (to_come u)) vs)
       ∙ ap (λ l. passed w ++ zip (map (λ p. p.0) l) (v ∷ vs)) (sym p.first)

@@ -1,5 +1,5 @@
 -- What workers who each put a shard's pairs into it leave in the whole map.
-use Rattle.std.proofs.Common.{◌≡◌, ℕ, ◌<◌, ◌≤◌, ◌==◌, cond, true, false, List, [], ◌∷◌, ◌++◌, map, All, length, Option, Some, Result, Ok, Err, slice_get, get_or, take, drop, refl, sym, ap, ap₂, subst, ◌∙◌, length-set, arith}
+use Rattle.std.proofs.Common.{◌≡◌, ℕ, ◌<◌, ◌≤◌, ◌==◌, cond, true, false, List, [], ◌∷◌, ◌++◌, map, All, length, Option, Some, Result, Ok, Err, slice_get, get_or, take, drop, refl, sym, ap, ap₂, subst, ◌∙◌, length-set, append-nil, arith}
 use Rattle.std.specs.Prelude.{⊤, OnOk}
 use Rattle.std.proofs.Math.Seq.{take-append_seam}
 use Rattle.std.proofs.lemmas.List.{get_or_default}
@@ -111,8 +111,9 @@ module _ {K V S : Type 0} (h : KeyHash K S) where
           let some : 0 < length row = omega (arith, lawful.amount.several) in
           put-each ps row row' (length row) refl lawful (weave PutsIn goes (map silent ps) row row' long (λ k d within. route_below (h.hash base (get_or (map silent ps) k d).0.0) (length row) some)
           (λ s d lt.
-          let r = whole s d lt in
-          subst (λ l. TakenInTurn PutsIn (get_or row s d) l (get_or row' s d)) (sym (silent-part goes s ps ∙ ap (map silent) r.in_order ∙ silent-steps r.taken)) r.in_turn))
+          let r = (whole s d lt).0 in
+          let all : steps_of goes s ps ≡ map (λ d. d.0) r.front = r.in_order ∙ ap (λ l. map (λ d. d.0) r.front ++ l) (whole s d lt).1 ∙ append-nil (map (λ d. d.0) r.front) in
+          subst (λ l. TakenInTurn PutsIn (get_or row s d) l (get_or row' s d)) (sym (silent-part goes s ps ∙ ap (map silent) all ∙ silent-steps r.front)) r.in_turn))
 
     -- what the dealer m of this row makes of it, where the row is lent and a row of as many shards comes back
     module _ (row : List (ShardState K V S)) (lawful : IsAlone h (of row)) (m : MapState S) (dealer : m ≡ record { hasher = base; amount = length row }) (lent : List (ShardState K V S)) (all : lent ≡ row) where

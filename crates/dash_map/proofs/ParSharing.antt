@@ -1,5 +1,5 @@
 -- What workers who each hold one shard at a time put behind the locks of a map.
-use Rattle.std.proofs.Common.{◌≡◌, ℕ, ◌<◌, Bool, false, List, ◌++◌, All, Result, map, get_or, refl, sym, ap, subst, ◌∙◌, append-nil, arith}
+use Rattle.std.proofs.Common.{◌≡◌, ℕ, ◌<◌, Bool, false, List, All, Result, get_or, refl, sym, subst, arith}
 use Rattle.std.specs.Prelude.{⊤, OnOk}
 use Rattle.std.proofs.lemmas.Result.{IfOk-weaker}
 use Rattle.dash_parallel.specs.Apart.{steps_of}
@@ -20,8 +20,7 @@ module _ {K V S : Type 0} (h : KeyHash K S) (m : MapState S) where
   held-puts i s t ps replies refused tagged found lane left whole key route =
       let r = lane.ran in
       let k = keeps h s r.front t tagged.shard r.in_turn in
-      left-behind h m key i (sym route) s t tagged found k.stays k.lawful left (PutsAll h ps)
-      (record { taken = r.front; in_order = r.in_order ∙ ap (λ l. map (λ d. d.0) r.front ++ l) (lane.whole whole) ∙ append-nil (map (λ d. d.0) r.front); in_turn = r.in_turn })
+      left-behind h m key i (sym route) s t tagged found k.stays k.lawful left (PutsAll h ps) (r, lane.whole whole)
 
   module _ (d : MapState S) (ps : List (K × V)) where
     abbrev deals : K × V → ℕ

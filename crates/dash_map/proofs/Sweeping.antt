@@ -11,7 +11,8 @@ use Rattle.std.proofs.lemmas.Option.{slice_get_within, get_or_from_slice_get}
 use Rattle.dash_shard.specs.Contents.{Keys, at, Distinct}
 use Rattle.dash_shard.specs.Shard.{ShardState, IsShard, taken, pairs}
 use Rattle.dash_shard.specs.Steps.{Act}
-use Rattle.dash_shard.specs.Each.{CalledAlong, ByCalls}
+use Rattle.dash_shard.specs.Each.{ByCalls}
+use Rattle.dash_shard.specs.inner.Gives.{CalledAlong}
 use Rattle.dash_shard.specs.inner.Walks.{Sweeps, SweepsShard, if_kept, altered}
 use Rattle.dash_shard.proofs.Alls.{kept-key, altered-key, length-altered}
 use Rattle.dash_shard.proofs.Remade.{KeepsKey, remade, at-remade, fewer-remade, Acts, acts, makes}

@@ -1,5 +1,6 @@
 -- A walk over a map of one owner, for writing: the map, the pairs that it passed, as they were left, and those to come.
 use Rattle.std.specs.Prelude.{ℕ, suc, ◌≡◌, List, [], ◌∷◌, ◌++◌, map, take, drop, zip, flat_map, slice_get, slice_set, Option, Some, None}
+use Rattle.std.specs.List.{FoldsTo}
 use Rattle.std.specs.Option.{option_map_or}
 use Rattle.std.specs.Borrow.{GName}
 use Rattle.dash_shard.specs.Shard.{ShardState, taken, pairs}
@@ -73,8 +74,7 @@ module _ {K V S : Type 0} where
 
     -- steps from w to z passed a pair each, and left these values, one after the other
     abbrev pub PassesAlong : AloneIterMut K V S H → List V → AloneIterMut K V S H → Type 0
-    PassesAlong w [] z = z ≡ w
-    PassesAlong w (v ∷ vs) z = (u : AloneIterMut K V S H) × Passed w u v × PassesAlong u vs z
+    PassesAlong = FoldsTo (λ w v z. Passed w z v)
 
     -- A WHOLE RUN of steps from w to the end leaves in the map, behind the pairs that w had passed, each pair that was to come with the value
     -- that was left at it

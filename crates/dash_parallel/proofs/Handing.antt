@@ -6,7 +6,8 @@ use Rattle.std.specs.List.{zip}
 use Rattle.std.proofs.lemmas.List.{reverse-append, map-set, get_or-map}
 use Rattle.std.proofs.lemmas.List.Elements.{All-head, All-tail}
 use Rattle.std.proofs.lemmas.Bool.{cases_eq}
-use Rattle.dash_parallel.specs.Apart.{of_part, steps_of, replied, untaken}
+use Rattle.dash_parallel.specs.Apart.{of_part, steps_of}
+use Rattle.dash_parallel.specs.inner.Rows.{replied, untaken}
 use Rattle.dash_parallel.specs.inner.Lanes.{handed, queues}
 use Rattle.dash_parallel.specs.declared.lane.Lane.{Lane}
 

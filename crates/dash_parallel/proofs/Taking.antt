@@ -4,9 +4,10 @@ use Rattle.std.specs.List.{zip}
 use Rattle.std.specs.Prelude.{reverse, IsSome}
 use Rattle.std.proofs.lemmas.List.{length-map, length-reverse, reverse-reverse, get_or-map, get_or-reverse}
 use Rattle.std.proofs.lemmas.List.Elements.{All-cons, All-nil, All-head, All-tail, All-map}
-use Rattle.dash_parallel.specs.Apart.{EachPart, ParRan, RanFront, RanWhole, of_part, steps_of, replied, untaken}
+use Rattle.dash_parallel.specs.Apart.{EachPart, ParRan, RanFront, RanWhole, of_part, steps_of}
 use Rattle.dash_parallel.specs.inner.Halves.{EachBeside}
 use Rattle.dash_parallel.specs.inner.Lanes.{AreReady, handed, queues, HasRun, LaneRan}
+use Rattle.dash_parallel.specs.inner.Rows.{replied, untaken}
 use Rattle.dash_parallel.specs.declared.lane.Lane.{Lane}
 use Rattle.dash_parallel.proofs.Handing.{length-handed, pair_up, pair-front, part-handed}
 
@@ -66,9 +67,7 @@ module _ {P T Y : Type 0} (takes : P → T → Y → P → Type 0) (goes : T →
     none-left whole s d lt = (own-run s d (item s lt) lt).whole (whole s (item s lt) (omega (arith, lt, ran.lanes, ready.count)))
 
     pub wholes : All (λ lane. lane.refused ≡ false) lanes' → EachPart (RanWhole takes) goes steps ps qs
-    wholes whole s d lt =
-        let r = (own-run s d (item s lt) lt).ran in
-        record { taken = r.front; in_order = r.in_order ∙ ap (λ l. map (λ d. d.0) r.front ++ l) (none-left whole s d lt) ∙ append-nil (map (λ d. d.0) r.front); in_turn = r.in_turn }
+    wholes whole s d lt = ((own-run s d (item s lt) lt).ran, none-left whole s d lt)
 
     module _ (within : All (λ t. goes t < length ps) steps) (places : List ℕ) (in_order : reverse places ≡ map goes steps) (before replies : List (Option Y)) (none : before ≡ []) (out : replies ≡ before ++ handed (reverse places) (queues lanes')) where
       are : replies ≡ handed (map goes steps) (queues lanes')

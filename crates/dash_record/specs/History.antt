@@ -1,5 +1,6 @@
 -- The history of a shard and the log of a caller, and how both grow.
 use Rattle.std.specs.Prelude.{ℕ, ◌≡◌, ◌+◌, ◌<◌, ◌≤◌, ◌⊎◌, max, List, [], ◌∷◌, ◌++◌, map, All, ⊤, IsTrue}
+use Rattle.std.specs.List.{fold}
 use Rattle.dash_shard.specs.Steps as table
 use Rattle.dash_shard.specs.Steps.{line, line_shard}
 use Rattle.dash_shard.specs.Shard.{ShardState, IsShard, SameShard, pairs}
@@ -11,8 +12,7 @@ use Rattle.dash_steps.specs.declared.step.Record.{Record}
 
 -- the stamp of the last record, or the one given where there is none
 abbrev pub last_or : {K V A : Type 0} → ℕ → List (Record K V A) → ℕ
-last_or low [] = low
-last_or low (r ∷ rs) = last_or r.stamp rs
+last_or low rs = fold (λ _ r. r.stamp) low rs
 
 -- the stamps rise strictly, from above low
 abbrev pub Rises : {K V A : Type 0} → ℕ → List (Record K V A) → Type 0

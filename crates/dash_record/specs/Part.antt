@@ -1,5 +1,6 @@
 -- The part of a whole step in one shard.
 use Rattle.std.specs.Prelude.{ℕ, ◌≡◌, max, List, [], ◌∷◌, ◌++◌, IsTrue}
+use Rattle.std.specs.List.{fold}
 use Rattle.dash_shard.specs.Shard.{pairs}
 use Rattle.dash_steps.specs.Alike.{alike_reply}
 use Rattle.dash_steps.specs.Steps.{reply_of, part}
@@ -11,8 +12,7 @@ use Rattle.dash_record.specs.Joined.{part_reply}
 
 -- the greatest of a number and the lasts of these shards
 abbrev pub greatest : {X : Type 0} → (X → ℕ) → ℕ → List X → ℕ
-greatest last n [] = n
-greatest last n (x ∷ xs) = greatest last (max n (last x)) xs
+greatest last n xs = fold (λ m x. max m (last x)) n xs
 
 module _ {K V A S : Type 0} where
   -- the shard with one record more at the end of its history

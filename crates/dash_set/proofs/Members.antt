@@ -4,7 +4,7 @@ use Rattle.std.specs.Prelude.{not, is_some, IfSome, IfErr, IsErrAnd}
 use Rattle.std.specs.Iterator.{Yields, YieldsThen}
 use Rattle.std.specs.List.{AllZip, FoldsTo}
 use Rattle.std.specs.Map.Calls.{CallableOnEachPair, SomeCallAtPair}
-use Rattle.dash_shard.specs.Each.{CalledAlong}
+use Rattle.dash_shard.specs.inner.Gives.{CalledAlong}
 use Rattle.dash_shard.specs.Steps.{Act}
 use Rattle.dash_map.specs.Alone.{AloneState}
 use Rattle.dash_map.specs.AllPairs.{RetainsAlone}

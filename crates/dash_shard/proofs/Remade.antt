@@ -9,7 +9,7 @@ use Rattle.dash_shard.specs.Contents.{Keys, at, on, Distinct, EachOnce, IsOnShar
 use Rattle.dash_shard.specs.Steps.{Act}
 use Rattle.dash_shard.specs.Shard.{slot, taken}
 use Rattle.dash_shard.specs.inner.Table.{IsHashed}
-use Rattle.dash_shard.specs.Each.{CalledAlong}
+use Rattle.dash_shard.specs.inner.Gives.{CalledAlong}
 use Rattle.dash_shard.specs.inner.Walks.{Sweeps}
 use Rattle.dash_shard.proofs.Equals.{at-equal}
 use Rattle.dash_shard.proofs.Slots.{absent-at}

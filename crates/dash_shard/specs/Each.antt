@@ -1,5 +1,6 @@
 -- What calls on all pairs of a shard do and promise.
-use Rattle.std.specs.Prelude.{◌≡◌, ◌≤◌, Bool, List, [], ◌∷◌}
+use Rattle.std.specs.Prelude.{◌≡◌, ◌≤◌, Bool, List, []}
+use Rattle.std.specs.List.{FoldsTo}
 use Rattle.std.specs.Fn.{Mut, Takes, Called}
 use Rattle.dash_shard.specs.Steps.{Act, Step, Done}
 use Rattle.dash_shard.specs.Shard.{ShardState, pairs, shard_len, SameShard, TakesInPlace}
@@ -14,17 +15,12 @@ TakesOnPair {K = K} g f k v = (p : Bor K) → p.now ≡ k → Takes g f (p, (v, 
 abbrev pub CalledOnPair : {F K V : Type 0} → Mut F (Bor K × (V × Unit {0})) V → F → K → V → Bool → V → F → Type 0
 CalledOnPair {K = K} g f k v b w f' = (p : Bor K) × (p.now ≡ k) × Called g f (p, (v, tt)) w f'
 
--- The calls of f along these pairs, one after the other, did at each what the action says, and left f as the last. T f k v b w f' says
--- that f at the pair of k and v may return b, and leave the value w and itself as f'.
-abbrev pub CalledAlong : {F K V : Type 0} → (F → K → V → Bool → V → F → Type 0) → Act K V → F → List (K × V) → F → Type 0
-CalledAlong T act f [] last = f ≡ last
-CalledAlong {F = F} T act f (p ∷ ps) last = (f' : F) × T f p.0 p.1 (act p.0 p.1).1 (act p.0 p.1).0 f' × CalledAlong T act f' ps last
-
--- P is so of the action that says what these calls of f did
+-- P is so of the action that says what the calls of f along these pairs did, one after the other. T f k v b w f' says that f at the pair
+-- of k and v may return b, and leave the value w and itself as f'.
 pub record ByCalls {F K V : Type 0} (T : F → K → V → Bool → V → F → Type 0) (f : F) (ps : List (K × V)) (P : Act K V → Type 0) : Type 0 where
   pub act : Act K V
   pub last : F
-  pub called : CalledAlong T act f ps last
+  pub called : FoldsTo (λ f p f'. T f p.0 p.1 (act p.0 p.1).1 (act p.0 p.1).0 f') f ps last
   pub does : P act
 
 -- the step is taken in place, by the action that says what f did at the pairs

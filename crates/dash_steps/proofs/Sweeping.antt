@@ -5,7 +5,8 @@ use Rattle.std.proofs.lemmas.Bool.{cases_Bool, cases_eq, ne_eqb, and_from}
 use Rattle.dash_shard.specs.Contents.{at}
 use Rattle.dash_shard.specs.Steps.{Act, Retain, changed, if_yes}
 use Rattle.dash_shard.specs.Shard.{ShardState, pairs}
-use Rattle.dash_shard.specs.Each.{CalledAlong, SweepsBy}
+use Rattle.dash_shard.specs.Each.{SweepsBy}
+use Rattle.dash_shard.specs.inner.Gives.{CalledAlong}
 use Rattle.dash_shard.specs.inner.Steps.{after}
 use Rattle.dash_steps.specs.inner.Sweep.{GivesEach, SweptTo, PutsNext}
 use Rattle.dash_steps.specs.Takes.{Rules}

@@ -1,5 +1,6 @@
 -- What a step does to the contents of a map, up to alike, and what a list of steps does.
-use Rattle.std.specs.Prelude.{ℕ, ◌≡◌, ◌<◌, ◌≤◌, Bool, List, [], ◌∷◌, IsTrue}
+use Rattle.std.specs.Prelude.{ℕ, ◌<◌, ◌≤◌, Bool, List, IsTrue}
+use Rattle.std.specs.List.{FoldsTo}
 use Rattle.std.specs.Hash.{HashWrites}
 use Rattle.std.specs.declared.hash.Hasher as hasher
 use Rattle.std.specs.declared.hash.BuildHasher as builder
@@ -45,8 +46,7 @@ module _ {K V : Type 0} (m : Rules K V) where
 
   -- runs: the steps, taken one after the other from P on, may get these replies, and leave Q
   abbrev pub Runs : List (K × V) → List (Step K V × Reply K V) → List (K × V) → Type 0
-  Runs P [] Q = P ≡ Q
-  Runs P (d ∷ ds) Q = (M : List (K × V)) × Takes P d.0 d.1 M × Runs M ds Q
+  Runs = FoldsTo (λ P d Q. Takes P d.0 d.1 Q)
 
 -- the step is taken on a shard of a map, up to alike: it stays the shard that it is, loses no room, and stays lawful
 pub record TakesOn {K V S : Type 0} (h : KeyHash K S) (k : K → K → Bool) (v : V → V → Bool) (old : ShardState K V S) (step : Step K V) (new : ShardState K V S) (reply : program.Reply K V) : Type 0 where
