@@ -1,5 +1,5 @@
 -- A closure along pairs, one call after the other.
-use Rattle.std.proofs.Common.{Bor, ◌≡◌, ℕ, ◌+◌, List, [], ◌∷◌, ◌++◌, map, flat_map, append-nil, refl, sym, ap, subst, ◌∙◌}
+use Rattle.std.proofs.Common.{◌≡◌, ℕ, ◌+◌, List, [], ◌∷◌, ◌++◌, map, flat_map, append-nil, refl, sym, ap, subst, ◌∙◌}
 use Rattle.std.proofs.lemmas.Grind.{flat_map-append}
 use Rattle.std.proofs.lemmas.List.{map-append}
 use Rattle.std.specs.Fn.{Mut}
@@ -7,7 +7,7 @@ use Rattle.std.specs.List.{FoldsTo}
 use Rattle.dash_lock.specs.Lock.{FoundBehind}
 use Rattle.dash_shard.specs.Hashing.{KeyHash}
 use Rattle.dash_shard.specs.Shard.{ShardState, IsTagged, pairs}
-use Rattle.dash_map.specs.Folds.{FoldsPair, FoldsKey, MayFold, MayFoldKeys, MayVisit, MayVisitKeys, VisitsPair, VisitsKey}
+use Rattle.dash_map.specs.Folds.{Folds, MayFold, MayVisit, Visits}
 use Rattle.dash_map.specs.Map.{MapState}
 use Rattle.dash_map.proofs.Seeing.{SeenSo, seen-more}
 
@@ -61,14 +61,8 @@ keys-flat [] = refl
 keys-flat (s ∷ row) = ap (λ l. keys_of (pairs s) ++ l) (keys-flat row) ∙ sym (map-append (λ p. p.0) (pairs s) (flat_map pairs row))
 
 -- a closure that may be called along any items may go on so
-pub fold-on : {F K V T : Type 0} (g : Mut F (T × (Bor K × (Bor V × Unit {0}))) T) (p q : F × T) (ps : List (K × V)) → MayFold g p.0 p.1 → FoldsTo (FoldsPair g) p ps q → MayFold g q.0 q.1
-fold-on g p q ps may h = λ qs next k v more. may (ps ++ qs) next k v (along-append (FoldsPair g) ps qs p q next h more)
+pub fold-on : {F A X T : Type 0} (lent : A → X → Type 0) (g : Mut F (T × A) T) (p q : F × T) (xs : List X) → MayFold lent g p.0 p.1 → FoldsTo (Folds lent g) p xs q → MayFold lent g q.0 q.1
+fold-on lent g p q xs may h = λ ys next a more. may (xs ++ ys) next a (along-append (Folds lent g) xs ys p q next h more)
 
-pub visit-on : {F K V : Type 0} (g : Mut F (Bor K × (Bor V × Unit {0})) (Unit {0})) (p q : F) (ps : List (K × V)) → MayVisit g p → FoldsTo (VisitsPair g) p ps q → MayVisit g q
-visit-on g p q ps may h = λ qs next k v more. may (ps ++ qs) next k v (along-append (VisitsPair g) ps qs p q next h more)
-
-pub fold-keys-on : {F K T : Type 0} (g : Mut F (T × (Bor K × Unit {0})) T) (p q : F × T) (ks : List K) → MayFoldKeys g p.0 p.1 → FoldsTo (FoldsKey g) p ks q → MayFoldKeys g q.0 q.1
-fold-keys-on g p q ks may h = λ js next k more. may (ks ++ js) next k (along-append (FoldsKey g) ks js p q next h more)
-
-pub visit-keys-on : {F K : Type 0} (g : Mut F (Bor K × Unit {0}) (Unit {0})) (p q : F) (ks : List K) → MayVisitKeys g p → FoldsTo (VisitsKey g) p ks q → MayVisitKeys g q
-visit-keys-on g p q ks may h = λ js next k more. may (ks ++ js) next k (along-append (VisitsKey g) ks js p q next h more)
+pub visit-on : {F A X : Type 0} (lent : A → X → Type 0) (g : Mut F A (Unit {0})) (p q : F) (xs : List X) → MayVisit lent g p → FoldsTo (Visits lent g) p xs q → MayVisit lent g q
+visit-on lent g p q xs may h = λ ys next a more. may (xs ++ ys) next a (along-append (Visits lent g) xs ys p q next h more)

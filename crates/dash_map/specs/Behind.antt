@@ -31,13 +31,9 @@ module _ {K V S : Type 0} (h : KeyHash K S) where
   abbrev pub SawAt : MapState S → K → (Option (K × V) → Type 0) → Type 0
   SawAt m key P = SawShard m key (λ s. P (at h.eq (pairs s) key))
 
-  -- P is so of a shard that was left there
-  abbrev pub LeftShard : MapState S → K → (ShardState K V S → Type 0) → Type 0
-  LeftShard m key P = (t : ShardState K V S) × StandsAt m key t × LeftBehind t × P t
-
   -- R of a shard that was found where the key goes, and of the one that was left there
   abbrev pub LeavesShard : MapState S → K → (ShardState K V S → ShardState K V S → Type 0) → Type 0
-  LeavesShard m key R = SawShard m key (λ s. LeftShard m key (R s))
+  LeavesShard m key R = SawShard m key (λ s. (t : ShardState K V S) × StandsAt m key t × LeftBehind t × R s t)
 
   -- the pair that is returned, if one is, was taken out in place
   abbrev pub Removes : MapState S → K → Option (K × V) → Type 0

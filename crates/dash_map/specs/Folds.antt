@@ -4,56 +4,37 @@ use Rattle.std.specs.Fn.{Mut, Takes, Called}
 use Rattle.std.specs.List.{FoldsTo}
 use denote.Ref.{Bor}
 
--- f makes one value of another and a pair, again and again
-module _ {F K V T : Type 0} (g : Mut F (T × (Bor K × (Bor V × Unit {0}))) T) where
-  -- a call of f at a value and the pair p gives the next value, and leaves f as it then is
-  abbrev pub FoldsPair : F × T → K × V → F × T → Type 0
-  FoldsPair from p to = (k : Bor K) × (v : Bor V) × (k.now ≡ p.0) × (v.now ≡ p.1) × Called g from.0 (from.1, (k, (v, tt))) to.1 to.0
+-- a call is lent a pair: a `&` to its key, and one to its value
+abbrev pub of_pair : {K V : Type 0} → Bor K × (Bor V × Unit {0}) → K × V → Type 0
+of_pair a p = (a.0.now ≡ p.0) × (a.1.0.now ≡ p.1)
 
-  -- f was called at each of these pairs in turn, from first on, and result is what the last call gave
-  abbrev pub FoldsPairs : F → T → List (K × V) → T → Type 0
-  FoldsPairs f first ps result = (last : F) × FoldsTo FoldsPair (f, first) ps (last, result)
+-- or a key
+abbrev pub of_key : {K : Type 0} → Bor K × Unit {0} → K → Type 0
+of_key a k = a.0.now ≡ k
 
-  -- f may be called so along any pairs
+-- f makes one value of another and an item that it is lent, again and again
+module _ {F A X T : Type 0} (lent : A → X → Type 0) (g : Mut F (T × A) T) where
+  -- a call of f at a value and an item gives the next value, and leaves f as it then is
+  abbrev pub Folds : F × T → X → F × T → Type 0
+  Folds from x to = (a : A) × lent a x × Called g from.0 (from.1, a) to.1 to.0
+
+  -- f was called at each of these items in turn, from first on, and result is what the last call gave
+  abbrev pub FoldsEach : F → T → List X → T → Type 0
+  FoldsEach f first xs result = (last : F) × FoldsTo Folds (f, first) xs (last, result)
+
+  -- f may be called so along any items
   abbrev pub MayFold : F → T → Type 0
-  MayFold f first = (ps : List (K × V)) (to : F × T) (k : Bor K) (v : Bor V) → FoldsTo FoldsPair (f, first) ps to → Takes g to.0 (to.1, (k, (v, tt)))
+  MayFold f first = (xs : List X) (to : F × T) (a : A) → FoldsTo Folds (f, first) xs to → Takes g to.0 (to.1, a)
 
 -- f returns nothing
-module _ {F K V : Type 0} (g : Mut F (Bor K × (Bor V × Unit {0})) (Unit {0})) where
-  abbrev pub VisitsPair : F → K × V → F → Type 0
-  VisitsPair f p to = (k : Bor K) × (v : Bor V) × (k.now ≡ p.0) × (v.now ≡ p.1) × Called g f (k, (v, tt)) tt to
+module _ {F A X : Type 0} (lent : A → X → Type 0) (g : Mut F A (Unit {0})) where
+  abbrev pub Visits : F → X → F → Type 0
+  Visits f x to = (a : A) × lent a x × Called g f a tt to
 
-  -- f was called at each of these pairs in turn
-  abbrev pub VisitsPairs : F → List (K × V) → Type 0
-  VisitsPairs f ps = (last : F) × FoldsTo VisitsPair f ps last
+  -- f was called at each of these items in turn
+  abbrev pub VisitsEach : F → List X → Type 0
+  VisitsEach f xs = (last : F) × FoldsTo Visits f xs last
 
-  -- f may be called so along any pairs
+  -- f may be called so along any items
   abbrev pub MayVisit : F → Type 0
-  MayVisit f = (ps : List (K × V)) (to : F) (k : Bor K) (v : Bor V) → FoldsTo VisitsPair f ps to → Takes g to (k, (v, tt))
-
--- f makes one value of another and a key, again and again
-module _ {F K T : Type 0} (g : Mut F (T × (Bor K × Unit {0})) T) where
-  -- a call of f at a value and the key k gives the next value, and leaves f as it then is
-  abbrev pub FoldsKey : F × T → K → F × T → Type 0
-  FoldsKey from k to = (p : Bor K) × (p.now ≡ k) × Called g from.0 (from.1, (p, tt)) to.1 to.0
-
-  -- f was called at each of these keys in turn, from first on, and result is what the last call gave
-  abbrev pub FoldsKeys : F → T → List K → T → Type 0
-  FoldsKeys f first ks result = (last : F) × FoldsTo FoldsKey (f, first) ks (last, result)
-
-  -- f may be called so along any keys
-  abbrev pub MayFoldKeys : F → T → Type 0
-  MayFoldKeys f first = (ks : List K) (to : F × T) (p : Bor K) → FoldsTo FoldsKey (f, first) ks to → Takes g to.0 (to.1, (p, tt))
-
--- f returns nothing
-module _ {F K : Type 0} (g : Mut F (Bor K × Unit {0}) (Unit {0})) where
-  abbrev pub VisitsKey : F → K → F → Type 0
-  VisitsKey f k to = (p : Bor K) × (p.now ≡ k) × Called g f (p, tt) tt to
-
-  -- f was called at each of these keys in turn
-  abbrev pub VisitsKeys : F → List K → Type 0
-  VisitsKeys f ks = (last : F) × FoldsTo VisitsKey f ks last
-
-  -- f may be called so along any keys
-  abbrev pub MayVisitKeys : F → Type 0
-  MayVisitKeys f = (ks : List K) (to : F) (p : Bor K) → FoldsTo VisitsKey f ks to → Takes g to (p, tt)
+  MayVisit f = (xs : List X) (to : F) (a : A) → FoldsTo Visits f xs to → Takes g to a

@@ -3,7 +3,7 @@ ghost use Rattle.std.specs.Prelude.{IfOk, map};
 ghost use Rattle.std.specs.List.{FoldsTo};
 ghost use Rattle.dash_map.specs.Alone.{IsAlone};
 ghost use Rattle.dash_map.specs.Behind.{SawShards};
-ghost use Rattle.dash_map.specs.Folds.{FoldsPair, FoldsKey, MayFold, MayFoldKeys, MayVisit, MayVisitKeys, VisitsPair, VisitsKey};
+ghost use Rattle.dash_map.specs.Folds.{Folds, MayFold, MayVisit, Visits, of_key, of_pair};
 ghost use Rattle.dash_map.specs.Pairs.{CopiesPairs};
 
 use crate::alone::Alone;
@@ -24,8 +24,8 @@ pub(crate) fn fold_pairs<K, V, T, F: FnMut(T, &K, &V) -> T>(
     first: T,
     mut f: F,
 ) -> (T, F)
-    requires { MayFold F.FnMut f first }
-    ensures { FoldsTo (FoldsPair F.FnMut) (f, first) pairs.entry (result.1, result.0) }
+    requires { MayFold of_pair F.FnMut f first }
+    ensures { FoldsTo (Folds of_pair F.FnMut) (f, first) pairs.entry (result.1, result.0) }
 {
     let mut folded = first;
     for (key, value) in pairs {
@@ -41,8 +41,8 @@ pub(crate) fn fold_keys_of<K, V, T, F: FnMut(T, &K) -> T>(
     first: T,
     mut f: F,
 ) -> (T, F)
-    requires { MayFoldKeys F.FnMut f first }
-    ensures { FoldsTo (FoldsKey F.FnMut) (f, first) (map (λ p. p.0) pairs.entry) (result.1, result.0) }
+    requires { MayFold of_key F.FnMut f first }
+    ensures { FoldsTo (Folds of_key F.FnMut) (f, first) (map (λ p. p.0) pairs.entry) (result.1, result.0) }
 {
     let mut folded = first;
     for (key, _) in pairs {
@@ -54,8 +54,8 @@ pub(crate) fn fold_keys_of<K, V, T, F: FnMut(T, &K) -> T>(
 // Calls `f` at each of these pairs in turn, and returns it as that leaves it.
 #[inline]
 pub(crate) fn visit_pairs<K, V, F: FnMut(&K, &V)>(pairs: Iter<'_, K, V>, mut f: F) -> F
-    requires { MayVisit F.FnMut f }
-    ensures { FoldsTo (VisitsPair F.FnMut) f pairs.entry result }
+    requires { MayVisit of_pair F.FnMut f }
+    ensures { FoldsTo (Visits of_pair F.FnMut) f pairs.entry result }
 {
     for (key, value) in pairs {
         f(key, value);
@@ -66,8 +66,8 @@ pub(crate) fn visit_pairs<K, V, F: FnMut(&K, &V)>(pairs: Iter<'_, K, V>, mut f: 
 // The same of their keys.
 #[inline]
 pub(crate) fn visit_keys_of<K, V, F: FnMut(&K)>(pairs: Iter<'_, K, V>, mut f: F) -> F
-    requires { MayVisitKeys F.FnMut f }
-    ensures { FoldsTo (VisitsKey F.FnMut) f (map (λ p. p.0) pairs.entry) result }
+    requires { MayVisit of_key F.FnMut f }
+    ensures { FoldsTo (Visits of_key F.FnMut) f (map (λ p. p.0) pairs.entry) result }
 {
     for (key, _) in pairs {
         f(key);

@@ -8,7 +8,7 @@ ghost use Rattle.dash_map.specs.Alone.{IsAlone, contents, len_in, room_in};
 ghost use Rattle.dash_lock.specs.Lock.{FoundBehind, LeftBehind};
 ghost use Rattle.dash_map.specs.Behind.{AreBehind};
 ghost use Rattle.dash_map.specs.Copies.{CopiesAlone};
-ghost use Rattle.dash_map.specs.Folds.{FoldsPairs, MayFold, MayVisit, VisitsPairs};
+ghost use Rattle.dash_map.specs.Folds.{FoldsEach, MayFold, MayVisit, VisitsEach, of_pair};
 ghost use Rattle.dash_shard.specs.Hashing.{HashAlike};
 
 use crate::alone::Alone;
@@ -149,8 +149,8 @@ impl<K: Eq + Hash, V, S: BuildHasher> ReadOnlyView<K, V, S> {
     /// What `f` makes of `first` and the pairs, called at each in turn with what it made before, in the order of `iter`.
     #[inline]
     pub fn fold<T, F: FnMut(T, &K, &V) -> T>(&self, first: T, mut f: F) -> T
-        requires { MayFold F.FnMut f first }
-        ensures { FoldsPairs F.FnMut f first (contents self.now) result }
+        requires { MayFold of_pair F.FnMut f first }
+        ensures { FoldsEach of_pair F.FnMut f first (contents self.now) result }
     {
         let mut folded = first;
         for (key, value) in self.iter() {
@@ -162,8 +162,8 @@ impl<K: Eq + Hash, V, S: BuildHasher> ReadOnlyView<K, V, S> {
     /// Calls `f` at each pair, in the order of `iter`.
     #[inline]
     pub fn for_each<F: FnMut(&K, &V)>(&self, mut f: F)
-        requires { MayVisit F.FnMut f }
-        ensures { VisitsPairs F.FnMut f (contents self.now) }
+        requires { MayVisit of_pair F.FnMut f }
+        ensures { VisitsEach of_pair F.FnMut f (contents self.now) }
     {
         for (key, value) in self.iter() {
             f(key, value);

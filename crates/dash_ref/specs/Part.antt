@@ -1,5 +1,5 @@
 -- What a projection says of a value: the part, if the value has it, and the value with a new part.
-use Rattle.std.specs.Prelude.{◌≡◌, Option, Some, None, IsSome}
+use Rattle.std.specs.Prelude.{◌≡◌, Option, Some, IsSome}
 
 -- projection laws
 pub record IsPart {V T : Type 0} (part : V → Option T) (with : V → T → V) : Type 0 where
@@ -9,8 +9,3 @@ pub record IsPart {V T : Type 0} (part : V → Option T) (with : V → T → V) 
   pub own : (v : V) (t : T) → part v ≡ Some t → with v t ≡ v
   -- the last change counts
   pub last : (v : V) (t u : T) → IsSome (part v) → with (with v t) u ≡ with v u
-
--- an option with a new value, where it has one
-abbrev pub with_payload : {T : Type 0} → Option T → T → Option T
-with_payload None t = None
-with_payload (Some x) t = Some t

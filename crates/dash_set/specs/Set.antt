@@ -1,12 +1,9 @@
 -- A set is a map to unit: what its calls ask and return, in the words of that map.
-use Rattle.std.specs.Prelude.{◌≡◌, Bool, List, Option, Some, None, Result, Ok, Err, map, true, if◌then◌else◌}
+use Rattle.std.specs.Prelude.{◌≡◌, Bool, List, Option, Some, None, Result, Ok, Err, map, if◌then◌else◌}
 use Rattle.std.specs.Option.{option_map}
-use Rattle.std.specs.Fn.{Once, Mut, Shared, FnOnceReturnsAt, FnReturnsAt, CalledAt, TakesAt}
-use Rattle.std.specs.List.{AllZip}
+use Rattle.std.specs.Fn.{Once, Mut, Shared, FnOnceReturnsAt, CalledAt, TakesAt}
 use denote.Ref.{Bor}
 use Rattle.dash_shard.specs.declared.shard.InsertRefused.{InsertRefused}
-use Rattle.dash_map.specs.Alone.{AloneState, contents}
-use Rattle.dash_map.specs.Copies.{CopiesAlone}
 
 -- the old value of a key that an `insert` said to be new, or not to be
 abbrev pub stood : Bool → Option (Unit {0})
@@ -34,16 +31,8 @@ module _ {K : Type 0} where
   abbrev pub keys_of : List (K × Unit {0}) → List K
   keys_of ps = map (λ p. p.0) ps
 
--- a set has copies of the keys of another
-abbrev pub CopiesKeys : {K S : Type 0} → (K → K → Bool) → (K → K → Bool) → (S → S → Type 0) → AloneState K (Unit {0}) S → AloneState K (Unit {0}) S → Type 0
-CopiesKeys eq alike clone = CopiesAlone eq alike (λ _ _. true) clone
-
 module _ {F K : Type 0} where
-  -- f may be called at the key
-  abbrev pub MayAskKey : Once F (Bor K × Unit {0}) Bool → F → K → Type 0
-  MayAskKey g f k = (p : Bor K) → p.now ≡ k → g.pre f (p, tt)
-
-  -- and may give the action's answer there
+  -- f may give the action's answer at the key
   abbrev pub AnsweredKey : Once F (Bor K × Unit {0}) Bool → F → K × Unit {0} → Unit {0} × Bool → Type 0
   AnsweredKey g f p d = FnOnceReturnsAt g f p.0 d.1
 
@@ -59,7 +48,3 @@ module _ {F K T : Type 0} (g : Shared F (Bor K × Unit {0}) T) (f : F) where
   -- f may be called at the key, by several threads
   abbrev pub MayMapKey : K → Type 0
   MayMapKey k = (p : Bor K) → p.now ≡ k → g.pre f (p, tt)
-
-  -- an answer of f to each key of the set, once, in the order of its shards and slots
-  abbrev pub MapsKeys : {S : Type 0} → List T → AloneState K (Unit {0}) S → Type 0
-  MapsKeys answers a = AllZip (FnReturnsAt g f) (keys_of (contents a)) answers

@@ -1,5 +1,7 @@
 //! Lists of keys that several workers put into a set, and parallel work on its keys.
 ghost use Rattle.std.specs.Prelude.{◌≡◌, ◌↔◌, ◌∷◌, [], IfOk, IfErr, IsErrOf, OnOk, length};
+ghost use Rattle.std.specs.Fn.{FnReturnsAt};
+ghost use Rattle.std.specs.List.{AllZip};
 ghost use Rattle.std.specs.Thread.{IsSync};
 ghost use denote.Param.Send.{IsSend};
 ghost use Rattle.dash_shard.specs.Errors.{IsOneOf};
@@ -9,7 +11,7 @@ ghost use Rattle.dash_map.specs.Amounts.{IsDefault, IsParallelism};
 ghost use Rattle.dash_map.specs.Alone.{IsAlone, contents};
 ghost use Rattle.dash_map.specs.Behind.{LeftShards, SawShards};
 ghost use Rattle.dash_map.specs.Extend.{MadeOf, ParExtends, ParExtendsBehind, PutsEachBehind};
-ghost use Rattle.dash_set.specs.Set.{MapsKeys, MayMapKey, keys_of, members};
+ghost use Rattle.dash_set.specs.Set.{MayMapKey, keys_of, members};
 
 use crate::set::{AloneSet, DashSet};
 use core::mem::replace_with;
@@ -240,7 +242,7 @@ where
         f: F,
     ) -> Result<Vec<T>, AllocError>
         requires { (k : K) → MayMapKey F.Fn f k }
-        ensures { IfOk result (λ list. SawShards ⟦<Self as Keyed>⟧.by self.entry (MapsKeys F.Fn f list.items)) }
+        ensures { IfOk result (λ list. SawShards ⟦<Self as Keyed>⟧.by self.entry (λ a. AllZip (FnReturnsAt F.Fn f) (keys_of (contents a)) list.items)) }
     {
         self.inner.map_collect(
             rt,

@@ -1,5 +1,6 @@
 //! A set that threads share: a map to unit.
-ghost use Rattle.std.specs.Prelude.{ℕ, ◌≡◌, ◌<◌, ◌∷◌, [], ◌==◌, ◌↔◌, length, IsTrue, IfSome, IfOk, IfErr, IsErrOf, is_some};
+ghost use Rattle.std.specs.Prelude.{ℕ, ◌≡◌, ◌<◌, ◌∷◌, [], ◌==◌, ◌↔◌, length, true, IsTrue, IfSome, IfOk, IfErr, IsErrOf, is_some};
+ghost use Rattle.std.specs.Fn.{FnOnceTakesAt};
 ghost use Rattle.dash_shard.specs.Hashing.{by, HashAlike, hash_of, route_of_hash, route_by};
 ghost use Rattle.dash_shard.specs.Errors.{IsOneOf};
 ghost use Rattle.dash_shard.specs.Held.{Inserts};
@@ -8,12 +9,13 @@ ghost use Rattle.dash_shard.specs.declared.error.ConstructError.TheVariants.{Cap
 ghost use Rattle.dash_map.specs.Alone.{contents, len_in, room_in};
 ghost use Rattle.dash_map.specs.AllPairs.{ClearsAlone, RetainsAlone, ShrinksAlone};
 ghost use Rattle.dash_map.specs.Amounts.{IsDefault, IsParallelism, OverflowsDefault};
+ghost use Rattle.dash_map.specs.Copies.{CopiesAlone};
 ghost use Rattle.dash_map.specs.Behind.{CallableOnPairs, LeavesShard, LeavesShards, LeftShards, Removes, RemovesBy, SawAt, SawShards};
-ghost use Rattle.dash_map.specs.Folds.{FoldsKeys, MayFoldKeys, MayVisitKeys, VisitsKeys};
+ghost use Rattle.dash_map.specs.Folds.{FoldsEach, MayFold, MayVisit, VisitsEach, of_key};
 ghost use Rattle.dash_map.specs.Gets.{IsGot};
 ghost use Rattle.dash_map.specs.Locks.{IsMap};
 ghost use Rattle.dash_map.specs.Walking.{at_start};
-ghost use Rattle.dash_set.specs.Set.{AnsweredKey, CalledAtKey, CopiesKeys, MayAskKey, TakesKey, inserted, keys_of, member};
+ghost use Rattle.dash_set.specs.Set.{AnsweredKey, CalledAtKey, TakesKey, inserted, keys_of, member};
 
 use crate::iter_set::{Iter, OwningIter};
 use crate::setref::one::Ref;
@@ -212,7 +214,7 @@ impl<K: Eq + Hash, S: BuildHasher> DashSet<K, S> {
         key: &K,
         f: F,
     ) -> Option<K>
-        requires { (k : K) → IsTrue (K.eq k key.now) → MayAskKey F.FnOnce f k }
+        requires { (k : K) → IsTrue (K.eq k key.now) → FnOnceTakesAt F.FnOnce f k }
         ensures { RemovesBy ⟦<Self as Keyed>⟧.by self.now RemoveIf key.now (member result) (AnsweredKey F.FnOnce f) }
     {
         let (key, _) = self.inner.remove_if(
@@ -279,8 +281,8 @@ impl<K: Eq + Hash, S: BuildHasher> DashSet<K, S> {
     /// takes no memory, and can't be refused. The original has no such call.
     #[inline]
     pub fn fold<R: Wait + Clock, T, F: FnMut(T, &K) -> T>(&self, rt: &R, first: T, f: F) -> T
-        requires { MayFoldKeys F.FnMut f first }
-        ensures { SawShards ⟦<Self as Keyed>⟧.by self.now (λ a. FoldsKeys F.FnMut f first (keys_of (contents a)) result) }
+        requires { MayFold of_key F.FnMut f first }
+        ensures { SawShards ⟦<Self as Keyed>⟧.by self.now (λ a. FoldsEach of_key F.FnMut f first (keys_of (contents a)) result) }
     {
         self.inner.fold_keys(rt, first, f)
     }
@@ -288,8 +290,8 @@ impl<K: Eq + Hash, S: BuildHasher> DashSet<K, S> {
     /// Calls `f` at each key. It waits and holds as `fold` does.
     #[inline]
     pub fn for_each<R: Wait + Clock, F: FnMut(&K)>(&self, rt: &R, f: F)
-        requires { MayVisitKeys F.FnMut f }
-        ensures { SawShards ⟦<Self as Keyed>⟧.by self.now (λ a. VisitsKeys F.FnMut f (keys_of (contents a))) }
+        requires { MayVisit of_key F.FnMut f }
+        ensures { SawShards ⟦<Self as Keyed>⟧.by self.now (λ a. VisitsEach of_key F.FnMut f (keys_of (contents a))) }
     {
         self.inner.for_each_key(rt, f);
     }
@@ -350,8 +352,8 @@ impl<K: KeptKey + Drop, S: BuildHasher + Clone + Drop> DashSet<K, S> {
     /// It waits, takes memory and is refused (4) as the map's `clone`.
     pub fn clone<R: Wait + Clock>(&self, rt: &R) -> Result<Self, AllocError>
         requires { (s t : S) → S.is_clone s t → HashAlike ⟦<Self as Keyed>⟧.by s t }
-        ensures { IfOk result (λ copy. SawShards ⟦<Self as Keyed>⟧.by self.now
-            (λ a. LeftShards ⟦<Self as Keyed>⟧.by copy (CopiesKeys K.eq K.alike S.is_clone a))) }
+        ensures { IfOk result (λ copy. SawShards {V = Unit {0}} ⟦<Self as Keyed>⟧.by self.now
+            (λ a. LeftShards ⟦<Self as Keyed>⟧.by copy (CopiesAlone K.eq K.alike (λ _ _. true) S.is_clone a))) }
     {
         let inner = self.inner.clone(rt)?;
         Ok(DashSet { inner })

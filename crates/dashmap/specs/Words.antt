@@ -11,7 +11,7 @@ pub use Rattle.dash_shard.specs.Shard.{ShardState, slot, pairs, shard_len, HasKe
 pub use Rattle.dash_shard.specs.Steps.{Step, Reply, Get, Contains, Insert, Remove, RemoveIf, RemoveIfMut, Alter, Read, Count, AlterAll, Retain, Pair, Found, Old, Number, Pairs, Done}
 pub use Rattle.dash_shard.specs.declared.error.ConstructError.{ConstructError}
 pub use Rattle.dash_shard.specs.declared.error.ConstructError.TheVariants.{CapacityOverflow, Memory, Parallelism, ShardAmount}
-pub use Rattle.dash_ref.specs.Part.{IsPart, with_payload}
+pub use Rattle.dash_ref.specs.Part.{IsPart}
 pub use Rattle.dash_ref.specs.inner.Parts.{field_is_part, payload_is_part}
 pub use Rattle.dash_ref.specs.Ref.{RefState, Stands, pair_of}
 pub use Rattle.dash_ref.specs.RefMut.{RefMutState, GetsMut, stored, rewritten}
@@ -21,8 +21,8 @@ pub use Rattle.dash_ref.specs.declared.mapref.entry.EntryCase.TheVariants.{Occup
 pub use Rattle.dash_map.specs.Alone.{AloneState, contents, IsAlone, KeepsRoom, ReservesAlone, TakesAlone, TakesAloneBy, keys_in, len_in, room_in}
 pub use Rattle.dash_map.specs.AllPairs.{AltersAllAlone, ClearsAlone, RetainsAlone, ShrinksAlone}
 pub use Rattle.dash_map.specs.Amounts.{IsDefault, IsParallelism}
-pub use Rattle.dash_map.specs.Behind.{AreBehind, LeavesShard, LeavesShards, LeftShard, LeftShards, SawAt, SawShard, SawShards, IsShardOf, StandsAt, Removes, RemovesBy, AltersBy}
-pub use Rattle.dash_map.specs.Folds.{FoldsKey, FoldsKeys, FoldsPair, FoldsPairs, MayFold, MayFoldKeys, MayVisit, MayVisitKeys, VisitsKey, VisitsKeys, VisitsPair, VisitsPairs}
+pub use Rattle.dash_map.specs.Behind.{AreBehind, LeavesShard, LeavesShards, LeftShards, SawAt, SawShard, SawShards, IsShardOf, StandsAt, Removes, RemovesBy, AltersBy}
+pub use Rattle.dash_map.specs.Folds.{Folds, FoldsEach, MayFold, MayVisit, Visits, VisitsEach, of_key, of_pair}
 pub use Rattle.dash_map.specs.Gets.{IsGot, IsGotMut, IsGotEntry}
 pub use Rattle.dash_map.specs.Lends.{with_value_at}
 pub use Rattle.dash_map.specs.Walking.{IterState, StepsOn, GivesPair, FindsEnd, at_start, steps_left}
@@ -34,5 +34,5 @@ pub use Rattle.dash_map.specs.Copies.{CopiesAlone}
 pub use Rattle.dash_map.specs.Extend.{Extends, ExtendsBehind, Gains, Gave, HasNoRoom, IsRefusedAmong, IsRefusedOf, InsertsEach, MadeOf, NotMade, Overfills, ParExtends, ParExtendsBehind, PutsAll, PutsEachBehind, PutsFront, first_with_last}
 pub use Rattle.dash_map.specs.Pairs.{CopiesPairs}
 pub use Rattle.dash_rows.specs.Parallel.{MayMap, Maps, MapsEach}
-pub use Rattle.dash_map.specs.Parallel.{MapsPairs, MayWrite, Writes}
-pub use Rattle.dash_set.specs.Set.{stood, member, inserted, keys_of, members, of_members, CopiesKeys, MapsKeys, MayMapKey}
+pub use Rattle.dash_map.specs.Parallel.{MayWrite, Writes}
+pub use Rattle.dash_set.specs.Set.{stood, member, inserted, keys_of, members, of_members, MayMapKey}

@@ -4,7 +4,7 @@ ghost use Rattle.std.specs.Map.Calls.{CalledAtPair, TakesPair};
 ghost use Rattle.dash_shard.specs.Each.{CalledOnPair, TakesOnPair};
 ghost use Rattle.dash_map.specs.Alone.{contents};
 ghost use Rattle.dash_map.specs.Behind.{CallableOnPairs, LeavesShards, SawShards};
-ghost use Rattle.dash_map.specs.Folds.{FoldsKeys, FoldsPairs, MayFold, MayFoldKeys, MayVisit, MayVisitKeys, VisitsKeys, VisitsPairs};
+ghost use Rattle.dash_map.specs.Folds.{FoldsEach, MayFold, MayVisit, VisitsEach, of_key, of_pair};
 ghost use Rattle.dash_map.specs.AllPairs.{ClearsAlone, ShrinksAlone, RetainsAlone, AltersAllAlone};
 
 use crate::map::DashMap;
@@ -76,8 +76,8 @@ impl<K: Eq + Hash, V, S: BuildHasher> DashMap<K, V, S> {
         first: T,
         mut f: F,
     ) -> T
-        requires { MayFold F.FnMut f first }
-        ensures { SawShards ⟦<Self as Keyed>⟧.by self.now (λ a. FoldsPairs F.FnMut f first (contents a) result) }
+        requires { MayFold of_pair F.FnMut f first }
+        ensures { SawShards ⟦<Self as Keyed>⟧.by self.now (λ a. FoldsEach of_pair F.FnMut f first (contents a) result) }
     {
         let mut folded = first;
         for idx in 0..self.row.len() {
@@ -90,8 +90,8 @@ impl<K: Eq + Hash, V, S: BuildHasher> DashMap<K, V, S> {
     /// Calls `f` at each pair. It waits and holds as `fold` does.
     #[inline]
     pub fn for_each<R: Wait + Clock, F: FnMut(&K, &V)>(&self, rt: &R, mut f: F)
-        requires { MayVisit F.FnMut f }
-        ensures { SawShards ⟦<Self as Keyed>⟧.by self.now (λ a. VisitsPairs F.FnMut f (contents a)) }
+        requires { MayVisit of_pair F.FnMut f }
+        ensures { SawShards ⟦<Self as Keyed>⟧.by self.now (λ a. VisitsEach of_pair F.FnMut f (contents a)) }
     {
         for idx in 0..self.row.len() {
             let shard = self.read_shard(rt, idx);
@@ -102,8 +102,8 @@ impl<K: Eq + Hash, V, S: BuildHasher> DashMap<K, V, S> {
     /// As `fold`, of the keys. For the crates here alone.
     #[inline]
     pub fn fold_keys<R: Wait + Clock, T, F: FnMut(T, &K) -> T>(&self, rt: &R, first: T, f: F) -> T
-        requires { MayFoldKeys F.FnMut f first }
-        ensures { SawShards {V = V} ⟦<Self as Keyed>⟧.by self.now (λ a. FoldsKeys F.FnMut f first (map (λ p. p.0) (contents a)) result) }
+        requires { MayFold of_key F.FnMut f first }
+        ensures { SawShards {V = V} ⟦<Self as Keyed>⟧.by self.now (λ a. FoldsEach of_key F.FnMut f first (map (λ p. p.0) (contents a)) result) }
     {
         let (mut folded, mut f) = (first, f);
         for idx in 0..self.row.len() {
@@ -116,8 +116,8 @@ impl<K: Eq + Hash, V, S: BuildHasher> DashMap<K, V, S> {
     /// As `for_each`, of the keys. For the crates here alone.
     #[inline]
     pub fn for_each_key<R: Wait + Clock, F: FnMut(&K)>(&self, rt: &R, mut f: F)
-        requires { MayVisitKeys F.FnMut f }
-        ensures { SawShards {V = V} ⟦<Self as Keyed>⟧.by self.now (λ a. VisitsKeys F.FnMut f (map (λ p. p.0) (contents a))) }
+        requires { MayVisit of_key F.FnMut f }
+        ensures { SawShards {V = V} ⟦<Self as Keyed>⟧.by self.now (λ a. VisitsEach of_key F.FnMut f (map (λ p. p.0) (contents a))) }
     {
         for idx in 0..self.row.len() {
             let shard = self.read_shard(rt, idx);

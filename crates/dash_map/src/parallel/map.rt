@@ -4,8 +4,8 @@ ghost use Rattle.dash_shard.specs.Hashing.{by};
 ghost use Rattle.dash_map.specs.Alone.{contents};
 ghost use Rattle.dash_map.specs.AllPairs.{AltersAllAlone};
 ghost use Rattle.dash_map.specs.Behind.{SawShards, LeavesShards};
-ghost use Rattle.dash_rows.specs.Parallel.{MayMap};
-ghost use Rattle.dash_map.specs.Parallel.{MapsPairs, MayWrite, Writes};
+ghost use Rattle.dash_rows.specs.Parallel.{MapsEach, MayMap};
+ghost use Rattle.dash_map.specs.Parallel.{MayWrite, Writes};
 ghost use Rattle.dash_map.specs.inner.Parallel.{MapsNumber, WritesNumber};
 
 use crate::alone::Alone;
@@ -58,7 +58,7 @@ where
         f: F,
     ) -> Result<Vec<T>, AllocError>
         requires { (p : K × V) → MayMap F.Fn f p }
-        ensures { IfOk result (λ list. SawShards ⟦<Self as Keyed>⟧.by self.entry (MapsPairs F.Fn f list.items)) }
+        ensures { IfOk result (λ list. SawShards ⟦<Self as Keyed>⟧.by self.entry (λ a. MapsEach F.Fn f (contents a) list.items)) }
     {
         let map = self.map;
         let alloc = map.row.allocator();

@@ -1,9 +1,9 @@
 -- What is a part: a field, what an option has, and the part of a part.
 use Rattle.std.specs.Prelude.{◌≡◌, Option, Some, None, IsSome, option_and_then, refl}
-use Rattle.std.specs.Option.{option_map_or}
+use Rattle.std.specs.Option.{option_map, option_map_or}
 use Rattle.std.proofs.Common.{ap, ◌∙◌, subst, sym}
 use Rattle.std.proofs.lemmas.Bool.{false≢true}
-use Rattle.dash_ref.specs.Part.{IsPart, with_payload}
+use Rattle.dash_ref.specs.Part.{IsPart}
 
 -- what is read and written as a field is a part; at a field of a struct each of the three is `refl`
 pub field_is_part : {V T : Type 0} {read : V → T} {write : V → T → V} → ((v : V) (t : T) → read (write v t) ≡ t) → ((v : V) → write v (read v) ≡ v)
@@ -15,18 +15,18 @@ field_is_part {read = read} {write = write} new same over = record {
 }
 
 -- what an option has is a part
-pub payload_is_part : {T : Type 0} → IsPart {V = Option T} {T = T} (λ v. v) with_payload
+pub payload_is_part : {T : Type 0} → IsPart {V = Option T} {T = T} (λ v. v) (λ v t. option_map (λ _. t) v)
 payload_is_part {T} = record { put = put; own = own; last = last }
   where
-    put : (v : Option T) (t : T) → IsSome v → with_payload v t ≡ Some t
+    put : (v : Option T) (t : T) → IsSome v → option_map (λ _. t) v ≡ Some t
     put None t h = absurd (false≢true h)
     put (Some x) t h = refl
 
-    own : (v : Option T) (t : T) → v ≡ Some t → with_payload v t ≡ v
+    own : (v : Option T) (t : T) → v ≡ Some t → option_map (λ _. t) v ≡ v
     own None t e = refl
     own (Some x) t e = sym e
 
-    last : (v : Option T) (t u : T) → IsSome v → with_payload (with_payload v t) u ≡ with_payload v u
+    last : (v : Option T) (t u : T) → IsSome v → option_map (λ _. u) (option_map (λ _. t) v) ≡ option_map (λ _. u) v
     last None t u h = refl
     last (Some x) t u h = refl
 

@@ -1,6 +1,7 @@
 //! A set of one owner, without locks.
 ghost use Rattle.std.specs.Prelude.{◌≡◌, ◌==◌, length, is_some, IfErr, IfOk, IfSome, OnErr};
 ghost use Rattle.std.specs.Option.{option_map};
+ghost use Rattle.std.specs.Fn.{FnOnceTakesAt};
 ghost use Rattle.std.specs.Map.Calls.{CallableOnEachPair};
 ghost use Rattle.dash_shard.specs.Hashing.{by};
 ghost use Rattle.dash_shard.specs.Contents.{at};
@@ -10,7 +11,7 @@ ghost use Rattle.dash_map.specs.AllPairs.{ClearsAlone, RetainsAlone};
 ghost use Rattle.dash_lock.specs.Lock.{FoundBehind, LeftBehind};
 ghost use Rattle.dash_map.specs.Behind.{AreBehind};
 ghost use Rattle.dash_map.specs.Extend.{HasNoRoom};
-ghost use Rattle.dash_set.specs.Set.{AnsweredKey, CalledAtKey, MayAskKey, TakesKey, keys_of, member, stood};
+ghost use Rattle.dash_set.specs.Set.{AnsweredKey, CalledAtKey, TakesKey, keys_of, member, stood};
 
 use super::DashSet;
 use crate::iter_set::OwningIter;
@@ -72,7 +73,7 @@ impl<K: Eq + Hash + Drop, S: BuildHasher> AloneSet<K, S> {
     /// Takes the key that equals `key` out if `f` returns true on it, and returns it. It takes no memory, and can't be refused.
     #[inline]
     pub fn remove_if<F: FnOnce(&K) -> bool>(&mut self, key: &K, f: F) -> Option<K>
-        requires { IfSome (at K.eq (contents self.old) key.now) (λ p. MayAskKey F.FnOnce f p.0) }
+        requires { IfSome (at K.eq (contents self.old) key.now) (λ p. FnOnceTakesAt F.FnOnce f p.0) }
         ensures { TakesAloneBy ⟦<Self as Keyed>⟧.by self.old self.new RemoveIf key.now (Pair (member result)) (AnsweredKey F.FnOnce f) }
     {
         let (key, _) = self.inner.remove_if(

@@ -1,7 +1,6 @@
 //! Parts that many values have: what an option has, and the two parts of a pair.
 ghost use Rattle.std.specs.Prelude.{Some};
 ghost use Rattle.std.specs.Borrow.{Lends, sem};
-ghost use Rattle.dash_ref.specs.Part.{with_payload};
 
 use crate::mapref::one::projection::Projection;
 
@@ -10,14 +9,14 @@ use crate::mapref::one::projection::Projection;
 pub struct Payload;
 
 impl<T> Projection<Option<T>> for Payload {
-    ghost use Rattle.dash_ref.specs.Part.{with_payload};
+    ghost use Rattle.std.specs.Option.{option_map};
     ghost use Rattle.dash_ref.specs.inner.Parts.{payload_is_part};
 
     type Target = T;
 
     ghost part = { λ _ v. v };
 
-    ghost with = { λ _. with_payload };
+    ghost with = { λ _ v t. option_map (λ _. t) v };
 
     ghost lawful = { λ _. payload_is_part };
 

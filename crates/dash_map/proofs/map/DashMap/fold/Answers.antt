@@ -2,7 +2,7 @@ use Rattle.std.proofs.Common.{◌∙◌, ap, subst, refl}
 use Rattle.std.specs.List.{FoldsTo}
 use Rattle.dash_shard.specs.Hashing.{key_hash}
 use Rattle.dash_shard.specs.Shard.{pairs}
-use Rattle.dash_map.specs.Folds.{FoldsPair}
+use Rattle.dash_map.specs.Folds.{Folds, of_pair}
 use Rattle.dash_map.proofs.Folding.{fold-on, along-shard}
 use Rattle.dash_map.proofs.Seeing.{at-end, seen-none, seen-all}
 use Rattle.dash_map.proofs.map.DashMap.fold.Goals as goal
@@ -11,12 +11,12 @@ pub loop-idx-init : goal.loop-idx-init
 loop-idx-init g c = seen-none (key_hash g.K.PartialEq.eq g.K.Hash.hash_input g.S.BuildHasher g.S.Hasher.Hasher) c.args.self.now _ refl
 
 pub fold_pairs-requires : goal.fold_pairs-requires
-fold_pairs-requires g c = fold-on g.F.FnMut (c.args.f, c.args.first) (c.loop-idx.f, c.loop-idx.folded) _ c.requires c.loop-idx.invariant.2
+fold_pairs-requires g c = fold-on of_pair g.F.FnMut (c.args.f, c.args.first) (c.loop-idx.f, c.loop-idx.folded) _ c.requires c.loop-idx.invariant.2
 
 pub loop-idx-preserved : goal.loop-idx-preserved
 loop-idx-preserved g c =
-    let turns = subst (λ ps. FoldsTo (FoldsPair g.F.FnMut) (c.loop-idx.f, c.loop-idx.folded) ps (c.fold_pairs.result.1, c.fold_pairs.result.0)) (c.iter.ensures.pairs ∙ ap pairs c.deref.ensures.0) c.fold_pairs.ensures in
-    along-shard (key_hash g.K.PartialEq.eq g.K.Hash.hash_input g.S.BuildHasher g.S.Hasher.Hasher) c.args.self.now (FoldsPair g.F.FnMut) pairs (c.args.f, c.args.first) c.loop-idx.idx (c.loop-idx.f, c.loop-idx.folded) _ c.loop-idx.invariant _ c.read_shard-shard.ensures.tagged c.read_shard-shard.ensures.found turns
+    let turns = subst (λ ps. FoldsTo (Folds of_pair g.F.FnMut) (c.loop-idx.f, c.loop-idx.folded) ps (c.fold_pairs.result.1, c.fold_pairs.result.0)) (c.iter.ensures.pairs ∙ ap pairs c.deref.ensures.0) c.fold_pairs.ensures in
+    along-shard (key_hash g.K.PartialEq.eq g.K.Hash.hash_input g.S.BuildHasher g.S.Hasher.Hasher) c.args.self.now (Folds of_pair g.F.FnMut) pairs (c.args.f, c.args.first) c.loop-idx.idx (c.loop-idx.f, c.loop-idx.folded) _ c.loop-idx.invariant _ c.read_shard-shard.ensures.tagged c.read_shard-shard.ensures.found turns
 
 pub returns : goal.returns
 returns g c =
