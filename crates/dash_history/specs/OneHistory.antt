@@ -3,8 +3,7 @@ use Rattle.std.specs.Prelude.{ℕ, ◌≡◌, ◌+◌, ◌-◌, ◌^◌, min, ta
 use Rattle.std.specs.List.{Contains}
 use Rattle.dash_shard.specs.Shard.{EachAt, pairs}
 use Rattle.std.specs.Option.{option_eq}
-use Rattle.std.specs.Cmp.Lexicographic.{pointwise}
-use Rattle.dash_kept.specs.Alike.{alike_pair}
+use Rattle.dash_kept.specs.Alike.{CopiesEach}
 use Rattle.dash_steps.specs.Steps.{alike_record, part_of}
 use Rattle.dash_steps.specs.declared.step.Whole.{Whole}
 use Rattle.dash_steps.specs.declared.step.Whole.TheVariants as whole
@@ -48,7 +47,7 @@ module _ {K V A S : Type 0} (w : Known K V A S) where
 
   -- copies of the pairs of all shards, each once
   abbrev pub CopiesRecPairs : RecAloneState K V A S → List (K × V) → Type 0
-  CopiesRecPairs a copies = IsTrue (pointwise (alike_pair w.alike_key w.alike_value) (rec_contents a) copies)
+  CopiesRecPairs a copies = CopiesEach w.alike_key w.alike_value (rec_contents a) copies
 
   -- MATCH: of each shard and each caller, the shard's history and the caller's log have the same records
   pub record Matches (a : RecAloneState K V A S) (logs : List (LogState K V A)) : Type 0 where
@@ -72,7 +71,7 @@ module _ {K V A S : Type 0} (w : Known K V A S) where
   -- these records of parts reply, joined, what one map with the contents P has
   abbrev pub Joined : Whole → List (K × V) → List (Record K V A) → Type 0
   Joined whole.Count P rs = joined_number rs ≡ min (length P) (2 ^ 64 - 1)
-  Joined whole.Read P rs = (l : List (K × V)) × EachOnce w.keys.eq P l × IsTrue (pointwise (alike_pair w.alike_key w.alike_value) l (joined_pairs rs))
+  Joined whole.Read P rs = (l : List (K × V)) × EachOnce w.keys.eq P l × CopiesEach w.alike_key w.alike_value l (joined_pairs rs)
 
   -- A whole step stands side by side: along the places before it one map came to have the contents there, along those from it on it
   -- came to the pairs of all shards, and the step's parts reply what that map has.

@@ -1,8 +1,7 @@
 -- What a whole step through the locks leaves in the caller's log.
-use Rattle.std.specs.Prelude.{ℕ, ◌≡◌, ◌<◌, ◌-◌, ◌^◌, ◌⊎◌, List, ◌++◌, length, IsTrue}
-use Rattle.std.specs.Cmp.Lexicographic.{pointwise}
+use Rattle.std.specs.Prelude.{ℕ, ◌≡◌, ◌<◌, ◌-◌, ◌^◌, ◌⊎◌, List, ◌++◌, length}
 use Rattle.dash_shard.specs.Shard.{EachAt}
-use Rattle.dash_kept.specs.Alike.{alike_pair}
+use Rattle.dash_kept.specs.Alike.{CopiesEach}
 use Rattle.dash_steps.specs.Takes.{Known}
 use Rattle.dash_steps.specs.declared.step.Record.{Record}
 use Rattle.dash_steps.specs.declared.step.Whole.{Whole}
@@ -31,7 +30,7 @@ module _ {K V A S : Type 0} (w : Known K V A S) where
   pub record ClonesShared (m : RecMapState S) (l l' : LogState K V A) (copies : List (K × V)) : Type 0 where
     pub parts : List (Record K V A)
     pub logs : LogsWhole m whole.Read l l' parts
-    pub joined : IsTrue (pointwise (alike_pair w.alike_key w.alike_value) (joined_pairs parts) copies)
+    pub joined : CopiesEach w.alike_key w.alike_value (joined_pairs parts) copies
 
   -- the last stamp was given: by a shard, as it was found behind its lock, or in the log
   abbrev pub NoStampLeft : RecMapState S → LogState K V A → Type 0

@@ -1,8 +1,7 @@
 -- Whole steps: a count or a copy of the whole map, by one part in each shard, all at one stamp.
 use Rattle.std.specs.Prelude.{ℕ, ◌≡◌, ◌+◌, ◌-◌, ◌^◌, min, List, ◌++◌, length, Some, slice_get, IsTrue}
-use Rattle.std.specs.Cmp.Lexicographic.{pointwise}
 use Rattle.dash_shard.specs.Shard.{EachAt}
-use Rattle.dash_kept.specs.Alike.{alike_pair}
+use Rattle.dash_kept.specs.Alike.{CopiesEach}
 use Rattle.dash_steps.specs.Steps.{alike_record}
 use Rattle.dash_steps.specs.Takes.{Known}
 use Rattle.dash_steps.specs.declared.step.Record.{Record}
@@ -49,5 +48,5 @@ module _ {K V A S : Type 0} (w : Known K V A S) where
   pub record ClonesAll (a a' : RecAloneState K V A S) (l l' : LogState K V A) (copies : List (K × V)) : Type 0 where
     pub parts : List (Record K V A)
     pub applied : AppliedWhole whole.Read a a' l l' parts
-    pub joined : IsTrue (pointwise (alike_pair w.alike_key w.alike_value) (joined_pairs parts) copies)
+    pub joined : CopiesEach w.alike_key w.alike_value (joined_pairs parts) copies
     pub pairs : CopiesRecPairs w a copies

@@ -5,7 +5,6 @@ pub mod Run
 pub mod ParRun
 pub mod Behind
 pub mod Copies
-pub mod Pairs
 pub mod Extend
 pub mod AllPairs
 pub mod Folds

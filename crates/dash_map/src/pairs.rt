@@ -1,10 +1,10 @@
 //! Lists of copies of a map's pairs, and what a closure makes of them.
 ghost use Rattle.std.specs.Prelude.{IfOk, map};
 ghost use Rattle.std.specs.List.{FoldsTo};
-ghost use Rattle.dash_map.specs.Alone.{IsAlone};
+ghost use Rattle.dash_kept.specs.Alike.{CopiesEach};
+ghost use Rattle.dash_map.specs.Alone.{IsAlone, contents};
 ghost use Rattle.dash_map.specs.Behind.{SawShards};
 ghost use Rattle.dash_map.specs.Folds.{Folds, MayFold, MayVisit, Visits, of_key, of_pair};
-ghost use Rattle.dash_map.specs.Pairs.{CopiesPairs};
 
 use crate::alone::Alone;
 use crate::map::DashMap;
@@ -80,7 +80,7 @@ impl<K: Eq + Hash + Kept + Drop, V: Kept + Drop, S: BuildHasher> Alone<K, V, S> 
     ///
     /// It takes memory for the list, once, and what `Kept::copy` takes. Where there is none it is refused (4).
     pub fn pairs(&self) -> Result<Vec<(K, V)>, AllocError>
-        ensures copies { IfOk result (λ list. CopiesPairs K.alike V.alike list.items self.now) }
+        ensures copies { IfOk result (λ list. CopiesEach K.alike V.alike (contents self.now) list.items) }
         ensures lawful { IsAlone ⟦<Self as Keyed>⟧.by self.now }
     {
         let mut copies = Vec::with_capacity(self.row.allocator(), self.len())?;
@@ -98,7 +98,7 @@ impl<K: Eq + Hash + Kept + Drop, V: Kept + Drop, S: BuildHasher> DashMap<K, V, S
     ///
     /// It takes memory as `Alone::pairs` does, where nobody puts pairs meanwhile, and is refused (4) where there is none.
     pub fn pairs<R: Wait + Clock>(&self, rt: &R) -> Result<Vec<(K, V)>, AllocError>
-        ensures { IfOk result (λ list. SawShards ⟦<Self as Keyed>⟧.by self.now (CopiesPairs K.alike V.alike list.items)) }
+        ensures { IfOk result (λ list. SawShards ⟦<Self as Keyed>⟧.by self.now (λ a. CopiesEach K.alike V.alike (contents a) list.items)) }
     {
         let mut copies = Vec::with_capacity(self.row.allocator(), self.len(rt))?;
         for idx in 0..self.row.len() {

@@ -1,7 +1,6 @@
 pub mod Part
 pub mod Multi
 pub mod Ref
-pub mod Try
 pub mod inner
 pub mod RefMut
 pub mod Entry

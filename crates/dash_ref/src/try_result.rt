@@ -1,6 +1,5 @@
 //! What a call that waits for nobody returns.
-ghost use Rattle.std.specs.Prelude.{◌≡◌, ◌↔◌, IsTrue, IsSome};
-ghost use Rattle.dash_ref.specs.Try.{found};
+ghost use Rattle.std.specs.Prelude.{◌≡◌, ◌↔◌, IsTrue, Some};
 ghost use Rattle.dash_ref.specs.declared.try_result.TryResult.TheVariants.{Present, Absent, Locked};
 
 /// The answer of a look-up that waits for nobody, as the original's.
@@ -18,7 +17,7 @@ impl<R> TryResult<R> {
     /// Whether it is there.
     #[inline]
     pub fn is_present(&self) -> bool
-        ensures { IsTrue result ↔ IsSome (found self.now) }
+        ensures { IsTrue result ↔ ((found : R) × (self.now ≡ Present found)) }
     {
         matches!(self, TryResult::Present(_))
     }
@@ -42,7 +41,7 @@ impl<R> TryResult<R> {
     /// What is there. The original panics where there is nothing: here that is a condition.
     #[inline]
     pub fn unwrap(self) -> R
-        requires { IsSome (found self) }
+        requires { (found : R) × (self ≡ Present found) }
         ensures { Present result ≡ self }
     {
         match self {
@@ -55,7 +54,7 @@ impl<R> TryResult<R> {
     /// What is there, if it is.
     #[inline]
     pub fn try_unwrap(self) -> Option<R>
-        ensures { result ≡ found self }
+        ensures { (found : R) → (result ≡ Some found) ↔ (self ≡ Present found) }
     {
         match self {
             TryResult::Present(found) => Some(found),

@@ -17,7 +17,8 @@ use Rattle.dash_steps.specs.declared.step.ShardStep.TheVariants.{Get, Contains, 
 use Rattle.dash_record.specs.declared.record.RecordFault.{RecordFault}
 use Rattle.dash_record.specs.declared.record.RecordFault.TheVariants.{NoSuchShard}
 use Rattle.dash_script.specs.declared.step.Line.TheVariants as says
-use Rattle.dash_script.specs.Script.{ScriptStep, IsFaultOf, written}
+use Rattle.dash_script.specs.Script.{IsFaultOf, written}
+use Rattle.dash_script.specs.inner.Words.{ScriptStep}
 use Rattle.dash_steps.specs.Steps.{IsPart}
 
 -- the step goes outside a map of four shards exactly where it names a missing one

@@ -21,7 +21,7 @@ use Rattle.dash_script.specs.declared.change.Change.TheVariants.{Add, Below, Add
 use Rattle.dash_steps.specs.declared.step.Whole.TheVariants as whole
 use Rattle.dash_script.specs.declared.step.Line.{Line}
 use Rattle.dash_script.specs.declared.step.Line.TheVariants as says
-use Rattle.dash_script.specs.Script.{ScriptStep}
+use Rattle.dash_script.specs.inner.Words.{ScriptStep}
 use Rattle.dash_script.specs.inner.Words.{HasChange, HasStep, HasWords, change_text, line_of, step_text}
 use Rattle.dash_script.specs.inner.Words.{change_word, change_rest, step_word, step_rest, IsFirst}
 

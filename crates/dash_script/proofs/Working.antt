@@ -24,7 +24,8 @@ use Rattle.dash_script.specs.declared.threads.Refusal.{Refusal}
 use Rattle.dash_script.specs.declared.threads.Refusal.TheVariants.{Map, LastStamp, Memory, Mismatch, Gather}
 use Rattle.dash_script.specs.declared.threads.Worker.{Worker}
 use Rattle.dash_script.specs.Replay.{IsThreadStep}
-use Rattle.dash_script.specs.Threads.{IsSize, HasDone, AreDone, IsJudged, IsSo, thread_step}
+use Rattle.dash_shard.specs.Shard.{EachAt}
+use Rattle.dash_script.specs.Threads.{IsSize, AreDone, IsJudged, IsSo, thread_step}
 use Rattle.dash_script.specs.inner.Threads.{LogsStep, IsIdle, IsFirstRefusal, MayRefuse, Works, AllDone, HasTaken, IsJudgedOf, IsJudgedBy, idle, steps_in, thread_steps}
 
 -- steps of threads: they carry no action
@@ -102,7 +103,7 @@ step-at j (suc n) m d inside = elim (cases_lt m n) [
   | inr last ↦ let same : m ≡ n = omega (arith, inside, last) in get_or_push (thread_steps j n) _ d m (length-steps j n ∙ sym same) ∙ ap (thread_step j) (sym same)
 ]
 
-has-done : (n : ℕ) (l : LogState ℕ ℕ (Unit {0})) → HasTaken n l → HasDone n l
+has-done : (n : ℕ) (l : LogState ℕ ℕ (Unit {0})) → HasTaken n l → (length l.entries ≡ n) × EachAt l.entries (λ m r. r.step ≡ thread_step l.caller m)
 has-done n l taken = (
   length-done n l taken,
   λ m r e.
@@ -201,7 +202,8 @@ logs-done c n ws long done = record {
       let same : (get_or ws i (idle l)).log ≡ l =
       sym (get_or-map (λ w. w.log) ws i (idle l) l within) ∙ same_Some _ l (sym (slice_get-get_or (map (λ w. w.log) ws) i l (slice_get_within (map (λ w. w.log) ws) i l e)) ∙ e) in
       let did = subst (λ x. (x.caller ≡ i) × HasTaken n x) same (done i (idle l) within) in
-      (did.0, has-done n l did.1);
+      let all = has-done n l did.1 in
+      (did.0, all.0, all.1);
 }
 
 -- what was said of these shards, of the same logs

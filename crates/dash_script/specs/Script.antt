@@ -25,10 +25,6 @@ use Rattle.dash_script.specs.declared.step.Line.TheVariants as says
 use Rattle.dash_script.specs.declared.script.Stop.{Stop}
 use Rattle.dash_script.specs.declared.script.Stop.TheVariants as stops
 
--- the step of a script, on numbers
-abbrev pub ScriptStep : Type 0
-ScriptStep = ShardStep ℕ ℕ Change
-
 -- a text, and that its numbers have 64 bits
 pub record Written : Type 1 where
   pub text : List ℕ
@@ -41,7 +37,7 @@ written_change (Below n) = record { text = codes "below" ++ 32 ∷ decimal n; fi
 written_change (AddBelow n m) = record { text = codes "addbelow" ++ 32 ∷ decimal n ++ 32 ∷ decimal m; fits = (n < 2 ^ 64) × (m < 2 ^ 64) }
 
 -- a step as its line; the part of a whole step has none, so nothing fits
-abbrev pub written : ScriptStep → Written
+abbrev pub written : ShardStep ℕ ℕ Change → Written
 written (Get k) = record { text = codes "get" ++ 32 ∷ decimal k; fits = k < 2 ^ 64 }
 written (Contains k) = record { text = codes "contains" ++ 32 ∷ decimal k; fits = k < 2 ^ 64 }
 written (Insert k v) = record { text = codes "insert" ++ 32 ∷ decimal k ++ 32 ∷ decimal v; fits = (k < 2 ^ 64) × (v < 2 ^ 64) }

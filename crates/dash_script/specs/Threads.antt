@@ -28,14 +28,10 @@ pub record IsSize (callers steps : ℕ) : Type 0 where
 abbrev pub thread_step : ℕ → ℕ → ShardStep ℕ ℕ (Unit {0})
 thread_step j m = if m % 3 == 0 then Insert ((j + m) % 16) (j * 1000000 + m) else if m % 3 == 1 then Get ((j + m) % 16) else Remove ((j + m) % 16)
 
--- the thread that the log is of has done its first n steps, and nothing else
-abbrev pub HasDone : ℕ → LogState ℕ ℕ (Unit {0}) → Type 0
-HasDone n log = (length log.entries ≡ n) × EachAt log.entries (λ m r. r.step ≡ thread_step log.caller m)
-
 -- the logs of c threads in their order, each of which has done its first n steps, and nothing else
 pub record AreDone (c n : ℕ) (logs : List (LogState ℕ ℕ (Unit {0}))) : Type 0 where
   pub many : length logs ≡ c
-  pub each : EachAt logs (λ i l. (l.caller ≡ i) × HasDone n l)
+  pub each : EachAt logs (λ i l. (l.caller ≡ i) × (length l.entries ≡ n) × EachAt l.entries (λ m r. r.step ≡ thread_step l.caller m))
 
 -- LEGAL OR NOT: a history was gathered of a map of four shards, on which c threads took n steps each; and it is said to be legal
 -- exactly where along it each reply is that of a plain map, which then has just the pairs of the map

@@ -4,8 +4,8 @@ ghost use Rattle.std.specs.Fmt.{decimal};
 ghost use Rattle.std.specs.Str.{IsAscii};
 ghost use Rattle.dash_script.specs.declared.change.Change.{Change};
 ghost use Rattle.dash_script.specs.declared.step.Line.{Line};
-ghost use Rattle.dash_script.specs.Script.{ScriptStep, IsInOrder, written, written_line};
-ghost use Rattle.dash_script.specs.inner.Words.{HasChange, change_text, IsPlain, IsFirst};
+ghost use Rattle.dash_script.specs.Script.{IsInOrder, written, written_line};
+ghost use Rattle.dash_script.specs.inner.Words.{HasChange, ScriptStep, change_text, IsPlain, IsFirst};
 
 use crate::change::Change;
 use dash_steps::step::{Reply, ShardStep, Whole};

@@ -1,5 +1,5 @@
 -- The words of the contracts, for clauses of programs that use the maps.
-pub use Rattle.dash_kept.specs.Alike.{alike_pair}
+pub use Rattle.dash_kept.specs.Alike.{CopiesEach, alike_pair}
 pub use Rattle.dash_kept.specs.inner.AlikeLaws.{pair_equal, pair_equiv}
 pub use Rattle.dash_parallel.specs.Apart.{EachPart, RanFront, RanWhole, TakenInTurn, steps_of}
 pub use Rattle.dash_shard.specs.Contents.{at}
@@ -32,7 +32,6 @@ pub use Rattle.dash_map.specs.WalkingMut.{StepsTo, StepsToEnd}
 pub use Rattle.dash_rows.specs.Copies.{CopiesShard}
 pub use Rattle.dash_map.specs.Copies.{CopiesAlone}
 pub use Rattle.dash_map.specs.Extend.{Extends, ExtendsBehind, Gains, Gave, HasNoRoom, IsRefusedAmong, IsRefusedOf, InsertsEach, MadeOf, NotMade, Overfills, ParExtends, ParExtendsBehind, PutsAll, PutsEachBehind, PutsFront, first_with_last}
-pub use Rattle.dash_map.specs.Pairs.{CopiesPairs}
 pub use Rattle.dash_rows.specs.Parallel.{MayMap, Maps, MapsEach}
 pub use Rattle.dash_map.specs.Parallel.{MayWrite, Writes}
 pub use Rattle.dash_set.specs.Set.{stood, member, inserted, keys_of, members, of_members, MayMapKey}

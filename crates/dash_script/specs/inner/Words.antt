@@ -2,11 +2,16 @@
 use Rattle.std.specs.Prelude.{codes, ◌≡◌, ℕ, ◌<◌, ◌≤◌, ◌++◌, List, [], ◌∷◌, length, flat_map, slice_index_or}
 use Rattle.std.specs.Fmt.{decimal}
 use Rattle.dash_steps.specs.declared.step.Reply.{Reply}
+use Rattle.dash_steps.specs.declared.step.ShardStep.{ShardStep}
 use Rattle.dash_steps.specs.declared.step.ShardStep.TheVariants.{Get, Contains, Insert, Remove, RemoveIf, RemoveIfMut, Alter, Read, Count, AlterAll, Retain, CountPart, ReadPart}
 use Rattle.dash_script.specs.declared.change.Change.{Change}
 use Rattle.dash_script.specs.declared.change.Change.TheVariants.{Add, Below, AddBelow}
 use Rattle.dash_script.specs.declared.step.Line.{Line}
-use Rattle.dash_script.specs.Script.{ScriptStep, written_change, written, written_line, text_of, IsReplyTo, IsInOrder}
+use Rattle.dash_script.specs.Script.{written_change, written, written_line, text_of, IsReplyTo, IsInOrder}
+
+-- the step of a script, on numbers
+abbrev pub ScriptStep : Type 0
+ScriptStep = ShardStep ℕ ℕ Change
 
 -- the text of a change, and that its numbers have 64 bits
 abbrev pub change_text : Change → List ℕ
