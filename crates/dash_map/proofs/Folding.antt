@@ -49,16 +49,20 @@ module _ {K V S P A : Type 0} (h : KeyHash K S) (m : MapState S) (R : P → A �
   abbrev pub Along : ℕ → P → Type 0
   Along n to = SeenSo h m n (λ row. FoldsTo R first (flat_map items row) to)
 
-  -- and of one shard more
-  pub along-shard : (n : ℕ) (q r : P) → Along n q → (s : ShardState K V S) → IsTagged h m.hasher m.amount n s → FoundBehind s → FoldsTo R q (items s) r → Along (n + 1) r
-  along-shard n q r so s tagged found turns =
+  -- and of one shard more, whose items are these
+  pub along-shard : (n : ℕ) (q r : P) → Along n q → (s : ShardState K V S) → IsTagged h m.hasher m.amount n s → FoundBehind s → (xs : List A) → xs ≡ items s → FoldsTo R q xs r → Along (n + 1) r
+  along-shard n q r so s tagged found xs are turns =
       let more = flat_map-append items so.0 (s ∷ []) ∙ ap (λ l. flat_map items so.0 ++ l) (append-nil (items s)) in
-      seen-more h m _ n so s tagged found (subst (λ l. FoldsTo R first l r) (sym more) (along-append R (flat_map items so.0) (items s) first q r so.2 turns))
+      let here = subst (λ l. FoldsTo R q l r) are turns in
+      seen-more h m _ n so s tagged found (subst (λ l. FoldsTo R first l r) (sym more) (along-append R (flat_map items so.0) (items s) first q r so.2 here))
 
--- the keys of the pairs of some shards
-pub keys-flat : {K V S : Type 0} (row : List (ShardState K V S)) → flat_map (λ s. keys_of (pairs s)) row ≡ keys_of (flat_map pairs row)
-keys-flat [] = refl
-keys-flat (s ∷ row) = ap (λ l. keys_of (pairs s) ++ l) (keys-flat row) ∙ sym (map-append (λ p. p.0) (pairs s) (flat_map pairs row))
+-- turns along the keys of shards, each by itself, are turns along the keys of all their pairs
+pub along-keys : {K V S P : Type 0} (R : P → K → P → Type 0) (from to : P) (row : List (ShardState K V S)) → FoldsTo R from (flat_map (λ s. keys_of (pairs s)) row) to → FoldsTo R from (keys_of (flat_map pairs row)) to
+along-keys {K} {V} {S} R from to row turns = subst (λ ks. FoldsTo R from ks to) (flat row) turns
+  where
+    flat : (row : List (ShardState K V S)) → flat_map (λ s. keys_of (pairs s)) row ≡ keys_of (flat_map pairs row)
+    flat [] = refl
+    flat (s ∷ row) = ap (λ l. keys_of (pairs s) ++ l) (flat row) ∙ sym (map-append (λ p. p.0) (pairs s) (flat_map pairs row))
 
 -- a closure that may be called along any items may go on so
 pub fold-on : {F A X T : Type 0} (lent : A → X → Type 0) (g : Mut F (T × A) T) (p q : F × T) (xs : List X) → MayFold lent g p.0 p.1 → FoldsTo (Folds lent g) p xs q → MayFold lent g q.0 q.1
