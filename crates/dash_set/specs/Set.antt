@@ -41,8 +41,8 @@ module _ {F K : Type 0} where
   TakesKey g f k v = TakesAt g f k
 
   -- and such a call may return b, and leave f'
-  pub record CalledAtKey (g : Mut F (Bor K × Unit {0}) Bool) (f : F) (k : K) (v : Unit {0}) (b : Bool) (w : Unit {0}) (f' : F) : Type 0 where
-    pub called : CalledAt g f k b f'
+  abbrev pub CalledAtKey : Mut F (Bor K × Unit {0}) Bool → F → K → Unit {0} → Bool → Unit {0} → F → Type 0
+  CalledAtKey g f k v b w f' = CalledAt g f k b f'
 
 module _ {F K T : Type 0} (g : Shared F (Bor K × Unit {0}) T) (f : F) where
   -- f may be called at the key, by several threads
