@@ -1,5 +1,5 @@
 -- A search along a hash's way, group by group: for a key, and for a place.
-use Rattle.std.proofs.Common.{◌≡◌, ℕ, zero, suc, ◌+◌, ◌-◌, ◌*◌, ◌/◌, ◌%◌, ◌^◌, ◌<◌, ◌≤◌, Bool, false, List, [], ◌∷◌, length, Option, Some, None, IfSome, IfNone, refl, sym, ap, subst, ◌∙◌, inl, inr, arith, slice_index, slice_index_or, w16}
+use Rattle.std.proofs.Common.{◌≡◌, ℕ, zero, suc, ◌+◌, ◌-◌, ◌*◌, ◌/◌, ◌%◌, ◌^◌, ◌<◌, ◌≤◌, Bool, true, false, List, [], ◌∷◌, length, Option, Some, None, IfSome, IfNone, refl, sym, ap, is_some, subst, ◌∙◌, inl, inr, arith, slice_index, slice_index_or, w16}
 use Rattle.std.proofs.lemmas.Bool.{cases_eq, cases_lt}
 use Rattle.std.proofs.lemmas.Grind.{get_or_default_zero}
 use Rattle.std.proofs.lemmas.Nat.Bits.{bit_at-trailing_zeros, bit_at-zero}
@@ -10,8 +10,9 @@ use Rattle.dash_shard.specs.Search.{class_of, IsMask}
 use Rattle.dash_shard.specs.Shard.{slot, taken}
 use Rattle.dash_shard.specs.declared.shard.table.Table.{Table}
 use Rattle.dash_shard.specs.inner.Marks.{round, tag_of, count_of, group_at, step_to, lane, IsFull, IsAllTaken}
-use Rattle.dash_shard.specs.inner.Table.{IsTable, IsSpot, IsAbsent, MissesLanes, PassesFirst, EndsWays, MayEnd, limit, slots_in, groups_in, pairs_in, hashes_in}
+use Rattle.dash_shard.specs.inner.Table.{IsTable, IsSpot, IsAbsent, Holds, MissesLanes, PassesFirst, EndsWays, MayEnd, limit, slots_in, groups_in, pairs_in, hashes_in}
 use Rattle.dash_shard.proofs.Marked.{marked-passed, marked-reached, marked-empty, low-taken}
+use Rattle.dash_shard.proofs.Written.{spot-within}
 use Rattle.dash_shard.proofs.Ways.{mod_below, step-low, round-low, round_below, round_step, step_round, step_below}
 
 -- a mask that is not 0 has a bit, and 0 has none
@@ -20,6 +21,10 @@ some-bit m pos fits = let h = bit_at-trailing_zeros w16 m pos fits in (_, h.0, h
 
 no-bit : (m j : ℕ) → m ≡ 0 → bit_at m j ≡ 1 → ⊥
 no-bit m j none one = let z : bit_at m j ≡ 0 = ap (λ k. bit_at k j) none ∙ bit_at-zero j in omega (arith, z, one)
+
+-- the pair of a slot whose key is equal
+pub holds : {K V : Type 0} (eq : K → K → Bool) (slots : List (Option (K × V))) (k : K) (i : ℕ) (p : K × V) → slot slots i ≡ Some p → eq p.0 k ≡ true → Holds eq slots k i
+holds eq slots k i p is equal = record { within = spot-within slots i (ap is_some is); pair = p; is = is; equal = equal }
 
 -- a row is the tags of the group g
 abbrev pub IsRow : List ℕ → ℕ → List ℕ → Type 0

@@ -56,10 +56,30 @@ pub struct Place {
     pub steps: usize,
 }
 
-// Of the slots of a group that the mask names, the one whose key is equal. It looks at the own lane of the key's hash first, where many pairs
-// stand: a processor that expects that fetches the slot while it waits for the tags.
+// Of the slots of a group that the mask names, the lowest whose key is equal.
 #[inline(always)]
-fn find_in<K: Eq, V>(
+fn find_in<K: Eq, V>(slots: &Slots<(K, V)>, start: usize, mask: u16, key: &K) -> Option<usize>
+    requires fits { start + 16 < 2 ^ 64 }
+    requires taken { AreTaken slots.now.values start mask }
+    ensures found { IfSome result (Holds K.eq slots.now.values key.now) }
+    ensures lies { IfSome result (λ i. (start ≤ i) × (i < start + 16)) }
+    ensures absent { IfNone result (MissesLanes K.eq slots.now.values key.now start mask) }
+{
+    let mut left = mask;
+    while left != 0 {
+        let (lane, rest) = split_lowest(left);
+        if &slots.get(start + lane).0 == key {
+            return Some(start + lane);
+        }
+        left = rest;
+    }
+    None
+}
+
+// The same of a way's first group. It looks at the own lane of the key's hash first, where many pairs stand: a processor that expects that
+// fetches the slot while it waits for the tags.
+#[inline(always)]
+fn find_at_home<K: Eq, V>(
     slots: &Slots<(K, V)>,
     start: usize,
     own: usize,
@@ -79,17 +99,7 @@ fn find_in<K: Eq, V>(
     if has_lane(mask, own) && &slots.get(start + own).0 == key {
         return Some(start + own);
     }
-    let mut left = mask;
-    loop {
-        let (lane, rest) = split_lowest(left);
-        if &slots.get(start + lane).0 == key {
-            return Some(start + lane);
-        }
-        if rest == 0 {
-            return None;
-        }
-        left = rest;
-    }
+    find_in(slots, start, mask, key)
 }
 
 impl<K, V> Table<K, V> {
@@ -177,7 +187,7 @@ impl<K, V> Table<K, V> {
         let first = home(hash, count);
         let seen = probe(group_of(&self.tags, first), tag(hash));
         let own = own_lane(hash);
-        if let Some(position) = find_in(&self.slots, 16 * first, own, seen.matches, key) {
+        if let Some(position) = find_at_home(&self.slots, 16 * first, own, seen.matches, key) {
             return Search {
                 position: Some(position),
                 visits: 1,
@@ -216,7 +226,7 @@ impl<K, V> Table<K, V> {
         ensures ended { IfErr result (MayEnd self.now hash) }
     {
         let count = self.counts.len();
-        let (tag, class, own) = (tag(hash), class(hash), own_lane(hash));
+        let (tag, class) = (tag(hash), class(hash));
         let mut group = first;
         for visits in 1..count {
             if count_at(self.counts[group], class) == 0 {
@@ -224,7 +234,7 @@ impl<K, V> Table<K, V> {
             }
             group = next_group(group, count);
             let seen = probe(group_of(&self.tags, group), tag);
-            if let Some(position) = find_in(&self.slots, 16 * group, own, seen.matches, key) {
+            if let Some(position) = find_in(&self.slots, 16 * group, seen.matches, key) {
                 return Ok(position);
             }
             if seen.empty != 0 {

@@ -8,7 +8,7 @@ use super::marks::{
     EMPTY, REMOVED, class, count_at, count_way, group_of, home, lowest, next_group, own_lane,
     own_or_lowest, steps_to, tag, uncount_past,
 };
-use super::{Place, Table, find_in};
+use super::{Place, Table, find_at_home, find_in};
 use crate::shard::group::probe;
 use crate::shard::lanes::free_lanes;
 
@@ -64,7 +64,7 @@ impl<K, V> Table<K, V> {
         let first = home(hash, count);
         let seen = probe(group_of(&self.tags, first), tag(hash));
         let own = own_lane(hash);
-        if let Some(position) = find_in(&self.slots, 16 * first, own, seen.matches, key) {
+        if let Some(position) = find_at_home(&self.slots, 16 * first, own, seen.matches, key) {
             return Ok(position);
         }
         if seen.empty != 0 {
@@ -96,7 +96,7 @@ impl<K, V> Table<K, V> {
         ensures free { IfErr result (λ free. self.now.len < limit (slots_in self.now) → IsSpot self.now hash free) }
     {
         let count = self.counts.len();
-        let (tag, class, own) = (tag(hash), class(hash), own_lane(hash));
+        let (tag, class) = (tag(hash), class(hash));
         let mut group = first;
         let mut free = first_free(None, group_of(&self.tags, first), 16 * first);
         for _visits in 1..count {
@@ -107,7 +107,7 @@ impl<K, V> Table<K, V> {
             group = next_group(group, count);
             let row = group_of(&self.tags, group);
             let seen = probe(row, tag);
-            if let Some(position) = find_in(&self.slots, 16 * group, own, seen.matches, key) {
+            if let Some(position) = find_in(&self.slots, 16 * group, seen.matches, key) {
                 return Ok(position);
             }
             free = first_free(free, row, 16 * group);
