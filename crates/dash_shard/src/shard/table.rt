@@ -65,15 +65,20 @@ fn find_in<K: Eq, V>(slots: &Slots<(K, V)>, start: usize, mask: u16, key: &K) ->
     ensures lies { IfSome result (λ i. (start ≤ i) × (i < start + 16)) }
     ensures absent { IfNone result (MissesLanes K.eq slots.now.values key.now start mask) }
 {
+    if mask == 0 {
+        return None;
+    }
     let mut left = mask;
-    while left != 0 {
+    loop {
         let (lane, rest) = split_lowest(left);
         if &slots.get(start + lane).0 == key {
             return Some(start + lane);
         }
+        if rest == 0 {
+            return None;
+        }
         left = rest;
     }
-    None
 }
 
 // The same of a way's first group. It looks at the own lane of the key's hash first, where many pairs stand: a processor that expects that

@@ -3,11 +3,12 @@ use Rattle.std.specs.Int.{bit_at}
 use Rattle.dash_shard.specs.Shard.{slot}
 use Rattle.dash_shard.proofs.shard.table.find_in.Given as goal
 
-abbrev pub invariant-loop-left : goal.invariant-loop-left
-invariant-loop-left g l = record {
+abbrev pub invariant-loop-key : goal.invariant-loop-key
+invariant-loop-key g l = record {
+  more : 0 < l.left;
   missed : (j : ℕ) (p : g.row.K.Denot × g.row.V.Denot) → j < 16 → bit_at l.mask j ≡ 1 → bit_at l.left j ≡ 0 → slot l.slots.values (l.start + j) ≡ Some p → g.K.PartialEq.eq p.0 l.key ≡ false;
   some : (j : ℕ) → j < 16 → bit_at l.left j ≡ 1 → bit_at l.mask j ≡ 1;
 }
 
-abbrev pub decreases-loop-left : goal.decreases-loop-left
-decreases-loop-left g l = l.left
+abbrev pub decreases-loop-key : goal.decreases-loop-key
+decreases-loop-key g l = l.left
