@@ -178,12 +178,12 @@ pub(super) fn tag(hash: u64) -> u8
     (hash >> 57) as u8
 }
 
-// The lane that a pair of the hash takes in its first group where it is free: one of eight, so that few pairs stand close together.
+// The lane that a pair of the hash takes in its first group where it is free. It is one of all sixteen, so that most pairs find theirs free.
 #[inline(always)]
 pub(super) fn own_lane(hash: u64) -> usize
     ensures { result < 16 }
 {
-    tag(hash) as usize % 8
+    tag(hash) as usize % 16
 }
 
 // The class of a hash, by bits that are not the tag's, and seldom the shard's or the home group's.
