@@ -98,7 +98,7 @@ impl<K: Eq + Hash, V, S: BuildHasher> DashMap<K, V, S> {
     /// shard.
     ///
     /// Takes memory for a new key where its shard is full, and is refused (1) only then.
-    #[inline]
+    #[inline(always)]
     pub fn insert<R: Wait + Clock>(
         &self,
         rt: &R,
