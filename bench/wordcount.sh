@@ -4,10 +4,12 @@
 # usage: bench/wordcount.sh [MEGABYTES]     with no number: 100
 #
 # It wants Debian's packages librust-dashmap-dev and librust-bstr-dev, cargo, python3 and rt. It makes a text, and bytes that are none,
-# runs both programs five times each, by turns, at 1, 2, 4 and 16 threads, and ends with status 1 where a count differs.
+# runs both programs by turns, five times each, at 1, 2, 4 and 16 threads, and ends with status 1 where a count differs. It prints the best times,
+# and the Rust program's time by ours, the median of the rounds.
 set -euo pipefail
 top=$(CDPATH='' cd -- "$(dirname -- "$0")/.." && pwd)
 registry=/usr/share/cargo/registry
+rounds=${ROUNDS:-5}
 room=$(mktemp -d)
 trap 'rm -rf "$room"' EXIT
 
@@ -37,16 +39,11 @@ for name, data in ("text", text), ("bytes", bytes_of):
     (room / f"{name}.python").write_bytes(b"".join(b"%d %s\n" % (-count, word) for count, word in rows))
 PYTHON
 
-# The best of five runs of a program, in milliseconds.
-best() {
-    local best=
-    for _ in 1 2 3 4 5; do
-        local from=$(date +%s%N)
-        "$@" >/dev/null
-        local took=$((($(date +%s%N) - from) / 1000000))
-        [ -n "$best" ] && [ "$best" -le "$took" ] || best=$took
-    done
-    echo "$best"
+# One run of a program, in milliseconds.
+time_of() {
+    local from=$(date +%s%N)
+    "$@" >/dev/null
+    echo $((($(date +%s%N) - from) / 1000000))
 }
 
 status=0
@@ -57,7 +54,10 @@ for threads in 1 2 4 16; do
         "$ours" -t "$threads" -n 1000 "$room/$name" | cmp -s - "$room/$name.python" ||
             { echo "wordcount.sh: a count of $name differs at $threads threads" >&2; status=1; }
     done
-    found="$(best "$ours" -t "$threads" -n 1000 "$room/text") $(best "$theirs" -t "$threads" -n 1000 "$room/text")"
-    echo "$found" | awk -v t="$threads" '{ printf "| %s | %d ms | %d ms | %.2f |\n", t, $1, $2, $2 / $1 }'
+    for _ in $(seq "$rounds"); do
+        o=$(time_of "$ours" -t "$threads" -n 1000 "$room/text") r=$(time_of "$theirs" -t "$threads" -n 1000 "$room/text")
+        echo "$((1000 * r / o)) $o $r"
+    done | sort -n | awk -v t="$threads" '{ ratio[NR] = $1 / 1000 } NR == 1 || $2 < o { o = $2 } NR == 1 || $3 < r { r = $3 }
+        END { printf "| %s | %d ms | %d ms | %.2f |\n", t, o, r, ratio[int((NR + 1) / 2)] }'
 done
 exit $status
