@@ -24,8 +24,7 @@ esac
     --config 'source.crates-io.replace-with="debian"' --config "source.debian.directory=\"$registry\"")
 theirs=$top/diff/rust/target/release/rust_diff
 ours=$top/crates/dash_diff/out/dash_diff
-(cd "$top/crates/dash_diff" && rt run -- none 1 >/dev/null 2>&1 || true)
-[ -x "$ours" ] || { echo "run.sh: dash_diff is not built" >&2; exit 1; }
+(cd "$top/crates/dash_diff" && rt run -- fixed 1 >&2)
 lines=$(mktemp -d)
 trap 'rm -rf "$lines"' EXIT
 
