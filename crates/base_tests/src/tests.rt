@@ -4,5 +4,6 @@ mod checks;
 mod hash;
 mod kept;
 mod lock;
+mod nap;
 mod shard;
 mod slots;

@@ -1,25 +1,30 @@
 -- A whole step on the shards of one owner.
 use Rattle.std.proofs.Common.{◌≡◌, ℕ, zero, suc, ◌<◌, Bool, true, List, [], ◌∷◌, ◌++◌, length, take, drop, Some, slice_get, refl, sym, ap, subst, arith, ◌∙◌}
 use Rattle.std.proofs.Math.Seq.{take-append_seam}
+use Rattle.std.proofs.lemmas.Bool.{and_parts}
 use Rattle.std.proofs.lemmas.Option.{same_Some, slice_get_within}
 use Rattle.std.specs.Cmp.{IsEquivalence}
 use Rattle.dash_shard.specs.Hashing.{KeyHash, IsAmount}
+use Rattle.dash_shard.specs.Shard.{pairs}
 use Rattle.dash_shard.specs.Steps.{Act}
 use Rattle.dash_shard.specs.inner.Keys.{IsLawful}
 use Rattle.dash_shard.specs.inner.Rows.{with_items}
 use Rattle.dash_steps.specs.declared.step.Record.{Record}
 use Rattle.dash_steps.specs.declared.step.Whole.{Whole}
+use Rattle.dash_steps.specs.Steps.{reply_of}
 use Rattle.dash_steps.specs.Takes.{Known}
+use Rattle.dash_steps.proofs.AlikeLaws.{chained, reply_equiv}
 use Rattle.dash_steps.proofs.Copies.{ActAlike}
 use Rattle.dash_record.specs.History.{LogState, RecState, IsRecorded}
 use Rattle.dash_history.specs.Alone.{RecAloneState, IsRecAlone}
 use Rattle.dash_record.specs.Held.{IsRecTagged}
 use Rattle.dash_history.specs.WholeSteps.{AppliedWhole}
-use Rattle.dash_record.specs.Part.{and_record}
-use Rattle.dash_record.specs.inner.Parts.{AddedEach, IsNext, Planned, SameEach}
+use Rattle.dash_record.specs.Joined.{part_reply}
+use Rattle.dash_record.specs.Part.{TellsPart, and_record}
+use Rattle.dash_record.specs.inner.Parts.{AddedEach, IsNext, Planned, SameEach, TellsTwice}
 use Rattle.dash_record.proofs.Lists.{get-within}
 use Rattle.dash_record.proofs.Parts.{next-recorded}
-use Rattle.dash_record.proofs.WholeLogs.{each-next}
+use Rattle.dash_record.proofs.WholeLogs.{each-next, part-copied}
 
 -- lists with the same elements at the same indexes
 same-lists : {X : Type 0} (xs ys : List X) → length xs ≡ length ys → ((i : ℕ) (x : X) → slice_get ys i ≡ Some x → slice_get xs i ≡ Some x) → xs ≡ ys
@@ -64,7 +69,7 @@ module _ {K V S : Type 0} (h : KeyHash K S) (law : IsLawful h) (k : K → K → 
           long : length back ≡ length row
           long = added.shards ∙ ap length all
 
-          added-lawful : (kind : Whole) → Planned known (λ s. s) kind row l stamp kept logged → IsRecAlone known (record { hasher = base; callers = c; row = back })
+          pub added-lawful : (kind : Whole) → Planned known (λ s. s) kind row l stamp kept logged → IsRecAlone known (record { hasher = base; callers = c; row = back })
           added-lawful kind plan = record {
             amount = subst IsAmount (sym long) a.amount;
             callers = a.callers;
@@ -92,6 +97,18 @@ module _ {K V S : Type 0} (h : KeyHash K S) (law : IsLawful h) (k : K → K → 
           pub put-lawful : (kind : Whole) → Planned known (λ s. s) kind row l stamp kept logged → IsRecAlone known new
           put-lawful kind plan = rw (put-back row back long) (added-lawful kind plan)
 
+          -- the log's record of a part tells it too
+          told-logged : (kind : Whole) {top : ℕ} (s : RecState K V A S) (r q : Record K V A) → TellsTwice known kind stamp l.caller s r q → stamp ≡ top → TellsPart known kind top l.caller s q
+          told-logged kind s r q t above =
+              let is = part-copied known kind stamp l.caller s r q t in
+              record {
+                stamped = is.stamped ∙ above;
+                by = is.by;
+                of = is.of;
+                step = is.step;
+                replied = chained (reply_equiv key value) (part_reply kind (pairs s.shard)) (reply_of r.reply) (reply_of q.reply) t.tells.replied (and_parts _ _ t.same).1;
+              }
+
           pub applied-whole : (kind : Whole) → Planned known (λ s. s) kind row l stamp kept logged → l' ≡ record l { last = stamp; entries = l.entries ++ logged } → AppliedWhole known kind old new l l' logged
           applied-whole kind plan log = record {
             hasher = refl;
@@ -110,6 +127,7 @@ module _ {K V S : Type 0} (h : KeyHash K S) (law : IsLawful h) (k : K → K → 
                     tells = record { stamped = t.4.tells.stamped ∙ plan.above; by = t.4.tells.by; of = t.4.tells.of; step = t.4.tells.step; replied = t.4.tells.replied };
                     grown = b.4 ∙ ap (and_record s) (same_Some b.1 t.0 (sym b.3 ∙ t.2));
                     same = t.4.same;
+                    told = told-logged kind s t.0 t.1 t.4 plan.above;
                   },
                 );
             log = log ∙ ap (λ n. record l { last = n; entries = l.entries ++ logged }) plan.above;

@@ -32,6 +32,10 @@ module _ {K V A S : Type 0} where
   abbrev pub last_at : RecAloneState K V A S → ℕ → ℕ
   last_at a i = option_map_or (λ s. last_or 0 s.history) (slice_get a.row i) 0
 
+  -- R relates each shard to the other's at its index
+  abbrev pub EachRecShard : (RecState K V A S → RecState K V A S → Type 0) → RecAloneState K V A S → RecAloneState K V A S → Type 0
+  EachRecShard R a b = (i : ℕ) (s t : RecState K V A S) → slice_get a.row i ≡ Some s → slice_get b.row i ≡ Some t → R s t
+
   -- each shard has the number of its index, and a legal history
   pub record IsRecAlone (w : Known K V A S) (a : RecAloneState K V A S) : Type 0 where
     pub amount : IsAmount (length a.row)

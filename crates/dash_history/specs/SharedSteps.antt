@@ -1,37 +1,30 @@
--- What a whole step through the locks leaves in the caller's log.
-use Rattle.std.specs.Prelude.{ℕ, ◌≡◌, ◌<◌, ◌-◌, ◌^◌, ◌⊎◌, List, ◌++◌, length}
-use Rattle.dash_shard.specs.Shard.{EachAt}
-use Rattle.dash_kept.specs.Alike.{CopiesEach}
+-- What a whole step through the locks makes of the shards that it finds there, and of the caller's log.
+use Rattle.std.specs.Prelude.{ℕ, ◌≡◌, ◌-◌, ◌^◌, ◌↔◌, Result, Vec, IfOk, OnErr, IsErrOf}
 use Rattle.dash_steps.specs.Takes.{Known}
-use Rattle.dash_steps.specs.declared.step.Record.{Record}
-use Rattle.dash_steps.specs.declared.step.Whole.{Whole}
-use Rattle.dash_steps.specs.declared.step.Whole.TheVariants as whole
 use Rattle.dash_record.specs.History.{LogState}
-use Rattle.dash_history.specs.Map.{RecMapState, SawRecShard}
-use Rattle.dash_record.specs.Part.{TellsPart}
-use Rattle.dash_record.specs.Joined.{joined_number, joined_pairs}
+use Rattle.dash_record.specs.declared.record.RecordFault.{RecordFault}
+use Rattle.dash_record.specs.declared.record.RecordFault.TheVariants.{LastStamp}
+use Rattle.dash_history.specs.Alone.{RecAloneState}
+use Rattle.dash_history.specs.Map.{RecMapState, LeavesRecShards}
+use Rattle.dash_history.specs.WholeSteps.{CountsAll, ClonesAll, top_of}
+
+module _ {K V A S : Type 0} where
+  -- The shards a, found behind the locks, were left as b. The whole step was taken, as Taken says of its answer, or refused, and each
+  -- shard was left as it was found: for want of a stamp exactly where the greatest of their lasts and the log's is the last stamp.
+  pub record StepsWhole {R : Type 0} (Taken : RecAloneState K V A S → RecAloneState K V A S → R → Type 0) (l : LogState K V A) (result : Result R RecordFault) (a b : RecAloneState K V A S) : Type 0 where
+    pub ok : IfOk result (Taken a b)
+    pub refused : OnErr result (b ≡ a)
+    pub last_stamp : IsErrOf result LastStamp ↔ (top_of a l ≡ 2 ^ 64 - 1)
+
+  -- the same of a fault by itself
+  abbrev pub FaultsWhole : LogState K V A → RecordFault → RecAloneState K V A S → RecAloneState K V A S → Type 0
+  FaultsWhole l fault a b = (b ≡ a) × ((fault ≡ LastStamp) ↔ (top_of a l ≡ 2 ^ 64 - 1))
 
 module _ {K V A S : Type 0} (w : Known K V A S) where
-  -- The log is longer by a record of the part in each shard, as the shard was found behind its lock, in rising order of shards, all at
-  -- one stamp above the log's last.
-  pub record LogsWhole (m : RecMapState S) (kind : Whole) (l l' : LogState K V A) (parts : List (Record K V A)) : Type 0 where
-    pub count : length parts ≡ m.amount
-    pub told : EachAt parts (λ i r. SawRecShard w m i (λ s. TellsPart w kind l'.last l.caller s r))
-    pub above : l.last < l'.last
-    pub log : l' ≡ record l { last = l'.last; entries = l.entries ++ parts }
+  -- a count of the whole map was taken, or refused
+  abbrev pub CountsShared : RecMapState K V A S → LogState K V A → LogState K V A → Result ℕ RecordFault → Type 0
+  CountsShared m l l' result = LeavesRecShards w m (StepsWhole (λ a b. CountsAll w a b l l') l result)
 
-  -- a count of the whole map is in the log, and this number is what its parts reply
-  pub record CountsShared (m : RecMapState S) (l l' : LogState K V A) (n : ℕ) : Type 0 where
-    pub parts : List (Record K V A)
-    pub logs : LogsWhole m whole.Count l l' parts
-    pub joined : n ≡ joined_number parts
-
-  -- a copy of the whole map is in the log, and these pairs are copies of what its parts reply
-  pub record ClonesShared (m : RecMapState S) (l l' : LogState K V A) (copies : List (K × V)) : Type 0 where
-    pub parts : List (Record K V A)
-    pub logs : LogsWhole m whole.Read l l' parts
-    pub joined : CopiesEach w.alike_key w.alike_value (joined_pairs parts) copies
-
-  -- the last stamp was given: by a shard, as it was found behind its lock, or in the log
-  abbrev pub NoStampLeft : RecMapState S → LogState K V A → Type 0
-  NoStampLeft m l = (l.last ≡ 2 ^ 64 - 1) ⊎ ((i : ℕ) × SawRecShard w m i (λ s. s.last ≡ 2 ^ 64 - 1))
+  -- a copy of the whole map was made, or refused
+  abbrev pub ClonesShared : {G : Type 0} → RecMapState K V A S → LogState K V A → LogState K V A → Result (Vec (K × V) G) RecordFault → Type 0
+  ClonesShared m l l' result = LeavesRecShards w m (StepsWhole (λ a b copies. ClonesAll w a b l l' copies.items) l result)

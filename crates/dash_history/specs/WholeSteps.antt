@@ -25,6 +25,7 @@ module _ {K V A S : Type 0} (w : Known K V A S) where
     pub tells : TellsPart w kind stamp caller s kept
     pub grown : s' ≡ and_record s kept
     pub same : IsTrue (alike_record w.alike_key w.alike_value w.alike_action kept logged)
+    pub told : TellsPart w kind stamp caller s logged
 
   -- A whole step was taken: its part in each shard was recorded there, all at one stamp, one above all lasts. The log has the same
   -- records at its end, in rising order of shards.

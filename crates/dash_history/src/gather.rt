@@ -4,7 +4,7 @@ ghost use Rattle.dash_history.specs.Alone.{RecAloneState};
 ghost use Rattle.dash_record.specs.History.{LogState};
 ghost use Rattle.dash_gather.specs.declared.place.At.{At};
 ghost use Rattle.dash_history.specs.OneHistory.{IsGathered, Gathers, StampsStandInOrder};
-ghost use Rattle.dash_history.specs.Map.{SawRecShards};
+ghost use Rattle.dash_history.specs.Map.{RelocksRecShards, shape};
 ghost use Rattle.dash_steps.specs.Takes.{Known};
 
 use crate::record::map::RecordedMap;
@@ -40,9 +40,9 @@ where
     V: Kept + Drop,
     S: BuildHasher,
     A: KeptAction<K, V> + Drop,
-    ensures gathers { SawRecShards ⟦<RecordedMap<K, V, S, A> as Recorded>⟧.known map.old
+    ensures gathers { RelocksRecShards ⟦<RecordedMap<K, V, S, A> as Recorded>⟧.known map.old map.new
         (λ a. Gathers ⟦<RecordedMap<K, V, S, A> as Recorded>⟧.known a logs.now result) }
-    ensures same { map.new ≡ map.old }
+    ensures same { shape map.new ≡ shape map.old }
 {
     replace_with(map, logs, gather_alone)
 }
@@ -57,9 +57,9 @@ where
     V: Kept + Drop,
     S: BuildHasher,
     A: KeptAction<K, V> + Drop,
-    ensures gathers { SawRecShards ⟦<RecordedMap<K, V, S, A> as Recorded>⟧.known map
+    ensures gathers { RelocksRecShards ⟦<RecordedMap<K, V, S, A> as Recorded>⟧.known map result.0
         (λ a. Gathers ⟦<RecordedMap<K, V, S, A> as Recorded>⟧.known a logs.now result.1) }
-    ensures same { result.0 ≡ map }
+    ensures same { shape result.0 ≡ shape map }
 {
     let alone = map.alone();
     let gathered = alone.gather(logs);

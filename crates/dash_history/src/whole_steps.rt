@@ -1,9 +1,14 @@
 //! Whole steps on a map that threads share: a count or a copy of all shards at one place of its history.
-ghost use Rattle.std.specs.Prelude.{◌≡◌, [], ◌∷◌, ◌<◌, IsFalse, IsTrue, IfErr, IfOk, IfSome, OnErr};
+ghost use Rattle.std.specs.Prelude.{◌≡◌, ◌-◌, ◌^◌, [], ◌∷◌, ◌<◌, ◌↔◌, ◌⊎◌, IsFalse, IsTrue, IfErr, IfOk, IfSome, OnErr};
+ghost use Rattle.dash_lock.specs.Lock.{LeftBehind};
 ghost use Rattle.dash_shard.specs.Errors.{IsOneOf};
+ghost use Rattle.dash_shard.specs.Shard.{EachAt};
 ghost use Rattle.dash_steps.specs.declared.step.Whole.{Whole};
-ghost use Rattle.dash_history.specs.SharedSteps.{CountsShared, ClonesShared, LogsWhole, NoStampLeft};
-ghost use Rattle.dash_history.specs.inner.Locks.{HoldsAll};
+ghost use Rattle.dash_history.specs.Alone.{IsRecAlone};
+ghost use Rattle.dash_history.specs.Map.{IsRecFound, LeavesRecShards};
+ghost use Rattle.dash_history.specs.SharedSteps.{CountsShared, ClonesShared, FaultsWhole, StepsWhole};
+ghost use Rattle.dash_history.specs.WholeSteps.{AppliedWhole, CountsAll, ClonesAll};
+ghost use Rattle.dash_history.specs.inner.Locks.{of_holds};
 ghost use Rattle.dash_record.specs.inner.Parts.{Planned};
 ghost use Rattle.dash_record.specs.declared.record.RecordFault.TheVariants.{LastStamp, Locked, Memory};
 
@@ -21,6 +26,28 @@ use std::hash::BuildHasher;
 use std::rt::Clock;
 use std::sync::Wait;
 
+// Ends the holds.
+fn end_all<K: KeptKey, V: Kept, S: BuildHasher, A: KeptAction<K, V>>(
+    mut holds: Vec<RecShardMut<'_, K, V, S, A>>,
+)
+    ensures { EachAt holds.entry.items (λ _. LeftBehind) }
+{
+    while let Some(held) = holds.pop() {
+        drop(held);
+    }
+}
+
+// Why a whole step is refused for which there is no memory, where this is the greatest of the last stamps.
+fn fault_at(top: u64) -> RecordFault
+    ensures last_stamp { (result ≡ LastStamp) ↔ (top ≡ 2 ^ 64 - 1) }
+    ensures kinds { IsOneOf (LastStamp ∷ Memory ∷ []) result }
+{
+    match top {
+        u64::MAX => RecordFault::LastStamp,
+        _ => RecordFault::Memory,
+    }
+}
+
 impl<K: KeptKey + Drop, V: Kept + Drop, S: BuildHasher, A: KeptAction<K, V> + Drop> RecordedMap<
     K,
     V,
@@ -32,9 +59,11 @@ impl<K: KeptKey + Drop, V: Kept + Drop, S: BuildHasher, A: KeptAction<K, V> + Dr
         &self,
         rt: &R,
     ) -> Result<Vec<RecShardMut<'_, K, V, S, A>>, AllocError>
-        ensures { IfOk result (λ holds. HoldsAll ⟦<Self as Recorded>⟧.known self.now holds.items) }
+        ensures { IfOk result (λ holds. IsRecFound ⟦<Self as Recorded>⟧.known self.now (of_holds self.now holds.items)) }
     {
         let amount = self.shard_count();
+        // It says that the number of callers is lawful.
+        let _ = self.callers();
         let mut holds = Vec::with_capacity(self.allocator(), amount)?;
         for idx in 0..amount {
             holds.push_reserved(self.held(rt, idx));
@@ -44,9 +73,11 @@ impl<K: KeptKey + Drop, V: Kept + Drop, S: BuildHasher, A: KeptAction<K, V> + Dr
 
     // As `hold_all`, where nobody has any of them.
     fn try_hold_all(&self) -> Result<Option<Vec<RecShardMut<'_, K, V, S, A>>>, AllocError>
-        ensures { IfOk result (λ o. IfSome o (λ holds. HoldsAll ⟦<Self as Recorded>⟧.known self.now holds.items)) }
+        ensures { IfOk result (λ o. IfSome o (λ holds.
+            IsRecFound ⟦<Self as Recorded>⟧.known self.now (of_holds self.now holds.items))) }
     {
         let amount = self.shard_count();
+        let _ = self.callers();
         let mut holds = Vec::with_capacity(self.allocator(), amount)?;
         for idx in 0..amount {
             let Some(held) = self.try_held(idx) else {
@@ -60,74 +91,98 @@ impl<K: KeptKey + Drop, V: Kept + Drop, S: BuildHasher, A: KeptAction<K, V> + Dr
     // Why a whole step is refused that finds no memory for its holds. It holds each shard by itself.
     #[cold]
     fn fault_unheld<R: Wait + Clock>(&self, rt: &R, log: &CallerLog<K, V, A>) -> RecordFault
-        ensures last_stamp { result ≡ LastStamp → NoStampLeft ⟦<Self as Recorded>⟧.known self.now log.now }
+        ensures fault { LeavesRecShards ⟦<Self as Recorded>⟧.known self.now (FaultsWhole log.now result) }
         ensures kinds { IsOneOf (LastStamp ∷ Memory ∷ []) result }
     {
+        let _ = self.callers();
+        let mut top = log.last_stamp();
         for idx in 0..self.shard_count() {
-            if self.held(rt, idx).last_stamp() == u64::MAX {
-                return RecordFault::LastStamp;
-            }
+            top = top.max(self.held(rt, idx).last_stamp());
         }
-        match log.last_stamp() {
-            u64::MAX => RecordFault::LastStamp,
-            _ => RecordFault::Memory,
-        }
+        fault_at(top)
     }
 
     // As `fault_unheld`, but first where somebody has a shard (21).
     #[cold]
     fn try_fault_unheld(&self, log: &CallerLog<K, V, A>) -> RecordFault
-        ensures last_stamp { result ≡ LastStamp → NoStampLeft ⟦<Self as Recorded>⟧.known self.now log.now }
+        ensures fault { (result ≡ Locked) ⊎ LeavesRecShards ⟦<Self as Recorded>⟧.known self.now (FaultsWhole log.now result) }
         ensures kinds { IsOneOf (Locked ∷ LastStamp ∷ Memory ∷ []) result }
     {
-        let mut fault = match log.last_stamp() {
-            u64::MAX => RecordFault::LastStamp,
-            _ => RecordFault::Memory,
-        };
+        let _ = self.callers();
+        let mut top = log.last_stamp();
         for idx in 0..self.shard_count() {
             let Some(held) = self.try_held(idx) else {
                 return RecordFault::Locked;
             };
-            if held.last_stamp() == u64::MAX {
-                fault = RecordFault::LastStamp;
-            }
+            top = top.max(held.last_stamp());
         }
-        fault
+        fault_at(top)
     }
 
-    // The records of a whole step of the shards that are held.
-    fn plan_held(
-        &self,
-        holds: &[RecShardMut<'_, K, V, S, A>],
-        log: &CallerLog<K, V, A>,
-        kind: Whole,
-    ) -> Result<Parts<K, V, A>, RecordFault>
-        requires { HoldsAll ⟦<Self as Recorded>⟧.known self.now holds.now }
-        ensures planned { IfOk result (λ p. Planned ⟦<Self as Recorded>⟧.known (λ s. s)
-            kind holds.now log.now p.stamp p.kept.items p.logged.items) }
-        ensures last_stamp { result ≡ Err LastStamp → NoStampLeft ⟦<Self as Recorded>⟧.known self.now log.now }
-        ensures kinds { IfErr result (IsOneOf (LastStamp ∷ Memory ∷ [])) }
-    {
-        RecShardMut::plan_whole(holds, log, kind)
-    }
-
-    // Adds them to the shards and to the log, or changes nothing where there is no memory for them.
+    // Adds the records of a whole step to the shards that are held and to the log, or changes nothing where there is no memory for them.
     fn record_held(
         &self,
         holds: &mut [RecShardMut<'_, K, V, S, A>],
         log: &mut CallerLog<K, V, A>,
         parts: Parts<K, V, A>,
     ) -> bool
-        requires held { HoldsAll ⟦<Self as Recorded>⟧.known self.now holds.old }
+        requires held { IsRecFound ⟦<Self as Recorded>⟧.known self.now (of_holds self.now holds.old) }
         requires caller { log.old.caller < self.now.callers }
         requires planned { (kind : Whole) × Planned ⟦<Self as Recorded>⟧.known (λ s. s)
             kind holds.old log.old parts.stamp parts.kept.items parts.logged.items }
-        ensures logs { IsTrue result → (kind : Whole) → Planned ⟦<Self as Recorded>⟧.known (λ s. s) kind holds.old log.old parts.stamp
-            parts.kept.items parts.logged.items
-            → LogsWhole ⟦<Self as Recorded>⟧.known self.now kind log.old log.new parts.logged.items }
-        ensures refused { IsFalse result → log.new ≡ log.old }
+        ensures added { IsTrue result → (kind : Whole) → Planned ⟦<Self as Recorded>⟧.known (λ s. s) kind holds.old log.old parts.stamp
+            parts.kept.items parts.logged.items → AppliedWhole ⟦<Self as Recorded>⟧.known kind
+            (of_holds self.now holds.old) (of_holds self.now holds.new) log.old log.new parts.logged.items }
+        ensures lawful { IsRecAlone ⟦<Self as Recorded>⟧.known (of_holds self.now holds.new) }
+        ensures refused { IsFalse result → (of_holds self.now holds.new ≡ of_holds self.now holds.old) × (log.new ≡ log.old) }
     {
         RecShardMut::record_whole(holds, log, parts)
+    }
+
+    // A count of the shards that are held.
+    fn count_in(
+        &self,
+        holds: &mut [RecShardMut<'_, K, V, S, A>],
+        log: &mut CallerLog<K, V, A>,
+    ) -> Result<u64, RecordFault>
+        requires held { IsRecFound ⟦<Self as Recorded>⟧.known self.now (of_holds self.now holds.old) }
+        requires caller { log.old.caller < self.now.callers }
+        ensures counts { StepsWhole (λ a b. CountsAll ⟦<Self as Recorded>⟧.known a b log.old log.new) log.old result
+            (of_holds self.now holds.old) (of_holds self.now holds.new) }
+        ensures lawful { IsRecAlone ⟦<Self as Recorded>⟧.known (of_holds self.now holds.new) }
+        ensures refused { OnErr result (log.new ≡ log.old) }
+        ensures kinds { IfErr result (IsOneOf (LastStamp ∷ Memory ∷ [])) }
+    {
+        let parts = RecShardMut::plan_whole(holds, log, Whole::Count)?;
+        let number = join_numbers(&parts.logged);
+        if !self.record_held(holds, log, parts) {
+            return Err(RecordFault::Memory);
+        }
+        Ok(number)
+    }
+
+    // Copies of the pairs of the shards that are held.
+    fn clone_in(
+        &self,
+        holds: &mut [RecShardMut<'_, K, V, S, A>],
+        log: &mut CallerLog<K, V, A>,
+    ) -> Result<Vec<(K, V)>, RecordFault>
+        requires held { IsRecFound ⟦<Self as Recorded>⟧.known self.now (of_holds self.now holds.old) }
+        requires caller { log.old.caller < self.now.callers }
+        ensures clones { StepsWhole (λ a b copies. ClonesAll ⟦<Self as Recorded>⟧.known a b log.old log.new copies.items) log.old result
+            (of_holds self.now holds.old) (of_holds self.now holds.new) }
+        ensures lawful { IsRecAlone ⟦<Self as Recorded>⟧.known (of_holds self.now holds.new) }
+        ensures refused { OnErr result (log.new ≡ log.old) }
+        ensures kinds { IfErr result (IsOneOf (LastStamp ∷ Memory ∷ [])) }
+    {
+        let parts = RecShardMut::plan_whole(holds, log, Whole::Read)?;
+        let Ok(copies) = join_pairs(self.allocator(), &parts.logged) else {
+            return Err(RecordFault::Memory);
+        };
+        if !self.record_held(holds, log, parts) {
+            return Err(RecordFault::Memory);
+        }
+        Ok(copies)
     }
 
     // A count of the shards that are held, whose holds it ends.
@@ -136,19 +191,15 @@ impl<K: KeptKey + Drop, V: Kept + Drop, S: BuildHasher, A: KeptAction<K, V> + Dr
         mut holds: Vec<RecShardMut<'_, K, V, S, A>>,
         log: &mut CallerLog<K, V, A>,
     ) -> Result<u64, RecordFault>
-        requires held { HoldsAll ⟦<Self as Recorded>⟧.known self.now holds.items }
+        requires held { IsRecFound ⟦<Self as Recorded>⟧.known self.now (of_holds self.now holds.items) }
         requires caller { log.old.caller < self.now.callers }
-        ensures ok { IfOk result (CountsShared ⟦<Self as Recorded>⟧.known self.now log.old log.new) }
+        ensures counts { CountsShared ⟦<Self as Recorded>⟧.known self.now log.old log.new result }
         ensures refused { OnErr result (log.new ≡ log.old) }
-        ensures last_stamp { result ≡ Err LastStamp → NoStampLeft ⟦<Self as Recorded>⟧.known self.now log.old }
         ensures kinds { IfErr result (IsOneOf (LastStamp ∷ Memory ∷ [])) }
     {
-        let parts = self.plan_held(&holds, log, Whole::Count)?;
-        let number = join_numbers(&parts.logged);
-        if !self.record_held(&mut holds, log, parts) {
-            return Err(RecordFault::Memory);
-        }
-        Ok(number)
+        let answer = self.count_in(&mut holds, log);
+        end_all(holds);
+        answer
     }
 
     // Copies of the pairs of the shards that are held, whose holds it ends.
@@ -157,21 +208,15 @@ impl<K: KeptKey + Drop, V: Kept + Drop, S: BuildHasher, A: KeptAction<K, V> + Dr
         mut holds: Vec<RecShardMut<'_, K, V, S, A>>,
         log: &mut CallerLog<K, V, A>,
     ) -> Result<Vec<(K, V)>, RecordFault>
-        requires held { HoldsAll ⟦<Self as Recorded>⟧.known self.now holds.items }
+        requires held { IsRecFound ⟦<Self as Recorded>⟧.known self.now (of_holds self.now holds.items) }
         requires caller { log.old.caller < self.now.callers }
-        ensures ok { IfOk result (λ copies. ClonesShared ⟦<Self as Recorded>⟧.known self.now log.old log.new copies.items) }
+        ensures clones { ClonesShared ⟦<Self as Recorded>⟧.known self.now log.old log.new result }
         ensures refused { OnErr result (log.new ≡ log.old) }
-        ensures last_stamp { result ≡ Err LastStamp → NoStampLeft ⟦<Self as Recorded>⟧.known self.now log.old }
         ensures kinds { IfErr result (IsOneOf (LastStamp ∷ Memory ∷ [])) }
     {
-        let parts = self.plan_held(&holds, log, Whole::Read)?;
-        let Ok(copies) = join_pairs(self.allocator(), &parts.logged) else {
-            return Err(RecordFault::Memory);
-        };
-        if !self.record_held(&mut holds, log, parts) {
-            return Err(RecordFault::Memory);
-        }
-        Ok(copies)
+        let answer = self.clone_in(&mut holds, log);
+        end_all(holds);
+        answer
     }
 
     /// How many pairs the map has, saturating at 2^64 - 1, at one place of its history.
@@ -185,9 +230,8 @@ impl<K: KeptKey + Drop, V: Kept + Drop, S: BuildHasher, A: KeptAction<K, V> + Dr
         log: &mut CallerLog<K, V, A>,
     ) -> Result<u64, RecordFault>
         requires { log.old.caller < self.now.callers }
-        ensures ok { IfOk result (CountsShared ⟦<Self as Recorded>⟧.known self.now log.old log.new) }
+        ensures counts { CountsShared ⟦<Self as Recorded>⟧.known self.now log.old log.new result }
         ensures refused { OnErr result (log.new ≡ log.old) }
-        ensures last_stamp { result ≡ Err LastStamp → NoStampLeft ⟦<Self as Recorded>⟧.known self.now log.old }
         ensures kinds { IfErr result (IsOneOf (LastStamp ∷ Memory ∷ [])) }
     {
         match self.hold_all(rt) {
@@ -203,9 +247,8 @@ impl<K: KeptKey + Drop, V: Kept + Drop, S: BuildHasher, A: KeptAction<K, V> + Dr
         log: &mut CallerLog<K, V, A>,
     ) -> Result<Vec<(K, V)>, RecordFault>
         requires { log.old.caller < self.now.callers }
-        ensures ok { IfOk result (λ copies. ClonesShared ⟦<Self as Recorded>⟧.known self.now log.old log.new copies.items) }
+        ensures clones { ClonesShared ⟦<Self as Recorded>⟧.known self.now log.old log.new result }
         ensures refused { OnErr result (log.new ≡ log.old) }
-        ensures last_stamp { result ≡ Err LastStamp → NoStampLeft ⟦<Self as Recorded>⟧.known self.now log.old }
         ensures kinds { IfErr result (IsOneOf (LastStamp ∷ Memory ∷ [])) }
     {
         match self.hold_all(rt) {
@@ -217,9 +260,8 @@ impl<K: KeptKey + Drop, V: Kept + Drop, S: BuildHasher, A: KeptAction<K, V> + Dr
     /// As `count_all`, but it waits for nobody: where somebody holds a shard, it is refused (21, then 18, then 19).
     pub fn try_count_all(&self, log: &mut CallerLog<K, V, A>) -> Result<u64, RecordFault>
         requires { log.old.caller < self.now.callers }
-        ensures ok { IfOk result (CountsShared ⟦<Self as Recorded>⟧.known self.now log.old log.new) }
+        ensures counts { (result ≡ Err Locked) ⊎ CountsShared ⟦<Self as Recorded>⟧.known self.now log.old log.new result }
         ensures refused { OnErr result (log.new ≡ log.old) }
-        ensures last_stamp { result ≡ Err LastStamp → NoStampLeft ⟦<Self as Recorded>⟧.known self.now log.old }
         ensures kinds { IfErr result (IsOneOf (Locked ∷ LastStamp ∷ Memory ∷ [])) }
     {
         match self.try_hold_all() {
@@ -232,9 +274,8 @@ impl<K: KeptKey + Drop, V: Kept + Drop, S: BuildHasher, A: KeptAction<K, V> + Dr
     /// As `clone_all`, but it waits for nobody, as `try_count_all`.
     pub fn try_clone_all(&self, log: &mut CallerLog<K, V, A>) -> Result<Vec<(K, V)>, RecordFault>
         requires { log.old.caller < self.now.callers }
-        ensures ok { IfOk result (λ copies. ClonesShared ⟦<Self as Recorded>⟧.known self.now log.old log.new copies.items) }
+        ensures clones { (result ≡ Err Locked) ⊎ ClonesShared ⟦<Self as Recorded>⟧.known self.now log.old log.new result }
         ensures refused { OnErr result (log.new ≡ log.old) }
-        ensures last_stamp { result ≡ Err LastStamp → NoStampLeft ⟦<Self as Recorded>⟧.known self.now log.old }
         ensures kinds { IfErr result (IsOneOf (Locked ∷ LastStamp ∷ Memory ∷ [])) }
     {
         match self.try_hold_all() {

@@ -2,4 +2,5 @@ pub mod Guarded
 pub mod KeepsFit
 pub mod Lock
 pub mod LockState
+pub mod Made
 pub mod inner

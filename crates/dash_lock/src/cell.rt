@@ -6,7 +6,7 @@ ghost use Rattle.dash_lock.specs.inner.Holding.{lock_owns, lock_shares, IsMark};
 ghost use Rattle.dash_lock.specs.inner.Stays.{StaysAt};
 
 use dash_traits::Tagged;
-use std::marker::{Brand, Move, Owns};
+use std::marker::{Brand, Model, Move, Owns, PhantomData};
 use std::sync::atomic::Ordering::SeqCst;
 use std::sync::atomic::raw;
 
@@ -78,5 +78,40 @@ impl<T: Tagged> Cell<T> {
         requires { IsMark old new }
     {
         unsafe { raw::compare_exchange::<Brand>(&raw const self.word, old, new, SeqCst, SeqCst) }
+    }
+}
+
+/// What a lock was made for, which clauses alone read: std's `Snapshot`, with a `Sync` that a struct which has one hands on. It has no bytes.
+pub struct Origin<T> {
+    marker: PhantomData<T>,
+    pub ghost value: { T } by { T.code },
+}
+
+impl<T> Model for Origin<T> {
+    ghost use Rattle.std.specs.Borrow.{ftrue};
+
+    ghost also_owns = { λ _. ftrue };
+}
+
+unsafe impl<T> Send for Origin<T> {}
+
+unsafe impl<T> Sync for Origin<T> {}
+
+impl<T> Drop for Origin<T> {
+    fn drop(self) {
+        let Self { marker: _ } = self;
+    }
+}
+
+impl<T> Origin<T> {
+    /// The origin of a lock that is made for this value.
+    #[inline]
+    pub fn of(value: &T) -> Origin<T>
+        ensures { result.value ≡ value.now }
+    {
+        let _ = value;
+        Origin {
+            marker: PhantomData,
+        }
     }
 }

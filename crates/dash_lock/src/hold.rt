@@ -4,7 +4,7 @@ ghost use Rattle.std.specs.Borrow.{Lends, sem};
 ghost use Rattle.std.specs.Fn.{FnOnceReturnsAtMut, FnOnceTakesAtMut};
 ghost use Rattle.std.specs.Map.Iter.{deref_pair_mut};
 ghost use Rattle.dash_lock.specs.KeepsFit.{KeepsFit};
-ghost use Rattle.dash_lock.specs.Lock.{FoundBehind};
+ghost use Rattle.dash_lock.specs.Lock.{FoundBehind, LeftBehind, GivenBack};
 ghost use Rattle.dash_lock.specs.LockState.{Steps};
 ghost use Rattle.dash_lock.specs.inner.Holding.{hold_owns, hold_shares, IsTake, Gains};
 ghost use Rattle.dash_lock.specs.declared.word.LockEvent.TheVariants.{ReleaseShared, ReleaseExclusive, Downgrade};
@@ -112,7 +112,8 @@ impl<T: Tagged> Hold<'_, T> {
     #[inline]
     pub fn leave(self) -> u64
         requires { self.right ≡ 1 }
-        ensures { Steps ReleaseShared result (result - 4) }
+        ensures event { Steps ReleaseShared result (result - 4) }
+        ensures back { GivenBack self.entry.value }
     {
         let Hold { cell, marker: _ } = self;
         unsafe { raw::fetch_sub::<Brand>(&raw const (*cell).word, ONE_READER, SeqCst) }
@@ -122,7 +123,8 @@ impl<T: Tagged> Hold<'_, T> {
     #[inline]
     pub fn open(self) -> u64
         requires { self.right ≡ 2 }
-        ensures { Steps ReleaseExclusive result 0 }
+        ensures event { Steps ReleaseExclusive result 0 }
+        ensures left { LeftBehind self.entry.value }
     {
         let Hold { cell, marker: _ } = self;
         unsafe { raw::swap::<Brand>(&raw const (*cell).word, 0, SeqCst) }
@@ -135,6 +137,7 @@ impl<T: Tagged> Hold<'_, T> {
         ensures event { Steps Downgrade result.0 (bit_and result.0 6) }
         ensures same { (result.1.tag ≡ self.entry.tag) × (result.1.value ≡ self.entry.value) }
         ensures right { result.1.right ≡ 1 }
+        ensures left { LeftBehind self.entry.value }
     {
         let Hold { cell, marker: _ } = self;
         // AND 6 leaves one reader, and the writers' mark.

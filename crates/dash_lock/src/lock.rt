@@ -5,9 +5,9 @@
 ghost use Rattle.std.specs.Prelude.{◌≡◌, IfSome};
 ghost use Rattle.std.specs.Fn.{FnOnceReturnsAtMut, FnOnceTakesAtMut};
 ghost use Rattle.dash_lock.specs.KeepsFit.{KeepsFit};
-ghost use Rattle.dash_lock.specs.Lock.{FoundBehind, LeftBehind};
+ghost use Rattle.dash_lock.specs.Lock.{FoundBehind, GivenBack, LeftBehind, EndedWith};
 
-use crate::cell::Cell;
+use crate::cell::{Cell, Origin};
 use crate::hold::Hold;
 use crate::sleepers::Sleepers;
 use dash_traits::Tagged;
@@ -19,21 +19,26 @@ use std::sync::Wait;
 
 pub mod raw;
 
-/// A value behind a reader-writer lock, as the original's `RwLock` over its `RawRwLock`. A contract sees a lock as its tag.
+/// A value behind a reader-writer lock, as the original's `RwLock` over its `RawRwLock`. A contract sees a lock as its tag,
+/// and the value that it was made for.
 ///
 /// Nothing is said of who gets the lock first, nor that a call that waits returns: a thread that has a guard and waits for a second one
 /// may wait for itself. A guard that is leaked keeps its hold for good, and leaves the lock safe to use and to drop.
 pub struct RwLock<T: Tagged> {
     cell: Cell<T>,
     sleepers: Sleepers,
+    made: Origin<T>,
 }
 
 impl<T: Tagged> Model for RwLock<T> {
-    ghost Value = { T.Tag };
+    ghost use Rattle.dash_lock.specs.Made.{Made};
+    ghost use Rattle.dash_lock.specs.inner.Codes.{made_code};
 
-    ghost coded = { T.Tag.code };
+    ghost Value = { Made T.Tag T };
 
-    ghost view = { λ s. s.cell };
+    ghost coded = { made_code T.Tag.code T.code };
+
+    ghost view = { λ s. record { tag = s.cell; made = s.made.value } };
 }
 
 impl<T: Tagged + Drop> Drop for RwLock<T> {
@@ -47,24 +52,29 @@ impl<T: Tagged> RwLock<T> {
     #[inline]
     pub fn new(value: T, tag: &T::Tag) -> RwLock<T>
         requires fits { T.fits tag.now value }
-        ensures tag { result ≡ tag.now }
+        ensures tag { result.tag ≡ tag.now }
+        ensures made { result.made ≡ value }
         ensures left { LeftBehind value }
     {
+        let made = Origin::of(&value);
         RwLock {
             cell: Cell::new(value, tag),
             sleepers: Sleepers::new(),
+            made,
         }
     }
 
     /// The value. It waits for nobody, even where a guard was leaked.
     #[inline]
     pub fn into_inner(self) -> T
-        ensures fits { T.fits self result }
+        ensures fits { T.fits self.tag result }
         ensures found { FoundBehind result }
+        ensures ended { EndedWith self.made result }
     {
         let Self {
             cell,
             sleepers: _sleepers,
+            made: _made,
         } = self;
         cell.into_inner()
     }
@@ -72,7 +82,7 @@ impl<T: Tagged> RwLock<T> {
     /// Lends the value for reading, as the original's `get_mut` does for writing. It waits for nobody.
     #[inline]
     pub fn get(&mut self) -> &T
-        ensures fits { T.fits self.old result.now }
+        ensures fits { T.fits self.old.tag result.now }
         ensures found { FoundBehind result.now }
     {
         self.cell.get()
@@ -81,8 +91,8 @@ impl<T: Tagged> RwLock<T> {
     /// Waits until no writer has the lock, as the original's `read`. Where the most readers have it, this waits too.
     #[inline]
     pub fn read<R: Wait + Clock>(&self, rt: &R) -> RwLockReadGuard<'_, T>
-        ensures tag { result.tag ≡ self.now }
-        ensures fits { T.fits self.now result.value }
+        ensures tag { result.tag ≡ self.now.tag }
+        ensures fits { T.fits self.now.tag result.value }
         ensures found { FoundBehind result.value }
     {
         let hold = match self.try_lock_shared_fast(self.cell.word()) {
@@ -95,8 +105,8 @@ impl<T: Tagged> RwLock<T> {
     /// Waits until nobody has the lock, as the original's `write`.
     #[inline]
     pub fn write<R: Wait + Clock>(&self, rt: &R) -> RwLockWriteGuard<'_, T>
-        ensures tag { result.tag ≡ self.now }
-        ensures fits { T.fits self.now result.value }
+        ensures tag { result.tag ≡ self.now.tag }
+        ensures fits { T.fits self.now.tag result.value }
         ensures found { FoundBehind result.value }
     {
         let hold = match self.try_lock_exclusive_fast(0) {
@@ -109,8 +119,8 @@ impl<T: Tagged> RwLock<T> {
     /// Takes the lock for reading, as the original's `try_read`, if at most eight exchanges do it. `None` says nothing of who has it.
     #[inline]
     pub fn try_read(&self) -> Option<RwLockReadGuard<'_, T>>
-        ensures tag { IfSome result (λ guard. guard.tag ≡ self.now) }
-        ensures fits { IfSome result (λ guard. T.fits self.now guard.value) }
+        ensures tag { IfSome result (λ guard. guard.tag ≡ self.now.tag) }
+        ensures fits { IfSome result (λ guard. T.fits self.now.tag guard.value) }
         ensures found { IfSome result (λ guard. FoundBehind guard.value) }
     {
         let hold = self.try_lock_shared()?;
@@ -120,8 +130,8 @@ impl<T: Tagged> RwLock<T> {
     /// Takes the lock for writing, as the original's `try_write`, if at most eight exchanges do it. `None` says nothing of who has it.
     #[inline]
     pub fn try_write(&self) -> Option<RwLockWriteGuard<'_, T>>
-        ensures tag { IfSome result (λ guard. guard.tag ≡ self.now) }
-        ensures fits { IfSome result (λ guard. T.fits self.now guard.value) }
+        ensures tag { IfSome result (λ guard. guard.tag ≡ self.now.tag) }
+        ensures fits { IfSome result (λ guard. T.fits self.now.tag guard.value) }
         ensures found { IfSome result (λ guard. FoundBehind guard.value) }
     {
         let hold = self.try_lock_exclusive()?;
@@ -177,7 +187,9 @@ impl<'a, T: Tagged> RwLockReadGuard<'a, T> {
 
 impl<T: Tagged> Drop for RwLockReadGuard<'_, T> {
     #[inline]
-    fn drop(self) {
+    fn drop(self)
+        ensures back { GivenBack self.entry.value }
+    {
         let Self { hold, lock } = self;
         lock.unlock_shared(hold);
     }

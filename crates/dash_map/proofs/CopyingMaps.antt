@@ -4,7 +4,7 @@ use Rattle.std.proofs.lemmas.List.{length_push}
 use Rattle.std.proofs.lemmas.Option.{none-some, slice_get_within, slice_get-get_or}
 use Rattle.dash_shard.specs.Hashing.{KeyHash, HashAlike, IsAmount}
 use Rattle.dash_shard.specs.Shard.{ShardState}
-use Rattle.dash_lock.specs.Lock.{FoundBehind}
+use Rattle.dash_lock.specs.Lock.{WasRead}
 use Rattle.dash_map.specs.Alone.{AloneState, IsAlone}
 use Rattle.dash_map.specs.Copies.{CopiesAlone}
 use Rattle.dash_rows.specs.inner.Copies.{IsCopied, AreCopied}
@@ -56,12 +56,12 @@ module _ {K V S : Type 0} (eq k : K → K → Bool) (v : V → V → Bool) (C : 
     }
 
   -- a map behind its locks that was copied, each shard when it was held
-  pub copied-map : (m : MapState S) (n : ℕ) (copies : List (ShardState K V S)) → SeenSo h m n (λ row. AreCopied eq k v C h row copies) → IsWhole m n
+  pub copied-map : (m : MapState K V S) (n : ℕ) (copies : List (ShardState K V S)) → SeenSo h m n (λ row. AreCopied eq k v C h row copies) → IsWhole m n
       → (base : S) → base ≡ m.hasher → (hasher : S) → C base hasher → ((s t : S) → C s t → HashAlike h s t) → (made : List (ShardState K V S)) → made ≡ copies
       → SawShards h m (λ a. CopiesAlone eq k v C a (record { hasher = hasher; row = made })) × IsAlone h (record { hasher = hasher; row = made })
   copied-map m n copies so all base is hasher clone alike made same =
       let a : AloneState K V S = record { hasher = m.hasher; row = so.0 } in
-      let found = all-seen h m FoundBehind n so.0 so.1 all in
+      let found = all-seen h m WasRead n so.0 so.1 all in
       let cloned : C m.hasher hasher = subst (λ z. C z hasher) is clone in
       let made-of = subst (λ l. AreCopied eq k v C h so.0 l) (sym same) so.2 in (
         (a, found, all-copied a made made-of hasher cloned),

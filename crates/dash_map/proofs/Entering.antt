@@ -10,7 +10,7 @@ use Rattle.dash_map.specs.Behind.{StandsAt}
 use Rattle.dash_map.specs.Map.{MapState}
 use Rattle.dash_map.proofs.Lifting.{tagged-moved}
 
-module _ {K V S : Type 0} (h : KeyHash K S) (m : MapState S) (key : K) (s : ShardState K V S) (here : StandsAt h m key s) where
+module _ {K V S : Type 0} (h : KeyHash K S) (m : MapState K V S) (key : K) (s : ShardState K V S) (here : StandsAt h m key s) where
   entry-stands : (e : Entry K V S) → MatchEntry e (OccupiedOf h.eq s key) (VacantOf h.eq s key) → IsShard h (entry_shard e) → StandsAt h m key (entry_shard e)
   entry-stands (Occupied o) is lawful = subst (StandsAt h m key) (sym is.shard) here
   entry-stands (Vacant v) is lawful = tagged-moved h m.hasher m.amount _ s v.shard here is.stays lawful

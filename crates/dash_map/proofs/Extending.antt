@@ -12,7 +12,7 @@ use Rattle.dash_shard.specs.Shard.{ShardState, pairs, shard_len}
 use Rattle.dash_shard.specs.declared.shard.InsertRefused.{InsertRefused}
 use Rattle.dash_shard.proofs.Equals.{at-equal}
 use Rattle.dash_map.specs.Alone.{AloneState, IsAlone, KeepsRoom, TakesAlone, contents}
-use Rattle.dash_map.proofs.Rooms.{keeps-same, keeps-then}
+use Rattle.dash_map.proofs.Rooms.{keeps-same, keeps-taken, keeps-then}
 use Rattle.dash_map.specs.Extend.{first_with_last, Gave, InsertsEach, Gains, HasNoRoom, MadeOf, Extends}
 use Rattle.dash_map.specs.declared.extend.ExtendRefused.{ExtendRefused}
 use Rattle.dash_map.proofs.Distincts.{distinct-contents}
@@ -104,7 +104,7 @@ module _ {K V S : Type 0} (h : KeyHash K S) where
 
   stays-each : (old : AloneState K V S) (ps : List (K × V)) (new : AloneState K V S) → InsertsEach h old ps new → KeepsRoom old new
   stays-each old [] new e = keeps-same old new e
-  stays-each old (p ∷ ps) new r = keeps-then old r.0 new r.2.stays (stays-each r.0 ps new r.3)
+  stays-each old (p ∷ ps) new r = keeps-then old r.0 new (keeps-taken h old r.0 (Insert p.0 p.1) (Old r.1) r.2) (stays-each r.0 ps new r.3)
 
   pub lawful-each : (old : AloneState K V S) (ps : List (K × V)) (new : AloneState K V S) → IsAlone h old → InsertsEach h old ps new → IsAlone h new
   lawful-each old [] new lawful e = subst (IsAlone h) (sym e) lawful

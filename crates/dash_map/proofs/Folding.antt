@@ -4,7 +4,7 @@ use Rattle.std.proofs.lemmas.Grind.{flat_map-append}
 use Rattle.std.proofs.lemmas.List.{map-append}
 use Rattle.std.specs.Fn.{Mut}
 use Rattle.std.specs.List.{FoldsTo}
-use Rattle.dash_lock.specs.Lock.{FoundBehind}
+use Rattle.dash_lock.specs.Lock.{WasRead}
 use Rattle.dash_shard.specs.Hashing.{KeyHash}
 use Rattle.dash_shard.specs.Shard.{ShardState, IsTagged, pairs}
 use Rattle.dash_map.specs.Folds.{Folds, MayFold, MayVisit, Visits}
@@ -44,13 +44,13 @@ module _ {P A : Type 0} (R : P → A → P → Type 0) where
     going-last left to so e = so.goes to (subst (λ l. FoldsTo R to l to) (sym e) refl)
 
 -- Turns along the items of shards that were seen, each as it stood when it was held.
-module _ {K V S P A : Type 0} (h : KeyHash K S) (m : MapState S) (R : P → A → P → Type 0) (items : ShardState K V S → List A) (first : P) where
+module _ {K V S P A : Type 0} (h : KeyHash K S) (m : MapState K V S) (R : P → A → P → Type 0) (items : ShardState K V S → List A) (first : P) where
   -- of the shards in front of n
   abbrev pub Along : ℕ → P → Type 0
   Along n to = SeenSo h m n (λ row. FoldsTo R first (flat_map items row) to)
 
   -- and of one shard more, whose items are these
-  pub along-shard : (n : ℕ) (q r : P) → Along n q → (s : ShardState K V S) → IsTagged h m.hasher m.amount n s → FoundBehind s → (xs : List A) → xs ≡ items s → FoldsTo R q xs r → Along (n + 1) r
+  pub along-shard : (n : ℕ) (q r : P) → Along n q → (s : ShardState K V S) → IsTagged h m.hasher m.amount n s → WasRead s → (xs : List A) → xs ≡ items s → FoldsTo R q xs r → Along (n + 1) r
   along-shard n q r so s tagged found xs are turns =
       let more = flat_map-append items so.0 (s ∷ []) ∙ ap (λ l. flat_map items so.0 ++ l) (append-nil (items s)) in
       let here = subst (λ l. FoldsTo R q l r) are turns in

@@ -34,7 +34,7 @@ each-more R olds news s t long each here i x y e e' = elim (append-cases olds s 
   ]
 ]
 
-module _ {K V S : Type 0} (h : KeyHash K S) (m : MapState S) where
+module _ {K V S : Type 0} (h : KeyHash K S) (m : MapState K V S) where
   -- the shards in front of n, each as it stood and as it was left
   pub record Leaving (R : ShardState K V S → ShardState K V S → Type 0) (n : ℕ) : Type 0 where
     pub olds : List (ShardState K V S)

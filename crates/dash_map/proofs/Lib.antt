@@ -11,6 +11,7 @@ mod Leaving
 mod Lending
 mod Lifting
 mod Moves
+pub mod NonePut
 mod ParExtending
 mod ParSharing
 mod Refusals

@@ -1,10 +1,10 @@
 -- What workers who each put a shard's pairs into it leave in the whole map.
 use Rattle.std.proofs.Common.{◌≡◌, ℕ, ◌<◌, ◌≤◌, ◌==◌, cond, true, false, List, [], ◌∷◌, ◌++◌, map, All, length, Option, Some, Result, Ok, Err, slice_get, get_or, take, drop, refl, sym, ap, ap₂, subst, ◌∙◌, length-set, append-nil, arith}
-use Rattle.std.specs.Prelude.{⊤, OnOk}
+use Rattle.std.specs.Prelude.{⊤, OnOk, OnErr}
 use Rattle.std.proofs.Math.Seq.{take-append_seam}
 use Rattle.std.proofs.lemmas.List.{get_or_default}
 use Rattle.std.proofs.lemmas.Option.{slice_get-get_or, slice_get_within, get_or_from_slice_get}
-use Rattle.dash_parallel.specs.Apart.{EachPart, RanWhole, TakenInTurn, of_part, steps_of}
+use Rattle.dash_parallel.specs.Apart.{EachPart, RanShort, RanWhole, SomePart, TakenInTurn, of_part, steps_of}
 use Rattle.dash_parallel.specs.inner.Lanes.{FitsAll}
 use Rattle.dash_parallel.specs.inner.Rows.{TakesInRow}
 use Rattle.dash_parallel.proofs.Weaving.{weave}
@@ -17,9 +17,10 @@ use Rattle.dash_shard.specs.Steps.{Insert, Old}
 use Rattle.dash_shard.proofs.Routing.{route_below}
 use Rattle.dash_map.specs.Alone.{AloneState, IsAlone, KeepsRoom, TakesAlone}
 use Rattle.dash_map.specs.Extend.{InsertsEach, Gains, PutsFront, ParExtends}
-use Rattle.dash_map.specs.Map.{MapState}
+use Rattle.dash_map.specs.Map.{MapShape}
 use Rattle.dash_map.proofs.Extending.{gains}
 use Rattle.dash_map.proofs.Lifting.{tagged-moved}
+use Rattle.dash_steps.proofs.Rooms.{grows-inserted}
 use Rattle.dash_map.proofs.Spots.{Spot, spot-takes}
 
 module _ {A : Type 0} where
@@ -94,7 +95,8 @@ module _ {K V S : Type 0} (h : KeyHash K S) where
           let s = get_or row i step.after in
           let put = step.taken step.after in
           let spot : Spot h (of row) p.0 i s = record { law = law; base = base; row = row; view = refl; lawful = lawful; computed = ap (λ m. route_by h base m p.0) (sym long); within = step.below; read = get_or_default row i step.after s step.below } in
-          (put.value, subst (λ x. TakesAlone h (of row) (of x) (Insert p.0 p.1) (Old put.value)) (sym step.others) (spot-takes spot step.after put.lawful (Insert p.0 p.1) (Old put.value) (_, _, refl) put.inserts.taken put.inserts.grows))
+          let took = grows-inserted h.eq s step.after p.0 p.1 (Ok put.value) put.inserts in
+          (put.value, subst (λ x. TakesAlone h (of row) (of x) (Insert p.0 p.1) (Old put.value)) (sym step.others) (spot-takes spot step.after put.lawful (Insert p.0 p.1) (Old put.value) (_, _, refl) took.0 took.1))
 
       put-each : (ps : List (K × V)) (row row' : List (ShardState K V S)) (n : ℕ) → length row ≡ n → IsAlone h (of row) → TakenInTurn (TakesInRow PutsIn (λ q. route_by h base n q.0)) row (map silent ps) row'
           → InsertsEach h (of row) ps (of row')
@@ -116,7 +118,7 @@ module _ {K V S : Type 0} (h : KeyHash K S) where
           subst (λ l. TakenInTurn PutsIn (get_or row s d) l (get_or row' s d)) (sym (silent-part goes s ps ∙ ap (map silent) all ∙ silent-steps r.front)) r.in_turn))
 
     -- what the dealer m of this row makes of it, where the row is lent and a row of as many shards comes back
-    module _ (row : List (ShardState K V S)) (lawful : IsAlone h (of row)) (m : MapState S) (dealer : m ≡ record { hasher = base; amount = length row }) (lent : List (ShardState K V S)) (all : lent ≡ row) where
+    module _ (row : List (ShardState K V S)) (lawful : IsAlone h (of row)) (m : MapShape S) (dealer : m ≡ record { hasher = base; amount = length row }) (lent : List (ShardState K V S)) (all : lent ≡ row) where
       abbrev deals : K × V → ℕ
       deals p = route_by h m.hasher m.amount p.0
 
@@ -156,10 +158,16 @@ module _ {K V S : Type 0} (h : KeyHash K S) where
         gains-whole law (Ok u) whole = gains h law.laws (of row) ps (of back) lawful (inserts-whole law ps row back long lawful
             (subst (λ l. EachPart (RanWhole PutsIn) (λ p. route_by h base (length row) p.0) ps l back) all (subst (λ g. EachPart (RanWhole PutsIn) g ps lent back) same-route whole)))
 
-        pub par-extends : IsLawful h → (z : AloneState K V S) → of row ≡ z → {E : Type 0} (result : Result (Unit {0}) E) → OnOk result (EachPart (RanWhole PutsIn) deals ps lent back) → ParExtends h ps z (of (with_items row back)) result
-        par-extends law z view result whole = subst (λ x. ParExtends h ps x (of (with_items row back)) result) view (subst (λ l. ParExtends h ps (of row) (of l) result) (sym put-back) (record {
+        fallen-short : {E : Type 0} (result : Result (Unit {0}) E) → OnErr result (SomePart (RanShort PutsIn) deals ps lent back) → OnErr result (SomePart (RanShort PutsIn) (λ p. route_by h base (length row) p.0) ps row back)
+        fallen-short (Ok u) short = tt
+        fallen-short (Err e) short = subst (λ l. SomePart (RanShort PutsIn) (λ p. route_by h base (length row) p.0) ps l back) all (subst (λ g. SomePart (RanShort PutsIn) g ps lent back) same-route short)
+
+        pub par-extends : IsLawful h → (z : AloneState K V S) → of row ≡ z → {E : Type 0} (result : Result (Unit {0}) E) → OnOk result (EachPart (RanWhole PutsIn) deals ps lent back)
+            → OnErr result (SomePart (RanShort PutsIn) deals ps lent back) → ParExtends h ps z (of (with_items row back)) result
+        par-extends law z view result whole short = subst (λ x. ParExtends h ps x (of (with_items row back)) result) view (subst (λ l. ParExtends h ps (of row) (of l) result) (sym put-back) (record {
           gains = gains-whole law result whole;
           fronts = fronts;
+          short = fallen-short result short;
           stays = fronts-room ps row back long lawful fronts;
           lawful = fronts-lawful ps row back long lawful fronts;
         }))

@@ -1,5 +1,5 @@
 -- What each shard takes of its own steps is a run of the map, in each order that keeps those of the shards.
-use Rattle.std.proofs.Common.{◌≡◌, ℕ, ◌<◌, ◌≤◌, ◌==◌, cond, Bool, true, false, List, [], ◌∷◌, ◌++◌, length, map, flat_map, get_or, slice_get, slice_set, Option, Some, None, All, replicate, zero, suc, take, drop, refl, sym, ap, ap₂, subst, ◌∙◌, inl, inr, ⊎_elim, arith, eq-eqb, ne_eqb}
+use Rattle.std.proofs.Common.{◌≡◌, ◌≢◌, ℕ, ◌<◌, ◌≤◌, ◌==◌, cond, Bool, true, false, List, [], ◌∷◌, ◌++◌, length, map, flat_map, get_or, slice_get, slice_set, Option, Some, None, All, replicate, zero, suc, take, drop, refl, sym, ap, ap₂, subst, ◌∙◌, inl, inr, ⊎_elim, arith, eq-eqb, ne_eqb}
 use Rattle.std.specs.List.{Any, zip}
 use Rattle.std.specs.Cmp.{IsEquivalence}
 use Rattle.std.specs.Prelude.{IsSome, ◌↔◌, ◌⊎◌}
@@ -26,10 +26,11 @@ use Rattle.dash_steps.specs.inner.Hashed.{IsHashBy, shard_by}
 use Rattle.dash_steps.specs.inner.Take.{Goes}
 use Rattle.dash_steps.specs.declared.step.ShardStep.{ShardStep}
 use Rattle.dash_steps.specs.declared.step.Reply.{Reply}
+use Rattle.dash_steps.proofs.Rooms.{grows-least}
 use Rattle.dash_map.specs.Alone.{AloneState, IsAlone, KeepsRoom}
 use Rattle.dash_map.specs.ParRun.{goes_to, TakesThere, RunsAlone, RanAsOne, ParRuns}
 use Rattle.dash_map.specs.declared.run.Fault.{Fault}
-use Rattle.dash_map.specs.declared.run.Fault.TheVariants.{NoSuchShard}
+use Rattle.dash_map.specs.declared.run.Fault.TheVariants.{Memory, NoSuchShard}
 use Rattle.dash_map.specs.declared.parallel.run.ParOutcome.{ParOutcome}
 use Rattle.dash_map.specs.inner.Run.{answered}
 use Rattle.dash_map.proofs.Lifting.{alone-set, tagged-moved}
@@ -113,7 +114,7 @@ module _ {K V A S : Type 0} (h : KeyHash K S) (k : K → K → Bool) (v : V → 
   kept-along p q (e ∷ es) run shard =
       let rest = kept-along run.0 q es run.2 run.1.lawful in (
         record { number = rest.0.number ∙ run.1.stays.number; amount = rest.0.amount ∙ run.1.stays.amount; hasher = rest.0.hasher ∙ run.1.stays.hasher },
-        (let a = run.1.room in let b = rest.1 in omega (arith, a, b)),
+        (let a = grows-least (step_of acts e.0) p run.0 run.1.room in let b = rest.1 in omega (arith, a, b)),
         rest.2,
       )
 
@@ -192,12 +193,14 @@ all-none (suc n) = All-cons (λ o. o ≡ None) None (replicate n None) refl (all
 module _ {K V A S : Type 0} (h : KeyHash K S) (k : K → K → Bool) (v : V → V → Bool) (acts : A → table.Act K V) (a : AloneState K V S) (steps : List (ShardStep K V A)) (outcome : ParOutcome K V) where
   -- no step was taken
   pub stopped : (fault : Fault) → outcome.fault ≡ Some fault → (fault ≡ NoSuchShard) ↔ Any (λ t. length a.row ≤ goes_to h acts a t) steps → ParRan (TakesThere h k v acts) (goes_to h acts a) a.row steps outcome.replies.items a.row
-      → All (λ o. o ≡ None) outcome.replies.items → (length outcome.replies.items ≡ length steps) ⊎ (outcome.replies.items ≡ []) → ParRuns h k v acts a a steps outcome
-  stopped fault is missing apart none long = record {
+      → All (λ o. o ≡ None) outcome.replies.items → (length outcome.replies.items ≡ length steps) ⊎ (outcome.replies.items ≡ [])
+      → (fault ≡ Memory → (outcome.replies.items ≡ []) × (steps ≢ [])) → ParRuns h k v acts a a steps outcome
+  stopped fault is missing apart none long short = record {
     missing = (λ e. missing.0 (same_Some fault NoSuchShard (sym is ∙ e)), λ some. is ∙ ap Some (missing.1 some));
     refused = λ e. (refl, none);
     apart = apart;
     len = ⊎_elim (λ l. inl l) (λ l. inr (l, refl)) long;
+    short = λ e. inr (short (same_Some fault Memory (sym is ∙ e)));
     whole = λ e. absurd (none-some fault (sym e ∙ is));
   }
 
@@ -228,11 +231,13 @@ all-there goes n ts none k d within = below (goes (get_or ts k d)) n (λ past. n
 module _ {K V A S : Type 0} (h : KeyHash K S) (k : K → K → Bool) (v : V → V → Bool) (acts : A → table.Act K V) (a new : AloneState K V S) (steps : List (ShardStep K V A)) (outcome : ParOutcome K V) where
   -- the run went to its end, or some step found no memory
   pub finished : (Any (λ t. length a.row ≤ goes_to h acts a t) steps → ⊥) → (outcome.fault ≡ Some NoSuchShard → ⊥) → ParRan (TakesThere h k v acts) (goes_to h acts a) a.row steps outcome.replies.items new.row
-      → length outcome.replies.items ≡ length steps → (outcome.fault ≡ None → RanAsOne h k v acts a new steps outcome.replies.items) → ParRuns h k v acts a new steps outcome
-  finished none other apart long whole = record {
+      → length outcome.replies.items ≡ length steps → (outcome.fault ≡ Some Memory → Any (λ o. o ≡ None) outcome.replies.items) → (outcome.fault ≡ None → RanAsOne h k v acts a new steps outcome.replies.items)
+      → ParRuns h k v acts a new steps outcome
+  finished none other apart long short whole = record {
     missing = (λ e. absurd (other e), λ some. absurd (none some));
     refused = λ e. absurd (other e);
     apart = apart;
     len = inl long;
+    short = λ e. inl (short e);
     whole = whole;
   }

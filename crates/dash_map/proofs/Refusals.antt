@@ -1,13 +1,14 @@
 -- Why a map can't be made, and why not.
 use Rattle.std.proofs.Common.{◌≡◌, ◌⊎◌, ℕ, ◌*◌, ◌^◌, ◌<◌, ◌≤◌, Result, Ok, Err, ap, sym, subst, ◌∙◌, inl, inr, arith}
-use Rattle.std.specs.Prelude.{◌↔◌, IfErr, IsErrOf}
+use Rattle.std.specs.Prelude.{◌↔◌, IfOk, IfErr, IsErrOf}
 use Rattle.std.proofs.lemmas.Bool.{cases_lt}
 use Rattle.std.proofs.lemmas.Nat.{pow-add}
 use Rattle.std.proofs.Math.Pow.{pow_mono}
 use Rattle.dash_shard.specs.Hashing.{IsAmount}
 use Rattle.dash_shard.specs.declared.error.ConstructError.{ConstructError}
 use Rattle.dash_shard.specs.declared.error.ConstructError.TheVariants.{ShardAmount, Parallelism, CapacityOverflow, Memory}
-use Rattle.dash_map.specs.Amounts.{IsParallelism, IsDefault, Overflows}
+use Rattle.dash_map.specs.Amounts.{IsParallelism, IsDefault, Overflows, share}
+use Rattle.dash_map.specs.Map.{MapState, IsNew, shape}
 
 -- a lower power of two is at most half of a higher one
 half : (n m i j : ℕ) → n ≡ 2 ^ i → m ≡ 2 ^ j → i < j → 2 * n ≤ m
@@ -60,3 +61,12 @@ module _ {T : Type 0} where
 -- nothing that was made is an error
 pub none-told : {A M E P : Type 0} (a : A) (m : M) (f : E) → (IsErrOf (Ok a) f ↔ P) → IsErrOf (Ok m) f ↔ P
 none-told a m f bad = (λ e. absurd (cc), λ p. absurd (cc (bad.1 p)))
+
+-- a map that is new for its number of shards, where that is a number that was worked out
+pub new-at : {K V S E : Type 0} (r : Result (MapState K V S) E) (hasher : S) (c n : ℕ) → IfOk r (λ m. shape m ≡ record { hasher = hasher; amount = n }) → IfOk r (IsNew (share c n)) → IfOk r (λ m. IsNew (share c m.amount) m)
+new-at (Ok m) hasher c n made new = subst (λ k. IsNew (share c k) m) (sym (ap (λ x. x.amount) made)) new
+new-at (Err e) hasher c n made new = tt
+
+-- a new map is new without regard to its room
+pub roomless : {K V S : Type 0} {room : ℕ} {m : MapState K V S} → IsNew room m → IsNew 0 m
+roomless new = record { all = new.all; each = λ i s e. ((new.each i s e).0, omega arith) }

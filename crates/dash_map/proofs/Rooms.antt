@@ -1,11 +1,14 @@
--- Maps whose shards lose no room.
+-- What becomes of the room of a map's shards.
 use Rattle.std.proofs.Common.{◌≡◌, ℕ, ◌≤◌, List, length, Some, slice_get, slice_set, get_or, refl, sym, ap, subst, ◌∙◌, inl, inr, arith}
 use Rattle.std.proofs.lemmas.Bool.{cases_eq}
 use Rattle.std.proofs.lemmas.Option.{slice_get_within, slice_get-get_or, same_Some}
 use Rattle.std.proofs.Math.ListN.{length-set}
 use Rattle.dash_shard.proofs.Rows.{slice_get-set_same, slice_get-set_other}
+use Rattle.dash_shard.specs.Hashing.{KeyHash}
+use Rattle.dash_shard.specs.Steps.{Step, Reply}
 use Rattle.dash_shard.specs.Shard.{ShardState}
-use Rattle.dash_map.specs.Alone.{AloneState, EachShard, KeepsRoom}
+use Rattle.dash_steps.proofs.Rooms.{grows-least}
+use Rattle.dash_map.specs.Alone.{AloneState, EachShard, KeepsRoom, TakesAlone}
 
 module _ {K V S : Type 0} where
   -- a map keeps its own room
@@ -28,6 +31,10 @@ module _ {K V S : Type 0} where
         let mid = slice_get-get_or b.row i s (omega (arith, slice_get_within a.row i s here, first.amount)) in
         omega (arith, first.room i s t here mid, next.room i t u mid there);
   }
+
+  -- a step that was taken loses no room
+  pub keeps-taken : (h : KeyHash K S) (old new : AloneState K V S) (step : Step K V) (reply : Reply K V) → TakesAlone h old new step reply → KeepsRoom old new
+  keeps-taken h old new step reply took = record { hasher = took.stays.hasher; amount = took.stays.amount; room = λ i s t here there. grows-least step s t (took.room i s t here there) }
 
   -- one shard changed where it stood: what is so of it, and of a shard that stayed, is so of each
   pub each-set : (R : ShardState K V S → ShardState K V S → Type 0) → ((x : ShardState K V S) → R x x) → (base : S) (row : List (ShardState K V S)) (i : ℕ) (s t : ShardState K V S) → slice_get row i ≡ Some s → R s t

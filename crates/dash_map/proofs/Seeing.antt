@@ -10,11 +10,11 @@ use Rattle.std.specs.Map.Iter.{deref_pair}
 use Rattle.dash_shard.proofs.Rows.{each-more as put-more}
 use Rattle.dash_shard.specs.Hashing.{KeyHash, IsAmount, route_by}
 use Rattle.dash_shard.specs.Contents.{at}
-use Rattle.dash_lock.specs.Lock.{FoundBehind, LeftBehind}
+use Rattle.dash_lock.specs.Lock.{FoundBehind, WasRead, LeftBehind}
 use Rattle.dash_shard.specs.Shard.{ShardState, SameShard, EachAt, Routes, IsShard, IsTagged, pairs, shard_len}
 use Rattle.dash_map.specs.Alone.{AloneState, IsAlone, KeepsRoom}
-use Rattle.dash_map.specs.Behind.{AreBehind, SawShard, SawShards, StandsAt, LeavesShard, LeavesShards}
-use Rattle.dash_map.specs.Map.{MapState}
+use Rattle.dash_map.specs.Behind.{AreBehind, AreEnded, SawShard, SawShards, StandsAt, LeavesShard, Relocks}
+use Rattle.dash_map.specs.Map.{MapState, made_for, locked, shape}
 use Rattle.dash_map.proofs.Lifting.{keys-same, tagged-moved}
 use Rattle.dash_map.proofs.Found.{at-key}
 
@@ -29,21 +29,21 @@ append-cases (z ∷ xs) y (suc i) x e = elim (append-cases xs y i x e) as (λ _.
 ]
 
 -- the map has so many shards, as a map may have
-pub record IsWhole {S : Type 0} (m : MapState S) (n : ℕ) : Type 0 where
+pub record IsWhole {K V S : Type 0} (m : MapState K V S) (n : ℕ) : Type 0 where
   pub count : n ≡ m.amount
   pub amount : IsAmount m.amount
 
 -- so it is of a count that came to the end of the map's row
-pub at-end : {S : Type 0} (z m : MapState S) → z ≡ m → IsAmount z.amount → (n end : ℕ) → end ≡ z.amount → end ≤ n → n ≤ end → IsWhole m n
+pub at-end : {K V S : Type 0} (z m : MapState K V S) → z ≡ m → IsAmount z.amount → (n end : ℕ) → end ≡ z.amount → end ≤ n → n ≤ end → IsWhole m n
 at-end z m view amount n end is past within = subst (λ x. IsWhole x n) view (record { count = omega arith; amount = amount })
 
 module _ {K V S : Type 0} (h : KeyHash K S) where
   -- the shard of the number that a key goes to
-  pub stands-at : (m : MapState S) (k : K) (i : ℕ) → i ≡ route_by h m.hasher m.amount k → (s : ShardState K V S) → IsTagged h m.hasher m.amount i s → StandsAt h m k s
+  pub stands-at : (m : MapState K V S) (k : K) (i : ℕ) → i ≡ route_by h m.hasher m.amount k → (s : ShardState K V S) → IsTagged h m.hasher m.amount i s → StandsAt h m k s
   stands-at m k i route s tagged = subst (λ n. IsTagged h m.hasher m.amount n s) route tagged
 
   -- what is so of it was seen
-  pub saw-shard : (m : MapState S) (k : K) (i : ℕ) → i ≡ route_by h m.hasher m.amount k → (s : ShardState K V S) → IsTagged h m.hasher m.amount i s → FoundBehind s → (P : ShardState K V S → Type 0) → P s → SawShard h m k P
+  pub saw-shard : (m : MapState K V S) (k : K) (i : ℕ) → i ≡ route_by h m.hasher m.amount k → (s : ShardState K V S) → IsTagged h m.hasher m.amount i s → FoundBehind s → (P : ShardState K V S → Type 0) → P s → SawShard h m k P
   saw-shard m k i route s tagged found P is = (s, stands-at m k i route s tagged, found, is)
 
   -- the key goes to the shard of that number
@@ -51,19 +51,19 @@ module _ {K V S : Type 0} (h : KeyHash K S) where
   routes base n k s p = ap (λ x. x.route k) (keys-same h base n _ s p) ∙ sym p.number
 
   -- what a hold of the key's shard found there and left
-  pub left-behind : (m : MapState S) (k : K) (i : ℕ) → i ≡ route_by h m.hasher m.amount k → (s t : ShardState K V S) → IsTagged h m.hasher m.amount i s → FoundBehind s → SameShard s t → IsShard h t
+  pub left-behind : (m : MapState K V S) (k : K) (i : ℕ) → i ≡ route_by h m.hasher m.amount k → (s t : ShardState K V S) → IsTagged h m.hasher m.amount i s → FoundBehind s → SameShard s t → IsShard h t
       → LeftBehind t → (R : ShardState K V S → ShardState K V S → Type 0) → R s t → LeavesShard h m k R
   left-behind m k i route s t tagged found stays new left R did =
       let here = stands-at m k i route s tagged in
       (s, here, found, (t, tagged-moved h m.hasher m.amount _ s t here stays new, left, did))
 
   -- the shards in front of n, each as it stood when it was held, or as it was left, which P says
-  pub record SoFar (m : MapState S) (P : ShardState K V S → Type 0) (n : ℕ) (row : List (ShardState K V S)) : Type 0 where
+  pub record SoFar (m : MapState K V S) (P : ShardState K V S → Type 0) (n : ℕ) (row : List (ShardState K V S)) : Type 0 where
     pub count : length row ≡ n
     pub tagged : (i : ℕ) (s : ShardState K V S) → slice_get row i ≡ Some s → IsTagged h m.hasher m.amount i s
     pub each : (i : ℕ) (s : ShardState K V S) → slice_get row i ≡ Some s → P s
 
-  module _ (m : MapState S) (P : ShardState K V S → Type 0) where
+  module _ (m : MapState K V S) (P : ShardState K V S → Type 0) where
     pub none-yet : SoFar m P 0 []
     none-yet = record { count = refl; tagged = λ i s e. absurd (none-some s e); each = λ i s e. absurd (none-some s e) }
 
@@ -88,30 +88,31 @@ module _ {K V S : Type 0} (h : KeyHash K S) where
             each = so.each;
           }
 
-  -- Q of the shards in front of n, each as it stood when it was held
-  abbrev pub SeenSo : MapState S → ℕ → (List (ShardState K V S) → Type 0) → Type 0
-  SeenSo m n Q = (row : List (ShardState K V S)) × SoFar m FoundBehind n row × Q row
+  -- Q of the shards in front of n, each as it stood when it was read
+  abbrev pub SeenSo : MapState K V S → ℕ → (List (ShardState K V S) → Type 0) → Type 0
+  SeenSo m n Q = (row : List (ShardState K V S)) × SoFar m WasRead n row × Q row
 
-  module _ (m : MapState S) (Q : List (ShardState K V S) → Type 0) where
+  module _ (m : MapState K V S) (Q : List (ShardState K V S) → Type 0) where
     pub seen-none : Q [] → SeenSo m 0 Q
-    seen-none is = ([], none-yet m FoundBehind, is)
+    seen-none is = ([], none-yet m WasRead, is)
 
     -- and of one shard more
-    pub seen-more : {P : List (ShardState K V S) → Type 0} (n : ℕ) (so : SeenSo m n P) (s : ShardState K V S) → IsTagged h m.hasher m.amount n s → FoundBehind s → Q (so.0 ++ s ∷ []) → SeenSo m (n + 1) Q
-    seen-more n so s tagged found is = (so.0 ++ s ∷ [], one-more m FoundBehind n so.0 so.1 s tagged found, is)
+    pub seen-more : {P : List (ShardState K V S) → Type 0} (n : ℕ) (so : SeenSo m n P) (s : ShardState K V S) → IsTagged h m.hasher m.amount n s → WasRead s → Q (so.0 ++ s ∷ []) → SeenSo m (n + 1) Q
+    seen-more n so s tagged read is = (so.0 ++ s ∷ [], one-more m WasRead n so.0 so.1 s tagged read, is)
 
     -- and of all
     pub seen-all : (n : ℕ) → SeenSo m n Q → IsWhole m n → SawShards h m (λ a. Q a.row)
-    seen-all n so all = (record { hasher = m.hasher; row = so.0 }, all-seen m FoundBehind n so.0 so.1 all, so.2)
+    seen-all n so all = (record { hasher = m.hasher; row = so.0 }, all-seen m WasRead n so.0 so.1 all, so.2)
 
--- what stood behind the locks and stands there again, changed by one owner
-pub behind-again : {K V S : Type 0} (h : KeyHash K S) (m : MapState S) (a b : AloneState K V S) → AreBehind h FoundBehind m a → KeepsRoom a b → IsAlone h b → EachAt b.row (λ _. LeftBehind)
-    → (R : AloneState K V S → AloneState K V S → Type 0) → R a b → LeavesShards h m R
-behind-again h m a b found stays lawful left R did = (
-  a,
-  found,
-  (b, record { hasher = stays.hasher ∙ found.hasher; amount = stays.amount ∙ found.amount; lawful = lawful; each = left }, did),
-)
+-- what the locks ended with, changed by one owner, and put into locks that were made for it
+pub locked-again : {K V S : Type 0} (h : KeyHash K S) (m n : MapState K V S) (a b : AloneState K V S) → AreEnded h m a → KeepsRoom a b → IsAlone h b → n ≡ locked b
+    → (R : AloneState K V S → AloneState K V S → Type 0) → R a b → Relocks h m n R
+locked-again h m n a b ended stays lawful is R did = (a, ended, (b, ap made_for is, lawful, did))
+
+-- so hasher and amount are the map's
+pub same-shape : {K V S : Type 0} (h : KeyHash K S) (m n : MapState K V S) (a b : AloneState K V S) → AreEnded h m a → KeepsRoom a b → n ≡ locked b → shape n ≡ shape m
+same-shape h m n a b ended stays is =
+    ap shape is ∙ ap (λ x. record { hasher = x; amount = length b.row }) (stays.hasher ∙ ended.found.hasher) ∙ ap (λ x. record { hasher = m.hasher; amount = x }) (stays.amount ∙ ended.found.amount)
 
 -- what holds of each pair with an equal key holds of the one that stands at it
 pub at-each : {K V : Type 0} (eq : K → K → Bool) (ps : List (K × V)) (k : K) (P : K × V → Type 0) → ((p : K × V) → IsTrue (eq p.0 k) → P p) → IfSome (at eq ps k) P

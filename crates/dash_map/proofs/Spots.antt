@@ -1,8 +1,9 @@
 -- A keyed call of a map of one owner: the key, the index of its shard, and the shard that an index lends there.
-use Rattle.std.proofs.Common.{◌≡◌, ℕ, ◌<◌, ◌≤◌, Bool, List, length, Option, Some, slice_get, slice_set, flat_map, get_or, sym, ap, subst, ◌∙◌, arith}
+use Rattle.std.proofs.Common.{◌≡◌, ℕ, ◌<◌, Bool, List, length, Option, Some, slice_get, slice_set, flat_map, get_or, refl, sym, ap, subst, ◌∙◌, arith}
 use Rattle.std.specs.Prelude.{IfSome, IsSomeAnd}
 use Rattle.std.proofs.lemmas.List.{set-get_or}
 use Rattle.std.proofs.lemmas.Option.{slice_get-get_or}
+use Rattle.std.proofs.Math.ListN.{length-set}
 use Rattle.dash_shard.proofs.Unions.{at-union}
 use Rattle.dash_shard.specs.Hashing.{KeyHash, route_by}
 use Rattle.dash_shard.specs.inner.Keys.{IsLawful}
@@ -10,9 +11,11 @@ use Rattle.dash_shard.specs.Contents.{Keys, keys, at}
 use Rattle.dash_shard.specs.Steps.{Act, Step, Reply, line, line_after, LineReplies, at_key}
 use Rattle.dash_shard.specs.inner.Steps.{Becomes}
 use Rattle.dash_shard.specs.Shard.{ShardState, SameShard, Routes, IsShard, TakesStep, TakesBy, pairs, shard_len, own_keys}
-use Rattle.dash_map.specs.Alone.{AloneState, IsAlone, KeepsRoom, TakesAlone, TakesAloneBy, contents, keys_in}
+use Rattle.dash_map.specs.Alone.{AloneState, EachShard, IsAlone, SameMap, TakesAlone, TakesAloneBy, contents, keys_in}
+use Rattle.dash_steps.specs.Takes.{GrowsBy}
+use Rattle.dash_steps.proofs.Rooms.{grows-same}
 use Rattle.dash_map.proofs.Lifting.{keys-same, on-shards, alone-set, lifted}
-use Rattle.dash_map.proofs.Rooms.{keeps-set}
+use Rattle.dash_map.proofs.Rooms.{each-set}
 
 -- the step is on the pair at the key k
 abbrev pub IsKeyed : {K V : Type 0} → Step K V → K → Type 0
@@ -84,7 +87,7 @@ module _ {K V S : Type 0} {h : KeyHash K S} {z : AloneState K V S} {k : K} {p : 
     spot-alone stays = alone-set h x.base p x.row s t x.lawful spot-here stays new
 
     -- a step at the key that was taken on that shard was taken on the map
-    pub spot-takes : (step : Step K V) (reply : Reply K V) → IsKeyed step k → TakesStep h.eq s t step reply → s.capacity ≤ t.capacity → TakesAlone h z with step reply
+    pub spot-takes : (step : Step K V) (reply : Reply K V) → IsKeyed step k → TakesStep h.eq s t step reply → GrowsBy step s t → TakesAlone h z with step reply
     spot-takes step reply (f, g, kind) d room =
         let old : AloneState K V S = record { hasher = x.base; row = x.row } in
         let o : Keys K = own_keys h.eq s in
@@ -98,11 +101,12 @@ module _ {K V S : Type 0} {h : KeyHash K S} {z : AloneState K V S} {k : K} {p : 
                 (subst (λ i. Becomes (keys_in h old) step (contents old) (flat_map pairs (slice_set x.row i t))) (sym route_is)
                 (λ j. subst (λ l. at h.eq (flat_map pairs (slice_set x.row (w.route k) t)) j ≡ line_after w l j (at h.eq (flat_map pairs x.row) j)) (sym kind) (moved j)));
           };
-          stays = subst (λ y. KeepsRoom y with) x.view (keeps-set x.base x.row p s t spot-here room);
+          room = subst (λ y. EachShard (GrowsBy step) y with) x.view (each-set (GrowsBy step) (λ y. grows-same step y y refl) x.base x.row p s t spot-here room);
+          stays = subst (λ y. SameMap y with) x.view (record { hasher = refl; amount = length-set x.row p t });
           lawful = spot-alone d.stays;
         }
 
     -- the same by some action
     pub spot-by : (step : K → Act K V → Step K V) (reply : Reply K V) (may : K × V → V × Bool → Type 0) → ((act : Act K V) → IsKeyed (step k act) k) → TakesBy h.eq s t step k reply may
         → TakesAloneBy h z with step k reply may
-    spot-by step reply may keyed by = (by.0, spot-takes (step k by.0) reply (keyed by.0) by.1.taken (omega (arith, by.1.room)), subst (λ o. IfSome o (λ q. may q (by.0 q.0 q.1))) (sym spot-stands) by.2)
+    spot-by step reply may keyed by = (by.0, spot-takes (step k by.0) reply (keyed by.0) by.1.taken (grows-same (step k by.0) s t by.1.room), subst (λ o. IfSome o (λ q. may q (by.0 q.0 q.1))) (sym spot-stands) by.2)

@@ -49,7 +49,7 @@ module _ {K V S : Type 0} (h : KeyHash K S) where
   }
 
   -- a walk whose pair was lent, at each value that may come back
-  module _ (b : MapState S) (e n : ℕ) where
+  module _ (b : MapState K V S) (e n : ℕ) where
     abbrev at : Option (ShardState K V S) → ℕ → IterState K V S
     at o k = record { base = b; entered = e; held = o; position = k }
 

@@ -50,7 +50,7 @@ module _ {F G K V : Type 0} (T : G → K → V → Bool → V → G → Type 0) 
       let did = turn g p.0 p.1 s.3.0 s.3.1 s.1 has s.3.2 in
       (s.0, f, s.2, (s.3.0, s.3.1, did.1, s.3.3), s.4, sweeps-by s.1 last xs s.2 did.0 s.5)
 
-module _ {K V S : Type 0} (h : KeyHash K S) (m : MapState S) where
+module _ {K V S : Type 0} (h : KeyHash K S) (m : MapState K V S) where
   module _ {Y : Type 0} (P : ShardState K V S → Y → Type 0) where
     -- what was seen at k numbers from a on, behind what was seen below them
     seen-along : (a k : ℕ) (had ys : List Y) → SeenSo h m a (λ row. AllZip P row had) → AllZip (λ i y. SawNumber h m i (λ s. P s y)) (range_with_len a k) ys

@@ -4,6 +4,7 @@ use Rattle.dash_shard.specs.Hashing.{KeyHash, IsAmount, route_by}
 use Rattle.dash_shard.specs.Contents.{Keys, keys, at, EachOnce}
 use Rattle.dash_shard.specs.Steps.{Act, Step, Reply, IsTaken, BySome}
 use Rattle.dash_shard.specs.Shard.{ShardState, EachAt, IsTagged, pairs, shard_len}
+use Rattle.dash_steps.specs.Takes.{GrowsBy}
 
 -- what contracts see of the map
 pub record AloneState (K V S : Type 0) : Type 0 where
@@ -60,7 +61,8 @@ module _ {K V S : Type 0} where
     -- the step is taken on the map, which stays lawful
     pub record TakesAlone (old new : AloneState K V S) (step : Step K V) (reply : Reply K V) : Type 0 where
       pub table : IsTaken (keys_in old) step reply (contents old) (contents new)
-      pub stays : KeepsRoom old new
+      pub room : EachShard (GrowsBy step) old new
+      pub stays : SameMap old new
       pub lawful : IsAlone new
 
     -- the same by some action, which may do on the pair with an equal key what it does

@@ -4,11 +4,11 @@ use Rattle.std.specs.Map.Calls.{CallableOnEachPair}
 use Rattle.dash_shard.specs.Hashing.{KeyHash, route_by}
 use Rattle.dash_shard.specs.Contents.{at}
 use Rattle.dash_shard.specs.Held.{Loses}
-use Rattle.dash_lock.specs.Lock.{FoundBehind, LeftBehind}
+use Rattle.dash_lock.specs.Lock.{FoundBehind, GivenBack, WasRead, LeftBehind, EndedWith}
 use Rattle.dash_shard.specs.Steps.{Act, Step, Remove, Alter, Pair, Done}
 use Rattle.dash_shard.specs.Shard.{ShardState, EachAt, IsTagged, TakesInPlace, TakesBy, pairs, shard_len}
-use Rattle.dash_map.specs.Alone.{AloneState, IsAlone}
-use Rattle.dash_map.specs.Map.{MapState}
+use Rattle.dash_map.specs.Alone.{AloneState, IsAlone, EachShard}
+use Rattle.dash_map.specs.Map.{MapState, made_for}
 
 -- f may be called at any pairs, one after the other
 abbrev pub CallableOnPairs : {F K V : Type 0} → (F → K → V → Bool → V → F → Type 0) → (F → K → V → Type 0) → F → Type 0
@@ -16,52 +16,65 @@ CallableOnPairs {K = K} {V = V} T Q f = (ps : List (K × V)) → CallableOnEachP
 
 module _ {K V S : Type 0} (h : KeyHash K S) where
   -- the shard is shard i of the map
-  abbrev pub IsShardOf : MapState S → ℕ → ShardState K V S → Type 0
+  abbrev pub IsShardOf : MapState K V S → ℕ → ShardState K V S → Type 0
   IsShardOf m i s = IsTagged h m.hasher m.amount i s
 
   -- the shard is the one where the key goes
-  abbrev pub StandsAt : MapState S → K → ShardState K V S → Type 0
+  abbrev pub StandsAt : MapState K V S → K → ShardState K V S → Type 0
   StandsAt m key s = IsShardOf m (route_by h m.hasher m.amount key) s
 
   -- P is so of a shard that was found where the key goes
-  abbrev pub SawShard : MapState S → K → (ShardState K V S → Type 0) → Type 0
+  abbrev pub SawShard : MapState K V S → K → (ShardState K V S → Type 0) → Type 0
   SawShard m key P = (s : ShardState K V S) × StandsAt m key s × FoundBehind s × P s
 
-  -- P is so of what was found at the key: a pair, or none
-  abbrev pub SawAt : MapState S → K → (Option (K × V) → Type 0) → Type 0
-  SawAt m key P = SawShard m key (λ s. P (at h.eq (pairs s) key))
+  -- P is so of what was found at the key, a pair or none, by a hold that is over
+  abbrev pub SawAt : MapState K V S → K → (Option (K × V) → Type 0) → Type 0
+  SawAt m key P = SawShard m key (λ s. GivenBack s × P (at h.eq (pairs s) key))
 
   -- R of a shard that was found where the key goes, and of the one that was left there
-  abbrev pub LeavesShard : MapState S → K → (ShardState K V S → ShardState K V S → Type 0) → Type 0
+  abbrev pub LeavesShard : MapState K V S → K → (ShardState K V S → ShardState K V S → Type 0) → Type 0
   LeavesShard m key R = SawShard m key (λ s. (t : ShardState K V S) × StandsAt m key t × LeftBehind t × R s t)
 
   -- the pair that is returned, if one is, was taken out in place
-  abbrev pub Removes : MapState S → K → Option (K × V) → Type 0
+  abbrev pub Removes : MapState K V S → K → Option (K × V) → Type 0
   Removes m key result = LeavesShard m key (λ s t. TakesInPlace h.eq s t (Remove key) (Pair result) × Loses s t result)
 
   -- the same of a step by some action, which may do on the pair with an equal key what it does
-  abbrev pub RemovesBy : MapState S → (K → Act K V → Step K V) → K → Option (K × V) → (K × V → V × Bool → Type 0) → Type 0
+  abbrev pub RemovesBy : MapState K V S → (K → Act K V → Step K V) → K → Option (K × V) → (K × V → V × Bool → Type 0) → Type 0
   RemovesBy m step key result may = LeavesShard m key (λ s t. TakesBy h.eq s t step key (Pair result) may × Loses s t result)
 
   -- the value of the pair with an equal key was changed in place by such an action
-  abbrev pub AltersBy : MapState S → K → (K × V → V × Bool → Type 0) → Type 0
+  abbrev pub AltersBy : MapState K V S → K → (K × V → V × Bool → Type 0) → Type 0
   AltersBy m key may = LeavesShard m key (λ s t. TakesBy h.eq s t Alter key Done may × (shard_len t ≡ shard_len s))
 
   -- shards that may stand behind the locks of this map, of each of which P is so: that it was found there, or left
-  pub record AreBehind (P : ShardState K V S → Type 0) (m : MapState S) (a : AloneState K V S) : Type 0 where
+  pub record AreBehind (P : ShardState K V S → Type 0) (m : MapState K V S) (a : AloneState K V S) : Type 0 where
     pub hasher : a.hasher ≡ m.hasher
     pub amount : length a.row ≡ m.amount
     pub lawful : IsAlone h a
     pub each : EachAt a.row (λ _. P)
 
-  -- P is so of shards that were found there, each at a moment of its own
-  abbrev pub SawShards : MapState S → (AloneState K V S → Type 0) → Type 0
-  SawShards m P = (a : AloneState K V S) × AreBehind FoundBehind m a × P a
+  -- P is so of shards that were read there, each at a moment of its own and by a hold that is over
+  abbrev pub SawShards : MapState K V S → (AloneState K V S → Type 0) → Type 0
+  SawShards m P = (a : AloneState K V S) × AreBehind WasRead m a × P a
 
   -- P is so of shards that were left there
-  abbrev pub LeftShards : MapState S → (AloneState K V S → Type 0) → Type 0
+  abbrev pub LeftShards : MapState K V S → (AloneState K V S → Type 0) → Type 0
   LeftShards m P = (b : AloneState K V S) × AreBehind LeftBehind m b × P b
 
   -- R of shards that were found behind the locks of this map, each when its turn came, and of those that were left there
-  abbrev pub LeavesShards : MapState S → (AloneState K V S → AloneState K V S → Type 0) → Type 0
-  LeavesShards m R = SawShards m (λ a. LeftShards m (R a))
+  abbrev pub LeavesShards : MapState K V S → (AloneState K V S → AloneState K V S → Type 0) → Type 0
+  LeavesShards m R = (a : AloneState K V S) × AreBehind FoundBehind m a × LeftShards m (R a)
+
+  -- the shards that the locks of this map ended with
+  pub record AreEnded (m : MapState K V S) (a : AloneState K V S) : Type 0 where
+    pub found : AreBehind FoundBehind m a
+    pub ended : EachShard EndedWith (made_for m) a
+
+  -- P is so of the shards that the locks of this map ended with
+  abbrev pub EndedShards : MapState K V S → (AloneState K V S → Type 0) → Type 0
+  EndedShards m P = (a : AloneState K V S) × AreEnded m a × P a
+
+  -- R of the shards that the locks of the map m ended with, and of those that the locks of the map n were made for
+  abbrev pub Relocks : MapState K V S → MapState K V S → (AloneState K V S → AloneState K V S → Type 0) → Type 0
+  Relocks m n R = EndedShards m (λ a. (b : AloneState K V S) × (made_for n ≡ b) × IsAlone h b × R a b)

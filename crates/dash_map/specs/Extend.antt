@@ -1,5 +1,5 @@
 -- Pairs that come one after the other, and are inserted into a map of one owner.
-use Rattle.std.specs.Prelude.{◌≡◌, ℕ, All, Bool, List, [], ◌∷◌, ◌++◌, reverse, option_map, option_and_then, Option, Some, None, Result, IfErr, OnOk, IsSomeAnd, slice_get, ⊤}
+use Rattle.std.specs.Prelude.{◌≡◌, ℕ, All, Bool, List, [], ◌∷◌, ◌++◌, reverse, option_map, option_and_then, Option, Some, None, Result, IfErr, OnOk, OnErr, IsSomeAnd, slice_get, ⊤}
 use Rattle.std.specs.Result.{result_err}
 use Rattle.std.specs.Iterator.{YieldsThen}
 use Rattle.dash_shard.specs.Hashing.{KeyHash, route_by}
@@ -9,9 +9,9 @@ use Rattle.dash_shard.specs.Shard.{ShardState, shard_len}
 use Rattle.dash_shard.specs.Puts.{PutsPair}
 use Rattle.dash_shard.specs.Errors.{IsOneOf}
 use Rattle.dash_shard.specs.declared.error.ConstructError.TheVariants.{Parallelism, Memory}
-use Rattle.dash_parallel.specs.Apart.{EachPart, RanFront, RanWhole, steps_of}
+use Rattle.dash_parallel.specs.Apart.{EachPart, RanFront, RanShort, RanWhole, SomePart, steps_of}
 use Rattle.dash_map.specs.Alone.{AloneState, IsAlone, KeepsRoom, TakesAlone, contents, keys_in}
-use Rattle.dash_map.specs.Behind.{LeavesShard, LeavesShards}
+use Rattle.dash_map.specs.Behind.{LeavesShard, Relocks}
 use Rattle.dash_map.specs.Map.{MapState}
 use Rattle.dash_map.specs.declared.extend.ExtendRefused.{ExtendRefused}
 use Rattle.dash_map.specs.declared.extend.FromRefused.{FromRefused}
@@ -70,33 +70,39 @@ module _ {K V S : Type 0} (h : KeyHash K S) where
       pub gains : Gave becomes gives iter (option_map (λ e. (e.key, e.value)) (result_err result)) (λ ps. Gains old ps new)
       pub refused : IfErr result (λ e. HasNoRoom e.key new)
 
-    -- the same of shards that were found behind the locks of this map, and of those that were left there
-    abbrev pub ExtendsBehind : MapState S → Result (Unit {0}) (ExtendRefused K V) → Type 0
-    ExtendsBehind m result = LeavesShards h m (λ old new. Extends old new result)
+    -- the same of the shards that the locks of the map m ended with, and of those that the locks of n were made for
+    abbrev pub ExtendsBehind : MapState K V S → MapState K V S → Result (Unit {0}) (ExtendRefused K V) → Type 0
+    ExtendsBehind m n result = Relocks h m n (λ old new. Extends old new result)
 
   -- the pairs that go to one shard were put into it one after the other, all or a front of them
   abbrev pub PutsFront : List (K × V) → ShardState K V S → ShardState K V S → Type 0
   PutsFront = RanFront (λ s p (_ : ⊤) t. PutsPair h s p t)
 
-  -- all that `par_extend` promises: the pairs were inserted, or where it is refused each shard stands after a front of its own
+  -- the same, and not all of them
+  abbrev pub PutsShort : List (K × V) → ShardState K V S → ShardState K V S → Type 0
+  PutsShort = RanShort (λ s p (_ : ⊤) t. PutsPair h s p t)
+
+  -- all that `par_extend` promises: the pairs were inserted, or where it is refused each shard stands after a front of its own, and some shard
+  -- not after all of them
   pub record ParExtends (ps : List (K × V)) (old new : AloneState K V S) {E : Type 0} (result : Result (Unit {0}) E) : Type 0 where
     pub gains : OnOk result (Gains old ps new)
     pub fronts : EachPart PutsFront (λ p. (keys_in h old).route p.0) ps old.row new.row
+    pub short : OnErr result (SomePart PutsShort (λ p. (keys_in h old).route p.0) ps old.row new.row)
     pub stays : KeepsRoom old new
     pub lawful : IsAlone h new
 
-  -- the same of shards that were found behind the locks of this map, and of those that were left there
-  abbrev pub ParExtendsBehind : {E : Type 0} → MapState S → List (K × V) → Result (Unit {0}) E → Type 0
-  ParExtendsBehind m ps result = LeavesShards h m (λ old new. ParExtends ps old new result)
+  -- the same of the shards that the locks of the map m ended with, and of those that the locks of n were made for
+  abbrev pub ParExtendsBehind : {E : Type 0} → MapState K V S → MapState K V S → List (K × V) → Result (Unit {0}) E → Type 0
+  ParExtendsBehind m n ps result = Relocks h m n (λ old new. ParExtends ps old new result)
 
   -- the pairs were all put into the shard, one after the other
   abbrev pub PutsAll : List (K × V) → ShardState K V S → ShardState K V S → Type 0
   PutsAll = RanWhole (λ s p (_ : ⊤) t. PutsPair h s p t)
 
   -- the same of the shard of this number, which was found behind its lock and left there
-  abbrev pub PutsBehind : MapState S → ℕ → List (K × V) → Type 0
+  abbrev pub PutsBehind : MapState K V S → ℕ → List (K × V) → Type 0
   PutsBehind m i ps = (key : K) → route_by h m.hasher m.amount key ≡ i → LeavesShard h m key (PutsAll ps)
 
   -- all pairs of the list were put behind the locks of this map, those of each shard in one hold and in the list's order
-  abbrev pub PutsEachBehind : MapState S → List (K × V) → Type 0
+  abbrev pub PutsEachBehind : MapState K V S → List (K × V) → Type 0
   PutsEachBehind m ps = (let goes : K × V → ℕ = λ p. route_by h m.hasher m.amount p.0 in All (λ p. LeavesShard h m p.0 (PutsAll (steps_of goes (goes p) ps))) ps)

@@ -1,18 +1,26 @@
 -- What a call promises that looks a pair up and holds its shard.
-use Rattle.std.specs.Prelude.{◌≡◌, Option, Result, IsTrue, IfSome, IfOk, option_map}
+use Rattle.std.specs.Prelude.{◌≡◌, Bool, Option, Result, IsTrue, IfSome, IfNone, IfOk, option_map}
+use Rattle.dash_shard.specs.Contents.{at}
 use Rattle.dash_shard.specs.Hashing.{KeyHash}
-use Rattle.dash_shard.specs.Shard.{HasKey}
+use Rattle.dash_shard.specs.Shard.{ShardState, HasKey, pairs}
 use Rattle.dash_ref.specs.EntryCases.{Entry, IsEntryOf, entry_shard}
 use Rattle.dash_ref.specs.Ref.{RefState, Stands, pair_of}
 use Rattle.dash_ref.specs.RefMut.{RefMutState, GetsMut}
 use Rattle.dash_ref.specs.declared.mapref.entry.EntryRefused.{EntryRefused}
-use Rattle.dash_map.specs.Behind.{SawShard, SawAt, StandsAt}
+use Rattle.dash_lock.specs.Lock.{GivenBack}
+use Rattle.dash_map.specs.Behind.{SawShard, StandsAt}
 use Rattle.dash_map.specs.Map.{MapState}
 
-module _ {K V S : Type 0} (h : KeyHash K S) (m : MapState S) (key : K) where
+-- the reference is to the pair of the key in the shard, which it holds as it was, or there is none, and the hold is over
+pub record GetsFrom {K V S : Type 0} (eq : K → K → Bool) (s : ShardState K V S) (key : K) (result : Option (RefState K V S)) : Type 0 where
+  pub pair : option_map pair_of result ≡ at eq (pairs s) key
+  pub shard : IfSome result (λ found. found.shard ≡ s)
+  pub back : IfNone result (GivenBack s)
+
+module _ {K V S : Type 0} (h : KeyHash K S) (m : MapState K V S) (key : K) where
   -- what `get` promises
   pub record IsGot (result : Option (RefState K V S)) : Type 0 where
-    pub saw : SawAt h m key (λ there. option_map pair_of result ≡ there)
+    pub saw : SawShard h m key (λ s. GetsFrom h.eq s key result)
     pub equal : IfSome result (λ found. IsTrue (h.eq found.key key))
     pub stands : IfSome result Stands
     pub tagged : IfSome result (λ found. StandsAt h m key found.shard)

@@ -7,7 +7,7 @@ use Rattle.dash_steps.specs.Takes.{Rules, rules, Runs}
 use Rattle.dash_steps.specs.declared.step.ShardStep.{ShardStep}
 use Rattle.dash_steps.specs.declared.step.Reply.{Reply}
 use Rattle.dash_map.specs.Alone.{AloneState, contents, keys_in}
-use Rattle.dash_map.specs.Behind.{LeavesShards}
+use Rattle.dash_map.specs.Behind.{Relocks}
 use Rattle.dash_map.specs.Map.{MapState}
 use Rattle.dash_map.specs.declared.run.Fault.{Fault}
 use Rattle.dash_map.specs.declared.run.Fault.TheVariants.{NoSuchShard}
@@ -31,6 +31,6 @@ pub record Ran {K V A : Type 0} (m : Rules K V) (acts : A → table.Act K V) (P 
 abbrev pub RanAlone : {K V A S : Type 0} → KeyHash K S → (K → K → Bool) → (V → V → Bool) → (A → table.Act K V) → AloneState K V S → AloneState K V S → List (ShardStep K V A) → RunOutcome K V A → Type 0
 RanAlone h k v acts old new steps outcome = Ran (rules k v (keys_in h old)) acts (contents old) (contents new) steps outcome
 
--- the run was one on shards that were found behind the locks of this map, and what it left was left there
-abbrev pub RanBehind : {K V A S : Type 0} → KeyHash K S → (K → K → Bool) → (V → V → Bool) → (A → table.Act K V) → MapState S → List (ShardStep K V A) → RunOutcome K V A → Type 0
-RanBehind h k v acts m steps outcome = LeavesShards h m (λ old new. RanAlone h k v acts old new steps outcome)
+-- the run was one on the shards that the locks of the map m ended with, and the locks of n were made for what it left
+abbrev pub RanBehind : {K V A S : Type 0} → KeyHash K S → (K → K → Bool) → (V → V → Bool) → (A → table.Act K V) → MapState K V S → MapState K V S → List (ShardStep K V A) → RunOutcome K V A → Type 0
+RanBehind h k v acts m n steps outcome = Relocks h m n (λ old new. RanAlone h k v acts old new steps outcome)

@@ -10,14 +10,14 @@ use Rattle.dash_map.specs.Map.{MapState}
 
 -- the map, how many of its shards were entered, the last of them, which is held, and the position where the walk goes on in it
 pub record IterState (K V S : Type 0) : Type 0 where
-  pub base : MapState S
+  pub base : MapState K V S
   pub entered : ℕ
   pub held : Option (ShardState K V S)
   pub position : ℕ
 
 module _ {K V S : Type 0} where
   -- a walk that entered no shard yet
-  abbrev pub at_start : MapState S → IterState K V S
+  abbrev pub at_start : MapState K V S → IterState K V S
   at_start m = record { base = m; entered = 0; held = None; position = 0 }
 
   -- no pair is left in the shard that is held, if one is

@@ -1,6 +1,5 @@
 -- What only proofs, invariants and the contracts of private functions use.
 pub mod AloneWalk
-pub mod Amounts
 pub mod Parallel
 pub mod Rooms
 pub mod Run

@@ -6,19 +6,18 @@ ghost use Rattle.dash_shard.specs.Errors.{IsOneOf};
 ghost use Rattle.dash_shard.specs.Shard.{EachAt, IsTagged};
 ghost use Rattle.dash_shard.specs.declared.error.ConstructError.TheVariants.{ShardAmount, CapacityOverflow, Memory};
 ghost use Rattle.dash_shard.specs.Held.{FitsTag};
-ghost use Rattle.dash_lock.specs.Lock.{FoundBehind, LeftBehind};
-ghost use Rattle.dash_map.specs.Amounts.{Overflows};
+ghost use Rattle.dash_lock.specs.Lock.{FoundBehind, LeftBehind, EndedWith};
+ghost use Rattle.dash_map.specs.Amounts.{IsFresh, Overflows, share};
 ghost use Rattle.dash_map.specs.Extend.{HasNoRoom};
-ghost use Rattle.dash_map.specs.inner.Amounts.{share};
-ghost use Rattle.dash_map.specs.inner.Rooms.{IsFresh};
 ghost use Rattle.std.specs.Option.{option_map};
 ghost use Rattle.std.specs.Map.Iter.{deref_pair};
 ghost use Rattle.dash_shard.specs.Contents.{at};
 ghost use Rattle.dash_shard.specs.Steps.{Insert, Remove, Pair, Old, RemoveIf};
 ghost use Rattle.dash_shard.specs.Closures.{MayAsk, Viewed, Answered};
 ghost use Rattle.dash_map.specs.Alone.{IsAlone, ReservesAlone, TakesAlone, contents, keys_in, len_in, room_in, TakesAloneBy};
-ghost use Rattle.dash_map.specs.Locks.{IsAt};
-ghost use Rattle.dash_map.specs.Behind.{AreBehind};
+ghost use Rattle.dash_map.specs.Locks.{IsAt, made_of};
+ghost use Rattle.dash_map.specs.Map.{locked};
+ghost use Rattle.dash_map.specs.Behind.{AreBehind, AreEnded};
 
 use crate::map::{DashMap, Locked};
 use crate::read_only::{Keys, ViewIter};
@@ -281,7 +280,7 @@ impl<K: Eq + Hash + Drop, V: Drop, S: BuildHasher> Alone<K, V, S> {
 
     /// The map behind its locks again. It takes no memory.
     pub fn end(self) -> DashMap<K, V, S>
-        ensures map { result ≡ record { hasher = self.hasher; amount = length self.row } }
+        ensures map { result ≡ locked self }
         ensures left { AreBehind ⟦<Self as Keyed>⟧.by LeftBehind result self }
     {
         let Alone { hasher, row } = self;
@@ -290,6 +289,7 @@ impl<K: Eq + Hash + Drop, V: Drop, S: BuildHasher> Alone<K, V, S> {
             |number: usize, shard: Shard<K, V, S>| -> Locked<K, V, S>
                 requires { IsTagged (by K.Hash S.BuildHasher S.Hasher.Hasher) hasher amount number shard }
                 ensures at { IsAt (record { hasher = hasher; amount = amount }) number result }
+                ensures made { made_of result ≡ shard }
                 ensures left { LeftBehind shard }
             {
                 let tag = ShardTag {
@@ -307,13 +307,14 @@ impl<K: Eq + Hash + Drop, V: Drop, S: BuildHasher> Alone<K, V, S> {
 impl<K: Eq + Hash, V, S: BuildHasher> DashMap<K, V, S> {
     /// The map without its locks. It takes no memory, and waits for nobody, even where a hold was leaked.
     pub fn alone(self) -> Alone<K, V, S>
-        ensures { AreBehind ⟦<Self as Keyed>⟧.by FoundBehind self result }
+        ensures { AreEnded ⟦<Self as Keyed>⟧.by self result }
     {
         let DashMap { hasher, row } = self;
         let row = row.turn(
             |_: usize, lock: Locked<K, V, S>| -> Shard<K, V, S>
-                ensures fits { FitsTag (by K.Hash S.BuildHasher S.Hasher.Hasher) (padded_value lock) result }
+                ensures fits { FitsTag (by K.Hash S.BuildHasher S.Hasher.Hasher) (padded_value lock).tag result }
                 ensures found { FoundBehind result }
+                ensures ended { EndedWith (made_of lock) result }
             { lock.into_inner().into_inner() },
         );
         Alone { hasher, row }

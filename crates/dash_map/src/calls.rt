@@ -7,7 +7,8 @@ ghost use Rattle.dash_shard.specs.Closures.{MayAsk, Viewed, MayChange, ChangesOn
 ghost use Rattle.dash_shard.specs.Contents.{at};
 ghost use Rattle.dash_lock.specs.Lock.{FoundBehind};
 ghost use Rattle.dash_shard.specs.Shard.{ShardState, pairs, IsShard};
-ghost use Rattle.dash_map.specs.Behind.{SawShards, LeavesShard, SawAt, LeavesShards, IsShardOf, Removes, RemovesBy, AltersBy};
+ghost use Rattle.dash_map.specs.Map.{shape};
+ghost use Rattle.dash_map.specs.Behind.{SawShards, LeavesShard, SawAt, Relocks, IsShardOf, Removes, RemovesBy, AltersBy};
 ghost use Rattle.dash_map.specs.Gets.{IsGot, IsGotMut};
 ghost use Rattle.dash_shard.specs.Hashing.{route_by};
 ghost use Rattle.dash_map.specs.Alone.{contents, len_in, room_in, ReservesAlone};
@@ -64,7 +65,7 @@ impl<K: Eq + Hash, V, S: BuildHasher> DashMap<K, V, S> {
     #[inline(always)]
     fn lock_of(&self, shard: usize) -> &RwLock<Shard<K, V, S>>
         requires { shard < self.now.amount }
-        ensures { (tag : _) (s : ShardState K V S) → tag ≡ result.now → FitsTag ⟦<Self as Keyed>⟧.by tag s
+        ensures { (tag : _) (s : ShardState K V S) → tag ≡ result.now.tag → FitsTag ⟦<Self as Keyed>⟧.by tag s
             → IsShardOf ⟦<Self as Keyed>⟧.by self.now shard s }
     {
         &self.row[shard]
@@ -277,8 +278,8 @@ impl<K: Eq + Hash, V, S: BuildHasher> DashMap<K, V, S> {
     where
         K: Drop,
         V: Drop,
-        ensures reserves { LeavesShards {V = V} ⟦<Self as Keyed>⟧.by self.old (λ old new. ReservesAlone K.eq additional old new result) }
-        ensures same { self.new ≡ self.old }
+        ensures reserves { Relocks ⟦<Self as Keyed>⟧.by self.old self.new (λ old new. ReservesAlone K.eq additional old new result) }
+        ensures same { shape self.new ≡ shape self.old }
     {
         replace_with(self, additional, Self::try_reserve_alone)
     }
@@ -288,8 +289,8 @@ impl<K: Eq + Hash, V, S: BuildHasher> DashMap<K, V, S> {
     where
         K: Drop,
         V: Drop,
-        ensures reserves { LeavesShards {V = V} ⟦<Self as Keyed>⟧.by self (λ old new. ReservesAlone K.eq additional old new result.1) }
-        ensures same { result.0 ≡ self }
+        ensures reserves { Relocks ⟦<Self as Keyed>⟧.by self result.0 (λ old new. ReservesAlone K.eq additional old new result.1) }
+        ensures same { shape result.0 ≡ shape self }
     {
         let mut alone = self.alone();
         let made = alone.try_reserve(additional);

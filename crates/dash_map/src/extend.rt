@@ -6,7 +6,7 @@ ghost use Rattle.dash_shard.specs.Hashing.{HashAlike};
 ghost use Rattle.dash_shard.specs.declared.error.ConstructError.TheVariants.{Parallelism};
 ghost use Rattle.dash_map.specs.Alone.{IsAlone, KeepsRoom, contents};
 ghost use Rattle.dash_map.specs.Amounts.{IsDefault, IsParallelism};
-ghost use Rattle.dash_map.specs.Behind.{LeftShards};
+ghost use Rattle.dash_map.specs.Map.{made_for, shape};
 ghost use Rattle.dash_map.specs.Extend.{Extends, ExtendsBehind, Gave, MadeOf, NotMade, IsRefusedAmong, IsRefusedOf};
 ghost use Rattle.dash_map.specs.declared.extend.FromRefused.TheVariants.{Construct, Pair};
 
@@ -163,8 +163,8 @@ impl<K: Eq + Hash + Drop, V: Drop, S: BuildHasher> DashMap<K, V, S> {
         iter: U,
     ) -> Result<(), ExtendRefused<K, V>>
         requires { IsFiniteIterable U.into_iter_gives U.IntoIter.can_next U.IntoIter.remaining iter }
-        ensures extends { ExtendsBehind ⟦<Self as Keyed>⟧.by U.into_iter_gives U.IntoIter.next_gives iter self.old result }
-        ensures same { self.new ≡ self.old }
+        ensures extends { ExtendsBehind ⟦<Self as Keyed>⟧.by U.into_iter_gives U.IntoIter.next_gives iter self.old self.new result }
+        ensures same { shape self.new ≡ shape self.old }
     {
         replace_with(self, iter, Self::extend_alone::<U>)
     }
@@ -175,8 +175,8 @@ impl<K: Eq + Hash + Drop, V: Drop, S: BuildHasher> DashMap<K, V, S> {
         iter: U,
     ) -> (Self, Result<(), ExtendRefused<K, V>>)
         requires { IsFiniteIterable U.into_iter_gives U.IntoIter.can_next U.IntoIter.remaining iter }
-        ensures extends { ExtendsBehind ⟦<Self as Keyed>⟧.by U.into_iter_gives U.IntoIter.next_gives iter self result.1 }
-        ensures same { result.0 ≡ self }
+        ensures extends { ExtendsBehind ⟦<Self as Keyed>⟧.by U.into_iter_gives U.IntoIter.next_gives iter self result.0 result.1 }
+        ensures same { shape result.0 ≡ shape self }
     {
         let mut alone = self.alone();
         let extended = alone.extend(iter);
@@ -194,7 +194,7 @@ impl<K: Eq + Hash + Drop, V: Drop, S: BuildHasher + Clone + Default + Drop> Dash
         requires alike { (s t : S) → S.is_clone s t → HashAlike ⟦<Self as Keyed>⟧.by s t }
         requires finite { IsFiniteIterable U.into_iter_gives U.IntoIter.can_next U.IntoIter.remaining iter }
         ensures made { IfOk result (λ m. Gave U.into_iter_gives U.IntoIter.next_gives iter None
-            (λ ps. LeftShards ⟦<Self as Keyed>⟧.by m (MadeOf ⟦<Self as Keyed>⟧.by ps))) }
+            (λ ps. MadeOf ⟦<Self as Keyed>⟧.by ps (made_for m))) }
         ensures hasher { IfOk result (λ m. S.is_default m.hasher) }
         ensures amount { IfOk result (λ m. IsDefault parallelism m.amount) }
         ensures bad_parallelism { IsErrOf result (Construct Parallelism) ↔ (IsParallelism parallelism → ⊥) }
@@ -210,7 +210,7 @@ impl<K: Eq + Hash + Drop, V: Drop, S: BuildHasher + Clone + Default + Drop> Dash
         parallelism: usize,
     ) -> Result<Self, FromRefused<K, V>>
         requires alike { (s t : S) → S.is_clone s t → HashAlike ⟦<Self as Keyed>⟧.by s t }
-        ensures made { IfOk result (λ m. LeftShards ⟦<Self as Keyed>⟧.by m (MadeOf ⟦<Self as Keyed>⟧.by list.items)) }
+        ensures made { IfOk result (λ m. MadeOf ⟦<Self as Keyed>⟧.by list.items (made_for m)) }
         ensures hasher { IfOk result (λ m. S.is_default m.hasher) }
         ensures amount { IfOk result (λ m. IsDefault parallelism m.amount) }
         ensures bad_parallelism { IsErrOf result (Construct Parallelism) ↔ (IsParallelism parallelism → ⊥) }

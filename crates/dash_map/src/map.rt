@@ -1,10 +1,11 @@
 //! The map that threads share.
-ghost use Rattle.std.specs.Prelude.{ℕ, ◌≡◌, ◌<◌, ◌↔◌, ◌∷◌, [], length, IsErrOf, IfOk, IfErr, OnOk};
+ghost use Rattle.std.specs.Prelude.{ℕ, ◌≡◌, ◌<◌, ◌↔◌, ◌∷◌, [], length, map, IsErrOf, IfOk, IfErr, OnOk};
 ghost use Rattle.dash_shard.specs.Hashing.{by, IsAmount, HashAlike, hash_of, route_of_hash, route_by};
 ghost use Rattle.dash_shard.specs.declared.error.ConstructError.TheVariants.{CapacityOverflow, Memory, Parallelism, ShardAmount};
-ghost use Rattle.dash_map.specs.Amounts.{IsParallelism, IsDefault, Overflows, OverflowsDefault};
+ghost use Rattle.dash_map.specs.Amounts.{IsParallelism, IsDefault, Overflows, OverflowsDefault, share};
 ghost use Rattle.dash_shard.specs.Errors.{IsOneOf};
-ghost use Rattle.dash_map.specs.Locks.{IsMap};
+ghost use Rattle.dash_map.specs.Locks.{IsMap, made_of};
+ghost use Rattle.dash_map.specs.Map.{IsNew, shape};
 
 use crate::alone::Alone;
 use crossbeam_utils::CachePadded;
@@ -32,13 +33,13 @@ pub struct DashMap<K: Eq + Hash, V, S: BuildHasher = FixedState> {
 }
 
 impl<K: Eq + Hash, V, S: BuildHasher> Model for DashMap<K, V, S> {
-    ghost use Rattle.std.specs.Prelude.{◌≡◌, ◌≤◌, [], length, vec_len, vec_capacity};
+    ghost use Rattle.std.specs.Prelude.{◌≡◌, ◌≤◌, [], length, map, vec_len, vec_capacity};
     ghost use Rattle.dash_map.specs.Map.{MapState};
-    ghost use Rattle.dash_map.specs.Locks.{IsMap};
+    ghost use Rattle.dash_map.specs.Locks.{IsMap, made_of};
 
-    ghost Value = { MapState S };
+    ghost Value = { MapState K V S };
 
-    ghost view = { λ m. record { hasher = m.hasher; amount = length m.row } };
+    ghost view = { λ m. record { hasher = m.hasher; amount = length m.row; made = map made_of m.row } };
 
     ghost invariant = { λ m. IsMap (record { hasher = m.hasher; amount = length m.row }) m.row };
 }
@@ -72,6 +73,7 @@ impl<K: Eq + Hash + Drop, V: Drop> DashMap<K, V, FixedState> {
     /// as the original does.
     pub fn new(alloc: Global, parallelism: usize) -> Result<Self, ConstructError>
         ensures amount { IfOk result (λ m. IsDefault parallelism m.amount) }
+        ensures new { IfOk result (IsNew 0) }
         ensures bad_parallelism { IsErrOf result Parallelism ↔ (IsParallelism parallelism → ⊥) }
         ensures kinds { IfErr result (IsOneOf (Parallelism ∷ Memory ∷ [])) }
     {
@@ -82,6 +84,7 @@ impl<K: Eq + Hash + Drop, V: Drop> DashMap<K, V, FixedState> {
     /// doesn't say, as the original's `new`. To ask takes the right to start threads, and reads a file of the system's.
     pub fn of<R: Threads + AllocGlobal>(rt: &R) -> Result<Self, ConstructError>
         ensures amount { IfOk result (λ m. (processors : ℕ) × IsDefault processors m.amount) }
+        ensures new { IfOk result (IsNew 0) }
         ensures kinds { IfErr result (IsOneOf (Parallelism ∷ Memory ∷ [])) }
     {
         let processors = thread::available_parallelism(rt).map_or(1, |found| found.get());
@@ -95,6 +98,7 @@ impl<K: Eq + Hash + Drop, V: Drop> DashMap<K, V, FixedState> {
         parallelism: usize,
     ) -> Result<Self, ConstructError>
         ensures amount { IfOk result (λ m. IsDefault parallelism m.amount) }
+        ensures new { IfOk result (λ m. IsNew (share capacity m.amount) m) }
         ensures bad_parallelism { IsErrOf result Parallelism ↔ (IsParallelism parallelism → ⊥) }
         ensures overflow { IsErrOf result CapacityOverflow ↔ OverflowsDefault parallelism capacity }
         ensures kinds { IfErr result (IsOneOf (Parallelism ∷ CapacityOverflow ∷ Memory ∷ [])) }
@@ -107,6 +111,7 @@ impl<K: Eq + Hash + Drop, V: Drop> DashMap<K, V, FixedState> {
     /// It is refused where the amount is no power of two above 1 (5), then where there is no memory (8).
     pub fn with_shard_amount(alloc: Global, amount: usize) -> Result<Self, ConstructError>
         ensures amount { IfOk result (λ m. m.amount ≡ amount) }
+        ensures new { IfOk result (IsNew 0) }
         ensures bad_amount { IsErrOf result ShardAmount ↔ (IsAmount amount → ⊥) }
         ensures kinds { IfErr result (IsOneOf (ShardAmount ∷ Memory ∷ [])) }
     {
@@ -121,6 +126,7 @@ impl<K: Eq + Hash + Drop, V: Drop> DashMap<K, V, FixedState> {
         amount: usize,
     ) -> Result<Self, ConstructError>
         ensures amount { IfOk result (λ m. m.amount ≡ amount) }
+        ensures new { IfOk result (IsNew (share capacity amount)) }
         ensures bad_amount { IsErrOf result ShardAmount ↔ (IsAmount amount → ⊥) }
         ensures overflow { IsErrOf result CapacityOverflow ↔ (IsAmount amount × Overflows capacity amount) }
         ensures kinds { IfErr result (IsOneOf (ShardAmount ∷ CapacityOverflow ∷ Memory ∷ [])) }
@@ -131,6 +137,7 @@ impl<K: Eq + Hash + Drop, V: Drop> DashMap<K, V, FixedState> {
     /// As `new`.
     pub fn default(alloc: Global, parallelism: usize) -> Result<Self, ConstructError>
         ensures amount { IfOk result (λ m. IsDefault parallelism m.amount) }
+        ensures new { IfOk result (IsNew 0) }
         ensures bad_parallelism { IsErrOf result Parallelism ↔ (IsParallelism parallelism → ⊥) }
         ensures kinds { IfErr result (IsOneOf (Parallelism ∷ Memory ∷ [])) }
     {
@@ -147,6 +154,7 @@ impl<K: Eq + Hash + Drop, V: Drop, S: BuildHasher + Clone + Drop> DashMap<K, V, 
         requires { (s t : S) → S.is_clone s t → HashAlike ⟦<Self as Keyed>⟧.by s t }
         ensures hasher { IfOk result (λ m. m.hasher ≡ hasher) }
         ensures amount { IfOk result (λ m. IsDefault parallelism m.amount) }
+        ensures new { IfOk result (IsNew 0) }
         ensures bad_parallelism { IsErrOf result Parallelism ↔ (IsParallelism parallelism → ⊥) }
         ensures kinds { IfErr result (IsOneOf (Parallelism ∷ Memory ∷ [])) }
     {
@@ -163,6 +171,7 @@ impl<K: Eq + Hash + Drop, V: Drop, S: BuildHasher + Clone + Drop> DashMap<K, V, 
         requires { (s t : S) → S.is_clone s t → HashAlike ⟦<Self as Keyed>⟧.by s t }
         ensures hasher { IfOk result (λ m. m.hasher ≡ hasher) }
         ensures amount { IfOk result (λ m. IsDefault parallelism m.amount) }
+        ensures new { IfOk result (λ m. IsNew (share capacity m.amount) m) }
         ensures bad_parallelism { IsErrOf result Parallelism ↔ (IsParallelism parallelism → ⊥) }
         ensures overflow { IsErrOf result CapacityOverflow ↔ OverflowsDefault parallelism capacity }
         ensures kinds { IfErr result (IsOneOf (Parallelism ∷ CapacityOverflow ∷ Memory ∷ [])) }
@@ -180,7 +189,8 @@ impl<K: Eq + Hash + Drop, V: Drop, S: BuildHasher + Clone + Drop> DashMap<K, V, 
         amount: usize,
     ) -> Result<Self, ConstructError>
         requires { (s t : S) → S.is_clone s t → HashAlike ⟦<Self as Keyed>⟧.by s t }
-        ensures made { IfOk result (λ m. m ≡ record { hasher = hasher; amount = amount }) }
+        ensures made { IfOk result (λ m. shape m ≡ record { hasher = hasher; amount = amount }) }
+        ensures new { IfOk result (IsNew 0) }
         ensures bad_amount { IsErrOf result ShardAmount ↔ (IsAmount amount → ⊥) }
         ensures kinds { IfErr result (IsOneOf (ShardAmount ∷ Memory ∷ [])) }
     {
@@ -198,7 +208,8 @@ impl<K: Eq + Hash + Drop, V: Drop, S: BuildHasher + Clone + Drop> DashMap<K, V, 
         amount: usize,
     ) -> Result<Self, ConstructError>
         requires { (s t : S) → S.is_clone s t → HashAlike ⟦<Self as Keyed>⟧.by s t }
-        ensures made { IfOk result (λ m. m ≡ record { hasher = hasher; amount = amount }) }
+        ensures made { IfOk result (λ m. shape m ≡ record { hasher = hasher; amount = amount }) }
+        ensures new { IfOk result (IsNew (share capacity amount)) }
         ensures bad_amount { IsErrOf result ShardAmount ↔ (IsAmount amount → ⊥) }
         ensures overflow { IsErrOf result CapacityOverflow ↔ (IsAmount amount × Overflows capacity amount) }
         ensures kinds { IfErr result (IsOneOf (ShardAmount ∷ CapacityOverflow ∷ Memory ∷ [])) }
@@ -220,7 +231,8 @@ impl<K: Eq + Hash, V, S: BuildHasher> DashMap<K, V, S> {
     #[inline]
     pub fn shards(&self) -> &[CachePadded<RwLock<Shard<K, V, S>>>]
         ensures count { length result.now ≡ self.now.amount }
-        ensures locks { IsMap self.now result.now }
+        ensures locks { IsMap (shape self.now) result.now }
+        ensures made { map made_of result.now ≡ self.now.made }
     {
         self.row.items()
     }
@@ -230,7 +242,8 @@ impl<K: Eq + Hash, V, S: BuildHasher> DashMap<K, V, S> {
     where
         S: Drop,
         ensures count { length result.items ≡ self.amount }
-        ensures locks { IsMap self result.items }
+        ensures locks { IsMap (shape self) result.items }
+        ensures made { map made_of result.items ≡ self.made }
     {
         let DashMap { row, .. } = self;
         row.into_items()

@@ -5,8 +5,9 @@ ghost use Rattle.std.specs.Map.Iter.{deref_pair};
 ghost use Rattle.dash_shard.specs.Hashing.{by};
 ghost use Rattle.dash_shard.specs.Contents.{at};
 ghost use Rattle.dash_map.specs.Alone.{IsAlone, contents, len_in, room_in};
-ghost use Rattle.dash_lock.specs.Lock.{FoundBehind, LeftBehind};
-ghost use Rattle.dash_map.specs.Behind.{AreBehind};
+ghost use Rattle.dash_lock.specs.Lock.{LeftBehind};
+ghost use Rattle.dash_map.specs.Behind.{AreBehind, AreEnded};
+ghost use Rattle.dash_map.specs.Map.{locked};
 ghost use Rattle.dash_map.specs.Copies.{CopiesAlone};
 ghost use Rattle.dash_map.specs.Folds.{FoldsEach, MayFold, MayVisit, VisitsEach, of_pair};
 ghost use Rattle.dash_shard.specs.Hashing.{HashAlike};
@@ -199,7 +200,7 @@ impl<K: Eq + Hash, V, S: BuildHasher> ReadOnlyView<K, V, S> {
     where
         K: Drop,
         V: Drop,
-        ensures map { IfOk result (λ m. m ≡ record { hasher = self.hasher; amount = length self.row }) }
+        ensures map { IfOk result (λ m. m ≡ locked self) }
         ensures left { IfOk result (λ m. AreBehind ⟦<Self as Keyed>⟧.by LeftBehind m self) }
         ensures refused { IfErr result (λ e. e.owner ≡ self) }
     {
@@ -240,7 +241,7 @@ impl<K: Eq + Hash + fmt::Debug, V: fmt::Debug, S: BuildHasher> fmt::Debug
 impl<K: Eq + Hash, V, S: BuildHasher> DashMap<K, V, S> {
     /// The map as a view without locks. It takes no memory, and waits for nobody. The memory of the row of locks is given back.
     pub fn into_read_only(self) -> ReadOnlyView<K, V, S>
-        ensures { AreBehind ⟦<Self as Keyed>⟧.by FoundBehind self result }
+        ensures { AreEnded ⟦<Self as Keyed>⟧.by self result }
     {
         let Alone { hasher, row } = self.alone();
         ReadOnlyView {

@@ -125,6 +125,7 @@ impl<K: KeptKey + Drop, V: Kept + Drop, S: BuildHasher> Alone<K, V, S> {
 
 impl<K: KeptKey + Drop, V: Kept + Drop, S: BuildHasher> DashMap<K, V, S> {
     ghost use Rattle.dash_map.specs.Run.{RanBehind};
+    ghost use Rattle.dash_map.specs.Map.{shape};
 
     /// As `Alone::run`, on this map, which nobody else has. It waits for nobody, even where a hold was leaked.
     ///
@@ -133,8 +134,8 @@ impl<K: KeptKey + Drop, V: Kept + Drop, S: BuildHasher> DashMap<K, V, S> {
         &mut self,
         steps: Vec<ShardStep<K, V, A>>,
     ) -> RunOutcome<K, V, A>
-        ensures ran { RanBehind ⟦<Self as Keyed>⟧.by K.alike V.alike A.acts self.old steps.items result }
-        ensures same { self.new ≡ self.old }
+        ensures ran { RanBehind ⟦<Self as Keyed>⟧.by K.alike V.alike A.acts self.old self.new steps.items result }
+        ensures same { shape self.new ≡ shape self.old }
     {
         replace_with(self, steps, Self::run_alone::<A>)
     }
@@ -144,8 +145,8 @@ impl<K: KeptKey + Drop, V: Kept + Drop, S: BuildHasher> DashMap<K, V, S> {
         self,
         steps: Vec<ShardStep<K, V, A>>,
     ) -> (Self, RunOutcome<K, V, A>)
-        ensures ran { RanBehind ⟦<Self as Keyed>⟧.by K.alike V.alike A.acts self steps.items result.1 }
-        ensures same { result.0 ≡ self }
+        ensures ran { RanBehind ⟦<Self as Keyed>⟧.by K.alike V.alike A.acts self result.0 steps.items result.1 }
+        ensures same { shape result.0 ≡ shape self }
     {
         let mut alone = self.alone();
         let outcome = alone.run(steps);

@@ -1,5 +1,5 @@
 -- A run on one part, step after step.
-use Rattle.std.proofs.Common.{◌≡◌, ℕ, Bool, false, List, [], ◌∷◌, ◌++◌, map, All, refl, sym, ap, subst, ◌∙◌, append_assoc}
+use Rattle.std.proofs.Common.{◌≡◌, ◌≢◌, ℕ, Bool, true, false, List, [], ◌∷◌, ◌++◌, map, All, refl, sym, ap, subst, ◌∙◌, append_assoc}
 use Rattle.std.specs.Prelude.{reverse}
 use Rattle.std.proofs.lemmas.List.{map-append, reverse-append}
 use Rattle.dash_parallel.specs.Apart.{TakenInTurn}
@@ -32,9 +32,10 @@ module _ {P T Y : Type 0} (takes : P → T → Y → P → Type 0) where
   pub fits-after : (fits : P → T → ℕ → Type 0) (stays : (p q : P) (s t : T) (m : ℕ) (y : Y) → takes p s y q → fits p t m → fits q t m) (p q : P) (s : T) (y : Y) (es : List (ℕ × T)) → takes p s y q → All (λ e. fits p e.1 e.0) es → All (λ e. fits q e.1 e.0) es
   fits-after fits stays p q s y es took all = λ k d within. stays p q s _ _ y took (all k d within)
 
-  pub lane-ran : (p : P) (all : List T) (q : P) (left : List T) (replies : List Y) (refused : Bool) → Running p all q left replies → (refused ≡ false → left ≡ []) → LaneRan takes p all q replies refused
-  lane-ran p all q left replies refused so_far whole = record {
+  pub lane-ran : (p : P) (all : List T) (q : P) (left : List T) (replies : List Y) (refused : Bool) → Running p all q left replies → (refused ≡ false → left ≡ []) → (refused ≡ true → left ≢ []) → LaneRan takes p all q replies refused
+  lane-ran p all q left replies refused so_far whole short = record {
     ran = record { front = so_far.front; left = left; in_order = so_far.in_order; in_turn = so_far.in_turn };
     answers = so_far.answers;
     whole = whole;
+    short = short;
   }

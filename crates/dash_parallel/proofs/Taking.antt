@@ -1,10 +1,11 @@
 -- What the lanes took is a parallel run of the list that was dealt to them.
-use Rattle.std.proofs.Common.{◌≡◌, ℕ, ◌-◌, ◌<◌, ◌==◌, cond, true, false, List, [], ◌∷◌, ◌++◌, map, length, All, get_or, Option, None, replicate, refl, sym, ap, ap₂, subst, ◌∙◌, append-nil, arith, eq-eqb}
-use Rattle.std.specs.List.{zip}
-use Rattle.std.specs.Prelude.{reverse, IsSome}
-use Rattle.std.proofs.lemmas.List.{length-map, length-reverse, reverse-reverse, get_or-map, get_or-reverse}
+use Rattle.std.proofs.Common.{◌≡◌, ◌≢◌, ℕ, suc, ◌-◌, ◌<◌, ◌==◌, cond, true, false, List, [], ◌∷◌, ◌++◌, map, length, All, get_or, Option, Some, None, Result, Ok, Err, replicate, refl, sym, ap, ap₂, subst, ◌∙◌, append-nil, arith, eq-eqb}
+use Rattle.std.specs.List.{Any, zip}
+use Rattle.std.specs.Prelude.{reverse, IsSome, OnErr}
+use Rattle.std.proofs.lemmas.List.{length-map, length-reverse, nil_from_length, reverse-reverse, get_or-map, get_or-reverse, get_or_default}
 use Rattle.std.proofs.lemmas.List.Elements.{All-cons, All-nil, All-head, All-tail, All-map}
-use Rattle.dash_parallel.specs.Apart.{EachPart, ParRan, RanFront, RanWhole, of_part, steps_of}
+use Rattle.std.proofs.lemmas.Bool.Decides.{nat_tests}
+use Rattle.dash_parallel.specs.Apart.{EachPart, ParRan, RanFront, RanShort, RanWhole, SomePart, of_part, steps_of}
 use Rattle.dash_parallel.specs.inner.Halves.{EachBeside}
 use Rattle.dash_parallel.specs.inner.Lanes.{AreReady, handed, queues, HasRun, LaneRan}
 use Rattle.dash_parallel.specs.inner.Rows.{replied, untaken}
@@ -38,6 +39,65 @@ module _ {T : Type 0} (goes : T → ℕ) where
       (all-replied n ts os (omega (arith, long)) (All-tail (λ t. goes t < n) t ts within)
       (λ s lt. (elim (goes t == s) as (λ b. All P (cond b ((t, o) ∷ rest s) (rest s)) → All P (rest s)) [ true ↦ All-tail P (t, o) (rest s) | false ↦ λ all. all ]) (each s lt)))
 
+  -- where a step of a part has no reply, some step has none
+  Any-later : {X : Type 0} (P : X → Type 0) (x : X) (xs : List X) → Any P xs → Any P (x ∷ xs)
+  Any-later P x xs any = (suc any.0, any.1, omega (arith, any.2), any.3, any.4)
+
+  peeled : {Y : Type 0} (t u : T) (y : Y) (rest : List (T × Option Y)) (front : List (T × Y)) (left : List T) → (u, Some y) ∷ rest ≡ map replied front ++ map untaken (t ∷ left)
+      → (front' : List (T × Y)) × (rest ≡ map replied front' ++ map untaken (t ∷ left))
+  peeled {Y} t u y rest [] left e =
+      let head : (u, Some y) ≡ untaken {Y = Y} t = cc in
+      let o : Some y ≡ None = ap (λ (d : T × Option Y). d.1) head in
+      let no : ⊥ = cc in
+      absurd no
+  peeled t u y rest (d ∷ front) left e = (front, cc)
+
+  some-missing : {Y : Type 0} (s : ℕ) (steps : List T) (replies : List (Option Y)) (front : List (T × Y)) (t : T) (left : List T) → length replies ≡ length steps
+      → of_part goes s (zip steps replies) ≡ map replied front ++ map untaken (t ∷ left) → Any (λ o. o ≡ None) replies
+  some-missing s [] [] [] t left long e = let no : ⊥ = cc in absurd no
+  some-missing s [] [] (d ∷ front) t left long e = let no : ⊥ = cc in absurd no
+  some-missing s [] (o ∷ os) front t left long e = absurd (omega (arith, long))
+  some-missing s (u ∷ us) [] front t left long e = absurd (omega (arith, long))
+  some-missing s (u ∷ us) (None ∷ os) front t left long e = (0, None, omega arith, refl, refl)
+  some-missing {Y} s (u ∷ us) (Some y ∷ os) front t left long e =
+      let rest = of_part goes s (zip us os) in
+      let late = Any-later (λ (o : Option Y). o ≡ None) (Some y) os in
+      (elim (goes u == s) as (λ b. cond b ((u, Some y) ∷ rest) rest ≡ map replied front ++ map untaken (t ∷ left) → Any (λ o. o ≡ None) (Some y ∷ os)) [
+        | true ↦ λ h. let more = peeled t u y rest front left h in late (some-missing s us os more.0 t left (omega (arith, long)) more.1)
+        | false ↦ λ h. late (some-missing s us os front t left (omega (arith, long)) h)
+      ]) e
+
+-- no reply to each of some steps
+pub none-replied : {T Y : Type 0} (steps : List T) (replies : List (Option Y)) → steps ≢ [] → replies ≡ replicate (length steps) None → Any (λ o. o ≡ None) replies
+none-replied [] replies some is = absurd (some refl)
+none-replied {T} {Y} (t ∷ ts) replies some is = subst (Any (λ (o : Option Y). o ≡ None)) (sym is) (0, None, omega arith, refl, refl)
+
+-- what holds anyway holds of a refusal
+pub refused-anyway : {X E Q : Type 0} (r : Result X E) → Q → OnErr r Q
+refused-anyway (Ok x) is = tt
+refused-anyway (Err e) is = is
+
+-- a list that has no length has no items, and one that has some isn't without
+pub none-of : {T : Type 0} (n : ℕ) (items : List T) → true ≡ (n == 0) → n ≡ length items → items ≡ []
+none-of n items empty len = nil_from_length items (grind (arith, nat_tests))
+
+pub some-of : {T : Type 0} (n : ℕ) (items : List T) → false ≡ (n == 0) → n ≡ length items → items ≢ []
+some-of n [] empty len e = absurd (grind (arith, nat_tests))
+some-of n (t ∷ ts) empty len e = let no : ⊥ = cc in no
+
+module _ {P T Y : Type 0} (takes : P → T → Y → P → Type 0) (goes : T → ℕ) where
+  -- a list without steps was taken whole
+  pub none-whole : (ps : List P) (steps : List T) → steps ≡ [] → EachPart (RanWhole takes) goes steps ps ps
+  none-whole ps steps none s d lt = (record { front = []; left = steps_of goes s steps; in_order = refl; in_turn = refl }, ap (steps_of goes s) none)
+
+  -- where no step of some was taken, some part took not all of its own
+  pub none-short : (ps : List P) (steps : List T) → steps ≢ [] → All (λ t. goes t < length ps) steps → SomePart (RanShort takes) goes steps ps ps
+  none-short ps [] some within = absurd (some refl)
+  none-short ps (t ∷ ts) some within =
+      let s = goes t in
+      let own : steps_of goes s (t ∷ ts) ≡ t ∷ steps_of goes s ts = ap (λ b. cond b (t ∷ steps_of goes s ts) (steps_of goes s ts)) (eq-eqb s s refl) in
+      (s, All-head (λ t. goes t < length ps) t ts within, λ d. (record { front = []; left = steps_of goes s (t ∷ ts); in_order = refl; in_turn = refl }, λ e. let no : ⊥ = cc in no))
+
 module _ {P T Y : Type 0} (takes : P → T → Y → P → Type 0) (goes : T → ℕ) (ps : List P) (steps : List T) where
   -- where no step was taken, each part took none of its own
   pub none-ran : (replies : List (Option Y)) → replies ≡ replicate (length steps) None → ParRan takes goes ps steps replies ps
@@ -69,6 +129,16 @@ module _ {P T Y : Type 0} (takes : P → T → Y → P → Type 0) (goes : T →
     pub wholes : All (λ lane. lane.refused ≡ false) lanes' → EachPart (RanWhole takes) goes steps ps qs
     wholes whole s d lt = ((own-run s d (item s lt) lt).ran, none-left whole s d lt)
 
+    -- where a lane's step was refused, its part took not all of its own
+    refused-at : (s : ℕ) (d : Lane T Y) → s < length lanes' → get_or lanes' s d ≡ d → d.refused ≡ true → (lt : s < length ps) → (get_or lanes' s (item s lt)).refused ≡ true
+    refused-at s d there is refused lt = ap (λ lane. lane.refused) (get_or_default lanes' s (item s lt) d there ∙ is) ∙ refused
+
+    pub some-short : Any (λ lane. lane.refused ≡ true) lanes' → SomePart (RanShort takes) goes steps ps qs
+    some-short any =
+        let s = any.0 in
+        let lt : s < length ps = omega (arith, any.2, ran.lanes, ready.count) in
+        (s, lt, λ d. (let r = own-run s d (item s lt) lt in (r.ran, r.short (refused-at s any.1 any.2 any.3 any.4 lt))))
+
     module _ (within : All (λ t. goes t < length ps) steps) (places : List ℕ) (in_order : reverse places ≡ map goes steps) (before replies : List (Option Y)) (none : before ≡ []) (out : replies ≡ before ++ handed (reverse places) (queues lanes')) where
       are : replies ≡ handed (map goes steps) (queues lanes')
       are = out ∙ ap₂ (λ l ps. l ++ handed ps (queues lanes')) none in_order
@@ -97,3 +167,15 @@ module _ {P T Y : Type 0} (takes : P → T → Y → P → Type 0) (goes : T →
           let front = (own-run s d (item s lt) lt).ran.front in
           subst (All (λ d. IsSome d.1)) (sym (own-replies s d lt ∙ ap (λ l. map replied front ++ map untaken l) (none-left whole s d lt) ∙ append-nil (map replied front)))
           (All-map (λ d. IsSome d.1) replied front (λ k d within. refl)))
+
+      pub replies-short : Any (λ lane. lane.refused ≡ true) lanes' → Any (λ o. o ≡ None) replies
+      replies-short any =
+          let s = any.0 in
+          let lt : s < length ps = omega (arith, any.2, ran.lanes, ready.count) in
+          let d = some-item ps s lt in
+          let r = own-run s d (item s lt) lt in
+          missing s r.ran.front r.ran.left (r.short (refused-at s any.1 any.2 any.3 any.4 lt)) (own-replies s d lt)
+        where
+          missing : (s : ℕ) (front : List (T × Y)) (left : List T) → left ≢ [] → of_part goes s (zip steps replies) ≡ map replied front ++ map untaken left → Any (λ o. o ≡ None) replies
+          missing s front [] some e = absurd (some refl)
+          missing s front (t ∷ left) some e = some-missing goes s steps replies front t left length-replies e

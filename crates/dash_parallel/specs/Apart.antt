@@ -1,5 +1,5 @@
 -- Steps that are taken on a row of parts, each on the part that it goes to, and each part's in their order.
-use Rattle.std.specs.Prelude.{◌≡◌, ℕ, ◌<◌, ◌==◌, List, [], ◌++◌, map, filter, length, Option, Some, None, get_or}
+use Rattle.std.specs.Prelude.{◌≡◌, ◌≢◌, ℕ, ◌<◌, ◌==◌, List, [], ◌++◌, map, filter, length, Option, Some, None, get_or}
 use Rattle.std.specs.List.{FoldsTo, zip}
 
 -- the steps that go to part s
@@ -13,6 +13,10 @@ of_part goes s ds = filter (λ d. goes d.0 == s) ds
 -- R holds of each part: of the steps that go to it, of the part before and of the part after
 abbrev pub EachPart : {P T : Type 0} → (List T → P → P → Type 0) → (T → ℕ) → List T → List P → List P → Type 0
 EachPart {P} R goes steps ps qs = (s : ℕ) (d : P) → s < length ps → R (steps_of goes s steps) (get_or ps s d) (get_or qs s d)
+
+-- R holds of some part
+abbrev pub SomePart : {P T : Type 0} → (List T → P → P → Type 0) → (T → ℕ) → List T → List P → List P → Type 0
+SomePart {P} R goes steps ps qs = (s : ℕ) × (s < length ps) × ((d : P) → R (steps_of goes s steps) (get_or ps s d) (get_or qs s d))
 
 module _ {P T Y : Type 0} (takes : P → T → Y → P → Type 0) where
   -- the steps were taken one after the other, with these replies
@@ -29,6 +33,10 @@ module _ {P T Y : Type 0} (takes : P → T → Y → P → Type 0) where
   -- all the steps were taken
   abbrev pub RanWhole : List T → P → P → Type 0
   RanWhole steps p q = (r : RanFront steps p q) × (r.left ≡ [])
+
+  -- a front of the steps was taken, and not all of them
+  abbrev pub RanShort : List T → P → P → Type 0
+  RanShort steps p q = (r : RanFront steps p q) × (r.left ≢ [])
 
   -- a front of the steps was taken, and exactly those have replies
   pub record RanApart (ds : List (T × Option Y)) (p q : P) : Type 0 where

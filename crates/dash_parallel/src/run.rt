@@ -1,6 +1,7 @@
 //! Steps taken on a row of parts by several workers: each part's in their order, those of different parts at once.
-ghost use Rattle.std.specs.Prelude.{◌≡◌, ℕ, ◌≤◌, ◌<◌, ◌+◌, ◌++◌, [], All, OnOk, IsSome, None, false, length, replicate, reverse, vec_len, vec_capacity};
-ghost use Rattle.dash_parallel.specs.Apart.{EachPart, ParRan, RanFront, RanWhole};
+ghost use Rattle.std.specs.Prelude.{◌≡◌, ℕ, ◌≤◌, ◌<◌, ◌+◌, ◌++◌, [], All, OnOk, OnErr, IsSome, None, true, false, length, replicate, reverse, vec_len, vec_capacity};
+ghost use Rattle.std.specs.List.{Any};
+ghost use Rattle.dash_parallel.specs.Apart.{EachPart, ParRan, RanFront, RanShort, RanWhole, SomePart};
 ghost use Rattle.dash_parallel.specs.inner.Halves.{AllBeside, EachBeside};
 ghost use Rattle.dash_parallel.specs.inner.Lanes.{handed, queues, HasRun, IsReady, FitsAll};
 
@@ -33,7 +34,8 @@ impl<'a, P: Part<T, Y>, T: Drop, Y: Drop, G: Gate> Work<P, Lane<T, Y>> for Runne
 
 // Refuses where a lane's step was refused.
 pub(crate) fn outcome<T, Y>(lanes: &[Lane<T, Y>]) -> Result<(), AllocError>
-    ensures { OnOk result (All (λ lane. lane.refused ≡ false) lanes.now) }
+    ensures whole { OnOk result (All (λ lane. lane.refused ≡ false) lanes.now) }
+    ensures short { OnErr result (Any (λ lane. lane.refused ≡ true) lanes.now) }
 {
     for lane in lanes {
         if lane.refused {
@@ -56,6 +58,7 @@ fn take_lanes<R: Threads + Sync, P: Part<T, Y> + Send, T: Send + Drop, Y: Send +
     requires ready { AllBeside (λ _. IsReady P.fits) 0 parts.old lanes.old }
     ensures ran { EachBeside (λ _. HasRun P.takes) 0 parts.old lanes.old parts.new lanes.new }
     ensures whole { OnOk result (All (λ lane. lane.refused ≡ false) lanes.new) }
+    ensures short { OnErr result (Any (λ lane. lane.refused ≡ true) lanes.new) }
 {
     let workers = workers.clamp(1, parts.len());
     by_halves(rt, &Runner { gate }, workers, 0, parts, lanes);
@@ -92,7 +95,7 @@ pub fn no_replies<Y: Drop>(count: usize, replies: &mut Vec<Option<Y>>)
 /// taken is at the step's place. 0 workers count as 1, more than there are parts as so many.
 ///
 /// The first step that a part refuses ends that part's run, and the others go on. All memory that this takes itself it takes before the
-/// first step: where that is refused, no step is taken.
+/// first step: where that is refused, no step is taken. It takes none for a list without steps.
 pub fn run_apart<
     R: Threads + Sync,
     P: Part<T, Y> + Send,
@@ -117,7 +120,11 @@ pub fn run_apart<
     ensures ran { ParRan P.takes (D.goes dealer.now) parts.old steps.items replies.new.items parts.new }
     ensures len { length replies.new.items ≡ length steps.items }
     ensures whole { OnOk result (All IsSome replies.new.items) }
+    ensures short { OnErr result (Any (λ reply. reply ≡ None) replies.new.items) }
 {
+    if steps.is_empty() {
+        return Ok(());
+    }
     let count = steps.len();
     match deal(dealer, parts.len(), steps, true) {
         Ok(Dealt { mut lanes, places }) => {
@@ -149,7 +156,12 @@ pub fn put_apart<R: Threads + Sync, P: Part<T, ()> + Send, T: Send + Drop, D: De
     ensures each { EachPart (RanFront P.takes) (D.goes dealer.now) steps.items parts.old parts.new }
     ensures whole { OnOk result (
         EachPart (RanWhole P.takes) (D.goes dealer.now) steps.items parts.old parts.new) }
+    ensures short { OnErr result (
+        SomePart (RanShort P.takes) (D.goes dealer.now) steps.items parts.old parts.new) }
 {
+    if steps.is_empty() {
+        return Ok(());
+    }
     let mut dealt = deal(dealer, parts.len(), steps, false)?;
     take_lanes(rt, gate, workers, parts, dealt.lanes.as_mut_slice())
 }

@@ -49,7 +49,8 @@ module _ {K V S : Type 0} where
     pub pair : stored o.pair ≡ at eq (pairs s) k
     pub equal : HasKey eq s k o.pair.position
 
-  -- the vacant entry of a key, in a shard that has none: the pairs stay, and there is room
+  -- the vacant entry of a key, in a shard that has none: the pairs stay, and there is room. A shard that had room stays as it was, so
+  -- that none loses room
   pub record VacantOf (eq : K → K → Bool) (s : ShardState K V S) (k : K) (v : VacantState K V S) : Type 0 where
     pub absent : at eq (pairs s) k ≡ None
     pub key : v.key ≡ k
@@ -57,3 +58,4 @@ module _ {K V S : Type 0} where
     pub len : shard_len v.shard ≡ shard_len s
     pub stays : SameShard s v.shard
     pub room : shard_len v.shard < v.shard.capacity
+    pub kept : shard_len s < s.capacity → v.shard ≡ s

@@ -1,5 +1,5 @@
 -- What contracts see of a reference to a pair that may be written: the shard that it holds, and a position in it.
-use Rattle.std.specs.Prelude.{ℕ, Bool, Option, IfNone, option_and_then}
+use Rattle.std.specs.Prelude.{ℕ, ◌≡◌, Bool, Option, IfSome, IfNone, option_and_then}
 use Rattle.std.specs.Option.{option_map_or}
 use Rattle.dash_lock.specs.Lock.{LeftBehind}
 use Rattle.dash_shard.specs.Shard.{ShardState, RepliesOn, slot, with_value_in}
@@ -14,9 +14,10 @@ module _ {K V S : Type 0} where
   abbrev pub stored : RefMutState K V S → Option (K × V)
   stored r = slot r.shard.slots r.position
 
-  -- the reference is to the pair of the key in the shard, or there is none, and the shard was left as it was
+  -- the reference is to the pair of the key in the shard, which it holds as it was, or there is none, and the shard was left so
   pub record GetsMut (eq : K → K → Bool) (s : ShardState K V S) (key : K) (result : Option (RefMutState K V S)) : Type 0 where
     pub replies : RepliesOn eq s (Get key) (Pair (option_and_then stored result))
+    pub shard : IfSome result (λ r. r.shard ≡ s)
     pub left : IfNone result (LeftBehind s)
 
   -- with another value in its pair; all other pairs stay

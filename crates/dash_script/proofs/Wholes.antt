@@ -1,25 +1,20 @@
 -- What a whole step replies: a number of pairs, or the pairs of shards that were found.
-use Rattle.std.proofs.Common.{◌≡◌, ℕ, zero, suc, ◌<◌, ◌≤◌, ◌^◌, Bool, List, [], ◌∷◌, length, None, IsTrue, refl, sym, ap, subst, ◌∙◌, arith, ne_eqb}
+use Rattle.std.proofs.Common.{◌≡◌, ℕ, zero, suc, ◌<◌, ◌≤◌, ◌^◌, Bool, List, [], ◌∷◌, length, None, refl, sym, ap, subst, ◌∙◌, arith, ne_eqb}
 use Rattle.std.specs.Prelude.{nat_eq}
 use Rattle.std.specs.Cmp.{IsEquivalence}
 use Rattle.dash_shard.specs.Contents.{Keys, keys, at, Distinct}
 use Rattle.dash_shard.specs.Hashing.{KeyHash, route_by, route_of_hash}
-use Rattle.dash_shard.specs.Shard.{EachAt, pairs}
+use Rattle.dash_shard.specs.Shard.{pairs}
 use Rattle.dash_shard.specs.Steps as table
 use Rattle.dash_shard.proofs.Unions.{OnShards, distinct-union}
-use Rattle.dash_steps.specs.Alike.{alike_reply}
 use Rattle.dash_steps.specs.Steps.{reply_of}
 use Rattle.dash_steps.specs.Takes.{Known}
-use Rattle.dash_steps.specs.declared.step.Record.{Record}
 use Rattle.dash_steps.specs.declared.step.Reply.{Reply}
 use Rattle.dash_steps.specs.declared.step.Reply.TheVariants.{Number}
 use Rattle.dash_steps.specs.declared.step.Whole.{Whole}
 use Rattle.dash_steps.specs.declared.step.Whole.TheVariants as whole
-use Rattle.dash_record.specs.History.{LogState}
-use Rattle.dash_record.specs.Joined.{pairs_in, joined_pairs}
-use Rattle.dash_history.specs.Map.{RecMapState, SawRecShard}
-use Rattle.dash_history.specs.SharedSteps.{ClonesShared}
-use Rattle.dash_record.specs.Part.{TellsPart}
+use Rattle.dash_history.specs.Alone.{RecAloneState, IsRecAlone}
+use Rattle.dash_history.specs.OneHistory.{CopiesRecPairs, rec_contents}
 use Rattle.dash_script.specs.declared.step.Line.TheVariants as says
 use Rattle.dash_script.specs.Script.{IsReplyTo}
 use Rattle.dash_script.proofs.Replaying.{same-pairs}
@@ -52,31 +47,22 @@ counts kind is n small = rw is (some-pairs n, distinct-some n, ap (λ k. table.N
 pub holds : (kind : Whole) → kind ≡ whole.Read → (reply : Reply ℕ ℕ) (ps : List (ℕ × ℕ)) → Distinct nat_eq ps → reply_of reply ≡ table.Pairs ps → IsReplyTo (says.Whole kind) reply
 holds kind is reply ps distinct same = rw is (ps, distinct, same)
 
--- the pairs that are told are those of the shard
-told-pairs : (P : List (ℕ × ℕ)) (reply : table.Reply ℕ ℕ) → IsTrue (alike_reply nat_eq nat_eq (table.Pairs P) reply) → pairs_in reply ≡ P
-told-pairs P (table.Pairs l) same = same-pairs P l same
-told-pairs P reply same = cc
-
-module _ {A S : Type 0} (h : KeyHash ℕ S) (laws : IsEquivalence h.eq) (f : A → A → Bool) (acts : A → table.Act ℕ ℕ) (m : RecMapState S) where
+module _ {A S : Type 0} (h : KeyHash ℕ S) (laws : IsEquivalence h.eq) (f : A → A → Bool) (acts : A → table.Act ℕ ℕ) (a : RecAloneState ℕ ℕ A S) where
   abbrev known : Known ℕ ℕ A S
   known = record { keys = h; alike_key = nat_eq; alike_value = nat_eq; alike_action = f; acts = acts }
 
   abbrev map-keys : Keys ℕ
-  map-keys = keys h.eq (route_by h m.hasher m.amount) m.amount
+  map-keys = keys h.eq (route_by h a.hasher (length a.row)) (length a.row)
 
-  abbrev told : Record ℕ ℕ A → List (ℕ × ℕ)
-  told r = pairs_in (reply_of r.reply)
-
-  on-shards : (stamp caller : ℕ) (parts : List (Record ℕ ℕ A)) → EachAt parts (λ i r. SawRecShard known m i (λ s. TellsPart known whole.Read stamp caller s r)) → OnShards map-keys told 0 parts
-  on-shards stamp caller parts each j r here =
-      let p = each j r here in
-      let contents = p.2.shard.contents in
-      rw (told-pairs (pairs p.0.shard) (reply_of r.reply) p.4.replied) (record {
+  on-shards : IsRecAlone known a → OnShards map-keys (λ s. pairs s.shard) 0 a.row
+  on-shards lawful j s here =
+      let tag = lawful.tagged j s here in
+      let contents = (lawful.recorded j s here).shard.contents in
+      record {
         distinct = contents.distinct;
-        routed = λ k away. contents.routed k (λ same. away (ap (λ x. route_of_hash m.amount x) (sym (p.1.hashes k)) ∙ ap (λ n. route_of_hash n (h.hash p.0.shard.hasher k)) (sym p.1.amount) ∙ same ∙ p.1.number ∙ omega arith));
-      })
+        routed = λ k away. contents.routed k (λ same. away (ap (λ x. route_of_hash (length a.row) x) (sym (tag.hashes k)) ∙ ap (λ n. route_of_hash n (h.hash s.shard.hasher k)) (sym tag.amount) ∙ same ∙ tag.number ∙ omega arith));
+      }
 
   -- a copy of the whole map has no key twice
-  pub distinct-copies : (l l' : LogState ℕ ℕ A) (copies : List (ℕ × ℕ)) → ClonesShared known m l l' copies → Distinct h.eq copies
-  distinct-copies l l' copies c =
-      subst (Distinct h.eq) (sym (same-pairs (joined_pairs c.parts) copies c.joined)) (distinct-union map-keys told laws 0 c.parts (on-shards l'.last l.caller c.parts c.logs.told))
+  pub distinct-copies : IsRecAlone known a → (copies : List (ℕ × ℕ)) → CopiesRecPairs known a copies → Distinct h.eq copies
+  distinct-copies lawful copies made = subst (Distinct h.eq) (sym (same-pairs (rec_contents a) copies made)) (distinct-union map-keys (λ s. pairs s.shard) laws 0 a.row (on-shards lawful))

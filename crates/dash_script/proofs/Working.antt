@@ -157,12 +157,12 @@ all-idle c ws is i w inside =
     record { caller = rw log (omega (arith, inside, many c ws is)); entries = ap (λ l. l.entries) log }
 
 -- what the workers of the same list did
-pub works-of : {w : Known ℕ ℕ (Unit {0}) PlaceState} {m : RecMapState PlaceState} {n : ℕ} {xs ys : List Worker} (vs : List Worker) → xs ≡ ys → ((i : ℕ) (d : Worker) → i < length xs → Works w m n (get_or xs i d) (get_or vs i d))
+pub works-of : {w : Known ℕ ℕ (Unit {0}) PlaceState} {m : RecMapState ℕ ℕ (Unit {0}) PlaceState} {n : ℕ} {xs ys : List Worker} (vs : List Worker) → xs ≡ ys → ((i : ℕ) (d : Worker) → i < length xs → Works w m n (get_or xs i d) (get_or vs i d))
     → (i : ℕ) (d : Worker) → i < length ys → Works w m n (get_or ys i d) (get_or vs i d)
 works-of {w} {m} {n} {xs} {ys} vs same each = subst (λ zs. (i : ℕ) (d : Worker) → i < length zs → Works w m n (get_or zs i d) (get_or vs i d)) same each
 
 -- what the workers did, where none was refused
-pub all-done : {w : Known ℕ ℕ (Unit {0}) PlaceState} {m : RecMapState PlaceState} (c n : ℕ) (ws vs : List Worker) → map (λ w. w.log) ws ≡ fresh_logs c → length vs ≡ length ws → ((i : ℕ) (d : Worker) → i < length ws → Works w m n (get_or ws i d) (get_or vs i d)) → All (λ w. w.refused ≡ None) vs → AllDone n vs
+pub all-done : {w : Known ℕ ℕ (Unit {0}) PlaceState} {m : RecMapState ℕ ℕ (Unit {0}) PlaceState} (c n : ℕ) (ws vs : List Worker) → map (λ w. w.log) ws ≡ fresh_logs c → length vs ≡ length ws → ((i : ℕ) (d : Worker) → i < length ws → Works w m n (get_or ws i d) (get_or vs i d)) → All (λ w. w.refused ≡ None) vs → AllDone n vs
 all-done c n ws vs is long works none i d inside =
     let within : i < length ws = omega (arith, inside, long) in
     let did = works i d within in (
@@ -171,7 +171,7 @@ all-done c n ws vs is long works none i d inside =
     )
 
 -- why a worker stopped
-stopped : (w : Known ℕ ℕ (Unit {0}) PlaceState) (c n : ℕ) (m : RecMapState PlaceState) (log : LogState ℕ ℕ (Unit {0})) (r : Refusal) → m.amount ≡ 4 → log.caller < c → MayRefuse w m log r → IsSo w c n r
+stopped : (w : Known ℕ ℕ (Unit {0}) PlaceState) (c n : ℕ) (m : RecMapState ℕ ℕ (Unit {0}) PlaceState) (log : LogState ℕ ℕ (Unit {0})) (r : Refusal) → m.amount ≡ 4 → log.caller < c → MayRefuse w m log r → IsSo w c n r
 stopped w c n m log Map four few may = absurd may
 stopped w c n m log Memory four few may = tt
 stopped w c n m log Gather four few may = absurd may
@@ -183,7 +183,7 @@ refused-there None r here = absurd here
 refused-there (Some v) r here = (v, refl, here)
 
 -- why the first that was refused stopped
-pub first-refused : (w : Known ℕ ℕ (Unit {0}) PlaceState) (c n : ℕ) (m : RecMapState PlaceState) (ws vs : List Worker) (r : Refusal) → m.amount ≡ 4 → map (λ w. w.log) ws ≡ fresh_logs c → length vs ≡ length ws
+pub first-refused : (w : Known ℕ ℕ (Unit {0}) PlaceState) (c n : ℕ) (m : RecMapState ℕ ℕ (Unit {0}) PlaceState) (ws vs : List Worker) (r : Refusal) → m.amount ≡ 4 → map (λ w. w.log) ws ≡ fresh_logs c → length vs ≡ length ws
     → ((i : ℕ) (d : Worker) → i < length ws → Works w m n (get_or ws i d) (get_or vs i d)) → IsFirstRefusal vs r → IsSo w c n r
 first-refused w c n m ws vs r four is long works first =
     let f = refused-there (slice_get vs first.index) r first.here in
@@ -213,7 +213,7 @@ judged-by w state shards logs same r long is =
     IfOk-weaker r (IsJudgedOf w state logs) (IsJudgedBy w shards same) (λ legal j. record { state = state; amount = long; judged = subst (λ ls. IsJudgedOf w state ls legal) is j })
 
 -- why the history was not judged
-pub not-judged : (w : Known ℕ ℕ (Unit {0}) PlaceState) (c n : ℕ) (m : RecMapState PlaceState) (ws : List Worker) (r : Refusal) → length ws ≡ c → AllDone n ws → m.amount ≡ 4
+pub not-judged : (w : Known ℕ ℕ (Unit {0}) PlaceState) (c n : ℕ) (m : RecMapState ℕ ℕ (Unit {0}) PlaceState) (ws : List Worker) (r : Refusal) → length ws ≡ c → AllDone n ws → m.amount ≡ 4
     → (r ≡ Mismatch → SawRecShards w m (λ a. Matches w a (map (λ w. w.log) ws) → ⊥)) → r ≢ LastStamp → IsSo w c n r
 not-judged w c n m ws Map long done four mismatch kind = tt
 not-judged w c n m ws Memory long done four mismatch kind = tt

@@ -54,12 +54,12 @@ pub record AreMismatched (w : Known ℕ ℕ (Unit {0}) PlaceState) (c n : ℕ) :
   pub differ : Matches w state logs → ⊥
 
 -- no stamp is above the log's last and that of a shard of the map, as it stood behind its lock
-abbrev pub HasNoStamp : Known ℕ ℕ (Unit {0}) PlaceState → RecMapState PlaceState → LogState ℕ ℕ (Unit {0}) → Type 0
+abbrev pub HasNoStamp : Known ℕ ℕ (Unit {0}) PlaceState → RecMapState ℕ ℕ (Unit {0}) PlaceState → LogState ℕ ℕ (Unit {0}) → Type 0
 HasNoStamp w m log = (i : ℕ) × SawRecShard w m i (λ s. NoStamp s.last log.last)
 
 -- LAST STAMP: one of c threads had no stamp for a step, on a map of four shards
 pub record IsOutOfStamps (w : Known ℕ ℕ (Unit {0}) PlaceState) (c : ℕ) : Type 0 where
-  pub state : RecMapState PlaceState
+  pub state : RecMapState ℕ ℕ (Unit {0}) PlaceState
   pub log : LogState ℕ ℕ (Unit {0})
   pub amount : state.amount ≡ 4
   pub caller : log.caller < c

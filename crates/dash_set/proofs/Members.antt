@@ -1,6 +1,6 @@
 -- Keys that are read as pairs with unit, and closures on keys as closures on pairs.
-use Rattle.std.proofs.Common.{◌≡◌, Bool, true, false, List, [], ◌∷◌, Option, Some, None, Result, Ok, Err, refl, sym, ap, subst}
-use Rattle.std.specs.Prelude.{not, is_some, IfSome, IfErr, IsErrAnd}
+use Rattle.std.proofs.Common.{◌≡◌, ◌≢◌, Bool, true, false, List, [], ◌∷◌, Option, Some, None, Result, Ok, Err, refl, sym, ap, subst}
+use Rattle.std.specs.Prelude.{not, is_some, IfSome, IfErr, OnErr, IsErrAnd}
 use Rattle.std.specs.Iterator.{Yields, YieldsThen}
 use Rattle.std.specs.List.{AllZip, FoldsTo}
 use Rattle.std.specs.Map.Calls.{CallableOnEachPair, SomeCallAtPair}
@@ -12,7 +12,17 @@ use Rattle.dash_map.specs.Extend.{Gave, NotMade}
 use Rattle.dash_map.specs.declared.extend.ExtendRefused.{ExtendRefused}
 use Rattle.dash_map.specs.declared.extend.FromRefused.{FromRefused}
 use Rattle.dash_map.specs.declared.extend.FromRefused.TheVariants.{Construct, Pair}
-use Rattle.dash_set.specs.Set.{keys_of, stood}
+use Rattle.dash_set.specs.Set.{keys_of, members, stood}
+
+-- keys of which there are some are pairs of which there are some
+pub members-some : {K : Type 0} (ks : List K) → ks ≢ [] → members ks ≢ []
+members-some [] some = λ e. some refl
+members-some (k ∷ ks) some = λ e. cc e
+
+-- what is so without an error is so with one
+pub on-refusal : {T E P : Type 0} (r : Result T E) → P → OnErr r P
+on-refusal (Ok t) p = tt
+on-refusal (Err e) p = p
 
 -- the old value of a key that is new exactly where there was none
 pub stood-none : (o : Option (Unit {0})) (new : Bool) → is_some o ≡ not new → stood new ≡ o

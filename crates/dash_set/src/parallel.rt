@@ -1,5 +1,5 @@
 //! Lists of keys that several workers put into a set, and parallel work on its keys.
-ghost use Rattle.std.specs.Prelude.{◌≡◌, ◌↔◌, ◌∷◌, [], IfOk, IfErr, IsErrOf, OnOk, length};
+ghost use Rattle.std.specs.Prelude.{◌≡◌, ◌≢◌, ◌↔◌, ◌∷◌, [], IfOk, IfErr, IsErrOf, OnOk, OnErr, length};
 ghost use Rattle.std.specs.Fn.{FnReturnsAt};
 ghost use Rattle.std.specs.List.{AllZip};
 ghost use Rattle.std.specs.Thread.{IsSync};
@@ -9,7 +9,8 @@ ghost use Rattle.dash_shard.specs.Hashing.{by, HashAlike};
 ghost use Rattle.dash_shard.specs.declared.error.ConstructError.TheVariants.{Memory, Parallelism};
 ghost use Rattle.dash_map.specs.Amounts.{IsDefault, IsParallelism};
 ghost use Rattle.dash_map.specs.Alone.{IsAlone, contents};
-ghost use Rattle.dash_map.specs.Behind.{LeftShards, SawShards};
+ghost use Rattle.dash_map.specs.Behind.{EndedShards, SawShards};
+ghost use Rattle.dash_map.specs.Map.{made_for, shape};
 ghost use Rattle.dash_map.specs.Extend.{MadeOf, ParExtends, ParExtendsBehind, PutsEachBehind};
 ghost use Rattle.dash_set.specs.Set.{MayMapKey, keys_of, members};
 
@@ -29,9 +30,13 @@ use std::thread::Threads;
 
 // The keys, each with unit.
 fn with_units<K: Drop>(list: Vec<K>) -> Result<Vec<(K, ())>, AllocError>
-    ensures { IfOk result (λ pairs. pairs.items ≡ members list.items) }
+    ensures members { IfOk result (λ pairs. pairs.items ≡ members list.items) }
+    ensures some { OnErr result (list.items ≢ []) }
 {
     let alloc = *list.allocator();
+    if list.is_empty() {
+        return Ok(Vec::new(alloc));
+    }
     list.into_iter().map(|key| (key, ())).collect(alloc)
 }
 
@@ -103,16 +108,16 @@ impl<K: Eq + Hash + Send + Drop, S: BuildHasher + Send> DashSet<K, S> {
     ) -> Result<(), AllocError>
     where
         S::Hasher: Send,
-        ensures extends { ParExtendsBehind ⟦<Self as Keyed>⟧.by self.old (members list.items) result }
-        ensures same { self.new ≡ self.old }
+        ensures extends { ParExtendsBehind ⟦<Self as Keyed>⟧.by self.old self.new (members list.items) result }
+        ensures same { shape self.new ≡ shape self.old }
     {
         replace_with(
             self,
             list,
             |set: Self, list: Vec<K>| -> (Self, Result<(), AllocError>)
                 requires { IsSync R.row × IsSend K.row × IsSend S.row × IsSend S.Hasher.row }
-                ensures extends { ParExtendsBehind (by K.Hash S.BuildHasher S.Hasher.Hasher) set (members list.items) result.1 }
-                ensures same { result.0 ≡ set }
+                ensures extends { ParExtendsBehind (by K.Hash S.BuildHasher S.Hasher.Hasher) set result.0 (members list.items) result.1 }
+                ensures same { shape result.0 ≡ shape set }
             { set.par_extend_alone(rt, list, workers) },
         )
     }
@@ -126,8 +131,8 @@ impl<K: Eq + Hash + Send + Drop, S: BuildHasher + Send> DashSet<K, S> {
     ) -> (Self, Result<(), AllocError>)
     where
         S::Hasher: Send,
-        ensures extends { ParExtendsBehind ⟦<Self as Keyed>⟧.by self (members list.items) result.1 }
-        ensures same { result.0 ≡ self }
+        ensures extends { ParExtendsBehind ⟦<Self as Keyed>⟧.by self result.0 (members list.items) result.1 }
+        ensures same { shape result.0 ≡ shape self }
     {
         let mut alone = self.alone();
         let extended = alone.par_extend(rt, list, workers);
@@ -147,7 +152,7 @@ impl<K: Eq + Hash + Send + Drop, S: BuildHasher + Clone + Default + Send + Drop>
     where
         S::Hasher: Send,
         requires { (s t : S) → S.is_clone s t → HashAlike ⟦<Self as Keyed>⟧.by s t }
-        ensures made { IfOk result (λ s. LeftShards ⟦<Self as Keyed>⟧.by s (MadeOf ⟦<Self as Keyed>⟧.by (members list.items))) }
+        ensures made { IfOk result (λ s. MadeOf ⟦<Self as Keyed>⟧.by (members list.items) (made_for s)) }
         ensures hasher { IfOk result (λ s. S.is_default s.hasher) }
         ensures amount { IfOk result (λ s. IsDefault parallelism s.amount) }
         ensures bad_parallelism { IsErrOf result Parallelism ↔ (IsParallelism parallelism → ⊥) }
@@ -216,7 +221,7 @@ pub struct Iter<'a, K: Eq + Hash, S: BuildHasher> {
 impl<'a, K: Eq + Hash, S: BuildHasher> Model for Iter<'a, K, S> {
     ghost use Rattle.dash_map.specs.Map.{MapState};
 
-    ghost Value = { MapState S };
+    ghost Value = { MapState K (Unit {0}) S };
 
     ghost view = { λ it. it.inner };
 }
@@ -259,7 +264,7 @@ impl<K: Eq + Hash, S: BuildHasher> DashSet<K, S> {
     pub fn into_par_iter(self) -> OwningIter<K, S>
     where
         S: Drop,
-        ensures { SawShards ⟦<Self as Keyed>⟧.by self (λ a. result ≡ keys_of (contents a)) }
+        ensures { EndedShards ⟦<Self as Keyed>⟧.by self (λ a. result ≡ keys_of (contents a)) }
     {
         OwningIter {
             inner: self.inner.into_par_iter(),

@@ -1,5 +1,5 @@
 //! A set that threads share: a map to unit.
-ghost use Rattle.std.specs.Prelude.{ℕ, ◌≡◌, ◌<◌, ◌∷◌, [], ◌==◌, ◌↔◌, length, true, IsTrue, IfSome, IfOk, IfErr, IsErrOf, is_some};
+ghost use Rattle.std.specs.Prelude.{ℕ, ◌≡◌, ◌<◌, ◌∷◌, [], ◌==◌, ◌↔◌, length, map, true, IsTrue, IfSome, IfOk, IfErr, IsErrOf, is_some};
 ghost use Rattle.std.specs.Fn.{FnOnceTakesAt};
 ghost use Rattle.dash_shard.specs.Hashing.{by, HashAlike, hash_of, route_of_hash, route_by};
 ghost use Rattle.dash_shard.specs.Errors.{IsOneOf};
@@ -8,12 +8,13 @@ ghost use Rattle.dash_shard.specs.Steps.{RemoveIf};
 ghost use Rattle.dash_shard.specs.declared.error.ConstructError.TheVariants.{CapacityOverflow, Memory, Parallelism};
 ghost use Rattle.dash_map.specs.Alone.{contents, len_in, room_in};
 ghost use Rattle.dash_map.specs.AllPairs.{ClearsAlone, RetainsAlone, ShrinksAlone};
-ghost use Rattle.dash_map.specs.Amounts.{IsDefault, IsParallelism, OverflowsDefault};
+ghost use Rattle.dash_map.specs.Amounts.{IsDefault, IsParallelism, OverflowsDefault, share};
 ghost use Rattle.dash_map.specs.Copies.{CopiesAlone};
-ghost use Rattle.dash_map.specs.Behind.{CallableOnPairs, LeavesShard, LeavesShards, LeftShards, Removes, RemovesBy, SawAt, SawShards};
+ghost use Rattle.dash_map.specs.Behind.{CallableOnPairs, EndedShards, LeavesShard, LeavesShards, Removes, RemovesBy, SawAt, SawShards};
 ghost use Rattle.dash_map.specs.Folds.{FoldsEach, MayFold, MayVisit, VisitsEach, of_key};
 ghost use Rattle.dash_map.specs.Gets.{IsGot};
-ghost use Rattle.dash_map.specs.Locks.{IsMap};
+ghost use Rattle.dash_map.specs.Locks.{IsMap, made_of};
+ghost use Rattle.dash_map.specs.Map.{IsNew, made_for, shape};
 ghost use Rattle.dash_map.specs.Walking.{at_start};
 ghost use Rattle.dash_set.specs.Set.{AnsweredKey, CalledAtKey, TakesKey, inserted, keys_of, member};
 
@@ -50,7 +51,7 @@ pub struct DashSet<K: Eq + Hash, S: BuildHasher = FixedState> {
 impl<K: Eq + Hash, S: BuildHasher> Model for DashSet<K, S> {
     ghost use Rattle.dash_map.specs.Map.{MapState};
 
-    ghost Value = { MapState S };
+    ghost Value = { MapState K (Unit {0}) S };
 
     ghost view = { λ s. s.inner };
 }
@@ -70,6 +71,7 @@ impl<K: Eq + Hash + Drop> DashSet<K, FixedState> {
     /// as the original does.
     pub fn new(alloc: Global, parallelism: usize) -> Result<Self, ConstructError>
         ensures amount { IfOk result (λ s. IsDefault parallelism s.amount) }
+        ensures new { IfOk result (IsNew 0) }
         ensures bad_parallelism { IsErrOf result Parallelism ↔ (IsParallelism parallelism → ⊥) }
         ensures kinds { IfErr result (IsOneOf (Parallelism ∷ Memory ∷ [])) }
     {
@@ -79,6 +81,7 @@ impl<K: Eq + Hash + Drop> DashSet<K, FixedState> {
     /// As `new`, by the allocator of `rt`, for as many processors as the system says, as the map's `of`.
     pub fn of<R: Threads + AllocGlobal>(rt: &R) -> Result<Self, ConstructError>
         ensures amount { IfOk result (λ s. (processors : ℕ) × IsDefault processors s.amount) }
+        ensures new { IfOk result (IsNew 0) }
         ensures kinds { IfErr result (IsOneOf (Parallelism ∷ Memory ∷ [])) }
     {
         let inner = DashMap::of(rt)?;
@@ -92,6 +95,7 @@ impl<K: Eq + Hash + Drop> DashSet<K, FixedState> {
         parallelism: usize,
     ) -> Result<Self, ConstructError>
         ensures amount { IfOk result (λ s. IsDefault parallelism s.amount) }
+        ensures new { IfOk result (λ s. IsNew (share capacity s.amount) s) }
         ensures bad_parallelism { IsErrOf result Parallelism ↔ (IsParallelism parallelism → ⊥) }
         ensures overflow { IsErrOf result CapacityOverflow ↔ OverflowsDefault parallelism capacity }
         ensures kinds { IfErr result (IsOneOf (Parallelism ∷ CapacityOverflow ∷ Memory ∷ [])) }
@@ -102,6 +106,7 @@ impl<K: Eq + Hash + Drop> DashSet<K, FixedState> {
     /// As `new`.
     pub fn default(alloc: Global, parallelism: usize) -> Result<Self, ConstructError>
         ensures amount { IfOk result (λ s. IsDefault parallelism s.amount) }
+        ensures new { IfOk result (IsNew 0) }
         ensures bad_parallelism { IsErrOf result Parallelism ↔ (IsParallelism parallelism → ⊥) }
         ensures kinds { IfErr result (IsOneOf (Parallelism ∷ Memory ∷ [])) }
     {
@@ -117,6 +122,7 @@ impl<K: Eq + Hash + Drop, S: BuildHasher + Clone + Drop> DashSet<K, S> {
         requires { (s t : S) → S.is_clone s t → HashAlike ⟦<Self as Keyed>⟧.by s t }
         ensures hasher { IfOk result (λ s. s.hasher ≡ hasher) }
         ensures amount { IfOk result (λ s. IsDefault parallelism s.amount) }
+        ensures new { IfOk result (IsNew 0) }
         ensures bad_parallelism { IsErrOf result Parallelism ↔ (IsParallelism parallelism → ⊥) }
         ensures kinds { IfErr result (IsOneOf (Parallelism ∷ Memory ∷ [])) }
     {
@@ -134,6 +140,7 @@ impl<K: Eq + Hash + Drop, S: BuildHasher + Clone + Drop> DashSet<K, S> {
         requires { (s t : S) → S.is_clone s t → HashAlike ⟦<Self as Keyed>⟧.by s t }
         ensures hasher { IfOk result (λ s. s.hasher ≡ hasher) }
         ensures amount { IfOk result (λ s. IsDefault parallelism s.amount) }
+        ensures new { IfOk result (λ s. IsNew (share capacity s.amount) s) }
         ensures bad_parallelism { IsErrOf result Parallelism ↔ (IsParallelism parallelism → ⊥) }
         ensures overflow { IsErrOf result CapacityOverflow ↔ OverflowsDefault parallelism capacity }
         ensures kinds { IfErr result (IsOneOf (Parallelism ∷ CapacityOverflow ∷ Memory ∷ [])) }
@@ -156,7 +163,8 @@ impl<K: Eq + Hash, S: BuildHasher> DashSet<K, S> {
     #[inline]
     pub fn shards(&self) -> &[CachePadded<RwLock<Shard<K, (), S>>>]
         ensures count { length result.now ≡ self.now.amount }
-        ensures locks { IsMap self.now result.now }
+        ensures locks { IsMap (shape self.now) result.now }
+        ensures made { map made_of result.now ≡ self.now.made }
     {
         self.inner.shards()
     }
@@ -353,7 +361,7 @@ impl<K: KeptKey + Drop, S: BuildHasher + Clone + Drop> DashSet<K, S> {
     pub fn clone<R: Wait + Clock>(&self, rt: &R) -> Result<Self, AllocError>
         requires { (s t : S) → S.is_clone s t → HashAlike ⟦<Self as Keyed>⟧.by s t }
         ensures { IfOk result (λ copy. SawShards {V = Unit {0}} ⟦<Self as Keyed>⟧.by self.now
-            (λ a. LeftShards ⟦<Self as Keyed>⟧.by copy (CopiesAlone K.eq K.alike (λ _ _. true) S.is_clone a))) }
+            (λ a. CopiesAlone K.eq K.alike (λ _ _. true) S.is_clone a (made_for copy))) }
     {
         let inner = self.inner.clone(rt)?;
         Ok(DashSet { inner })
@@ -365,7 +373,7 @@ impl<K: Eq + Hash + Drop, S: BuildHasher + Drop> IntoIterator for DashSet<K, S> 
 
     type IntoIter = OwningIter<K, S>;
 
-    ghost into_iter_gives = { λ s keys. SawShards (by K.Hash S.BuildHasher S.Hasher.Hasher) s (λ a. keys ≡ keys_of (contents a)) };
+    ghost into_iter_gives = { λ s keys. EndedShards (by K.Hash S.BuildHasher S.Hasher.Hasher) s (λ a. keys ≡ keys_of (contents a)) };
 
     /// The keys, moved out. It takes no memory, and waits for nobody.
     fn into_iter(self) -> OwningIter<K, S> {

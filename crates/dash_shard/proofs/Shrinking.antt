@@ -1,10 +1,11 @@
 -- A shard whose pairs were moved to other slots.
-use Rattle.std.proofs.Common.{◌≡◌, ℕ, ◌+◌, ◌<◌, ◌≤◌, length, refl, sym, ap, ◌∙◌, subst, arith, Ok, Err}
+use Rattle.std.proofs.Common.{◌≡◌, ◌⊎◌, ℕ, ◌+◌, ◌<◌, ◌≤◌, length, refl, sym, ap, ◌∙◌, subst, arith, inl, inr, Ok, Err}
 use Rattle.std.specs.Prelude.{Result, OnOk, OnErr}
 use Rattle.dash_shard.specs.Contents.{EachOnce}
 use Rattle.dash_shard.specs.Shard.{ShardState, taken, pairs, IsShard}
 use Rattle.dash_shard.specs.inner.Keys.{keys_of, IsLawful}
-use Rattle.dash_shard.specs.Each.{Shrinks}
+use Rattle.dash_shard.specs.Each.{Shrinks, close_room}
+use Rattle.dash_shard.specs.Memory.{NoMemory}
 use Rattle.dash_shard.specs.Held.{Reserves}
 use Rattle.dash_shard.specs.declared.shard.table.Table.{Table}
 use Rattle.dash_shard.specs.inner.Table.{pairs_in, limit, IsMoved, slots_in}
@@ -38,11 +39,17 @@ module _ {K V S : Type 0} (h : KeyHash K S)
   pub moved-len : length (pairs (of new)) ≡ length (pairs (of t))
   moved-len = sym moved.table.counted ∙ moved.len ∙ inside.counted
 
-  pub shrinks : slots_in new ≤ slots_in t → (t.len ≡ 0 → slots_in new ≡ 0) → (z : ShardState K V S) → of t ≡ z → Shrinks h.eq z (of new)
-  shrinks room none z view = subst (λ x. Shrinks h.eq x (of new)) view (record {
+  pub shrinks : slots_in new ≤ slots_in t → (limit (slots_in new) ≤ close_room t.len) ⊎ ((new ≡ t) × NoMemory (close_room t.len)) → (t.len ≡ 0 → slots_in new ≡ 0) → (z : ShardState K V S) → of t ≡ z
+      → Shrinks h.eq z (of new)
+  shrinks room close none z view = subst (λ x. Shrinks h.eq x (of new)) view (record {
     pairs = each;
     len = moved-len;
     room = omega (arith, room);
+    holds = omega (arith, moved-len, moved.table.fits, moved.len, inside.counted);
+    close = subst (λ n. (limit (slots_in new) ≤ close_room n) ⊎ ((of new ≡ of t) × NoMemory (close_room n))) inside.counted (elim close [
+      | inl little ↦ inl little
+      | inr refused ↦ inr (ap of refused.0, refused.1)
+    ]);
     none = λ e. let gone : slots_in new ≡ 0 = none (inside.counted ∙ e) in omega (arith, gone);
     stays = record { number = refl; amount = refl; hasher = refl };
   })

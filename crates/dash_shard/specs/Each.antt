@@ -1,10 +1,11 @@
 -- What calls on all pairs of a shard do and promise.
-use Rattle.std.specs.Prelude.{◌≡◌, ◌≤◌, Bool, List, []}
+use Rattle.std.specs.Prelude.{ℕ, ◌≡◌, ◌⊎◌, ◌+◌, ◌*◌, ◌≤◌, Bool, List, []}
 use Rattle.std.specs.List.{FoldsTo}
 use Rattle.std.specs.Fn.{Mut, Takes, Called}
 use Rattle.dash_shard.specs.Steps.{Act, Step, Done}
 use Rattle.dash_shard.specs.Shard.{ShardState, pairs, shard_len, SameShard, TakesInPlace}
 use Rattle.dash_shard.specs.Contents.{EachOnce}
+use Rattle.dash_shard.specs.Memory.{NoMemory}
 use denote.Ref.{Bor}
 
 -- f may be called at k and v
@@ -33,10 +34,17 @@ pub record Clears {K V S : Type 0} (old new : ShardState K V S) : Type 0 where
   pub room : new.capacity ≡ old.capacity
   pub stays : SameShard old new
 
--- all that `shrink_to_fit` promises: the pairs stay, in as many slots as before or fewer, and none for no pairs
+-- the room that n pairs get at most, where there are no more slots than they want
+abbrev pub close_room : ℕ → ℕ
+close_room n = 2 * n + 12
+
+-- all that `shrink_to_fit` promises: the pairs stay, no room is made, and there is little more than they want, and none for no pairs. The
+-- shard stays as it was only where memory for a table so small was refused
 pub record Shrinks {K V S : Type 0} (eq : K → K → Bool) (old new : ShardState K V S) : Type 0 where
   pub pairs : EachOnce eq (pairs old) (pairs new)
   pub len : shard_len new ≡ shard_len old
   pub room : new.capacity ≤ old.capacity
+  pub holds : shard_len new ≤ new.capacity
+  pub close : (new.capacity ≤ close_room (shard_len old)) ⊎ ((new ≡ old) × NoMemory (close_room (shard_len old)))
   pub none : shard_len old ≡ 0 → new.capacity ≡ 0
   pub stays : SameShard old new

@@ -7,5 +7,6 @@ pub mod Held
 pub mod Puts
 pub mod Closures
 pub mod Errors
+pub mod Memory
 pub mod Each
 pub mod inner

@@ -4,5 +4,6 @@ pub mod Finding
 pub mod Frames
 pub mod Planning
 pub mod Preparing
+pub mod Rooms
 pub mod Sweeping
 pub mod Taking

@@ -12,13 +12,14 @@ use Rattle.dash_shard.specs.inner.Keys.{IsLawful, keys_of}
 use Rattle.dash_shard.specs.inner.Steps.{Becomes, after, step_shard}
 use Rattle.dash_shard.proofs.Routing.{route_below}
 use Rattle.dash_steps.specs.Steps.{reply_of}
-use Rattle.dash_steps.specs.Takes.{Rules, rules, Answers, TakesOn}
+use Rattle.dash_steps.specs.Takes.{Rules, rules, Answers, GrowsBy, TakesOn}
 use Rattle.dash_steps.specs.declared.step.Reply.{Reply}
 use Rattle.dash_steps.specs.declared.step.Reply.TheVariants.{Done}
 use Rattle.dash_steps.specs.inner.Copied.{AlikeAt}
 use Rattle.dash_steps.specs.inner.Sweep.{SweptTo, keeping}
 use Rattle.dash_steps.proofs.Copies.{Lawful, lawful-by, takes-exactly}
 use Rattle.dash_steps.proofs.Preparing.{answers-all}
+use Rattle.dash_steps.proofs.Rooms.{grows-same, grows-least}
 use Rattle.dash_steps.proofs.Sweeping.{leaves}
 
 -- a look at a shard leaves what is there
@@ -41,7 +42,7 @@ module _ {K V S : Type 0} (h : KeyHash K S) (law : IsLawful h) (k : K → K → 
 
   -- a step that got this reply, and made exactly this of the pairs
   pub exactly : (t : ShardState K V S) (step : Step K V) (reply : Reply K V) → step_shard m.keys step < s.amount → Answers m (pairs s) step (reply_of reply) → Becomes m.keys step (pairs s) (pairs t)
-      → SameShard s t → s.capacity ≤ t.capacity → IsShard h t → TakesOn h k v s step t reply
+      → SameShard s t → GrowsBy step s t → IsShard h t → TakesOn h k v s step t reply
   exactly t step reply here answers becomes stays room lawful = record {
     takes = takes-exactly m laws-on (pairs s) (pairs t) step (reply_of reply) here answers becomes lawful.contents.distinct;
     stays = stays;
@@ -51,7 +52,7 @@ module _ {K V S : Type 0} (h : KeyHash K S) (law : IsLawful h) (k : K → K → 
 
   -- a step that leaves the shard as it is
   pub looks : (step : Step K V) (reply : Reply K V) → step_shard m.keys step < s.amount → Answers m (pairs s) step (reply_of reply) → Becomes m.keys step (pairs s) (pairs s) → TakesOn h k v s step s reply
-  looks step reply here answers becomes = exactly s step reply here answers becomes (record { number = refl; amount = refl; hasher = refl }) (omega arith) shard
+  looks step reply here answers becomes = exactly s step reply here answers becomes (record { number = refl; amount = refl; hasher = refl }) (grows-same step s s refl) shard
 
   module _ (i : ℕ) (here : i ≡ s.number) where
     there : i < s.amount
@@ -63,12 +64,12 @@ module _ {K V S : Type 0} (h : KeyHash K S) (law : IsLawful h) (k : K → K → 
     pub counts : (reply : Reply K V) → Answers m (pairs s) (Count i) (reply_of reply) → TakesOn h k v s (Count i) s reply
     counts reply answers = looks (Count i) reply there answers (λ j. shown (m.keys.route j == i) (at h.eq (pairs s) j))
 
-  module _ (t : ShardState K V S) (stays : SameShard s t) (room : s.capacity ≤ t.capacity) (lawful : IsShard h t) (f : Act K V) where
+  module _ (t : ShardState K V S) (stays : SameShard s t) (room : t.capacity ≡ s.capacity) (lawful : IsShard h t) (f : Act K V) where
     swept-by : (step : Step K V) → step_shard m.keys step ≡ s.number → Answers m (pairs s) step table.Done → ((j : K) → AlikeAt m (after m.keys step j (at h.eq (pairs s) j)) (at h.eq (pairs t) j)) → TakesOn h k v s step t Done
     swept-by step is answers each = record {
       takes = record { in_range = subst (λ n. n < s.amount) (sym is) shard.number; answers = answers; each_key = each; distinct = lawful.contents.distinct };
       stays = stays;
-      room = room;
+      room = grows-same step s t room;
       lawful = lawful;
     }
 
@@ -83,5 +84,5 @@ module _ {K V S : Type 0} (h : KeyHash K S) (law : IsLawful h) (k : K → K → 
 -- taken or refused, the shard stays the one that it is, loses no room, and stays lawful
 module _ {K V S X : Type 0} (h : KeyHash K S) (k : K → K → Bool) (v : V → V → Bool) (s t : ShardState K V S) (step : Step K V) (back : X → Type 0) where
   pub settled : (r : Result (Reply K V) X) → IfOk r (TakesOn h k v s step t) → IfErr r (λ x. back x × (t ≡ s)) → IsShard h s → SameShard s t × (s.capacity ≤ t.capacity) × IsShard h t
-  settled (Ok reply) took refused shard = (took.stays, took.room, took.lawful)
+  settled (Ok reply) took refused shard = (took.stays, grows-least step s t took.room, took.lawful)
   settled (Err x) took refused shard = subst (λ y. SameShard s y × (s.capacity ≤ y.capacity) × IsShard h y) (sym refused.1) (record { number = refl; amount = refl; hasher = refl }, omega arith, shard)

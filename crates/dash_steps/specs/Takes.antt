@@ -1,14 +1,14 @@
 -- What a step does to the contents of a map, up to alike, and what a list of steps does.
-use Rattle.std.specs.Prelude.{ℕ, ◌<◌, ◌≤◌, Bool, List, IsTrue}
+use Rattle.std.specs.Prelude.{ℕ, ◌≡◌, ◌⊎◌, ◌+◌, ◌<◌, ◌≤◌, Bool, List, IsTrue}
 use Rattle.std.specs.List.{FoldsTo}
 use Rattle.std.specs.Hash.{HashWrites}
 use Rattle.std.specs.declared.hash.Hasher as hasher
 use Rattle.std.specs.declared.hash.BuildHasher as builder
 use Rattle.dash_shard.specs.Hashing.{KeyHash, key_hash, route_by}
 use Rattle.dash_shard.specs.Contents.{Keys, keys, at, Distinct}
-use Rattle.dash_shard.specs.Steps.{Step, Reply, Act, line, line_shard, line_after, LineReplies}
+use Rattle.dash_shard.specs.Steps.{Step, Insert, Reply, Act, line, line_shard, line_after, LineReplies}
 use Rattle.std.specs.Option.{option_eq}
-use Rattle.dash_shard.specs.Shard.{ShardState, SameShard, IsShard, pairs}
+use Rattle.dash_shard.specs.Shard.{ShardState, SameShard, IsShard, pairs, shard_len}
 use Rattle.dash_kept.specs.Alike.{alike_pair}
 use Rattle.dash_steps.specs.Alike.{alike_reply}
 use Rattle.dash_steps.specs.Steps.{reply_of}
@@ -48,11 +48,16 @@ module _ {K V : Type 0} (m : Rules K V) where
   abbrev pub Runs : List (K × V) → List (Step K V × Reply K V) → List (K × V) → Type 0
   Runs = FoldsTo (λ P d Q. Takes P d.0 d.1 Q)
 
--- the step is taken on a shard of a map, up to alike: it stays the shard that it is, loses no room, and stays lawful
+-- what a step does to a shard's room: an insert may make more in a full shard that gets a pair more, and else the room stays
+abbrev pub GrowsBy : {K V S : Type 0} → Step K V → ShardState K V S → ShardState K V S → Type 0
+GrowsBy (Insert _ _) s t = (t.capacity ≡ s.capacity) ⊎ ((s.capacity ≤ shard_len s) × (shard_len t ≡ shard_len s + 1) × (s.capacity ≤ t.capacity))
+GrowsBy _ s t = t.capacity ≡ s.capacity
+
+-- the step is taken on a shard of a map, up to alike: it stays the shard that it is, takes memory only for a pair more, and stays lawful
 pub record TakesOn {K V S : Type 0} (h : KeyHash K S) (k : K → K → Bool) (v : V → V → Bool) (old : ShardState K V S) (step : Step K V) (new : ShardState K V S) (reply : program.Reply K V) : Type 0 where
   pub takes : Takes (rules k v (keys h.eq (route_by h old.hasher old.amount) old.amount)) (pairs old) step (reply_of reply) (pairs new)
   pub stays : SameShard old new
-  pub room : old.capacity ≤ new.capacity
+  pub room : GrowsBy step old new
   pub lawful : IsShard h new
 
 -- what a recorded map knows of its keys, values and actions, whatever its hasher and amount

@@ -35,7 +35,7 @@ use std::sync::Wait;
 /// Each call does what that of `DashMap` does whose name it has after its underscore.
 pub trait Map<K: Eq + Hash, V, S: BuildHasher> {
     // What contracts see of the map.
-    ghost state: { Self → MapState S };
+    ghost state: { Self → MapState K V S };
 
     /// The number of the shards.
     fn _shard_count(&self) -> usize

@@ -7,6 +7,7 @@ ghost use Rattle.dash_map.specs.Alone.{len_in};
 ghost use Rattle.dash_map.specs.AllPairs.{ClearsAlone};
 ghost use Rattle.dash_map.specs.Amounts.{IsDefault, IsParallelism};
 ghost use Rattle.dash_map.specs.Behind.{LeavesShards, Removes, SawShards};
+ghost use Rattle.dash_map.specs.Map.{IsNew, shape};
 
 use dash_kept::{Kept, KeptKey};
 use dash_map::map::DashMap;
@@ -109,7 +110,7 @@ pub struct Memo<K: KeptKey, V: Kept, R: Rule<K, V>, S: BuildHasher = FixedState>
 impl<K: KeptKey, V: Kept, R: Rule<K, V>, S: BuildHasher> Model for Memo<K, V, R, S> {
     ghost use Rattle.dash_map.specs.Map.{MapState};
 
-    ghost Value = { MapState S };
+    ghost Value = { MapState K (K × V) S };
 
     ghost view = { λ m. m.map };
 }
@@ -128,6 +129,7 @@ impl<K: KeptKey + Drop, V: Kept + Drop, R: Rule<K, V> + Drop> Memo<K, V, R, Fixe
     /// It is refused where the parallelism is 0 or above 2^61 (6), then where there is no memory (8).
     pub fn new(alloc: Global, rule: R, parallelism: usize) -> Result<Self, ConstructError>
         ensures amount { IfOk result (λ m. IsDefault parallelism m.amount) }
+        ensures new { IfOk result (IsNew 0) }
         ensures bad_parallelism { IsErrOf result Parallelism ↔ (IsParallelism parallelism → ⊥) }
         ensures kinds { IfErr result (IsOneOf (Parallelism ∷ Memory ∷ [])) }
     {
@@ -149,7 +151,8 @@ impl<K: KeptKey + Drop, V: Kept + Drop, R: Rule<K, V> + Drop, S: BuildHasher> Me
     where
         S: Clone + Drop,
         requires { (s t : S) → S.is_clone s t → HashAlike ⟦<Self as Keyed>⟧.by s t }
-        ensures made { IfOk result (λ m. m ≡ record { hasher = hasher; amount = amount }) }
+        ensures made { IfOk result (λ m. shape m ≡ record { hasher = hasher; amount = amount }) }
+        ensures new { IfOk result (IsNew 0) }
         ensures bad_amount { IsErrOf result ShardAmount ↔ (IsAmount amount → ⊥) }
         ensures kinds { IfErr result (IsOneOf (ShardAmount ∷ Memory ∷ [])) }
     {

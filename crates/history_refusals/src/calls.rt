@@ -52,7 +52,30 @@ impl<S: BuildHasher + Clone + Copy + Drop> Recorded<S> {
             "count_all" | "try_count_all" | "clone_all" | "try_clone_all" => {
                 Ok(self.whole(rt, call))
             }
-            _ => self.step(rt, call, way),
+            _ => match call.split_once('_') {
+                Some(("last", call)) => {
+                    self.spend_log();
+                    self.ended_at_last(rt, call, way)
+                }
+                Some(("spent", call)) => {
+                    self.spend_shard(rt)?;
+                    self.ended_at_last(rt, call, way)
+                }
+                _ => self.step(rt, call, way),
+            },
+        }
+    }
+
+    // How a step ended where a stamp is the last.
+    fn ended_at_last<R>(&mut self, rt: &R, call: &str, way: &str) -> Result<Ended, AllocError>
+    where
+        R: Wait + Clock,
+    {
+        match call {
+            "count_all" | "try_count_all" | "clone_all" | "try_clone_all" => {
+                Ok(self.whole_at_last(rt, call))
+            }
+            _ => self.step_at_last(rt, call, way),
         }
     }
 }

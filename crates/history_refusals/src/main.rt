@@ -1,6 +1,9 @@
 //! `history_refusals CALL HASHER WAY` takes a call of a recorded map, and prints how it ended: `answered`, `refused NAME`, or `wrong: WHAT`.
 //! A request for memory that is refused before the call prints `setup`, and one that looks at what the call left `unseen`.
 //!
+//! `last_CALL` is the step CALL of a caller whose log has the last stamp, and `spent_CALL` one of a shard that has it: it answers so whatever
+//! memory there is.
+//!
 //! `try-refusals` runs it with one request for memory refused after the other.
 #![tactic(auto)]
 

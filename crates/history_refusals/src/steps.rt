@@ -7,7 +7,7 @@ use dash_history::record::RecordFault;
 use dash_kept::Kept;
 use dash_steps::step::{Reply, ShardStep};
 use refusing::keys::{FULL, Key, Value, key_of, pair_of};
-use refusing::trial::Ended;
+use refusing::trial::{Ended, needed};
 use std::alloc::{AllocError, Global};
 use std::hash::BuildHasher;
 use std::rt::Clock;
@@ -27,13 +27,53 @@ impl<S: BuildHasher + Drop> Recorded<S> {
             return Err(AllocError);
         };
         let taken = apply(rt, &self.map, self.logs.first_mut(), step, way);
-        Ok(match came_back(taken, copy) {
+        Ok(match came_back(taken, copy, RecordFault::Memory) {
             None => {
                 self.records = self.records.saturating_add(2);
                 Ended::answered(pairs_after(call), true)
             }
             Some(lawful) => Ended::refused(RECORD, FULL, lawful),
         })
+    }
+
+    /// A step by caller 0 where a stamp is the last: it comes back (18), whatever memory there is.
+    pub fn step_at_last<R>(&mut self, rt: &R, call: &str, way: &str) -> Result<Ended, AllocError>
+    where
+        R: Wait + Clock,
+    {
+        let step = step_of(self.alloc, call)?;
+        let Ok(copy) = step.copy() else {
+            drop(step);
+            return Err(AllocError);
+        };
+        let taken = apply(rt, &self.map, self.logs.first_mut(), step, way);
+        let came_back = came_back(taken, copy, RecordFault::LastStamp);
+        Ok(Ended::answered(FULL, came_back == Some(true)))
+    }
+
+    /// A step of all shards by caller 0 where a stamp is the last.
+    pub fn whole_at_last<R: Wait + Clock>(&mut self, rt: &R, call: &str) -> Ended {
+        let counted = counted(rt, &self.map, self.logs.first_mut(), call);
+        Ended::answered(FULL, counted == Err(RecordFault::LastStamp))
+    }
+
+    /// Makes the last stamp that of the log of caller 0.
+    pub fn spend_log(&mut self) {
+        if let Some(log) = self.logs.first_mut() {
+            log.learn(u64::MAX);
+        }
+    }
+
+    /// Makes it that of shard 0, by a step of caller 1.
+    pub fn spend_shard<R: Wait + Clock>(&mut self, rt: &R) -> Result<(), AllocError> {
+        let Some(log) = self.logs.get_mut(1) else {
+            return Ok(());
+        };
+        log.learn(u64::MAX - 1);
+        let count = ShardStep::Count(0);
+        drop(needed(apply(rt, &self.map, Some(log), count, "apply"))?);
+        self.records = self.records.saturating_add(2);
+        Ok(())
     }
 
     /// A step of all shards by caller 0, which has a record in each.
@@ -66,11 +106,15 @@ pub fn apply<R: Wait + Clock, S: BuildHasher + Drop>(
     }
 }
 
-// Whether a step came back as it was for want of memory, unless it was taken.
-fn came_back<T: Drop>(taken: Result<T, (Step, RecordFault)>, copy: Step) -> Option<bool> {
+// Whether a step came back as it was, by this refusal, unless it was taken.
+fn came_back<T: Drop>(
+    taken: Result<T, (Step, RecordFault)>,
+    copy: Step,
+    wanted: RecordFault,
+) -> Option<bool> {
     let came_back = match &taken {
         Ok(_) => None,
-        Err((step, fault)) => Some(*fault == RecordFault::Memory && step.same(&copy)),
+        Err((step, fault)) => Some(*fault == wanted && step.same(&copy)),
     };
     drop((taken, copy));
     came_back

@@ -5,6 +5,7 @@ mod checks;
 mod gather;
 mod held;
 mod logs;
+mod many_shards;
 mod maps;
 mod script;
 mod stamps;

@@ -5,6 +5,8 @@ mod checks;
 mod entry;
 mod error;
 mod iter;
+mod lists;
+mod many_shards;
 mod map;
 mod maps;
 mod parallel;

@@ -6,7 +6,9 @@ use dash_lock::Tagged;
 use dash_lock::lock::RwLock;
 use std::mem;
 
+mod sleepers;
 mod waits;
+mod wakes;
 mod word;
 
 /// A number below the bound that its lock is made for.
@@ -23,7 +25,7 @@ impl Tagged for Bounded {
 
 fn locked(number: u64) -> RwLock<Bounded>
     requires { number < 100 }
-    ensures { result ≡ 100 }
+    ensures { result.tag ≡ 100 }
 {
     RwLock::new(Bounded { number }, &100)
 }

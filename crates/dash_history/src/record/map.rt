@@ -1,17 +1,17 @@
 //! A recorded map that threads share, and its two moves: shards out of their locks, and behind them again.
 ghost use Rattle.std.specs.Prelude.{◌∷◌, [], ◌≡◌, ◌<◌, ◌↔◌, Some, IsErrOf, IfOk, IfErr, IfSome, length};
 ghost use Rattle.crossbeam_utils.specs.Padded.{padded_value};
-ghost use Rattle.dash_lock.specs.Lock.{FoundBehind, LeftBehind};
+ghost use Rattle.dash_lock.specs.Lock.{FoundBehind, LeftBehind, EndedWith};
 ghost use Rattle.dash_shard.specs.Shard.{EachAt};
 ghost use Rattle.dash_shard.specs.Errors.{IsOneOf};
 ghost use Rattle.dash_shard.specs.declared.error.ConstructError.TheVariants.{Callers, Memory, ShardAmount};
 ghost use Rattle.dash_shard.specs.Hashing.{by, IsAmount, HashAlike};
-ghost use Rattle.dash_history.specs.Alone.{IsCallers, fresh_logs, last_at};
+ghost use Rattle.dash_history.specs.Alone.{IsCallers, EachRecShard, fresh_logs, last_at};
 ghost use Rattle.dash_record.specs.Held.{IsRecTagged};
-ghost use Rattle.dash_record.specs.History.{IsRecorded};
-ghost use Rattle.dash_history.specs.Map.{IsRecFound, IsRecShardOf, SawRecShards, rec_map, shard_on};
+ghost use Rattle.dash_record.specs.History.{IsFresh, IsRecorded};
+ghost use Rattle.dash_history.specs.Map.{IsRecFound, IsRecShardOf, RelocksRecShards, locked, made_for, rec_map, shape, shard_on};
 ghost use Rattle.dash_history.specs.OneHistory.{CopiesEntry, CopiesRecPairs};
-ghost use Rattle.dash_history.specs.inner.Locks.{IsRecAt, LeavesLock};
+ghost use Rattle.dash_history.specs.inner.Locks.{IsRecAt, LeavesLock, made_of};
 ghost use Rattle.dash_steps.specs.inner.Hashed.{IsHashBy};
 ghost use Rattle.dash_steps.specs.Takes.{known};
 
@@ -40,7 +40,8 @@ pub(crate) type Locked<K, V, S, A> = CachePadded<RwLock<RecShard<K, V, S, A>>>;
 
 /// A recorded map that threads share: its shards behind locks, each with its history.
 ///
-/// A contract sees its hasher, the number of its callers and that of its shards. Only who holds a lock knows what is behind it.
+/// A contract sees its hasher, the number of its callers and that of its shards, and what its locks were made for. Only who holds a
+/// lock knows what is behind it.
 #[derive(Drop)]
 pub struct RecordedMap<K: KeptKey, V: Kept, S: BuildHasher, A: KeptAction<K, V> = ()> {
     hasher: S,
@@ -49,15 +50,15 @@ pub struct RecordedMap<K: KeptKey, V: Kept, S: BuildHasher, A: KeptAction<K, V> 
 }
 
 impl<K: KeptKey, V: Kept, S: BuildHasher, A: KeptAction<K, V>> Model for RecordedMap<K, V, S, A> {
-    ghost use Rattle.std.specs.Prelude.{◌≡◌, ◌≤◌, [], length, vec_len, vec_capacity};
-    ghost use Rattle.dash_history.specs.Map.{RecMapState};
-    ghost use Rattle.dash_history.specs.inner.Locks.{IsRecMap};
+    ghost use Rattle.std.specs.Prelude.{◌≡◌, ◌≤◌, [], length, map, vec_len, vec_capacity};
+    ghost use Rattle.dash_history.specs.Map.{RecMapState, rec_map};
+    ghost use Rattle.dash_history.specs.inner.Locks.{IsRecMap, made_of};
 
-    ghost Value = { RecMapState S };
+    ghost Value = { RecMapState K V A S };
 
-    ghost view = { λ m. record { hasher = m.hasher; callers = m.callers; amount = length m.row } };
+    ghost view = { λ m. record { hasher = m.hasher; callers = m.callers; amount = length m.row; made = map made_of m.row } };
 
-    ghost invariant = { λ m. IsRecMap (record { hasher = m.hasher; callers = m.callers; amount = length m.row }) m.row };
+    ghost invariant = { λ m. IsRecMap (rec_map m.hasher m.callers (length m.row)) m.row };
 }
 
 impl<K: KeptKey, V: Kept, S: BuildHasher, A: KeptAction<K, V>> Recorded
@@ -92,7 +93,9 @@ impl<K: KeptKey + Drop, V: Kept + Drop, S: BuildHasher, A: KeptAction<K, V> + Dr
     where
         S: Clone,
         requires { (s t : S) → S.is_clone s t → HashAlike ⟦<Self as Recorded>⟧.known.keys s t }
-        ensures made { IfOk result (λ m. m.0 ≡ rec_map hasher callers amount) }
+        ensures built { IfOk result (λ m. shape m.0 ≡ rec_map hasher callers amount) }
+        ensures count { IfOk result (λ m. length m.0.made ≡ amount) }
+        ensures made { IfOk result (λ m. EachAt m.0.made (λ _ s. IsFresh s)) }
         ensures logs { IfOk result (λ m. m.1.items ≡ fresh_logs callers) }
 
         // In the order of the refusals' numbers.
@@ -169,7 +172,8 @@ impl<K: KeptKey + Drop, V: Kept + Drop, S: BuildHasher, A: KeptAction<K, V> + Dr
 
     /// The map without its locks. It takes no memory, and waits for nobody, even where a hold was leaked.
     pub fn alone(self) -> RecAlone<K, V, S, A>
-        ensures { IsRecFound ⟦<Self as Recorded>⟧.known self result }
+        ensures found { IsRecFound ⟦<Self as Recorded>⟧.known self result }
+        ensures ended { EachRecShard EndedWith (made_for self) result }
     {
         let RecordedMap {
             hasher,
@@ -178,8 +182,9 @@ impl<K: KeptKey + Drop, V: Kept + Drop, S: BuildHasher, A: KeptAction<K, V> + Dr
         } = self;
         let row = row.turn(
             |_: usize, lock: Locked<K, V, S, A>| -> RecShard<K, V, S, A>
-                ensures leaves { LeavesLock (known K.KeptKey V.alike A.KeptAction S.BuildHasher S.Hasher.Hasher) (padded_value lock) result }
+                ensures leaves { LeavesLock (known K.KeptKey V.alike A.KeptAction S.BuildHasher S.Hasher.Hasher) (padded_value lock).tag result }
                 ensures found { FoundBehind result }
+                ensures ended { EndedWith (made_of lock) result }
             {
                 let shard = lock.into_inner().into_inner();
                 let _ = shard.last_stamp();
@@ -203,9 +208,9 @@ impl<K: KeptKey + Drop, V: Kept + Drop, S: BuildHasher, A: KeptAction<K, V> + Dr
         place: usize,
     ) -> Result<Option<Record<K, V, A>>, AllocError>
         requires { shard < self.old.amount }
-        ensures entry { IfOk result (λ found.
-            SawRecShards ⟦<Self as Recorded>⟧.known self.old (λ a. CopiesEntry ⟦<Self as Recorded>⟧.known a shard place found)) }
-        ensures same { self.new ≡ self.old }
+        ensures entry { RelocksRecShards ⟦<Self as Recorded>⟧.known self.old self.new
+            (λ a. IfOk result (CopiesEntry ⟦<Self as Recorded>⟧.known a shard place)) }
+        ensures same { shape self.new ≡ shape self.old }
     {
         replace_with(self, (shard, place), Self::entry_alone)
     }
@@ -213,17 +218,17 @@ impl<K: KeptKey + Drop, V: Kept + Drop, S: BuildHasher, A: KeptAction<K, V> + Dr
     /// The stamp of the last step of a shard, 0 for none. It waits as `entry_at` does.
     pub fn last_of(&mut self, shard: usize) -> u64
         requires { shard < self.old.amount }
-        ensures last { SawRecShards ⟦<Self as Recorded>⟧.known self.old (λ a. result ≡ last_at a shard) }
-        ensures same { self.new ≡ self.old }
+        ensures last { RelocksRecShards ⟦<Self as Recorded>⟧.known self.old self.new (λ a. result ≡ last_at a shard) }
+        ensures same { shape self.new ≡ shape self.old }
     {
         replace_with(self, shard, Self::last_alone)
     }
 
     /// Copies of the pairs of all shards, each once (4). It waits as `entry_at` does.
     pub fn pairs(&mut self) -> Result<Vec<(K, V)>, AllocError>
-        ensures pairs { IfOk result (λ pairs.
-            SawRecShards ⟦<Self as Recorded>⟧.known self.old (λ a. CopiesRecPairs ⟦<Self as Recorded>⟧.known a pairs.items)) }
-        ensures same { self.new ≡ self.old }
+        ensures pairs { RelocksRecShards ⟦<Self as Recorded>⟧.known self.old self.new
+            (λ a. IfOk result (λ pairs. CopiesRecPairs ⟦<Self as Recorded>⟧.known a pairs.items)) }
+        ensures same { shape self.new ≡ shape self.old }
     {
         replace_with(self, (), Self::pairs_alone)
     }
@@ -231,9 +236,9 @@ impl<K: KeptKey + Drop, V: Kept + Drop, S: BuildHasher, A: KeptAction<K, V> + Dr
     // The copy, and the map after it.
     fn entry_alone(self, at: (usize, usize)) -> (Self, Result<Option<Record<K, V, A>>, AllocError>)
         requires { at.0 < self.amount }
-        ensures entry { IfOk result.1 (λ found.
-            SawRecShards ⟦<Self as Recorded>⟧.known self (λ a. CopiesEntry ⟦<Self as Recorded>⟧.known a at.0 at.1 found)) }
-        ensures same { result.0 ≡ self }
+        ensures entry { RelocksRecShards ⟦<Self as Recorded>⟧.known self result.0
+            (λ a. IfOk result.1 (CopiesEntry ⟦<Self as Recorded>⟧.known a at.0 at.1)) }
+        ensures same { shape result.0 ≡ shape self }
     {
         let alone = self.alone();
         let found = alone.copy_entry(at.0, at.1);
@@ -243,8 +248,8 @@ impl<K: KeptKey + Drop, V: Kept + Drop, S: BuildHasher, A: KeptAction<K, V> + Dr
     // The stamp, and the map after it.
     fn last_alone(self, shard: usize) -> (Self, u64)
         requires { shard < self.amount }
-        ensures last { SawRecShards ⟦<Self as Recorded>⟧.known self (λ a. result.1 ≡ last_at a shard) }
-        ensures same { result.0 ≡ self }
+        ensures last { RelocksRecShards ⟦<Self as Recorded>⟧.known self result.0 (λ a. result.1 ≡ last_at a shard) }
+        ensures same { shape result.0 ≡ shape self }
     {
         let alone = self.alone();
         let last = alone.last_of(shard);
@@ -253,9 +258,9 @@ impl<K: KeptKey + Drop, V: Kept + Drop, S: BuildHasher, A: KeptAction<K, V> + Dr
 
     // The copies, and the map after them.
     fn pairs_alone(self, _nothing: ()) -> (Self, Result<Vec<(K, V)>, AllocError>)
-        ensures pairs { IfOk result.1 (λ pairs.
-            SawRecShards ⟦<Self as Recorded>⟧.known self (λ a. CopiesRecPairs ⟦<Self as Recorded>⟧.known a pairs.items)) }
-        ensures same { result.0 ≡ self }
+        ensures pairs { RelocksRecShards ⟦<Self as Recorded>⟧.known self result.0
+            (λ a. IfOk result.1 (λ pairs. CopiesRecPairs ⟦<Self as Recorded>⟧.known a pairs.items)) }
+        ensures same { shape result.0 ≡ shape self }
     {
         let alone = self.alone();
         let pairs = alone.pairs();
@@ -271,7 +276,7 @@ impl<K: KeptKey + Drop, V: Kept + Drop, S: BuildHasher, A: KeptAction<K, V> + Dr
 > {
     /// The map behind its locks again. It takes no memory.
     pub fn end(self) -> RecordedMap<K, V, S, A>
-        ensures map { result ≡ rec_map self.hasher self.callers (length self.row) }
+        ensures map { result ≡ locked self (length self.row) }
         ensures left { EachAt self.row (λ _ s. LeftBehind s) }
     {
         let RecAlone {
@@ -284,6 +289,7 @@ impl<K: KeptKey + Drop, V: Kept + Drop, S: BuildHasher, A: KeptAction<K, V> + Dr
             |number: usize, shard: RecShard<K, V, S, A>| -> Locked<K, V, S, A>
                 requires { IsRecTagged (by K.Hash S.BuildHasher S.Hasher.Hasher) hasher amount callers number shard }
                 ensures at { IsRecAt (rec_map hasher callers amount) number result }
+                ensures made { made_of result ≡ shard }
                 ensures left { LeftBehind shard }
             {
                 let tag = RecTag {

@@ -1,5 +1,6 @@
 //! A lock's holds, taken and given back by name: the original's `RawRwLock`, over the word and its sleepers.
 ghost use Rattle.std.specs.Prelude.{◌≡◌, IfOk, IfSome};
+ghost use Rattle.dash_lock.specs.Lock.{LeftBehind, GivenBack};
 ghost use Rattle.dash_lock.specs.inner.IsHold.{IsHold};
 
 use super::RwLock;
@@ -47,7 +48,7 @@ impl Model for RawRwLock {
 
     ghost Value = { ℕ };
 
-    ghost view = { λ s. s.lock.value };
+    ghost view = { λ s. s.lock.tag.value };
 }
 
 /// A hold to read. It has no `Drop`: `RawRwLock::unlock_shared` ends it.
@@ -163,7 +164,7 @@ impl RawRwLock {
 impl<T: Tagged> RwLock<T> {
     #[inline]
     pub(super) fn try_lock_shared(&self) -> Option<Hold<'_, T>>
-        ensures { IfSome result (IsHold T.fits self.now 1) }
+        ensures { IfSome result (IsHold T.fits self.now.tag 1) }
     {
         match self.try_lock_shared_fast(self.cell.word()) {
             Ok(hold) => Some(hold),
@@ -173,7 +174,7 @@ impl<T: Tagged> RwLock<T> {
 
     #[inline]
     pub(super) fn try_lock_exclusive(&self) -> Option<Hold<'_, T>>
-        ensures { IfSome result (IsHold T.fits self.now 2) }
+        ensures { IfSome result (IsHold T.fits self.now.tag 2) }
     {
         match self.try_lock_exclusive_fast(0) {
             Ok(hold) => Some(hold),
@@ -184,7 +185,7 @@ impl<T: Tagged> RwLock<T> {
     // One exchange at most, if the word is still `seen`. Else the word as it was found.
     #[inline]
     pub(super) fn try_lock_shared_fast(&self, seen: u64) -> Result<Hold<'_, T>, u64>
-        ensures { IfOk result (IsHold T.fits self.now 1) }
+        ensures { IfOk result (IsHold T.fits self.now.tag 1) }
     {
         if seen / ONE_READER >= MOST_READERS {
             return Err(seen);
@@ -201,7 +202,7 @@ impl<T: Tagged> RwLock<T> {
 
     #[inline]
     pub(super) fn try_lock_exclusive_fast(&self, seen: u64) -> Result<Hold<'_, T>, u64>
-        ensures { IfOk result (IsHold T.fits self.now 2) }
+        ensures { IfOk result (IsHold T.fits self.now.tag 2) }
     {
         if seen >= ONE_READER {
             return Err(seen);
@@ -220,7 +221,7 @@ impl<T: Tagged> RwLock<T> {
     #[cold]
     #[inline(never)]
     fn try_lock_shared_slow(&self, seen: u64) -> Option<Hold<'_, T>>
-        ensures { IfSome result (IsHold T.fits self.now 1) }
+        ensures { IfSome result (IsHold T.fits self.now.tag 1) }
     {
         let backoff = Backoff::new();
         let mut seen = seen;
@@ -240,7 +241,7 @@ impl<T: Tagged> RwLock<T> {
     #[cold]
     #[inline(never)]
     fn try_lock_exclusive_slow(&self, seen: u64) -> Option<Hold<'_, T>>
-        ensures { IfSome result (IsHold T.fits self.now 2) }
+        ensures { IfSome result (IsHold T.fits self.now.tag 2) }
     {
         let mut seen = seen;
         for _ in 1..TRIES {
@@ -257,7 +258,7 @@ impl<T: Tagged> RwLock<T> {
     #[cold]
     #[inline(never)]
     pub(super) fn lock_shared_slow<R: Wait + Clock>(&self, rt: &R) -> Hold<'_, T>
-        ensures { IsHold T.fits self.now 1 result }
+        ensures { IsHold T.fits self.now.tag 1 result }
     {
         let backoff = Backoff::new();
         for pauses in PAUSES {
@@ -280,7 +281,7 @@ impl<T: Tagged> RwLock<T> {
     #[cold]
     #[inline(never)]
     pub(super) fn lock_exclusive_slow<R: Wait + Clock>(&self, rt: &R) -> Hold<'_, T>
-        ensures { IsHold T.fits self.now 2 result }
+        ensures { IsHold T.fits self.now.tag 2 result }
     {
         let backoff = Backoff::new();
         for pauses in PAUSES {
@@ -303,6 +304,7 @@ impl<T: Tagged> RwLock<T> {
     #[inline]
     pub(super) fn unlock_shared(&self, hold: Hold<'_, T>)
         requires { hold.right ≡ 1 }
+        ensures { GivenBack hold.entry.value }
     {
         let found = hold.leave();
         if found % ONE_READER != 0 {
@@ -313,6 +315,7 @@ impl<T: Tagged> RwLock<T> {
     #[inline]
     pub(super) fn unlock_exclusive(&self, hold: Hold<'_, T>)
         requires { hold.right ≡ 2 }
+        ensures { LeftBehind hold.entry.value }
     {
         self.wake(hold.open());
     }
@@ -330,6 +333,7 @@ impl<T: Tagged> RwLock<T> {
         requires { hold.right ≡ 2 }
         ensures same { (result.tag ≡ hold.entry.tag) × (result.value ≡ hold.entry.value) }
         ensures right { result.right ≡ 1 }
+        ensures left { LeftBehind hold.entry.value }
     {
         let (found, hold) = hold.soften();
         if found % 2 != 0 {

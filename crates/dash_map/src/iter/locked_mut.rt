@@ -35,7 +35,7 @@ pub trait Enters: Holds {
     type Map: Drop;
 
     /// What a contract sees of it.
-    ghost base: { Self.Map → MapState Self.State };
+    ghost base: { Self.Map → MapState Self.Key Self.Value Self.State };
 
     /// How many shards there are.
     fn shard_count(map: &Self::Map) -> usize

@@ -2,7 +2,7 @@
 ghost use Rattle.std.specs.Prelude.{◌≡◌};
 ghost use Rattle.dash_shard.specs.Hashing.{by};
 ghost use Rattle.dash_map.specs.Alone.{contents};
-ghost use Rattle.dash_map.specs.Behind.{SawShards};
+ghost use Rattle.dash_map.specs.Behind.{EndedShards};
 
 use crate::alone::Alone;
 use crate::map::DashMap;
@@ -28,7 +28,7 @@ impl<K: Eq + Hash + Drop, V: Drop, S: BuildHasher + Drop> IntoIterator for DashM
 
     type IntoIter = OwningIter<K, V, S>;
 
-    ghost into_iter_gives = { λ m pairs. SawShards (by K.Hash S.BuildHasher S.Hasher.Hasher) m (λ a. pairs ≡ contents a) };
+    ghost into_iter_gives = { λ m pairs. EndedShards (by K.Hash S.BuildHasher S.Hasher.Hasher) m (λ a. pairs ≡ contents a) };
 
     /// The pairs, moved out. It takes no memory, and waits for nobody.
     fn into_iter(self) -> OwningIter<K, V, S> {

@@ -20,9 +20,9 @@ pub(crate) struct ByRoute<'a, S> {
 
 impl<'a, S> Model for ByRoute<'a, S> {
     ghost use Rattle.dash_shard.specs.Hashing.{IsAmount};
-    ghost use Rattle.dash_map.specs.Map.{MapState};
+    ghost use Rattle.dash_map.specs.Map.{MapShape};
 
-    ghost Value = { MapState S };
+    ghost Value = { MapShape S };
 
     ghost view = { λ d. record { hasher = d.hasher.now; amount = d.amount } };
 

@@ -7,7 +7,7 @@ ghost use Rattle.dash_shard.specs.Hashing.{HashAlike};
 ghost use Rattle.dash_shard.specs.declared.error.ConstructError.TheVariants.{Memory, Parallelism};
 ghost use Rattle.dash_map.specs.Alone.{IsAlone};
 ghost use Rattle.dash_map.specs.Amounts.{IsDefault, IsParallelism};
-ghost use Rattle.dash_map.specs.Behind.{LeftShards};
+ghost use Rattle.dash_map.specs.Map.{made_for, shape};
 ghost use Rattle.dash_map.specs.Extend.{MadeOf, ParExtends, ParExtendsBehind};
 
 use super::deal::ByRoute;
@@ -108,8 +108,8 @@ impl<K: Eq + Hash + Send + Drop, V: Send + Drop, S: BuildHasher + Send> DashMap<
     ) -> Result<(), AllocError>
     where
         S::Hasher: Send,
-        ensures extends { ParExtendsBehind ⟦<Self as Keyed>⟧.by self.old list.items result }
-        ensures same { self.new ≡ self.old }
+        ensures extends { ParExtendsBehind ⟦<Self as Keyed>⟧.by self.old self.new list.items result }
+        ensures same { shape self.new ≡ shape self.old }
     {
         self.par_extend_gated(rt, list, workers, &Open)
     }
@@ -124,8 +124,8 @@ impl<K: Eq + Hash + Send + Drop, V: Send + Drop, S: BuildHasher + Send> DashMap<
     ) -> Result<(), AllocError>
     where
         S::Hasher: Send,
-        ensures extends { ParExtendsBehind ⟦<Self as Keyed>⟧.by self.old list.items result }
-        ensures same { self.new ≡ self.old }
+        ensures extends { ParExtendsBehind ⟦<Self as Keyed>⟧.by self.old self.new list.items result }
+        ensures same { shape self.new ≡ shape self.old }
     {
         replace_with(
             self,
@@ -142,8 +142,8 @@ impl<K: Eq + Hash + Send + Drop, V: Send + Drop, S: BuildHasher + Send> DashMap<
     where
         S::Hasher: Send,
         requires { IsSync R.row × IsSync G.row × IsSend K.row × IsSend V.row × IsSend S.row × IsSend S.Hasher.row }
-        ensures extends { ParExtendsBehind ⟦<Self as Keyed>⟧.by self put.entry.1.items result.1 }
-        ensures same { result.0 ≡ self }
+        ensures extends { ParExtendsBehind ⟦<Self as Keyed>⟧.by self result.0 put.entry.1.items result.1 }
+        ensures same { shape result.0 ≡ shape self }
     {
         let (rt, list, workers, gate) = put;
         let mut alone = self.alone();
@@ -168,7 +168,7 @@ impl<
     where
         S::Hasher: Send,
         requires { (s t : S) → S.is_clone s t → HashAlike ⟦<Self as Keyed>⟧.by s t }
-        ensures made { IfOk result (λ m. LeftShards ⟦<Self as Keyed>⟧.by m (MadeOf ⟦<Self as Keyed>⟧.by list.items)) }
+        ensures made { IfOk result (λ m. MadeOf ⟦<Self as Keyed>⟧.by list.items (made_for m)) }
         ensures hasher { IfOk result (λ m. S.is_default m.hasher) }
         ensures amount { IfOk result (λ m. IsDefault parallelism m.amount) }
         ensures bad_parallelism { IsErrOf result Parallelism ↔ (IsParallelism parallelism → ⊥) }

@@ -3,7 +3,7 @@ ghost use Rattle.std.specs.Prelude.{◌≡◌, ◌<◌, IfOk, true};
 ghost use Rattle.dash_shard.specs.Hashing.{by};
 ghost use Rattle.dash_map.specs.Alone.{contents};
 ghost use Rattle.dash_map.specs.AllPairs.{AltersAllAlone};
-ghost use Rattle.dash_map.specs.Behind.{SawShards, LeavesShards};
+ghost use Rattle.dash_map.specs.Behind.{SawShards, LeavesShards, EndedShards};
 ghost use Rattle.dash_rows.specs.Parallel.{MapsEach, MayMap};
 ghost use Rattle.dash_map.specs.Parallel.{MayWrite, Writes};
 ghost use Rattle.dash_map.specs.inner.Parallel.{MapsNumber, WritesNumber};
@@ -30,7 +30,7 @@ pub struct Iter<'a, K: Eq + Hash, V, S: BuildHasher> {
 impl<'a, K: Eq + Hash, V, S: BuildHasher> Model for Iter<'a, K, V, S> {
     ghost use Rattle.dash_map.specs.Map.{MapState};
 
-    ghost Value = { MapState S };
+    ghost Value = { MapState K V S };
 
     ghost view = { λ it. it.map.now };
 }
@@ -86,7 +86,7 @@ pub struct IterMut<'a, K: Eq + Hash, V, S: BuildHasher> {
 impl<'a, K: Eq + Hash, V, S: BuildHasher> Model for IterMut<'a, K, V, S> {
     ghost use Rattle.dash_map.specs.Map.{MapState};
 
-    ghost Value = { MapState S };
+    ghost Value = { MapState K V S };
 
     ghost view = { λ it. it.map.now };
 }
@@ -127,7 +127,7 @@ impl<K: Eq + Hash, V, S: BuildHasher> DashMap<K, V, S> {
     pub fn into_par_iter(self) -> OwningIter<K, V, S>
     where
         S: Drop,
-        ensures { SawShards ⟦<Self as Keyed>⟧.by self (λ a. result ≡ contents a) }
+        ensures { EndedShards ⟦<Self as Keyed>⟧.by self (λ a. result ≡ contents a) }
     {
         let Alone { row, .. } = self.alone();
         OwningIter::new(row.into_items())

@@ -1,10 +1,11 @@
 //! Parallel runs: lists of steps, of which each shard takes its own, apart from the others.
-ghost use Rattle.std.specs.Prelude.{◌≡◌, ◌<◌, ◌≤◌, ◌↔◌, [], All, IsTrue, OnOk, IsSome, length, vec_len, vec_capacity};
+ghost use Rattle.std.specs.Prelude.{◌≡◌, ◌<◌, ◌≤◌, ◌↔◌, [], All, IsTrue, OnOk, OnErr, IsSome, None, length, vec_len, vec_capacity};
 ghost use Rattle.std.specs.List.{Any};
 ghost use Rattle.std.specs.Thread.{IsSync};
 ghost use denote.Param.Send.{IsSend};
 ghost use Rattle.dash_parallel.specs.Apart.{ParRan};
 ghost use Rattle.dash_map.specs.Alone.{IsAlone, KeepsRoom};
+ghost use Rattle.dash_map.specs.Map.{shape};
 ghost use Rattle.dash_map.specs.ParRun.{goes_to, TakesThere, ParRuns, ParRunsBehind};
 
 use super::deal::ByRoute;
@@ -72,6 +73,7 @@ impl<K: KeptKey + Send + Drop, V: Kept + Send + Drop, S: BuildHasher + Send> Alo
             self.old.row steps.items replies.new.items self.new.row }
         ensures len { length replies.new.items ≡ length steps.items }
         ensures whole { OnOk result (All IsSome replies.new.items) }
+        ensures short { OnErr result (Any (λ reply. reply ≡ None) replies.new.items) }
         ensures stays { KeepsRoom self.old self.new }
         ensures lawful { IsAlone ⟦<Self as Keyed>⟧.by self.new }
     {
@@ -165,8 +167,8 @@ impl<K: KeptKey + Send + Drop, V: Kept + Send + Drop, S: BuildHasher + Send> Das
     ) -> ParOutcome<K, V>
     where
         S::Hasher: Send,
-        ensures ran { ParRunsBehind ⟦<Self as Keyed>⟧.by K.alike V.alike A.acts self.old steps.items result }
-        ensures same { self.new ≡ self.old }
+        ensures ran { ParRunsBehind ⟦<Self as Keyed>⟧.by K.alike V.alike A.acts self.old self.new steps.items result }
+        ensures same { shape self.new ≡ shape self.old }
     {
         self.par_run_gated(rt, steps, workers, &Open)
     }
@@ -181,8 +183,8 @@ impl<K: KeptKey + Send + Drop, V: Kept + Send + Drop, S: BuildHasher + Send> Das
     ) -> ParOutcome<K, V>
     where
         S::Hasher: Send,
-        ensures ran { ParRunsBehind ⟦<Self as Keyed>⟧.by K.alike V.alike A.acts self.old steps.items result }
-        ensures same { self.new ≡ self.old }
+        ensures ran { ParRunsBehind ⟦<Self as Keyed>⟧.by K.alike V.alike A.acts self.old self.new steps.items result }
+        ensures same { shape self.new ≡ shape self.old }
     {
         replace_with(
             self,
@@ -200,8 +202,8 @@ impl<K: KeptKey + Send + Drop, V: Kept + Send + Drop, S: BuildHasher + Send> Das
         S::Hasher: Send,
         requires { IsSync R.row × IsSync G.row × IsSend A.row
             × IsSend K.row × IsSend V.row × IsSend S.row × IsSend S.Hasher.row }
-        ensures ran { ParRunsBehind ⟦<Self as Keyed>⟧.by K.alike V.alike A.acts self run.entry.1.items result.1 }
-        ensures same { result.0 ≡ self }
+        ensures ran { ParRunsBehind ⟦<Self as Keyed>⟧.by K.alike V.alike A.acts self result.0 run.entry.1.items result.1 }
+        ensures same { shape result.0 ≡ shape self }
     {
         let (rt, steps, workers, gate) = run;
         let mut alone = self.alone();

@@ -1,5 +1,5 @@
 -- Lanes: the steps of one part with their marks, the last first, and their replies; how they are dealt, and their replies handed out again.
-use Rattle.std.specs.Prelude.{◌≡◌, ℕ, ◌<◌, ◌≤◌, Bool, false, List, [], ◌∷◌, ◌++◌, map, length, All, Option, reverse, get_or, set, slice_get, drop, vec_len, vec_capacity}
+use Rattle.std.specs.Prelude.{◌≡◌, ◌≢◌, ℕ, ◌<◌, ◌≤◌, Bool, true, false, List, [], ◌∷◌, ◌++◌, map, length, All, Option, reverse, get_or, set, slice_get, drop, vec_len, vec_capacity}
 use Rattle.dash_parallel.specs.Apart.{steps_of, RanFront}
 use Rattle.dash_parallel.specs.declared.lane.Lane.{Lane}
 
@@ -17,6 +17,7 @@ pub record LaneRan {P T Y : Type 0} (takes : P → T → Y → P → Type 0) (p 
   pub ran : RanFront takes steps p q
   pub answers : replies ≡ map (λ d. d.1) ran.front
   pub whole : refused ≡ false → ran.left ≡ []
+  pub short : refused ≡ true → ran.left ≢ []
 
 -- a lane before its part takes its steps: each fits, and there is room for the replies
 pub record IsReady {P T Y : Type 0} (fits : P → T → ℕ → Type 0) (p : P) (lane : Lane T Y) : Type 0 where

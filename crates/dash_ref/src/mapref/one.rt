@@ -1,7 +1,8 @@
 //! A reference to one pair.
-ghost use Rattle.std.specs.Prelude.{◌≡◌, ◌↔◌, IsTrue, IsSome, IfSome, IsNone, None};
+ghost use Rattle.std.specs.Prelude.{◌≡◌, ◌↔◌, IsTrue, IsSome, IfSome, IsNone, IfNone, None};
 ghost use Rattle.std.specs.Option.{option_map};
 ghost use Rattle.std.specs.Map.Iter.{deref_pair};
+ghost use Rattle.dash_lock.specs.Lock.{GivenBack};
 ghost use Rattle.dash_shard.specs.Hashing.{by};
 ghost use Rattle.dash_shard.specs.Contents.{at};
 ghost use Rattle.dash_shard.specs.Steps.{Get, Pair};
@@ -65,7 +66,9 @@ impl<K: Eq + Hash, V, S: BuildHasher> Keyed for Ref<'_, K, V, S> {
 
 impl<K: Eq + Hash, V, S: BuildHasher> Drop for Ref<'_, K, V, S> {
     #[inline]
-    fn drop(self) {
+    fn drop(self)
+        ensures back { GivenBack self.entry.shard }
+    {
         let Self {
             guard,
             position: _,
@@ -109,6 +112,7 @@ impl<'a, K: Eq + Hash, V, S: BuildHasher> Ref<'a, K, V, S> {
         ensures absent { IsNone result ↔ (at K.eq (pairs guard.entry.value) key.now ≡ None) }
         ensures equal { IfSome result (λ found. IsTrue (K.eq found.key key.now)) }
         ensures shard { IfSome result (λ found. found.shard ≡ guard.entry.value) }
+        ensures back { IfNone result (GivenBack guard.entry.value) }
         ensures stands { IfSome result Stands }
     {
         let position = guard.position_of_hashed(hash, key)?;

@@ -43,13 +43,13 @@ pub record IsIdle (c : ℕ) (worker : Worker) : Type 0 where
   pub entries : worker.log.entries ≡ []
 
 -- why the thread of the log may be refused a step: for want of a stamp, or of memory
-abbrev pub MayRefuse : Known ℕ ℕ (Unit {0}) PlaceState → RecMapState PlaceState → LogState ℕ ℕ (Unit {0}) → Refusal → Type 0
+abbrev pub MayRefuse : Known ℕ ℕ (Unit {0}) PlaceState → RecMapState ℕ ℕ (Unit {0}) PlaceState → LogState ℕ ℕ (Unit {0}) → Refusal → Type 0
 MayRefuse w m log LastStamp = HasNoStamp w m log
 MayRefuse w m log Memory = ⊤
 MayRefuse w m log _ = ⊥
 
 -- the worker took the first n steps of its thread on the map, or was refused one
-pub record Works (w : Known ℕ ℕ (Unit {0}) PlaceState) (m : RecMapState PlaceState) (n : ℕ) (old new : Worker) : Type 0 where
+pub record Works (w : Known ℕ ℕ (Unit {0}) PlaceState) (m : RecMapState ℕ ℕ (Unit {0}) PlaceState) (n : ℕ) (old new : Worker) : Type 0 where
   pub caller : new.log.caller ≡ old.log.caller
   pub done : IfNone new.refused (HasTaken n new.log)
   pub refused : IfSome new.refused (MayRefuse w m new.log)

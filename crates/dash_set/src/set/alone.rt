@@ -8,8 +8,9 @@ ghost use Rattle.dash_shard.specs.Contents.{at};
 ghost use Rattle.dash_shard.specs.Steps.{Insert, Old, Pair, Remove, RemoveIf};
 ghost use Rattle.dash_map.specs.Alone.{IsAlone, TakesAlone, TakesAloneBy, contents, len_in};
 ghost use Rattle.dash_map.specs.AllPairs.{ClearsAlone, RetainsAlone};
-ghost use Rattle.dash_lock.specs.Lock.{FoundBehind, LeftBehind};
-ghost use Rattle.dash_map.specs.Behind.{AreBehind};
+ghost use Rattle.dash_lock.specs.Lock.{LeftBehind};
+ghost use Rattle.dash_map.specs.Behind.{AreBehind, AreEnded};
+ghost use Rattle.dash_map.specs.Map.{locked};
 ghost use Rattle.dash_map.specs.Extend.{HasNoRoom};
 ghost use Rattle.dash_set.specs.Set.{AnsweredKey, CalledAtKey, TakesKey, keys_of, member, stood};
 
@@ -155,7 +156,7 @@ impl<K: Eq + Hash + Drop, S: BuildHasher> AloneSet<K, S> {
 
     /// The set behind its locks again. It takes no memory.
     pub fn end(self) -> DashSet<K, S>
-        ensures map { result ≡ record { hasher = self.hasher; amount = length self.row } }
+        ensures map { result ≡ locked self }
         ensures left { AreBehind ⟦<Self as Keyed>⟧.by LeftBehind result self }
     {
         DashSet {
@@ -180,7 +181,7 @@ impl<K: Eq + Hash + Drop, S: BuildHasher + Drop> IntoIterator for AloneSet<K, S>
 impl<K: Eq + Hash, S: BuildHasher> DashSet<K, S> {
     /// The set without its locks. It takes no memory, and waits for nobody, even where a hold was leaked.
     pub fn alone(self) -> AloneSet<K, S>
-        ensures { AreBehind ⟦<Self as Keyed>⟧.by FoundBehind self result }
+        ensures { AreEnded ⟦<Self as Keyed>⟧.by self result }
     {
         AloneSet {
             inner: self.inner.alone(),

@@ -1,5 +1,6 @@
 //! A reference to one key.
 ghost use Rattle.std.specs.Prelude.{◌≡◌};
+ghost use Rattle.dash_lock.specs.Lock.{GivenBack};
 ghost use Rattle.dash_shard.specs.Hashing.{by};
 ghost use Rattle.dash_shard.specs.Shard.{IsShard};
 ghost use Rattle.dash_ref.specs.Ref.{Stands};
@@ -15,7 +16,6 @@ use std::ops::Deref;
 /// the key stays.
 ///
 /// No call takes memory or waits. A contract sees it as a reference of a map to unit: the held shard, the position, and the key there.
-#[derive(Drop)]
 pub struct Ref<'a, K: Eq + Hash, S: BuildHasher> {
     inner: mapref::one::Ref<'a, K, (), S>,
 }
@@ -34,6 +34,16 @@ impl<K: Eq + Hash, S: BuildHasher> Keyed for Ref<'_, K, S> {
     type State = S;
 
     ghost by = { by K.Hash S.BuildHasher S.Hasher.Hasher };
+}
+
+impl<K: Eq + Hash, S: BuildHasher> Drop for Ref<'_, K, S> {
+    #[inline]
+    fn drop(self)
+        ensures back { GivenBack self.entry.shard }
+    {
+        let Self { inner } = self;
+        drop(inner);
+    }
 }
 
 impl<'a, K: Eq + Hash, S: BuildHasher> Ref<'a, K, S> {

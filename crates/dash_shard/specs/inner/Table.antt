@@ -12,6 +12,7 @@ use Rattle.dash_shard.specs.Hashing.{KeyHash, hash_of}
 use Rattle.dash_shard.specs.Contents.{Keys, Distinct, EachOnce}
 use Rattle.dash_shard.specs.Shard.{ShardState, IsShard, shard_len, slot, taken}
 use Rattle.dash_shard.specs.Search.{class_of, groups}
+use Rattle.dash_shard.specs.Memory.{NoMemory}
 use Rattle.dash_shard.specs.inner.Marks.{step_to, group_at, IsFull, IsMarked, IsPlace}
 use Rattle.dash_shard.specs.declared.shard.table.Place.{Place}
 use Rattle.dash_shard.specs.declared.shard.table.Table.{Table}
@@ -19,6 +20,10 @@ use Rattle.dash_shard.specs.declared.shard.table.Table.{Table}
 -- how many pairs there may be in n slots: seven in eight
 abbrev pub limit : ℕ → ℕ
 limit n = n / 8 * 7
+
+-- memory for a table of so many groups was refused
+abbrev pub NoMemoryFor : ℕ → Type 0
+NoMemoryFor count = (most : ℕ) → limit (16 * count) ≤ most → NoMemory most
 
 -- what the tags say of the slots from one on: a slot is taken where its tag is below 128. The slots before are empty
 pub record TellsTaken {A : Type 0} (from : ℕ) (tags : List ℕ) (slots : List (Option A)) : Type 0 where

@@ -82,6 +82,27 @@ fn room_is_made(rt: HostRuntime) {
     has(&rt, &map, 1, Some(1));
 }
 
+// Finds a shrink that passes over shards with pairs.
+#[test]
+fn shards_with_pairs_shrink(rt: HostRuntime) {
+    let mut map = map_of_four(&rt, rt.alloc());
+    for key in 0..8 {
+        put(&rt, &map, key, key);
+    }
+    is(&rt, map.try_reserve(100), Ok(()));
+    for shard in map.shards() {
+        is(&rt, shard.read(&rt).capacity() >= 102, true);
+    }
+    map.shrink_to_fit(&rt);
+    for shard in map.shards() {
+        let shard = shard.read(&rt);
+        is(&rt, (shard.len(), shard.capacity()), (2, 14));
+    }
+    for key in 0..8 {
+        has(&rt, &map, key, Some(key));
+    }
+}
+
 // Takes a pair of equal numbers out, and says whether it was there.
 fn take<R: Wait + Clock, S: BuildHasher>(rt: &R, map: &DashMap<u64, u64, S>, key: u64) -> bool {
     map.remove(rt, &key) == Some((key, key))

@@ -6,6 +6,7 @@ use dash_shard::error::ConstructError;
 use dash_t::Map as _;
 use std::rt::Clock;
 use std::sync::Wait;
+use std::thread;
 
 type Map = DashMap<u64, u64>;
 
@@ -81,4 +82,15 @@ fn routes(rt: HostRuntime) {
             (key, key % 4),
         );
     }
+}
+
+// Finds an `of` that makes another number of shards than so many processors call for.
+#[test]
+fn asks_the_system_for_its_processors(rt: HostRuntime) {
+    let map = Map::of(&rt).expect(&rt, "refused");
+    let processors = thread::available_parallelism(&rt)
+        .expect(&rt, "unknown")
+        .get();
+    let amount = processors.saturating_mul(4).checked_next_power_of_two();
+    is(&rt, Some(map.alone().shard_count()), amount);
 }

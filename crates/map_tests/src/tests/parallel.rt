@@ -6,7 +6,7 @@ use dash_map::run::Fault;
 use dash_steps::step::ShardStep;
 use std::alloc::Global;
 use std::process::Abort;
-use std::sync::atomic::{AtomicBool, Ordering};
+use std::sync::atomic::{AtomicBool, AtomicU64, Ordering};
 use std::thread;
 
 #[test]
@@ -119,6 +119,126 @@ fn two_workers_at_once(rt: HostRuntime) {
         is(&rt, alone.len(), 2);
         is(&rt, missed.load(Ordering::SeqCst), false);
     }
+}
+
+// Waits until four workers have come, for so many turns at most.
+#[derive(Drop)]
+struct AllCome<'a> {
+    come: &'a AtomicU64,
+    missed: &'a AtomicBool,
+}
+
+impl Gate for AllCome<'_> {
+    fn pass(&self, _: usize) {
+        await_four(self.come, self.missed);
+    }
+}
+
+fn await_four(come: &AtomicU64, missed: &AtomicBool) {
+    come.fetch_add(1, Ordering::SeqCst);
+    for _ in 0..1_000_000u64 {
+        if come.load(Ordering::SeqCst) >= 4 {
+            return;
+        }
+        thread::yield_now();
+    }
+    missed.store(true, Ordering::SeqCst);
+}
+
+// Finds workers of whom two take turns, in a run and in a list.
+#[test]
+fn four_workers_at_once(rt: HostRuntime) {
+    let missed = AtomicBool::new(false);
+    let come = AtomicU64::new(0);
+    let gate = AllCome {
+        come: &come,
+        missed: &missed,
+    };
+    let mut map: Places = map_of_four(&rt, rt.alloc());
+    let steps: Vec<ShardStep<u64, u64>> = vec![in rt.alloc();
+        ShardStep::Insert(0, 1),
+        ShardStep::Insert(1, 1),
+        ShardStep::Insert(2, 1),
+        ShardStep::Insert(3, 1),
+    ]
+    .expect(&rt, "refused");
+    let outcome = map.par_run_gated(&rt, steps, 4, &gate);
+    is(&rt, outcome.fault, None);
+    is(
+        &rt,
+        (map.len(&rt), missed.load(Ordering::SeqCst)),
+        (4, false),
+    );
+
+    come.store(0, Ordering::SeqCst);
+    let list = vec![in rt.alloc(); (0u64, 2u64), (1, 2), (2, 2), (3, 2)].expect(&rt, "refused");
+    map.par_extend_gated(&rt, list, 4, &gate)
+        .expect(&rt, "refused");
+    is(
+        &rt,
+        (map.len(&rt), missed.load(Ordering::SeqCst)),
+        (4, false),
+    );
+}
+
+// A value that waits for those of four shards when it is dropped, or not.
+struct Comes<'a> {
+    come: &'a AtomicU64,
+    missed: &'a AtomicBool,
+    waits: bool,
+}
+
+impl Drop for Comes<'_> {
+    fn drop(self) {
+        let Self {
+            come,
+            missed,
+            waits,
+        } = self;
+        if waits {
+            await_four(come, missed);
+        }
+    }
+}
+
+// A list of four pairs, one for each shard.
+fn four_of<'a>(
+    rt: &impl Abort,
+    alloc: Global,
+    come: &'a AtomicU64,
+    missed: &'a AtomicBool,
+    waits: bool,
+) -> Vec<(u64, Comes<'a>)> {
+    let mut list = Vec::new(alloc);
+    for key in 0..4 {
+        let value = Comes {
+            come,
+            missed,
+            waits,
+        };
+        list.push((key, value)).expect(rt, "refused");
+    }
+    list
+}
+
+// Finds workers of a shared list of whom two take turns, and one who holds a shard that isn't his: each drops an old value while he has
+// its shard.
+#[test]
+fn four_workers_at_once_on_a_shared_map(rt: HostRuntime) {
+    let come = AtomicU64::new(0);
+    let missed = AtomicBool::new(false);
+    let mut map = map_of_four(&rt, rt.alloc());
+    map.extend(four_of(&rt, rt.alloc(), &come, &missed, true))
+        .ok()
+        .expect(&rt, "refused");
+    let list = four_of(&rt, rt.alloc(), &come, &missed, false);
+    map.par_extend_shared(&rt, list, 4).expect(&rt, "refused");
+    is(&rt, come.load(Ordering::SeqCst), 4);
+    is(
+        &rt,
+        (map.len(&rt), missed.load(Ordering::SeqCst)),
+        (4, false),
+    );
 }
 
 #[test]

@@ -6,6 +6,7 @@ use dash_ref::mapref::one::RefMut;
 use dash_ref::try_result::TryResult;
 use dash_ref::util::SharedValue;
 use dash_shard::hash::PlaceState;
+use dash_t::Map as _;
 use std::mem;
 use std::process::Abort;
 use std::rt::Clock;
@@ -123,4 +124,27 @@ fn what_is_there_is_unwrapped(rt: HostRuntime) {
     let mut value = SharedValue::new(5u64);
     *value.get_mut() = 6;
     is(&rt, (*value.get(), value.into_inner()), (6, 6));
+}
+
+// Finds a try form that gives up though nobody has the shard, as at one without pairs, or at the last.
+#[test]
+fn each_shard_without_pairs_is_free(rt: HostRuntime) {
+    for amount in [2, 4, 64] {
+        let map = DashMap::<u64, u64>::with_shard_amount(rt.alloc(), amount).expect(&rt, "refused");
+        let mut found = 0u64;
+        for key in 0..1_000u64 {
+            let shard = map.determine_map(&key);
+            found |= 1 << (shard as u64 % 64);
+            is(&rt, map.try_get(&key).is_absent(), true);
+            is(&rt, map.try_get_mut(&key).is_absent(), true);
+            is(&rt, map.try_entry(key).is_ok(), true);
+        }
+        is(&rt, found.count_ones() as usize, amount);
+        for shard in 0..map._shard_count() {
+            is(&rt, map.try_shard(shard).is_some(), true);
+            is(&rt, map.try_shards_mut(shard).is_some(), true);
+            is(&rt, map._try_yield_read_shard(shard).is_some(), true);
+            is(&rt, map._try_yield_write_shard(shard).is_some(), true);
+        }
+    }
 }

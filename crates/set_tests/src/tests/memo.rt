@@ -74,6 +74,24 @@ fn what_is_kept_is_not_computed_again(rt: HostRuntime) {
     is(&rt, cache.len(&rt), 0);
 }
 
+// Finds a try form that computes anew what it keeps, as where it takes a free shard for a held one: each of 64 shards has some of the keys.
+#[test]
+fn each_shard_without_pairs_is_free(rt: HostRuntime) {
+    let (computed, goes_on) = (AtomicU64::new(0), AtomicU64::new(1));
+    let rule = rule_of(&computed, &goes_on);
+    let cache = Memo::new(rt.alloc(), rule, 16).expect(&rt, "refused");
+    for _ in 0..2 {
+        for key in 0..1_000u64 {
+            is(&rt, cache.try_ask(&key), Ok(key * key + 1));
+        }
+    }
+    is(
+        &rt,
+        (cache.len(&rt), computed.load(Ordering::SeqCst)),
+        (1_000, 1_000),
+    );
+}
+
 // Keys 0 and 4 go to one shard, which is held while the value of key 0 is computed.
 #[test]
 fn who_does_not_wait_computes(rt: HostRuntime) {

@@ -1,7 +1,7 @@
 //! Sets that threads share, and of one owner.
 use crate::tests::checks::{is, prints};
 use dashmap::DashSet;
-use dashmap::hash::PlaceState;
+use dashmap::hash::{FixedState, PlaceState};
 use dashmap::iter_set::Iter;
 use dashmap::set::AloneSet;
 use std::alloc::Global;
@@ -144,4 +144,18 @@ fn asks_the_system_for_its_processors(rt: HostRuntime) {
         .get();
     let told = Keys::new(rt.alloc(), processors).expect(&rt, "refused");
     is(&rt, set.shards().len(), told.shards().len());
+}
+
+// Finds a set whose shards somebody holds though nobody does, as those without keys, or the last.
+#[test]
+fn each_shard_without_keys_is_free(rt: HostRuntime) {
+    let set = Keys::with_hasher(rt.alloc(), FixedState, 16).expect(&rt, "refused");
+    is(&rt, set.contains(&rt, &1), false);
+    set.for_each(&rt, |_| ());
+    set.clear(&rt);
+    is(&rt, (set.len(&rt), set.shards().len()), (0, 64));
+    for lock in set.shards() {
+        is(&rt, lock.try_read().is_some(), true);
+        is(&rt, lock.try_write().is_some(), true);
+    }
 }

@@ -1,6 +1,7 @@
 //! One shard behind its lock, as worked by hand.
 use crate::tests::by_hand::lock_of_one;
 use crate::tests::checks::is;
+use crate::tests::nap::{ROUNDS, wakes_reader, wakes_writer};
 use dash_held::held::{IntoShard, ShardMut};
 use dash_shard::hash::PlaceState;
 use std::mem;
@@ -49,4 +50,35 @@ fn a_leaked_hold_leaves_a_shard(rt: HostRuntime) {
         (shard.get(&1), shard.get(&5)),
         (Some((&1, &11)), Some((&5, &50))),
     );
+}
+
+// A held shard that ends by a downgrade, and by the end of that hold, which wakes nobody.
+struct Downgraded<'a> {
+    held: Held<'a>,
+}
+
+impl Drop for Downgraded<'_> {
+    fn drop(self) {
+        let Self { held } = self;
+        drop(held.downgrade());
+    }
+}
+
+// Finds a held shard whose release, or whose downgrade, wakes nobody: the millisecond that ends each sleep would hide it.
+#[test]
+fn the_end_of_a_held_shard_wakes_who_sleeps(rt: HostRuntime) {
+    let lock = lock_of_one(&rt, rt.alloc(), [(1, 10u64)]);
+    let mut woken = [false; 3];
+    for _ in 0..ROUNDS {
+        let held = lock.write(&rt).shard();
+        let round = [
+            wakes_reader(&rt, &lock, Downgraded { held }),
+            wakes_reader(&rt, &lock, lock.write(&rt).shard()),
+            wakes_writer(&rt, &lock, lock.write(&rt).shard()),
+        ];
+        for (woken, now) in woken.iter_mut().zip(round) {
+            *woken |= now;
+        }
+    }
+    is(&rt, woken, [true; 3]);
 }

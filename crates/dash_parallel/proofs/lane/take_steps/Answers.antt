@@ -17,9 +17,11 @@ loop-mark-preserved g c =
     }
 
 pub returns-in-Err : goal.returns-in-Err
-returns-in-Err g c = rw c.in-Err.ensures.refused.1 (lane-ran g.P.Part.takes _ _ _ _ _ true c.loop-mark.invariant.so_far (λ e. let no : ⊥ = cc in absurd no))
+returns-in-Err g c =
+    let next : steps_in c.loop-mark.steps.items ≡ c.in-Some.step ∷ steps_in c.pop.new.self.items = ap steps_in c.in-Some.ensures.items ∙ steps-push c.pop.new.self.items (c.in-Some.mark, c.in-Some.step) in
+    rw c.in-Err.ensures.refused.1 (lane-ran g.P.Part.takes _ _ _ _ _ true c.loop-mark.invariant.so_far (λ e. let no : ⊥ = cc in absurd no) (λ _ e. let no : ⊥ = cc in no))
 
 pub returns : goal.returns
 returns g c =
     let none : c.loop-mark.steps.items ≡ [] = nil_from_length c.loop-mark.steps.items (omega (arith, c.in_default.ensures)) in
-    lane-ran g.P.Part.takes _ _ _ _ _ false c.loop-mark.invariant.so_far (λ _. ap steps_in none)
+    lane-ran g.P.Part.takes _ _ _ _ _ false c.loop-mark.invariant.so_far (λ _. ap steps_in none) (λ e. let no : ⊥ = cc in absurd no)

@@ -1,7 +1,7 @@
 use Rattle.std.proofs.Common.{length, sym, subst}
-use Rattle.std.proofs.lemmas.Result.{IfOk-weaker}
+use Rattle.std.proofs.lemmas.Result.{IfOk-weaker, IfErr-weaker}
 use Rattle.dash_parallel.specs.inner.Lanes.{AreReady}
-use Rattle.dash_parallel.proofs.Taking.{fronts, wholes}
+use Rattle.dash_parallel.proofs.Taking.{fronts, wholes, some-short, none-of, none-short, none-whole, refused-anyway, some-of}
 use Rattle.dash_parallel.proofs.run.put_apart.Goals as goal
 
 pub returns : goal.returns
@@ -18,4 +18,14 @@ returns g c =
       len = took.ensures.ran.parts;
       each = fronts takes goes parts steps marks lanes ready took.new.parts took.new.lanes took.ensures.ran;
       whole = IfOk-weaker took.result _ _ (λ _. wholes takes goes parts steps marks lanes ready took.new.parts took.new.lanes took.ensures.ran) took.ensures.whole;
+      short = IfErr-weaker took.result _ _ (λ _. some-short takes goes parts steps marks lanes ready took.new.parts took.new.lanes took.ensures.ran) took.ensures.short;
     }
+
+pub returns-then-is_empty-clause-whole : goal.returns-then-is_empty-clause-whole
+returns-then-is_empty-clause-whole g c =
+    none-whole g.P.Part.takes (g.D.Dealer.goes c.args.dealer.now) c.args.parts.now c.args.steps.items (none-of _ c.args.steps.items c.if-is_empty.ensures c.args.steps.ok.0)
+
+pub returns-in_err-dealt-clause-short : goal.returns-in_err-dealt-clause-short
+returns-in_err-dealt-clause-short g c =
+    refused-anyway c.from_residual.result
+    (none-short g.P.Part.takes (g.D.Dealer.goes c.args.dealer.now) c.args.parts.now c.args.steps.items (some-of _ c.args.steps.items c.if-is_empty.ensures c.args.steps.ok.0) c.requires.within)

@@ -1,8 +1,8 @@
 use Rattle.std.proofs.Common.{◌<◌, All, None, length, replicate, refl, sym, ap, subst, ◌∙◌, arith}
 use Rattle.std.proofs.lemmas.List.{length-map, length-replicate, length-reverse}
-use Rattle.std.proofs.lemmas.Result.{IfOk-weaker}
+use Rattle.std.proofs.lemmas.Result.{IfOk-weaker, IfErr-weaker}
 use Rattle.dash_parallel.specs.inner.Lanes.{AreReady}
-use Rattle.dash_parallel.proofs.Taking.{none-ran, par-ran, places-below, length-replies, replies-whole}
+use Rattle.dash_parallel.proofs.Taking.{none-of, none-ran, par-ran, places-below, length-replies, replies-whole, replies-short, none-replied}
 use Rattle.dash_parallel.proofs.run.run_apart.Goals as goal
 
 pub hand_out-requires-clause-below : goal.hand_out-requires-clause-below
@@ -27,6 +27,7 @@ returns-in-Ok g c =
       ran = par-ran takes goes parts steps marks lanes ready took.new.parts took.new.lanes took.ensures.ran c.requires.within places in_order c.args.replies.now.items c.hand_out.new.replies.items c.requires.none c.hand_out.ensures;
       len = length-replies takes goes parts steps marks lanes ready took.new.parts took.new.lanes took.ensures.ran c.requires.within places in_order c.args.replies.now.items c.hand_out.new.replies.items c.requires.none c.hand_out.ensures;
       whole = IfOk-weaker took.result _ _ (λ _. replies-whole takes goes parts steps marks lanes ready took.new.parts took.new.lanes took.ensures.ran c.requires.within places in_order c.args.replies.now.items c.hand_out.new.replies.items c.requires.none c.hand_out.ensures) took.ensures.whole;
+      short = IfErr-weaker took.result _ _ (λ _. replies-short takes goes parts steps marks lanes ready took.new.parts took.new.lanes took.ensures.ran c.requires.within places in_order c.args.replies.now.items c.hand_out.new.replies.items c.requires.none c.hand_out.ensures) took.ensures.short;
     }
 
 pub returns-in-Err-clause-ran : goal.returns-in-Err-clause-ran
@@ -41,3 +42,8 @@ hand_out-requires-clause-room g c =
 
 pub returns-in-Err-clause-len : goal.returns-in-Err-clause-len
 returns-in-Err-clause-len g c = ap length c.no_replies.ensures ∙ length-replicate _ None ∙ c.len-count.ensures ∙ c.args.steps.ok.0
+
+pub returns-then-is_empty-clause-ran : goal.returns-then-is_empty-clause-ran
+returns-then-is_empty-clause-ran g c =
+    let none = none-of _ c.args.steps.items c.if-is_empty.ensures c.args.steps.ok.0 in
+    none-ran g.P.Part.takes (g.D.Dealer.goes c.args.dealer.now) c.args.parts.now c.args.steps.items c.args.replies.now.items (c.requires.none ∙ ap (λ l. replicate (length l) None) (sym none))

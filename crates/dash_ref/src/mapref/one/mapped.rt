@@ -1,5 +1,6 @@
 //! A reference to a part of a value.
 ghost use Rattle.std.specs.Prelude.{◌≡◌, ◌↔◌, IsSome, Some, IfOk, IfErr, IsOk, option_and_then};
+ghost use Rattle.dash_lock.specs.Lock.{GivenBack};
 
 use super::Ref;
 use super::projection::{Compose, Projection};
@@ -11,11 +12,20 @@ use std::ops::Deref;
 /// A part of the value of a pair, and a hold of the pair's shard for reading, as the original's `MappedRef`.
 ///
 /// It is the reference that was mapped, which ends with it, and the projection, which takes the place of the original's type of the part.
-#[derive(Drop)]
 pub struct MappedRef<'a, K: Eq + Hash, V, S: BuildHasher, P: Projection<V>> {
     pub guard: Ref<'a, K, V, S>,
     pub by: P,
     ghost holds: { IsSome (P.part by guard.value) },
+}
+
+impl<K: Eq + Hash, V, S: BuildHasher, P: Projection<V> + Drop> Drop for MappedRef<'_, K, V, S, P> {
+    #[inline]
+    fn drop(self)
+        ensures back { GivenBack self.entry.guard.shard }
+    {
+        let Self { guard, by: _ } = self;
+        drop(guard);
+    }
 }
 
 impl<'a, K: Eq + Hash, V, S: BuildHasher> Ref<'a, K, V, S> {

@@ -6,10 +6,10 @@ use Rattle.dash_script.proofs.Working.{written, logs-idle, many, all-idle, all-d
 use Rattle.dash_script.proofs.threads.work.Goals as goal
 
 pub take_all-requires-clause-size : goal.take_all-requires-clause-size
-take_all-requires-clause-size g c κs within = subst (λ callers. IsSize callers c.args.steps) (sym (ap (λ m. m.callers) c.in-Ok.ensures.made)) c.requires
+take_all-requires-clause-size g c κs within = subst (λ callers. IsSize callers c.args.steps) (sym (ap (λ m. m.callers) c.in-Ok.ensures.built)) c.requires
 
 pub take_all-requires-clause-shards : goal.take_all-requires-clause-shards
-take_all-requires-clause-shards g c κs within = ap (λ m. m.amount) c.in-Ok.ensures.made
+take_all-requires-clause-shards g c κs within = ap (λ m. m.amount) c.in-Ok.ensures.built
 
 pub take_all-requires-clause-some : goal.take_all-requires-clause-some
 take_all-requires-clause-some g c κs within =
@@ -18,7 +18,7 @@ take_all-requires-clause-some g c κs within =
 
 pub take_all-requires-clause-idle : goal.take_all-requires-clause-idle
 take_all-requires-clause-idle g c κs within =
-    rw c.as_mut_slice.ensures.value (rw (ap (λ m. m.callers) c.in-Ok.ensures.made) (all-idle _ _ (logs-idle _ _ c.in-Ok-idle_workers.ensures ∙ c.in-Ok.ensures.logs)))
+    rw c.as_mut_slice.ensures.value (rw (ap (λ m. m.callers) c.in-Ok.ensures.built) (all-idle _ _ (logs-idle _ _ c.in-Ok-idle_workers.ensures ∙ c.in-Ok.ensures.logs)))
 
 pub returns-in-None-clause-len : goal.returns-in-None-clause-len
 returns-in-None-clause-len g c = omega (arith, c.in-Ok-idle_workers.workers.ok, many c.args.callers c.in-Ok-idle_workers.workers.items (logs-idle _ _ c.in-Ok-idle_workers.ensures ∙ c.in-Ok.ensures.logs))
@@ -39,5 +39,5 @@ returns-in-Some-clause-refused g c =
     let long : length vs ≡ length items = c.take_all.ensures.len ∙ ap length c.as_mut_slice.ensures.value in
     let whole = written vs items c.in-Ok-idle_workers.workers.len (omega (arith, long, c.in-Ok-idle_workers.workers.ok)) (omega (arith, c.in-Ok-idle_workers.workers.ok)) in
     let first = subst (λ ws. IsFirstRefusal ws c.in-Some.refusal) (c.as_slice.ensures.value ∙ whole) c.in-Some.ensures.first in
-    first-refused _ c.args.callers c.args.steps c.in-Ok.map items vs c.in-Some.refusal (ap (λ m. m.amount) c.in-Ok.ensures.made) (logs-idle _ _ c.in-Ok-idle_workers.ensures ∙ c.in-Ok.ensures.logs) long
+    first-refused _ c.args.callers c.args.steps c.in-Ok.map items vs c.in-Some.refusal (ap (λ m. m.amount) c.in-Ok.ensures.built) (logs-idle _ _ c.in-Ok-idle_workers.ensures ∙ c.in-Ok.ensures.logs) long
     (works-of vs c.as_mut_slice.ensures.value c.take_all.ensures.each) first

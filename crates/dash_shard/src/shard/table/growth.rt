@@ -1,6 +1,8 @@
 //! A table that takes memory, and one that gives it back: the pairs move to other slots.
-ghost use Rattle.std.specs.Prelude.{ℕ, ◌≡◌, ◌+◌, ◌*◌, ◌<◌, ◌≤◌, [], None, IsOk, IfOk, OnOk, OnErr, length, replicate};
-ghost use Rattle.dash_shard.specs.inner.Table.{IsTable, IsHashedBy, CarriesOnce, IsCarried, IsMoved, TellsTaken, limit, slots_in, groups_in, pairs_in, hashes_in};
+ghost use Rattle.std.specs.Prelude.{ℕ, ◌≡◌, ◌⊎◌, ◌+◌, ◌*◌, ◌^◌, ◌<◌, ◌≤◌, [], None, IsOk, IfOk, OnOk, OnErr, length, replicate};
+ghost use Rattle.dash_shard.specs.Each.{close_room};
+ghost use Rattle.dash_shard.specs.Memory.{NoMemory};
+ghost use Rattle.dash_shard.specs.inner.Table.{IsTable, IsHashedBy, CarriesOnce, IsCarried, IsMoved, NoMemoryFor, TellsTaken, limit, slots_in, groups_in, pairs_in, hashes_in};
 ghost use Rattle.dash_shard.specs.inner.Cursors.{ComesInGroups};
 ghost use Rattle.dash_shard.specs.Shard.{taken};
 ghost use Rattle.dash_slots.specs.inner.Slots.{IsBlank};
@@ -16,17 +18,35 @@ use std::mem;
 // Up to so many groups, which a processor's own cache holds, their number is a power of two.
 const LARGE: usize = 4_096;
 
+// Where more are needed, the next power of two may have more slots than can be counted.
+const MOST: usize = 1 << 59;
+
+// The least power of two of groups with room for so many pairs, if their slots can be counted.
+fn power_for(pairs: usize) -> Result<usize, AllocError>
+    requires { 0 < pairs }
+    ensures room { IfOk result (λ n. pairs ≤ limit (16 * n)) }
+    ensures close { IfOk result (λ n. limit (16 * n) ≤ close_room pairs) }
+    ensures counted { IfOk result (λ n. 16 * n < 2 ^ 64) }
+    ensures many { OnErr result (14 * 2 ^ 59 < pairs) }
+{
+    let needed = (pairs - 1) / 14 + 1;
+    if needed > MOST {
+        return Err(AllocError);
+    }
+    Ok(needed.next_power_of_two())
+}
+
 // The least number of groups with room for so many pairs: a power of two or, where there are many, three times one.
 fn groups_for(pairs: usize) -> Result<usize, AllocError>
     requires { 0 < pairs }
     ensures room { IfOk result (λ n. pairs ≤ limit (16 * n)) }
+    ensures close { IfOk result (λ n. limit (16 * n) ≤ close_room pairs) }
+    ensures counted { IfOk result (λ n. 16 * n < 2 ^ 64) }
+    ensures many { OnErr result (14 * 2 ^ 59 < pairs) }
 {
-    let needed = (pairs - 1) / 14 + 1;
-    let Some(power) = needed.checked_next_power_of_two() else {
-        return Err(AllocError);
-    };
+    let power = power_for(pairs)?;
     let fewer = power / 4 * 3;
-    Ok(if needed > LARGE && needed <= fewer {
+    Ok(if pairs > 14 * LARGE && pairs <= 14 * fewer {
         fewer
     } else {
         power
@@ -62,15 +82,15 @@ fn move_pairs<K: Eq + Hash, V, S: BuildHasher>(
 }
 
 impl<K, V> Table<K, V> {
-    // An empty table of so many groups of slots.
+    // An empty table of so many groups of slots. An error is a refusal of memory.
     fn with_groups(alloc: Global, count: usize) -> Result<Self, AllocError>
+        requires { 16 * count < 2 ^ 64 }
         ensures table { IfOk result IsTable }
         ensures empty { IfOk result (λ t. taken (pairs_in t) ≡ []) }
         ensures slots { IfOk result (λ t. slots_in t ≡ 16 * count) }
+        ensures err { OnErr result (NoMemoryFor count) }
     {
-        let Some(slots) = count.checked_mul(16) else {
-            return Err(AllocError);
-        };
+        let slots = 16 * count;
         let tags = vec![in alloc; EMPTY; slots]?;
         let counts = vec![in alloc; 0; count]?;
         let slots = Slots::with_len(alloc, slots)?;
@@ -92,10 +112,7 @@ impl<K, V> Table<K, V> {
         if capacity == 0 {
             return Ok(Table::new(alloc));
         }
-        let Some(count) = groups_for(capacity)?.checked_next_power_of_two() else {
-            return Err(AllocError);
-        };
-        Table::with_groups(alloc, count)
+        Table::with_groups(alloc, power_for(capacity)?)
     }
 
     // Moves the pairs to a table of so many groups, which takes memory.
@@ -105,9 +122,11 @@ impl<K, V> Table<K, V> {
         requires table { IsTable self.old }
         requires hashed { IsHashedBy K.hash_input S.BuildHasher S.Hasher.Hasher hasher.now self.old.slots }
         requires room { self.old.len ≤ limit (16 * count) }
+        requires counted { 16 * count < 2 ^ 64 }
         ensures moved { OnOk result (IsMoved self.old self.new) }
         ensures slots { OnOk result (slots_in self.new ≡ 16 * count) }
         ensures err { OnErr result (self.new ≡ self.old) }
+        ensures memory { OnErr result (NoMemoryFor count) }
     {
         let mut table = Table::with_groups(self.allocator(), count)?;
         move_pairs(&mut self.slots, &self.tags, &mut table, hasher);
@@ -164,6 +183,7 @@ impl<K, V> Table<K, V> {
         ensures moved { IsMoved self.old self.new }
         ensures slots { slots_in self.new ≤ slots_in self.old }
         ensures none { self.old.len ≡ 0 → slots_in self.new ≡ 0 }
+        ensures close { (limit (slots_in self.new) ≤ close_room self.old.len) ⊎ ((self.new ≡ self.old) × NoMemory (close_room self.old.len)) }
     {
         if self.len == 0 {
             let blank = Table::new(self.allocator());

@@ -1,4 +1,4 @@
-use Rattle.std.proofs.Common.{◌≡◌, ℕ, ⊎_elim, true, IsTrue, refl, ap, subst, arith, is_some, ◌∙◌, rules}
+use Rattle.std.proofs.Common.{◌≡◌, ℕ, ⊎_elim, Ok, true, IsTrue, refl, ap, subst, arith, is_some, ◌∙◌, rules}
 use Rattle.std.specs.Cmp.Lexicographic.{pointwise}
 use Rattle.std.specs.Map.Iter.{deref_pair}
 use Rattle.dash_shard.specs.Hashing.{key_hash}
@@ -12,6 +12,7 @@ use Rattle.dash_steps.specs.inner.Sweep.{keeping}
 use Rattle.dash_steps.proofs.AlikeLaws.{reply_equiv}
 use Rattle.dash_steps.proofs.Planning.{answers-found, looked, same_found}
 use Rattle.dash_steps.proofs.Preparing.{answers-all, mapped}
+use Rattle.dash_steps.proofs.Rooms.{grows-inserted}
 use Rattle.dash_steps.proofs.Sweeping.{called-alike}
 use Rattle.dash_steps.proofs.Taking.{exactly, looks, reads, counts, retains, alters, routed, laws-on}
 use Rattle.dash_steps.proofs.take.take.Goals as goal
@@ -44,7 +45,7 @@ returns-in-Ok-insert_hashed-clause-taken g c =
     rw c.in-Insert.is (exactly h law _ _ g.met.K.Kept.alike_laws g.met.V.Kept.alike_laws g.met.K.KeptKey.alike_equal s c.requires.lawful c.insert_hashed.new.self (table.Insert c.in-Insert.key c.in-Insert.value) (Old c.in-Ok-insert_hashed.old)
     (routed h law _ _ g.met.K.Kept.alike_laws g.met.V.Kept.alike_laws g.met.K.KeptKey.alike_equal s c.requires.lawful c.in-Insert.key)
     (record { told = table.Old c.in-Ok-insert_hashed.old; replies = i.taken.table.replies; alike = (reply_equiv g.met.K.Kept.alike_laws g.met.V.Kept.alike_laws).refl (table.Old c.in-Ok-insert_hashed.old) })
-    i.taken.table.becomes i.taken.stays i.grows c.insert_hashed.ensures.lawful)
+    i.taken.table.becomes i.taken.stays (grows-inserted g.K.PartialEq.eq s c.insert_hashed.new.self c.in-Insert.key c.in-Insert.value (Ok c.in-Ok-insert_hashed.old) i).1 c.insert_hashed.ensures.lawful)
 
 pub returns-in-Remove-clause-taken : goal.returns-in-Remove-clause-taken
 returns-in-Remove-clause-taken g c =
@@ -55,7 +56,7 @@ returns-in-Remove-clause-taken g c =
     rw c.in-Remove.is (exactly h law _ _ g.met.K.Kept.alike_laws g.met.V.Kept.alike_laws g.met.K.KeptKey.alike_equal s c.requires.lawful c.remove_hashed.new.self (table.Remove c.in-Remove.key) (Pair c.remove_hashed.result)
     (routed h law _ _ g.met.K.Kept.alike_laws g.met.V.Kept.alike_laws g.met.K.KeptKey.alike_equal s c.requires.lawful c.in-Remove.key)
     (record { told = table.Pair c.remove_hashed.result; replies = r.taken.table.replies; alike = (reply_equiv g.met.K.Kept.alike_laws g.met.V.Kept.alike_laws).refl (table.Pair c.remove_hashed.result) })
-    r.taken.table.becomes r.taken.stays (omega (arith, r.room)) c.remove_hashed.ensures.lawful)
+    r.taken.table.becomes r.taken.stays r.room c.remove_hashed.ensures.lawful)
 
 pub returns-in-Ok-copy_pairs-clause-taken : goal.returns-in-Ok-copy_pairs-clause-taken
 returns-in-Ok-copy_pairs-clause-taken g c =
@@ -83,7 +84,7 @@ returns-in-AlterAll-clause-taken g c =
     let laws = laws-on _ law _ _ g.met.K.Kept.alike_laws g.met.V.Kept.alike_laws g.met.K.KeptKey.alike_equal s c.requires.lawful in
     let f = g.A.Action.acts c.in-AlterAll.action in
     let r = c.retain.ensures.retains in
-    rw c.in-AlterAll.is (alters _ law _ _ g.met.K.Kept.alike_laws g.met.V.Kept.alike_laws g.met.K.KeptKey.alike_equal s c.requires.lawful c.retain.new.self r.does.taken.stays (omega (arith, r.does.room)) c.retain.ensures.lawful f _ (rw c.in-AlterAll.is at c.requires.goes.here)
+    rw c.in-AlterAll.is (alters _ law _ _ g.met.K.Kept.alike_laws g.met.V.Kept.alike_laws g.met.K.KeptKey.alike_equal s c.requires.lawful c.retain.new.self r.does.taken.stays r.does.room c.retain.ensures.lawful f _ (rw c.in-AlterAll.is at c.requires.goes.here)
     (called-alike _ laws _ (keeping true f) _ (λ k v yes new y called. search rules) s c.retain.new.self r))
 
 pub returns-in-Retain-clause-taken : goal.returns-in-Retain-clause-taken
@@ -93,5 +94,5 @@ returns-in-Retain-clause-taken g c =
     let laws = laws-on _ law _ _ g.met.K.Kept.alike_laws g.met.V.Kept.alike_laws g.met.K.KeptKey.alike_equal s c.requires.lawful in
     let f = g.A.Action.acts c.in-Retain.action in
     let r = c.retain-in-Retain.ensures.retains in
-    rw c.in-Retain.is (retains _ law _ _ g.met.K.Kept.alike_laws g.met.V.Kept.alike_laws g.met.K.KeptKey.alike_equal s c.requires.lawful c.retain-in-Retain.new.self r.does.taken.stays (omega (arith, r.does.room)) c.retain-in-Retain.ensures.lawful f _ (rw c.in-Retain.is at c.requires.goes.here)
+    rw c.in-Retain.is (retains _ law _ _ g.met.K.Kept.alike_laws g.met.V.Kept.alike_laws g.met.K.KeptKey.alike_equal s c.requires.lawful c.retain-in-Retain.new.self r.does.taken.stays r.does.room c.retain-in-Retain.ensures.lawful f _ (rw c.in-Retain.is at c.requires.goes.here)
     (called-alike _ laws _ f _ (λ k v yes new y called. search rules) s c.retain-in-Retain.new.self r))

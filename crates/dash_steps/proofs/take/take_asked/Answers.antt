@@ -1,4 +1,4 @@
-use Rattle.std.proofs.Common.{subst, arith, ◌∙◌}
+use Rattle.std.proofs.Common.{subst, ◌∙◌}
 use Rattle.dash_shard.specs.Hashing.{key_hash}
 use Rattle.dash_shard.specs.Steps.{line}
 use Rattle.dash_shard.proofs.Lawful.{lawful-of}
@@ -6,6 +6,7 @@ use Rattle.dash_steps.specs.Steps.{step_of}
 use Rattle.dash_steps.specs.inner.Plan.{HasPair}
 use Rattle.dash_steps.proofs.Finding.{found-pair}
 use Rattle.dash_steps.proofs.Planning.{planned-there, takes-asked}
+use Rattle.dash_steps.proofs.Rooms.{grows-same}
 use Rattle.dash_steps.proofs.Taking.{laws-on, routed}
 use Rattle.dash_steps.proofs.take.take_asked.Goals as goal
 
@@ -24,6 +25,6 @@ returns-in-Ok-clause-taken g c =
       takes = takes-asked _ _ _ (c.in-Ok.reply, c.in-Ok.change) _ laws _ _ key (step_of g.A.Action.acts c.args.step) c.in-Ok.ensures.plan c.asked_key.ensures there
           (routed h law _ _ g.met.K.Kept.alike_laws g.met.V.Kept.alike_laws g.met.K.KeptKey.alike_equal s c.requires.lawful key) (m.becomes key c.position_of_hashed-found.ensures.finds has) lawful.contents.distinct;
       stays = m.stays;
-      room = omega (arith, m.room);
+      room = grows-same (step_of g.A.Action.acts c.args.step) s c.make_change.new.shard m.room;
       lawful = lawful;
     }

@@ -3,7 +3,7 @@ use Rattle.dash_lock.proofs.Walking.{[], ◌++◌, ℕ, ◌+◌, List, ◌∷◌
 use denote.Follow.{follows_by}
 use types.Tokens.{name_done}
 use Rattle.dash_lock.specs.inner.Holding.{offset}
-use Rattle.dash_lock.specs.Lock.{FoundBehind, found}
+use Rattle.dash_behind.specs.Closed.{FoundBehind, found}
 use Rattle.dash_lock.specs.contracts.cell.Cell as lock
 use Rattle.dash_lock.proofs.LockShown as shown
 use Rattle.dash_lock.specs.contracts.cell.Cell.get.{ended, clauses}

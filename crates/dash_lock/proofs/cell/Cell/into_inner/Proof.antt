@@ -1,6 +1,6 @@
 -- `into_inner` takes the value, whatever the word is.
 use Rattle.dash_lock.proofs.Walking.{[], ◌++◌, ◌≡◌, ◌&&◌, T, true, List, ◌∷◌, sym, refl, ◌∙◌, subst, w64, and_tt, dcons, dnil, a_type, Val, vint, vstruct, vcons, vnil, of_list, has_ty, inst_fn, emp, SProp, ent, id⊢, ftrue, fsep, WpFn, ‵, raw, ◌⊛◌, ◌$◌, ◌∵◌, !, qed, by, move, keep, drop, split, join, fsplit, fsplit3, fjoin, fpick, use0, rewrite, feq_l, flt_l, suffices, stop, fld, of_opd, returns, enter, alloc_all, pass_all, free_all, look_at, get, get_in, sets, sub, whole, tables, fact, fact_i, no, RattleType, plain, nothing, peeks, Is, shows, param, layout, bounded, alive, Stays, stay_dropped, walk_of, Goes-dropped, El, lawful, Good, one, proved_at, leaves}
-use Rattle.dash_lock.specs.Lock.{FoundBehind, found}
+use Rattle.dash_behind.specs.Closed.{FoundBehind, found}
 use Rattle.dash_lock.specs.contracts.cell.Cell as lock
 use Rattle.dash_lock.specs.contracts.cell.Cell.into_inner.{ended, clauses}
 use Rattle.dash_lock.specs.contracts.cell.Cell.into_inner.Key.{name as #self}

@@ -1,7 +1,7 @@
 -- `new` lays the word and the value side by side.
 use Rattle.dash_lock.proofs.Walking.{[], ◌++◌, ◌≡◌, ℕ, ◌^◌, ◌&&◌, T, true, List, ◌∷◌, sym, refl, subst, lit<, w64, and_tt, dcons, dnil, a_type, Val, vint, vptr, vstruct, vcons, vnil, has_ty, WT, inst_fn, emp, SProp, ent, id⊢, ftrue, fsep, fex, WpFn, ‵, raw, ◌⊛◌, ◌$◌, ◌∵◌, !, qed, by, move, keep, drop, split, join, fsplit, fjoin, fjoin3, fpack, use0, rewrite, feq_i, flt_i, suffices, lit, of_opd, no_more, and_then, returns, enter, alloc_all, pass_all, free_all, look_at, get, sets, agg, tables, fact, fact_i, yes, no, RattleType, Valss, owns, types_at, plain, nothing, heard, Typed, param, layout, bounded, RefOf, u64, alive, Stays, stay_dropped, walk_of, Goes-dropped, El, lawful, Good, one, proved_at, leaves}
 use denote.Struct.Struct.{within}
-use Rattle.dash_lock.specs.Lock.{LeftBehind, left}
+use Rattle.dash_behind.specs.Closed.{LeftBehind, left}
 use Rattle.dash_lock.specs.contracts.cell.Cell.TheInside as inside
 use Rattle.dash_lock.specs.contracts.cell.Cell.new.{ended, clauses}
 use Rattle.dash_lock.specs.contracts.cell.Cell.new.Key.{name as #self}

@@ -2,7 +2,7 @@
 use Rattle.dash_lock.proofs.Walking.{[], ◌++◌, ◌≡◌, ℕ, ◌+◌, ◌<◌, List, ◌∷◌, refl, lit<, w64, and_tt, OnOk, OnErr, dcons, dnil, a_type, named, Val, vint, vptr, vstruct, vcons, vnil, of_list, inst_fn, emp, SProp, via, apply∗, Lft, Share, Fml, ftrue, fsep, feq, flft, fbor, finv, before, ‵, raw, ◌⊛◌, later, mean, at_ret, ◌$◌, ◌∵◌, !, qed, by, move, keep, drop, split, join, fsplit, fjoin, fjoin3, fpick, fpack, pick, learn, use0, use1, use2, use3, await, feq_i, stop, fld, addr, lit, of_opd, no_more, and_then, first, blocks, exec, Calls-last, returns, enter, alloc_all, pass_all, free_all, look_at, get, through, sets, lands_last, env, agg, before_dup, tables, fact, fact_i, Lends-one, yes, RattleType, Valss, owns, types_at, plain, named_lft, Ptr, block_ptr, nothing, heard, unhide, param, bounded, param_laws, RefOf, u64, shr_vals, shr_Tells, uint_vals, uint_Tells, Stays, stay_dropped, walk_of, Goes-dropped, tail, proved, leaves, fm, seq_cst, word_found}
 use Rattle.dash_lock.proofs.Counting.{takes_counted}
 use Rattle.dash_lock.specs.Lock.{FoundBehind}
-use Rattle.dash_lock.specs.Lock.{found as found-behind}
+use Rattle.dash_behind.specs.Closed.{found as found-behind}
 use Rattle.dash_lock.proofs.Exchanging.{Found, exchanged, exchanges, on_ok, on_err}
 use Rattle.dash_lock.specs.inner.Holding.{IsTake, Gains, Fixed, Inv, kept, right_to, IsCounted}
 use Rattle.dash_lock.proofs.Rounds.{settled}

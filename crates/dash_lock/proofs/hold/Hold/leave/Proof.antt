@@ -1,6 +1,7 @@
 -- `leave` gives one part back at the subtraction.
 use Rattle.dash_lock.proofs.Walking.{[], ◌≡◌, ℕ, ◌+◌, ◌^◌, List, ◌∷◌, refl, ap, lit<, w64, dcons, dnil, a_type, Val, vint, vptr, inst_fn, SProp, via, apply∗, Lft, Share, Fml, ftrue, fsep, flft, ‵, raw, ◌⊛◌, given, later, mean, at_ret, ◌$◌, ◌∵◌, !, qed, by, move, keep, drop, split, join, fsplit, fjoin, fpick, pick, learn, use1, use2, use3, await, rewrite, feq_i, flt_i, stop, fld, addr, lit, of_opd, no_more, and_then, first, blocks, exec, Calls-last, returns, enter, alloc_all, pass_all, free_all, look_at, get, get_in, through, sets, lands_last, is, env, agg, sub, whole, tables, fact, Lends-one, no, RattleType, owns, types_at, plain, named_lft, Ptr, InBlock, block_ptr, ptr_val, block_of, count_of, at_block, nothing, heard, param, bounded, Stays, stay_dropped, walk_of, Goes-dropped, tail, proved, leaves, fm, seq_cst, found, finds, subs, emp, fact_i, use0, ◌-◌}
 use Rattle.dash_lock.specs.declared.word.LockEvent.TheVariants.{ReleaseShared}
+use Rattle.dash_behind.specs.Closed.{GivenBack, gave}
 use Rattle.dash_lock.specs.LockState.{Steps}
 use Rattle.dash_lock.specs.inner.Holding.{one_reader, hold_owns}
 use Rattle.dash_lock.specs.contracts.hold.Hold as hold
@@ -36,6 +37,6 @@ leave_spec 𝓤 𝓛 𝓜 𝓡 wired X Y L _ g d _ =
     Calls-last ! (fm 𝓛 𝓜 𝓡) (found after) (and_then ! (get ! refl) (and_then ! (lit ! tt) (and_then ! (get ! refl) (no_more !)))) (λ r. finds ! after (λ n fits.
     lands_last ! refl (tt, record { fits = fits }) $ exec ! 𝓣.C 𝓣.Λ Ev (tail (tail fn.body)) (at_ret Ev Post) $ sets ! (of_opd ! (get ! refl)) refl (tt, record { fits = fits }) $
     fsplit ! $ move ! (0 ∷ 2 ∷ []) $ use2 𝓛 (later (‵ (flft β q))) (apply∗ 𝓤 (𝓛.A.lft t.life s) (H.⇛ (𝓛.A.lft β q))) $ await ! tt $ move ! (1 ∷ []) $ fpick ! (λ event. drop ! $ nothing ! $ nothing ! $ fjoin ! $ move ! (1 ∷ 2 ∷ []) $ join ! $
-    let Event : Type 0 = Steps ReleaseShared n (n - 4) in use0 𝓛 (raw (fact 𝓤 Event)) (fact_i 𝓤 Event (emp 𝓤) event) $ flt_i ! n (2 ^ 64) fits $ feq_i ! (List Val) (vint w64 n ∷ []) (vint w64 n ∷ []) refl $ fjoin ! $
+    let Event : Type 0 = Steps ReleaseShared n (n - 4) in use0 𝓛 (raw (fact 𝓤 (GivenBack x))) (fact_i 𝓤 (GivenBack x) (emp 𝓤) (gave x)) $ use0 𝓛 (raw (fact 𝓤 Event)) (fact_i 𝓤 Event (emp 𝓤) event) $ join ! $ flt_i ! n (2 ^ 64) fits $ feq_i ! (List Val) (vint w64 n ∷ []) (vint w64 n ∷ []) refl $ fjoin ! $
     -- [the result; what it ensures; the tokens; self]
     returns ! (look_at ! 0 refl) $ free_all ! refl $ keep ! (2 ∷ 3 ∷ 0 ∷ 1 ∷ []) $ by ! (leaves 𝓛 En hs c y (vint w64 n) n (tt, tt) (tt, tt))))))))))))

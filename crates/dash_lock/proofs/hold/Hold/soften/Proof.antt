@@ -2,6 +2,7 @@
 use Rattle.dash_lock.proofs.Walking.{[], ◌++◌, ◌≡◌, ℕ, ◌+◌, ◌^◌, List, ◌∷◌, refl, ap, lit<, w64, dcons, dnil, a_type, Val, vint, vptr, vstruct, vcons, vnil, of_list, inst_fn, SProp, emp, via, apply∗, Lft, Share, Fml, ftrue, fsep, feq, flft, fex, fbor, finv, before, Incl-refl, ‵, raw, ◌⊛◌, given, later, mean, at_ret, ◌$◌, ◌∵◌, !, qed, by, move, keep, split, split3, group, join, fsplit, fjoin, fjoin3, fpick, fpack, pick, learn, use0, use1, use2, use3, await, rewrite, feq_i, flt_i, stop, fld, addr, lit, of_opd, no_more, and_then, first, blocks, exec, Calls-last, returns, enter, alloc_all, pass_all, free_all, look_at, get, get_in, through, sets, lands_last, is, env, agg, sub, whole, before_dup, tables, fact, fact_i, Lends-one, no, RattleType, Valss, owns, types_at, plain, named_lft, Ptr, InBlock, block_ptr, ptr_val, block_of, count_of, at_block, nothing, heard, param, bounded, param_laws, u64, ◌⊑◌, Stays, stay_dropped, walk_of, Goes-dropped, tail, proved, leaves, fm, seq_cst, found, finds, drop}
 use Rattle.core.specs.Prelude.{bit_and}
 use Rattle.dash_lock.specs.declared.word.LockEvent.TheVariants.{Downgrade}
+use Rattle.dash_behind.specs.Closed.{LeftBehind, left}
 use Rattle.dash_lock.specs.LockState.{Steps}
 use Rattle.std.proofs.raw_atomic.Calls.{ands}
 use Rattle.dash_lock.specs.inner.Holding.{Fixed, Inv, kept, reader, begun, hold_owns}
@@ -59,6 +60,6 @@ soften_spec 𝓤 𝓛 𝓜 𝓡 wired X Y L _ g d _ =
     move ! (0 ∷ 1 ∷ []) $ fjoin ! $ move ! (0 ∷ 2 ∷ 1 ∷ []) $ fjoin3 ! $ feq_i ! (List Val) (res ∷ []) (res ∷ []) refl $ fjoin ! $
     fpack ! (Valss (u64 ∷ Hr ∷ [])) (λ uss. fsep (feq (List Val) (res ∷ []) (vstruct (of_list (uss.0 ++ (uss.1.0 ++ []))) ∷ [])) (owns (u64 ∷ Hr ∷ []) (n, (h', tt)) uss)) (vint w64 n ∷ [], (bits_of (block_ptr b o) ∷ [], tt)) $
     let Event : Type 0 = Steps Downgrade n (bit_and n 6) in let Same : Type 0 = (h.tag ≡ h.tag) × (x ≡ x) in let Reads : Type 0 = 1 ≡ 1 in
-    use0 𝓛 (raw (fact 𝓤 Reads)) (fact_i 𝓤 Reads (emp 𝓤) refl) $ use0 𝓛 (raw (fact 𝓤 Same)) (fact_i 𝓤 Same (emp 𝓤) (refl, refl)) $ join ! $ use0 𝓛 (raw (fact 𝓤 Event)) (fact_i 𝓤 Event (emp 𝓤) event) $ join ! $ nothing ! $ nothing ! $ fjoin ! $
+    use0 𝓛 (raw (fact 𝓤 (LeftBehind x))) (fact_i 𝓤 (LeftBehind x) (emp 𝓤) (left x)) $ use0 𝓛 (raw (fact 𝓤 Reads)) (fact_i 𝓤 Reads (emp 𝓤) refl) $ join ! $ use0 𝓛 (raw (fact 𝓤 Same)) (fact_i 𝓤 Same (emp 𝓤) (refl, refl)) $ join ! $ use0 𝓛 (raw (fact 𝓤 Event)) (fact_i 𝓤 Event (emp 𝓤) event) $ join ! $ nothing ! $ nothing ! $ fjoin ! $
     -- [self; the fact; the result; the tokens]
     returns ! (look_at ! 0 refl) $ free_all ! refl $ keep ! (3 ∷ 0 ∷ 2 ∷ 1 ∷ []) $ by ! (leaves 𝓛 En hs c y res (n, h') (tt, tt) (tt, tt))))))))))))

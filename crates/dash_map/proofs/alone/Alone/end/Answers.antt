@@ -1,8 +1,10 @@
 use Rattle.dash_shard.specs.Shard.{IsTagged}
-use Rattle.std.proofs.Common.{◌≡◌, ◌∙◌, sym, subst, ap, length}
+use Rattle.std.proofs.Common.{◌≡◌, ◌∙◌, sym, subst, ap, length, map as list_map}
 use Rattle.dash_shard.proofs.Rows.{moved-length}
 use Rattle.dash_map.specs.Alone.{AloneState, IsAlone}
-use Rattle.dash_map.proofs.Moves.{map-of_alone, left-of_alone}
+use Rattle.dash_map.specs.Locks.{made_of}
+use Rattle.dash_map.specs.Map.{locked}
+use Rattle.dash_map.proofs.Moves.{map-of_alone, left-of_alone, made-of_alone}
 use Rattle.dash_map.proofs.alone.Alone.end.Goals as goal
 use Rattle.dash_shard.specs.Hashing.{key_hash}
 
@@ -17,7 +19,8 @@ pub returns : goal.returns
 returns g c =
     let h = key_hash g.K.PartialEq.eq g.K.Hash.hash_input g.S.BuildHasher g.S.Hasher.Hasher in
     let long : length c.turn-row.result ≡ length c.self.inside.row = moved-length _ 0 c.self.inside.row c.turn-row.result c.turn-row.ensures in
-    let map = ap (λ n. record { hasher = c.self.inside.hasher; amount = n }) long ∙ ap (λ a. record { hasher = a.hasher; amount = length a.row }) c.self.view_is in
+    let back = made-of_alone h (record { hasher = c.self.inside.hasher; amount = c.len-amount.result }) 0 c.self.inside.row c.turn-row.result c.turn-row.ensures in
+    let map = ap (λ n. record { hasher = c.self.inside.hasher; amount = n; made = list_map made_of c.turn-row.result }) long ∙ ap (λ r. record { hasher = c.self.inside.hasher; amount = length c.self.inside.row; made = r }) back ∙ ap locked c.self.view_is in
     record {
       map = map;
       left = record {

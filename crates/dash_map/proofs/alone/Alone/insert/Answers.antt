@@ -2,6 +2,8 @@ use Rattle.std.proofs.Common.{◌∙◌, refl}
 use Rattle.std.proofs.lemmas.Result.{IfOk-weaker, MatchResult-weaker}
 use Rattle.dash_shard.specs.Steps.{Insert, Old}
 use Rattle.dash_shard.specs.Shard.{TakesStep}
+use Rattle.dash_steps.specs.Takes.{GrowsBy}
+use Rattle.dash_steps.proofs.Rooms.{grows-inserted}
 use Rattle.dash_map.proofs.Lifting.{settled}
 use Rattle.dash_map.proofs.Spots.{Spot, spot-of, spot-route, spot-hash, spot-alone, spot-takes, spot-stands, spot-full, spot-unchanged}
 use Rattle.dash_map.proofs.Trying.{on-both}
@@ -27,8 +29,12 @@ invariant_of-self g c =
 pub returns-clause-taken : goal.returns-clause-taken
 returns-clause-taken g c =
     let r = c.insert_hashed.ensures in
-    IfOk-weaker c.insert_hashed.result (λ old. TakesStep g.K.PartialEq.eq c.index_mut.result.now c.insert_hashed.new.self (Insert c.args.key c.args.value) (Old old)) _
-    (λ old x. spot-takes (spot g (goal.at.returns-clause-taken g c).After-index_mut) c.insert_hashed.new.self r.lawful (Insert c.args.key c.args.value) (Old old) (_, _, refl) x r.inserts.grows) r.inserts.taken
+    let s = c.index_mut.result.now in
+    let t = c.insert_hashed.new.self in
+    let step = Insert c.args.key c.args.value in
+    IfOk-weaker c.insert_hashed.result (λ old. TakesStep g.K.PartialEq.eq s t step (Old old) × GrowsBy step s t) _
+    (λ old x. spot-takes (spot g (goal.at.returns-clause-taken g c).After-index_mut) t r.lawful step (Old old) (_, _, refl) x.0 x.1)
+    (grows-inserted g.K.PartialEq.eq s t c.args.key c.args.value c.insert_hashed.result r.inserts)
 
 pub returns-clause-refused : goal.returns-clause-refused
 returns-clause-refused g c =

@@ -27,4 +27,4 @@ returns g c =
     let eq = g.met.K.Eq g.world.𝓛 g.world.𝓜 g.world.𝓡 ((λ s x. x), (λ x. x), (λ x. x), λ x. x) in
     let hash = g.met.K.Hash g.world.𝓛 g.world.𝓜 g.world.𝓡 ((λ s x. x), (λ x. x), (λ x. x), λ x. x) in
     par-extends (key_hash g.K.PartialEq.eq g.K.Hash.hash_input g.S.BuildHasher g.S.Hasher.Hasher) c.self.inside.hasher c.self.inside.row c.self.invariant c.new-dealer.result (dealer g (goal.at.returns g c).After-items_mut) c.items_mut.result.now c.items_mut.ensures.value
-    c.args.list.items c.put_apart.new.parts c.put_apart.ensures.len c.put_apart.ensures.each (lawful-of g.S.BuildHasher g.S.Hasher.Hasher eq.laws hash.respects_eq) c.args.self.now c.self.view_is c.put_apart.result c.put_apart.ensures.whole
+    c.args.list.items c.put_apart.new.parts c.put_apart.ensures.len c.put_apart.ensures.each (lawful-of g.S.BuildHasher g.S.Hasher.Hasher eq.laws hash.respects_eq) c.args.self.now c.self.view_is c.put_apart.result c.put_apart.ensures.whole c.put_apart.ensures.short

@@ -32,6 +32,7 @@ returns-in_default-clause-ran g c =
     stopped h g.K.Kept.alike g.V.Kept.alike g.A.Action.acts a steps _ c.if-missing.fault refl why
     (none-replied (TakesThere h g.K.Kept.alike g.V.Kept.alike g.A.Action.acts) (goes_to h g.A.Action.acts a) a.row steps c.new.result.items c.new.ensures.items)
     (subst (All (λ o. o ≡ None)) (sym c.new.ensures.items) (All-nil (λ o. o ≡ None))) (inr c.new.ensures.items)
+    (λ _. (c.new.ensures.items, λ e. true≢false (sym (c.in_default.ensures.succeeds (c.len.ensures ∙ c.args.steps.ok.0 ∙ ap length e)))))
 
 pub returns-then-missing-2-clause-ran : goal.returns-then-missing-2-clause-ran
 returns-then-missing-2-clause-ran g c =
@@ -43,7 +44,7 @@ returns-then-missing-2-clause-ran g c =
     let blank : replies ≡ replicate (length steps) None = c.no_replies.ensures ∙ ap (λ n. replicate n None) (c.len-then-missing-2.ensures ∙ c.args.steps.ok.0) in
     stopped h g.K.Kept.alike g.V.Kept.alike g.A.Action.acts a steps _ NoSuchShard refl (λ _. told.0 c.if-missing-2.true, λ _. refl)
     (none-ran (TakesThere h g.K.Kept.alike g.V.Kept.alike g.A.Action.acts) (goes_to h g.A.Action.acts a) a.row steps replies blank)
-    (subst (All (λ o. o ≡ None)) (sym blank) (all-none (length steps))) (inl (ap length blank ∙ length-replicate (length steps) None))
+    (subst (All (λ o. o ≡ None)) (sym blank) (all-none (length steps))) (inl (ap length blank ∙ length-replicate (length steps) None)) (λ e. absurd (other (sym e)))
 
 pub run_shards-requires-clause-within : goal.run_shards-requires-clause-within
 run_shards-requires-clause-within g c κs long =
@@ -67,9 +68,9 @@ returns-clause-ran g c =
     let value = g.met.V.Kept g.world.𝓛 g.world.𝓜 g.world.𝓡 (λ s x. x, λ x. x, λ x. x, λ x. x) in
     let kept = g.met.K.KeptKey g.world.𝓛 g.world.𝓜 g.world.𝓡 (λ s x. x, λ x. x, λ x. x, λ x. x) in
     elim c.match-run_shards.branch [
-      | in-Ok-run_shards w ↦ finished h g.K.Kept.alike g.V.Kept.alike g.A.Action.acts a c.run_shards.new.self steps _ none (λ e. absurd (none-some NoSuchShard (sym w.fault-is ∙ e))) ran.ran ran.len
+      | in-Ok-run_shards w ↦ finished h g.K.Kept.alike g.V.Kept.alike g.A.Action.acts a c.run_shards.new.self steps _ none (λ e. absurd (none-some NoSuchShard (sym w.fault-is ∙ e))) ran.ran ran.len (λ e. absurd (none-some Memory (sym w.fault-is ∙ e)))
           (λ _. ran-whole h (lawful-of g.S.BuildHasher g.S.Hasher.Hasher eq.laws hash.respects_eq) g.K.Kept.alike g.V.Kept.alike key.alike_laws value.alike_laws kept.alike_equal g.A.Action.acts a c.run_shards.new.self lawful steps _ ran.ran
           (all-there (goes_to h g.A.Action.acts a) (length a.row) steps none) ran.len w.in-Ok-run_shards.ensures.whole)
-      | in-Err w ↦ finished h g.K.Kept.alike g.V.Kept.alike g.A.Action.acts a c.run_shards.new.self steps _ none (λ e. other (same_Some Memory NoSuchShard (sym w.fault-is ∙ e))) ran.ran ran.len
+      | in-Err w ↦ finished h g.K.Kept.alike g.V.Kept.alike g.A.Action.acts a c.run_shards.new.self steps _ none (λ e. other (same_Some Memory NoSuchShard (sym w.fault-is ∙ e))) ran.ran ran.len (λ _. w.in-Err.ensures.short)
           (λ e. absurd (none-some Memory (sym e ∙ w.fault-is)))
     ]

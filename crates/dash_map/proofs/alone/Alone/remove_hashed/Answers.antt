@@ -1,4 +1,4 @@
-use Rattle.std.proofs.Common.{refl, arith}
+use Rattle.std.proofs.Common.{refl}
 use Rattle.dash_shard.specs.Steps.{Remove, Pair}
 use Rattle.dash_map.proofs.Spots.{Spot, spot-of, spot-route, spot-hash, spot-alone, spot-takes}
 use Rattle.dash_map.proofs.alone.Alone.remove_hashed.Given.{Over}
@@ -22,4 +22,4 @@ invariant_of-self g c =
 pub returns : goal.returns
 returns g c =
     let r = c.remove_hashed.ensures in
-    spot-takes (spot g (goal.at.returns g c).After-index_mut) c.remove_hashed.new.self r.lawful (Remove c.args.key.now) (Pair c.remove_hashed.result) (_, _, refl) r.removes.taken (omega (arith, r.removes.room))
+    spot-takes (spot g (goal.at.returns g c).After-index_mut) c.remove_hashed.new.self r.lawful (Remove c.args.key.now) (Pair c.remove_hashed.result) (_, _, refl) r.removes.taken r.removes.room

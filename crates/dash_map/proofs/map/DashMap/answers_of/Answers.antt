@@ -9,4 +9,4 @@ answers-requires g c = λ k d _. c.requires.callable _
 
 pub returns : goal.returns
 returns g c = IfOk-then c.answers.result _ _ c.answers.ensures (λ v h.
-    (c.read_shard.result.value, c.read_shard.ensures.tagged, c.read_shard.ensures.found, subst (λ ps. MapsEach g.F.Fn c.args.f.now ps v.items) (c.iter.ensures.pairs ∙ ap pairs c.deref.ensures.0) h))
+    (c.read_shard.result.value, c.read_shard.ensures.tagged, (c.read_shard.ensures.found, c.drop-read_shard.ensures.back), subst (λ ps. MapsEach g.F.Fn c.args.f.now ps v.items) (c.iter.ensures.pairs ∙ ap pairs c.deref.ensures.0) h))

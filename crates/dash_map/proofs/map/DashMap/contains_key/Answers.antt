@@ -12,4 +12,4 @@ find-requires g c = rw c.deref.ensures.0 (c.route_of-hash.ensures.hash ∙ sym (
 pub returns : goal.returns
 returns g c =
     let there = c.find.ensures.pair ∙ ap (λ s. at g.K.PartialEq.eq (pairs s) c.args.key.now) c.deref.ensures.0 in
-    saw-shard (key_hash g.K.PartialEq.eq g.K.Hash.hash_input g.S.BuildHasher g.S.Hasher.Hasher) c.args.self.now c.args.key.now _ c.route_of-hash.ensures.route c.read-guard.result.value (c.lock_of.ensures _ _ refl c.read-guard.ensures.fits) c.read-guard.ensures.found _ (c.is_some.ensures ∙ shown c.find.result ∙ ap is_some there)
+    saw-shard (key_hash g.K.PartialEq.eq g.K.Hash.hash_input g.S.BuildHasher g.S.Hasher.Hasher) c.args.self.now c.args.key.now _ c.route_of-hash.ensures.route c.read-guard.result.value (c.lock_of.ensures _ _ refl c.read-guard.ensures.fits) c.read-guard.ensures.found _ (c.drop-guard.ensures.back, c.is_some.ensures ∙ shown c.find.result ∙ ap is_some there)

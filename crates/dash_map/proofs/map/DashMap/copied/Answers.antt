@@ -19,7 +19,7 @@ loop-idx-preserved g c =
     let more = more-copied g.K.PartialEq.eq g.K.Kept.alike g.V.Kept.alike g.S.Clone.is_clone h so.0 c.loop-idx.copies.items so.2 s c.in_ok-copy_shard.field-0 made in
     record {
       room = omega (arith, c.loop-idx.invariant.room, c.push_reserved.ensures.capacity);
-      seen = seen-more h c.args.self.now _ c.loop-idx.idx so s c.read_shard-shard.ensures.tagged c.read_shard-shard.ensures.found
+      seen = seen-more h c.args.self.now _ c.loop-idx.idx so s c.read_shard-shard.ensures.tagged (c.read_shard-shard.ensures.found, c.drop-shard-in-loop-idx.ensures.back)
           (subst (λ l. AreCopied g.K.PartialEq.eq g.K.Kept.alike g.V.Kept.alike g.S.Clone.is_clone h (so.0 ++ s ∷ []) l) (sym c.push_reserved.ensures.items) more);
     }
 

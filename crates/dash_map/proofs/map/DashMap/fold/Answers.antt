@@ -13,7 +13,7 @@ pub fold_pairs-requires : goal.fold_pairs-requires
 fold_pairs-requires g c = fold-on of_pair g.F.FnMut (c.args.f, c.args.first) (c.loop-idx.f, c.loop-idx.folded) _ c.requires c.loop-idx.invariant.2
 
 pub loop-idx-preserved : goal.loop-idx-preserved
-loop-idx-preserved g c = along-shard (key_hash g.K.PartialEq.eq g.K.Hash.hash_input g.S.BuildHasher g.S.Hasher.Hasher) c.args.self.now (Folds of_pair g.F.FnMut) pairs (c.args.f, c.args.first) c.loop-idx.idx (c.loop-idx.f, c.loop-idx.folded) _ c.loop-idx.invariant _ c.read_shard-shard.ensures.tagged c.read_shard-shard.ensures.found _ (c.iter.ensures.pairs ∙ ap pairs c.deref.ensures.0) c.fold_pairs.ensures
+loop-idx-preserved g c = along-shard (key_hash g.K.PartialEq.eq g.K.Hash.hash_input g.S.BuildHasher g.S.Hasher.Hasher) c.args.self.now (Folds of_pair g.F.FnMut) pairs (c.args.f, c.args.first) c.loop-idx.idx (c.loop-idx.f, c.loop-idx.folded) _ c.loop-idx.invariant _ c.read_shard-shard.ensures.tagged (c.read_shard-shard.ensures.found, c.drop-shard.ensures.back) _ (c.iter.ensures.pairs ∙ ap pairs c.deref.ensures.0) c.fold_pairs.ensures
 
 pub returns : goal.returns
 returns g c =

@@ -13,7 +13,7 @@ pub visit_pairs-f-requires : goal.visit_pairs-f-requires
 visit_pairs-f-requires g c = visit-on of_pair g.F.FnMut c.args.f c.loop-idx.f _ c.requires c.loop-idx.invariant.2
 
 pub loop-idx-preserved : goal.loop-idx-preserved
-loop-idx-preserved g c = along-shard (key_hash g.K.PartialEq.eq g.K.Hash.hash_input g.S.BuildHasher g.S.Hasher.Hasher) c.args.self.now (Visits of_pair g.F.FnMut) pairs c.args.f c.loop-idx.idx c.loop-idx.f _ c.loop-idx.invariant _ c.read_shard-shard.ensures.tagged c.read_shard-shard.ensures.found _ (c.iter.ensures.pairs ∙ ap pairs c.deref.ensures.0) c.visit_pairs-f.ensures
+loop-idx-preserved g c = along-shard (key_hash g.K.PartialEq.eq g.K.Hash.hash_input g.S.BuildHasher g.S.Hasher.Hasher) c.args.self.now (Visits of_pair g.F.FnMut) pairs c.args.f c.loop-idx.idx c.loop-idx.f _ c.loop-idx.invariant _ c.read_shard-shard.ensures.tagged (c.read_shard-shard.ensures.found, c.drop-shard.ensures.back) _ (c.iter.ensures.pairs ∙ ap pairs c.deref.ensures.0) c.visit_pairs-f.ensures
 
 pub returns : goal.returns
 returns g c =

@@ -13,7 +13,7 @@ pub visit_keys_of-f-requires : goal.visit_keys_of-f-requires
 visit_keys_of-f-requires g c = visit-on of_key g.F.FnMut c.args.f c.loop-idx.f _ c.requires c.loop-idx.invariant.2
 
 pub loop-idx-preserved : goal.loop-idx-preserved
-loop-idx-preserved g c = along-shard (key_hash g.K.PartialEq.eq g.K.Hash.hash_input g.S.BuildHasher g.S.Hasher.Hasher) c.args.self.now (Visits of_key g.F.FnMut) (λ s. keys_of (pairs s)) c.args.f c.loop-idx.idx c.loop-idx.f _ c.loop-idx.invariant _ c.read_shard-shard.ensures.tagged c.read_shard-shard.ensures.found _ (ap keys_of (c.iter.ensures.pairs ∙ ap pairs c.deref.ensures.0)) c.visit_keys_of-f.ensures
+loop-idx-preserved g c = along-shard (key_hash g.K.PartialEq.eq g.K.Hash.hash_input g.S.BuildHasher g.S.Hasher.Hasher) c.args.self.now (Visits of_key g.F.FnMut) (λ s. keys_of (pairs s)) c.args.f c.loop-idx.idx c.loop-idx.f _ c.loop-idx.invariant _ c.read_shard-shard.ensures.tagged (c.read_shard-shard.ensures.found, c.drop-shard.ensures.back) _ (ap keys_of (c.iter.ensures.pairs ∙ ap pairs c.deref.ensures.0)) c.visit_keys_of-f.ensures
 
 pub returns : goal.returns
 returns g c =

@@ -13,7 +13,7 @@ returns g c =
     let held = c.read.result.value in
     let here = stands-at (key_hash g.K.PartialEq.eq g.K.Hash.hash_input g.S.BuildHasher g.S.Hasher.Hasher) c.args.self.now c.args.key.now _ c.route_of-hash.ensures.route held (c.lock_of.ensures _ _ refl c.read.ensures.fits) in
     record {
-      saw = (held, here, c.read.ensures.found, ap replied c.find.ensures.pair);
+      saw = (held, here, c.read.ensures.found, record { pair = ap replied c.find.ensures.pair; shard = c.find.ensures.shard; back = c.find.ensures.back });
       equal = c.find.ensures.equal;
       stands = c.find.ensures.stands;
       tagged = IfSome_then c.find.result c.find.ensures.shard (λ found e. rw e here);

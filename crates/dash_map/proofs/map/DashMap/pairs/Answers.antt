@@ -14,7 +14,7 @@ loop-idx-preserved g c =
     let so = c.loop-idx.invariant in
     let s = c.read_shard-shard.result.value in
     let added = subst (λ ps. AddsAlike g.K.Kept.alike g.V.Kept.alike ps c.loop-idx.copies.items c.add_copies.new.copies.items) (c.iter.ensures.pairs ∙ ap pairs c.deref.ensures.0) c.in_ok-add_copies.ensures in
-    seen-more (key_hash g.K.PartialEq.eq g.K.Hash.hash_input g.S.BuildHasher g.S.Hasher.Hasher) c.args.self.now _ c.loop-idx.idx so s c.read_shard-shard.ensures.tagged c.read_shard-shard.ensures.found
+    seen-more (key_hash g.K.PartialEq.eq g.K.Hash.hash_input g.S.BuildHasher g.S.Hasher.Hasher) c.args.self.now _ c.loop-idx.idx so s c.read_shard-shard.ensures.tagged (c.read_shard-shard.ensures.found, c.drop-shard-in-loop-idx.ensures.back)
     (more-copied g.K.Kept.alike g.V.Kept.alike so.0 s c.loop-idx.copies.items c.add_copies.new.copies.items so.2 added)
 
 pub returns : goal.returns

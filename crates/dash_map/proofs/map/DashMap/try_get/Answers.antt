@@ -18,7 +18,7 @@ pub returns-in-Some-find : goal.returns-in-Some-find
 returns-in-Some-find g c =
     let at = here g (goal.at.returns-in-Some-find g c).In-Some in
     record {
-      saw = (_, at, c.in-Some.ensures.found, ap replied c.in-Some-find.ensures.pair);
+      saw = (_, at, c.in-Some.ensures.found, record { pair = ap replied c.in-Some-find.ensures.pair; shard = c.in-Some-find.ensures.shard; back = tt });
       equal = c.in-Some-find.ensures.equal;
       stands = c.in-Some-find.ensures.stands;
       tagged = rw c.in-Some-find.ensures.shard at;
@@ -26,4 +26,4 @@ returns-in-Some-find g c =
 
 pub returns-in-None : goal.returns-in-None
 returns-in-None g c =
-    record { saw = (_, here g (goal.at.returns-in-None g c).In-Some, c.in-Some.ensures.found, ap replied c.in-None.ensures.pair); equal = tt; stands = tt; tagged = tt }
+    record { saw = (_, here g (goal.at.returns-in-None g c).In-Some, c.in-Some.ensures.found, record { pair = ap replied c.in-None.ensures.pair; shard = tt; back = c.in-None.ensures.back }); equal = tt; stands = tt; tagged = tt }

@@ -14,13 +14,13 @@ pub returns-in_err-key : goal.returns-in_err-key
 returns-in_err-key g c =
     let there = c.in_err-key.ensures.pair ∙ ap (λ s. at g.K.PartialEq.eq (pairs s) c.args.key.now) c.deref.ensures.0 in
     saw-shard (key_hash g.K.PartialEq.eq g.K.Hash.hash_input g.S.BuildHasher g.S.Hasher.Hasher) c.args.self.now c.args.key.now _ c.route_of-hash.ensures.route c.read-guard.result.value (c.lock_of.ensures _ _ refl c.read-guard.ensures.fits) c.read-guard.ensures.found _
-    (rw c.from_residual.ensures (subst (λ (o : Option (g.row.K.Denot × g.row.V.Denot)). Viewed g.F.FnOnce c.args.f o None) there refl))
+    (c.drop-guard.ensures.back, rw c.from_residual.ensures (subst (λ (o : Option (g.row.K.Denot × g.row.V.Denot)). Viewed g.F.FnOnce c.args.f o None) there refl))
 
 pub returns : goal.returns
 returns g c =
     let there = c.in_ok-key.ensures.pair ∙ ap (λ s. at g.K.PartialEq.eq (pairs s) c.args.key.now) c.deref.ensures.0 in
     saw-shard (key_hash g.K.PartialEq.eq g.K.Hash.hash_input g.S.BuildHasher g.S.Hasher.Hasher) c.args.self.now c.args.key.now _ c.route_of-hash.ensures.route c.read-guard.result.value (c.lock_of.ensures _ _ refl c.read-guard.ensures.fits) c.read-guard.ensures.found _
-    (subst (λ (o : Option (g.row.K.Denot × g.row.V.Denot)). Viewed g.F.FnOnce c.args.f o (Some c.f.result)) there (c.in_ok-key.key, c.in_ok-key.value, refl, refl, c.f.ensures))
+    (c.drop-guard-2.ensures.back, subst (λ (o : Option (g.row.K.Denot × g.row.V.Denot)). Viewed g.F.FnOnce c.args.f o (Some c.f.result)) there (c.in_ok-key.key, c.in_ok-key.value, refl, refl, c.f.ensures))
 
 pub f-requires : goal.f-requires
 f-requires g c = c.requires (deref_pair (c.in_ok-key.key, c.in_ok-key.value)) c.in_ok-key.ensures.equal c.in_ok-key.key c.in_ok-key.value refl refl

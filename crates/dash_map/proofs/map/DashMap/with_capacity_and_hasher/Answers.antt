@@ -1,6 +1,6 @@
 use Rattle.std.proofs.Common.{ap, sym, subst}
 use Rattle.std.proofs.lemmas.Result.{IfOk-weaker}
-use Rattle.dash_map.proofs.Refusals.{with-amount, overflow-at}
+use Rattle.dash_map.proofs.Refusals.{with-amount, overflow-at, new-at}
 use Rattle.dash_map.specs.Amounts.{IsDefault}
 use Rattle.dash_map.proofs.map.DashMap.with_capacity_and_hasher.Goals as goal
 
@@ -20,3 +20,8 @@ returns-clause-overflow g c =
 pub returns-clause-kinds : goal.returns-clause-kinds
 returns-clause-kinds g c =
     with-amount c.with_capacity_and_hasher_and_shard_amount.result c.in_ok-amount.amount c.in_ok-amount.ensures.lawful c.with_capacity_and_hasher_and_shard_amount.ensures.bad_amount c.with_capacity_and_hasher_and_shard_amount.ensures.kinds
+
+pub returns-clause-new : goal.returns-clause-new
+returns-clause-new g c =
+    let made = c.with_capacity_and_hasher_and_shard_amount.ensures in
+    new-at c.with_capacity_and_hasher_and_shard_amount.result c.args.hasher c.args.capacity c.in_ok-amount.amount made.made made.new

@@ -15,9 +15,10 @@ returns-in-Err-clause-fault g c =
 pub returns-in_ok-number-in-Whole-Count-clause-reply : goal.returns-in_ok-number-in-Whole-Count-clause-reply
 returns-in_ok-number-in-Whole-Count-clause-reply g c =
     let ok = c.in_ok-number-in-Whole-Count in
-    rw c.in-Whole-Count.is (counts c.in-Whole-Count.field-0 (rw c.in-Whole-Count.is at c.in-Whole-Count.field-0-is) ok.number (omega (arith, ok.ensures.ok.joined)))
+    rw c.in-Whole-Count.is (counts c.in-Whole-Count.field-0 (rw c.in-Whole-Count.is at c.in-Whole-Count.field-0-is) ok.number (omega (arith, ok.ensures.counts.2.2.ok.joined)))
 
 pub returns-in_ok-pairs-in-Whole-Read-clause-reply : goal.returns-in_ok-pairs-in-Whole-Read-clause-reply
 returns-in_ok-pairs-in-Whole-Read-clause-reply g c =
     let ok = c.in_ok-pairs-in-Whole-Read in
-    rw c.in-Whole-Read.is (holds c.in-Whole-Read.field-0 (rw c.in-Whole-Read.is at c.in-Whole-Read.field-0-is) (Pairs ok.pairs) ok.pairs.items (distinct-copies _ nat_eq_equiv _ _ _ _ _ _ ok.ensures.ok) refl)
+    let saw = ok.ensures.clones in
+    rw c.in-Whole-Read.is (holds c.in-Whole-Read.field-0 (rw c.in-Whole-Read.is at c.in-Whole-Read.field-0-is) (Pairs ok.pairs) ok.pairs.items (distinct-copies _ nat_eq_equiv _ _ saw.0 saw.1.lawful ok.pairs.items saw.2.2.ok.pairs) refl)

@@ -4,16 +4,18 @@ use Rattle.dash_set.proofs.set.DashSet.extend.Goals as goal
 
 pub returns-clause-extends : goal.returns-clause-extends
 returns-clause-extends g c =
-    let left = c.extend.ensures.extends in
+    let put = c.extend.ensures.extends in
+    let locked = put.2 in
     rw (← c.self.view_is) (
-      left.0,
-      left.1,
+      put.0,
+      put.1,
       (
-        left.2.0,
-        left.2.1,
+        locked.0,
+        locked.1,
+        locked.2,
         record {
-          gains = came-inside (λ m. m.keys) (of_members g.U.IntoIter.Iterator.next_gives) _ _ _ (g.U.IntoIterator.into_iter_gives c.args.iter) c.into_iter-keys.ensures.into_iter_gives left.2.2.gains;
-          refused = left.2.2.refused;
+          gains = came-inside (λ m. m.keys) (of_members g.U.IntoIter.Iterator.next_gives) _ _ _ (g.U.IntoIterator.into_iter_gives c.args.iter) c.into_iter-keys.ensures.into_iter_gives locked.3.gains;
+          refused = locked.3.refused;
         },
       ),
     )

@@ -7,4 +7,4 @@ use Rattle.dash_set.proofs.set.DashSet.par_extend_shared.Goals as goal
 pub returns : goal.returns
 returns g c =
     rw (← c.self.view_is)
-    (subst (λ ps. OnOk c.par_extend_shared.result (PutsEachBehind (key_hash g.K.PartialEq.eq g.K.Hash.hash_input g.S.BuildHasher g.S.Hasher.Hasher) c.self.inside.inner ps)) c.in_ok-pairs.ensures c.par_extend_shared.ensures)
+    (subst (λ ps. OnOk c.par_extend_shared.result (PutsEachBehind (key_hash g.K.PartialEq.eq g.K.Hash.hash_input g.S.BuildHasher g.S.Hasher.Hasher) c.self.inside.inner ps)) c.in_ok-pairs.ensures.members c.par_extend_shared.ensures)

@@ -11,6 +11,6 @@ pub returns : goal.returns
 returns g c =
     let r = c.shrink.ensures in
     record {
-      shrinks = shrinks _ (lawful-of g.S.BuildHasher g.S.Hasher.Hasher g.met.K.Eq.laws g.met.K.Hash.respects_eq) _ _ _ c.self.inside.table c.shrink.new.self c.self.invariant r.moved r.slots r.none _ c.self.view_is;
+      shrinks = shrinks _ (lawful-of g.S.BuildHasher g.S.Hasher.Hasher g.met.K.Eq.laws g.met.K.Hash.respects_eq) _ _ _ c.self.inside.table c.shrink.new.self c.self.invariant r.moved r.slots r.close r.none _ c.self.view_is;
       lawful = (moved-inside _ (lawful-of g.S.BuildHasher g.S.Hasher.Hasher g.met.K.Eq.laws g.met.K.Hash.respects_eq) _ _ _ c.self.inside.table c.shrink.new.self c.self.invariant r.moved).shard;
     }

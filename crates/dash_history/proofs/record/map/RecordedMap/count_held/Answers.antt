@@ -1,18 +1,9 @@
-use Rattle.std.proofs.Common.{List, ap, sym, subst, ◌∙◌}
-use Rattle.dash_record.specs.History.{RecState}
-use Rattle.dash_record.specs.Joined.{joined_number}
-use Rattle.dash_record.specs.inner.Parts.{Planned}
+use Rattle.std.proofs.Common.{arith}
 use Rattle.dash_steps.specs.Takes.{known_by}
-use Rattle.dash_steps.specs.declared.step.Whole.TheVariants as whole
+use Rattle.dash_history.proofs.SharedSteps.{step-behind}
 use Rattle.dash_history.proofs.record.map.RecordedMap.count_held.Goals as goal
 
-pub returns-clause-ok : goal.returns-clause-ok
-returns-clause-ok g c =
-    let Row : Type 0 = List (RecState g.row.K.Denot g.row.V.Denot g.row.A.Denot g.row.S.Denot) in
-    let p = c.in_ok-parts.parts in
-    let planned = subst (λ (row : Row). Planned (known_by g.K.PartialEq.eq g.K.Hash.hash_input g.K.Kept.alike g.V.Kept.alike g.A.Kept.alike g.A.Action.acts g.S.BuildHasher g.S.Hasher.Hasher) (λ s. s) whole.Count row c.args.log.now p.stamp p.kept.items p.logged.items) (c.deref.ensures.value ∙ sym c.deref_mut.ensures.value) c.in_ok-parts.ensures.planned in
-    record {
-      parts = p.logged.items;
-      logs = c.record_held.ensures.logs c.if-not-record_held.false whole.Count planned;
-      joined = c.join_numbers-number.ensures ∙ ap joined_number c.deref-2.ensures.value;
-    }
+pub returns-clause-counts : goal.returns-clause-counts
+returns-clause-counts g c =
+    let step = c.count_in-answer in
+    step-behind (known_by g.K.PartialEq.eq g.K.Hash.hash_input g.K.Kept.alike g.V.Kept.alike g.A.Kept.alike g.A.Action.acts g.S.BuildHasher g.S.Hasher.Hasher) c.args.self.now c.args.log.now _ step.result c.args.holds.items c.deref_mut.result.now step.new.holds c.args.holds.len (omega (arith, c.args.holds.ok.0)) c.deref_mut.ensures.value step.auto.holds c.requires.held step.ensures.lawful c.end_all.ensures step.ensures.counts

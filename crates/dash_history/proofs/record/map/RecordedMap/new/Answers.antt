@@ -1,3 +1,6 @@
+use Rattle.std.proofs.Common.{List, ap, subst, sym}
+use Rattle.dash_shard.specs.Shard.{EachAt}
+use Rattle.dash_record.specs.History.{RecState, IsFresh}
 use Rattle.dash_shard.specs.declared.error.ConstructError.TheVariants.{Callers, ShardAmount}
 use Rattle.dash_history.proofs.Refusals.{made-too, passed-on}
 use Rattle.dash_history.proofs.record.map.RecordedMap.new.Goals as goal
@@ -13,3 +16,7 @@ returns-clause-bad_amount g c = made-too _ (c.in_ok-alone.alone, c.in_ok-alone.l
 
 pub returns-clause-bad_callers : goal.returns-clause-bad_callers
 returns-clause-bad_callers g c = made-too _ (c.in_ok-alone.alone, c.in_ok-alone.logs) (c.end.result, c.in_ok-alone.logs) Callers c.in_ok-alone.ensures.bad_callers
+
+pub returns-clause-made : goal.returns-clause-made
+returns-clause-made g c =
+    subst (λ (row : List (RecState g.row.K.Denot g.row.V.Denot g.row.A.Denot g.row.S.Denot)). EachAt row (λ _ s. IsFresh s)) (sym (ap (λ m. m.made) c.end.ensures.map)) c.in_ok-alone.ensures.fresh

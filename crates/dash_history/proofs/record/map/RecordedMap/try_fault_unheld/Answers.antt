@@ -1,12 +1,14 @@
-use Rattle.std.proofs.Common.{inl, inr, arith}
+use Rattle.std.proofs.Common.{inr, arith}
+use Rattle.dash_steps.specs.Takes.{known_by}
+use Rattle.dash_history.proofs.SharedSteps.{none-seen, one-seen, all-seen}
 use Rattle.dash_history.proofs.record.map.RecordedMap.try_fault_unheld.Goals as goal
-use Rattle.dash_history.proofs.record.map.RecordedMap.try_fault_unheld.Goals.{then-last_stamp, else-last_stamp}
+
+pub loop-idx-init : goal.loop-idx-init
+loop-idx-init g c = none-seen (known_by g.K.PartialEq.eq g.K.Hash.hash_input g.K.Kept.alike g.V.Kept.alike g.A.Kept.alike g.A.Action.acts g.S.BuildHasher g.S.Hasher.Hasher) c.args.self.now c.args.log.now c.last_stamp-top.result c.last_stamp-top.ensures.last
 
 pub loop-idx-preserved : goal.loop-idx-preserved
-loop-idx-preserved g c = elim c.if-last_stamp.branch [
-  | then-last_stamp w ↦ record {
-    none_left = λ _. inr (c.loop-idx.idx, (c.in-Some.held, c.in-Some.ensures.tagged, c.in-Some.ensures.legal, c.in-Some.ensures.found, omega (arith, c.last_stamp-in-loop-idx.ensures, w.if-last_stamp)));
-    kind = inl w.fault-is;
-  }
-  | else-last_stamp w ↦ rw w.fault-is c.loop-idx.invariant
-]
+loop-idx-preserved g c =
+    one-seen (known_by g.K.PartialEq.eq g.K.Hash.hash_input g.K.Kept.alike g.V.Kept.alike g.A.Kept.alike g.A.Action.acts g.S.BuildHasher g.S.Hasher.Hasher) c.args.self.now c.args.log.now c.loop-idx.idx c.loop-idx.top c.last_stamp.result c.max-top.result c.in-Some.held c.loop-idx.invariant c.in-Some.ensures.tagged c.in-Some.ensures.legal c.in-Some.ensures.found c.drop-held.ensures.left c.last_stamp.ensures c.max-top.ensures
+
+pub returns-clause-fault : goal.returns-clause-fault
+returns-clause-fault g c = inr (all-seen (known_by g.K.PartialEq.eq g.K.Hash.hash_input g.K.Kept.alike g.V.Kept.alike g.A.Kept.alike g.A.Action.acts g.S.BuildHasher g.S.Hasher.Hasher) c.args.self.now c.args.log.now c.loop-idx.idx c.loop-idx.top c.fault_at.result c.loop-idx.invariant (omega (arith, c.loop-idx-test.false, c.shard_count-idx-end.ensures.count)) c.shard_count-idx-end.ensures.lawful c.callers.ensures.lawful c.fault_at.ensures.last_stamp)

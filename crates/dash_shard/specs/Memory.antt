@@ -1,0 +1,2 @@
+-- Where memory was refused.
+pub use Rattle.dash_behind.specs.Closed.{NoMemory}
