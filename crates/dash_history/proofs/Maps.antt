@@ -1,5 +1,5 @@
 -- The shards of a map, in their two homes: behind locks, and in the row of one owner.
-use Rattle.std.proofs.Common.{◌≡◌, ◌+◌, ◌<◌, ◌≤◌, ℕ, zero, suc, List, [], ◌∷◌, Some, Result, length, map, slice_get, slice_index_or, refl, ap, ap₂, sym, subst, ◌∙◌, arith}
+use Rattle.std.proofs.Common.{◌≡◌, ◌+◌, ◌<◌, ◌≤◌, ℕ, zero, suc, List, [], ◌∷◌, Some, Result, length, map, slice_get, slice_index_or, inr, refl, ap, ap₂, sym, subst, ◌∙◌, arith}
 use Rattle.std.proofs.lemmas.Option.{none-some, same_Some, slice_get-get_or}
 use Rattle.std.proofs.lemmas.Result.{IfOk-weaker, MatchResult-weaker}
 use Rattle.std.specs.Cmp.{IsEquivalence}
@@ -117,10 +117,8 @@ module _ {K V A S : Type 0} (w : Known K V A S) (lk : IsEquivalence w.alike_key)
       record {
         ok = IfOk-weaker result (λ reply. Recorded (kinds_of w s.shard) s s' l l' step reply) _
             (λ reply recorded. logged (kinds_on w m) lk lv lf s s' l l' step reply (sym (at.number ∙ goes)) (subst (λ x. Recorded x s s' l l' step reply) same recorded)) r.ok;
-        left = IfOk-weaker result (λ reply. Recorded (kinds_of w s.shard) s s' l l' step reply) _
-            (λ reply recorded. (s, subst (λ n. IsRecTagged w.keys m.hasher m.amount m.callers n s) goes at, legal, found, (s', put, subst (λ x. Recorded x s s' l l' step reply) same recorded))) r.ok;
         refused = MatchResult-weaker result r.refused (λ x p. p) (λ e h. (h.0, h.2));
         part = r.part;
         no_such_shard = (λ e. absurd (never-missing result step r.faults e), λ no. let past : m.amount ≤ shard_of (kinds_on w m) step = no.1 in absurd (omega (arith, goes, within, past)));
-        last_stamp = λ e. (s, subst (λ k. IsRecTagged w.keys m.hasher m.amount m.callers k s) goes at, legal, found, (r.last_stamp.0 e).1);
+        shard = λ _ _. inr (s, subst (λ k. IsRecTagged w.keys m.hasher m.amount m.callers k s) goes at, legal, found, (s', put, r));
       }

@@ -1,19 +1,19 @@
 -- A recorded map behind its locks, and what a step through them leaves in the caller's log.
-use Rattle.std.specs.Prelude.{ℕ, ◌≡◌, ◌<◌, ◌↔◌, List, [], ◌∷◌, ◌++◌, length, Result, Err, IfOk, IfErr}
+use Rattle.std.specs.Prelude.{ℕ, ◌≡◌, ◌<◌, ◌↔◌, ◌⊎◌, List, [], ◌∷◌, ◌++◌, length, Result, Err, IfOk, IfErr}
 use Rattle.dash_shard.specs.Hashing.{KeyHash}
 use Rattle.dash_lock.specs.Lock.{FoundBehind, LeftBehind, EndedWith}
 use Rattle.dash_shard.specs.Shard.{EachAt}
 use Rattle.dash_steps.specs.Steps.{step_of, reply_of, IsPart}
 use Rattle.dash_steps.specs.Takes.{Known, kinds_at, Kinds, Answers}
-use Rattle.dash_record.specs.History.{RecState, LogState, IsCopy, IsRecorded, NoShard, Recorded, shard_of}
+use Rattle.dash_record.specs.History.{RecState, LogState, IsCopy, IsRecorded, NoShard, shard_of}
 use Rattle.dash_history.specs.Alone.{RecAloneState, IsRecAlone, EachRecShard}
 use Rattle.dash_record.specs.Held.{IsRecTagged}
-use Rattle.dash_record.specs.Refused.{NoStamp, RefusesPart}
+use Rattle.dash_record.specs.Refused.{Records, RefusesPart}
 use Rattle.dash_steps.specs.declared.step.ShardStep.{ShardStep}
 use Rattle.dash_steps.specs.declared.step.Reply.{Reply}
 use Rattle.dash_steps.specs.declared.step.Record.{Record}
 use Rattle.dash_record.specs.declared.record.RecordFault.{RecordFault}
-use Rattle.dash_record.specs.declared.record.RecordFault.TheVariants.{LastStamp, NoSuchShard}
+use Rattle.dash_record.specs.declared.record.RecordFault.TheVariants.{Locked, NoSuchShard}
 
 -- the hasher, the number of the callers and that of the shards
 pub record RecMapShape (S : Type 0) : Type 0 where
@@ -105,12 +105,11 @@ pub record Logged {K V A : Type 0} (m : Kinds K V A) (l l' : LogState K V A) (st
   pub answers : Answers m.rules contents (step_of m.acts step) (reply_of reply)
 
 -- A step through the locks is taken and recorded on its shard, and logged with its reply. Or it is handed back, and the log is as
--- it was: exactly where it is a part of a whole step, for want of its shard exactly where the map has none, for want of a stamp only
--- where none was left.
+-- it was: exactly where it is a part of a whole step, for want of its shard exactly where the map has none, and else where somebody has
+-- the shard, or where the shard that was found and left refuses it.
 pub record Logs {K V A S : Type 0} (w : Known K V A S) (m : RecMapState K V A S) (l l' : LogState K V A) (step : ShardStep K V A) (result : Result (Reply K V) (ShardStep K V A × RecordFault)) : Type 0 where
   pub ok : IfOk result (λ reply. Logged (kinds_on w m) l l' step reply)
-  pub left : IfOk result (λ reply. LeavesRecShard w m (shard_on w m step) (λ s t. Recorded (kinds_on w m) s t l l' step reply))
   pub refused : IfErr result (λ e. (e.0 ≡ step) × (l' ≡ l))
   pub part : RefusesPart step result
   pub no_such_shard : (result ≡ Err (step, NoSuchShard)) ↔ (IsPart step → ⊥) × NoShard (kinds_on w m) step
-  pub last_stamp : result ≡ Err (step, LastStamp) → SawRecShard w m (shard_on w m step) (λ s. NoStamp s.last l.last)
+  pub shard : (IsPart step → ⊥) → shard_on w m step < m.amount → (result ≡ Err (step, Locked)) ⊎ LeavesRecShard w m (shard_on w m step) (λ s t. Records w s t l l' step result)

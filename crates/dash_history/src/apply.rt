@@ -1,8 +1,7 @@
 //! Steps of callers on a map that threads share.
-ghost use Rattle.std.specs.Prelude.{◌≡◌, ◌-◌, ◌^◌, ◌<◌, ◌⊎◌};
-ghost use Rattle.dash_steps.specs.Steps.{IsPart};
-ghost use Rattle.dash_history.specs.Map.{Logs, shard_on};
-ghost use Rattle.dash_record.specs.declared.record.RecordFault.TheVariants.{LastStamp, Locked};
+ghost use Rattle.std.specs.Prelude.{◌≡◌, ◌<◌};
+ghost use Rattle.dash_history.specs.Map.{Logs};
+ghost use Rattle.dash_record.specs.declared.record.RecordFault.TheVariants.{Locked};
 
 use crate::record::map::RecordedMap;
 use dash_kept::{Kept, KeptKey};
@@ -32,10 +31,6 @@ impl<K: KeptKey + Drop, V: Kept + Drop, S: BuildHasher, A: KeptAction<K, V> + Dr
     ) -> Result<Reply<K, V>, (ShardStep<K, V, A>, RecordFault)>
         requires { log.old.caller < self.now.callers }
         ensures logs { Logs ⟦<Self as Recorded>⟧.known self.now log.old log.new step result }
-
-        // The shard's last stamp is not known here, the log's is.
-        ensures last_stamp { (IsPart step → ⊥) → shard_on ⟦<Self as Recorded>⟧.known self.now step < self.now.amount
-            → log.old.last ≡ 2 ^ 64 - 1 → result ≡ Err (step, LastStamp) }
         ensures locked { result ≡ Err (step, Locked) → ⊥ }
     {
         if step.is_part() {
@@ -59,10 +54,6 @@ impl<K: KeptKey + Drop, V: Kept + Drop, S: BuildHasher, A: KeptAction<K, V> + Dr
     ) -> Result<Reply<K, V>, (ShardStep<K, V, A>, RecordFault)>
         requires { log.old.caller < self.now.callers }
         ensures logs { Logs ⟦<Self as Recorded>⟧.known self.now log.old log.new step result }
-
-        // Whether the shard is free is not known here; where it is, the log's last stamp is looked at.
-        ensures last_stamp { (IsPart step → ⊥) → shard_on ⟦<Self as Recorded>⟧.known self.now step < self.now.amount
-            → log.old.last ≡ 2 ^ 64 - 1 → (result ≡ Err (step, Locked)) ⊎ (result ≡ Err (step, LastStamp)) }
     {
         if step.is_part() {
             return Err((step, RecordFault::Part));

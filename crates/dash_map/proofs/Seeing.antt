@@ -105,9 +105,9 @@ module _ {K V S : Type 0} (h : KeyHash K S) where
     seen-all n so all = (record { hasher = m.hasher; row = so.0 }, all-seen m WasRead n so.0 so.1 all, so.2)
 
 -- what the locks ended with, changed by one owner, and put into locks that were made for it
-pub locked-again : {K V S : Type 0} (h : KeyHash K S) (m n : MapState K V S) (a b : AloneState K V S) → AreEnded h m a → KeepsRoom a b → IsAlone h b → n ≡ locked b
+pub locked-again : {K V S : Type 0} (h : KeyHash K S) (m n : MapState K V S) (a b : AloneState K V S) → AreEnded h m a → AreBehind h LeftBehind n b → n ≡ locked b
     → (R : AloneState K V S → AloneState K V S → Type 0) → R a b → Relocks h m n R
-locked-again h m n a b ended stays lawful is R did = (a, ended, (b, ap made_for is, lawful, did))
+locked-again h m n a b ended left is R did = (a, ended, (b, left, (ap made_for is, did)))
 
 -- so hasher and amount are the map's
 pub same-shape : {K V S : Type 0} (h : KeyHash K S) (m n : MapState K V S) (a b : AloneState K V S) → AreEnded h m a → KeepsRoom a b → n ≡ locked b → shape n ≡ shape m

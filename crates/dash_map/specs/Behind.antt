@@ -75,6 +75,10 @@ module _ {K V S : Type 0} (h : KeyHash K S) where
   abbrev pub EndedShards : MapState K V S → (AloneState K V S → Type 0) → Type 0
   EndedShards m P = (a : AloneState K V S) × AreEnded m a × P a
 
+  -- P is so of the shards that the locks of this map were made for, and which so were left there
+  abbrev pub MadeShards : MapState K V S → (AloneState K V S → Type 0) → Type 0
+  MadeShards m P = LeftShards m (λ b. (made_for m ≡ b) × P b)
+
   -- R of the shards that the locks of the map m ended with, and of those that the locks of the map n were made for
   abbrev pub Relocks : MapState K V S → MapState K V S → (AloneState K V S → AloneState K V S → Type 0) → Type 0
-  Relocks m n R = EndedShards m (λ a. (b : AloneState K V S) × (made_for n ≡ b) × IsAlone h b × R a b)
+  Relocks m n R = EndedShards m (λ a. MadeShards n (R a))

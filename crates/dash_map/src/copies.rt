@@ -2,8 +2,7 @@
 ghost use Rattle.std.specs.Prelude.{IfOk};
 ghost use Rattle.dash_shard.specs.Hashing.{by, HashAlike};
 ghost use Rattle.dash_map.specs.Alone.{IsAlone};
-ghost use Rattle.dash_map.specs.Behind.{SawShards};
-ghost use Rattle.dash_map.specs.Map.{made_for};
+ghost use Rattle.dash_map.specs.Behind.{MadeShards, SawShards};
 ghost use Rattle.dash_map.specs.Copies.{CopiesAlone};
 
 use crate::alone::Alone;
@@ -43,7 +42,7 @@ impl<K: KeptKey + Drop, V: Kept + Drop, S: BuildHasher + Clone + Drop> DashMap<K
     pub fn clone<R: Wait + Clock>(&self, rt: &R) -> Result<Self, AllocError>
         requires { (s t : S) → S.is_clone s t → HashAlike ⟦<Self as Keyed>⟧.by s t }
         ensures { IfOk result (λ copy. SawShards ⟦<Self as Keyed>⟧.by self.now
-            (λ a. CopiesAlone K.eq K.alike V.alike S.is_clone a (made_for copy))) }
+            (λ a. MadeShards ⟦<Self as Keyed>⟧.by copy (CopiesAlone K.eq K.alike V.alike S.is_clone a))) }
     {
         Ok(self.copied(rt)?.end())
     }

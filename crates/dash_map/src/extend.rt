@@ -6,7 +6,8 @@ ghost use Rattle.dash_shard.specs.Hashing.{HashAlike};
 ghost use Rattle.dash_shard.specs.declared.error.ConstructError.TheVariants.{Parallelism};
 ghost use Rattle.dash_map.specs.Alone.{IsAlone, KeepsRoom, contents};
 ghost use Rattle.dash_map.specs.Amounts.{IsDefault, IsParallelism};
-ghost use Rattle.dash_map.specs.Map.{made_for, shape};
+ghost use Rattle.dash_map.specs.Behind.{MadeShards};
+ghost use Rattle.dash_map.specs.Map.{shape};
 ghost use Rattle.dash_map.specs.Extend.{Extends, ExtendsBehind, Gave, MadeOf, NotMade, IsRefusedAmong, IsRefusedOf};
 ghost use Rattle.dash_map.specs.declared.extend.FromRefused.TheVariants.{Construct, Pair};
 
@@ -194,7 +195,7 @@ impl<K: Eq + Hash + Drop, V: Drop, S: BuildHasher + Clone + Default + Drop> Dash
         requires alike { (s t : S) → S.is_clone s t → HashAlike ⟦<Self as Keyed>⟧.by s t }
         requires finite { IsFiniteIterable U.into_iter_gives U.IntoIter.can_next U.IntoIter.remaining iter }
         ensures made { IfOk result (λ m. Gave U.into_iter_gives U.IntoIter.next_gives iter None
-            (λ ps. MadeOf ⟦<Self as Keyed>⟧.by ps (made_for m))) }
+            (λ ps. MadeShards ⟦<Self as Keyed>⟧.by m (MadeOf ⟦<Self as Keyed>⟧.by ps))) }
         ensures hasher { IfOk result (λ m. S.is_default m.hasher) }
         ensures amount { IfOk result (λ m. IsDefault parallelism m.amount) }
         ensures bad_parallelism { IsErrOf result (Construct Parallelism) ↔ (IsParallelism parallelism → ⊥) }
@@ -210,7 +211,7 @@ impl<K: Eq + Hash + Drop, V: Drop, S: BuildHasher + Clone + Default + Drop> Dash
         parallelism: usize,
     ) -> Result<Self, FromRefused<K, V>>
         requires alike { (s t : S) → S.is_clone s t → HashAlike ⟦<Self as Keyed>⟧.by s t }
-        ensures made { IfOk result (λ m. MadeOf ⟦<Self as Keyed>⟧.by list.items (made_for m)) }
+        ensures made { IfOk result (λ m. MadeShards ⟦<Self as Keyed>⟧.by m (MadeOf ⟦<Self as Keyed>⟧.by list.items)) }
         ensures hasher { IfOk result (λ m. S.is_default m.hasher) }
         ensures amount { IfOk result (λ m. IsDefault parallelism m.amount) }
         ensures bad_parallelism { IsErrOf result (Construct Parallelism) ↔ (IsParallelism parallelism → ⊥) }

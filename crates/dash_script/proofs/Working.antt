@@ -1,5 +1,5 @@
 -- What threads do on their map.
-use Rattle.std.proofs.Common.{◌≡◌, ◌≢◌, true, Bool, ℕ, zero, suc, ◌+◌, ◌*◌, ◌^◌, ◌<◌, ◌≤◌, List, [], ◌∷◌, ◌++◌, length, map, take, drop, get_or, None, refl, sym, ap, subst, ◌∙◌, inl, inr, arith, add-one}
+use Rattle.std.proofs.Common.{◌≡◌, ◌≢◌, ◌⊎◌, ⊎_elim, true, Bool, ℕ, zero, suc, ◌+◌, ◌*◌, ◌^◌, ◌<◌, ◌≤◌, List, [], ◌∷◌, ◌++◌, length, map, take, drop, get_or, None, refl, sym, ap, subst, ◌∙◌, inl, inr, arith, add-one}
 use Rattle.std.specs.Prelude.{nat_eq, IsTrue, Option, Some, IsSomeAnd, IfNone, IfSome, IfOk, slice_get, Result, Ok, Err, All, sum_by}
 use Rattle.std.proofs.lemmas.Bool.{eqb-true, and_parts, cases_lt}
 use Rattle.std.proofs.lemmas.List.{map-append, get_or_append_left, get_or_push, length_push, length-map, get_or-map, drop_all, take_all, append-nil}
@@ -11,9 +11,12 @@ use Rattle.dash_shard.specs.Contents.{Keys, keys}
 use Rattle.std.proofs.lemmas.Result.{IfOk-weaker}
 use Rattle.dash_history.specs.Alone.{RecAloneState, fresh_logs}
 use Rattle.dash_record.specs.History.{LogState, shard_of}
-use Rattle.dash_history.specs.Map.{Logged, RecMapState, SawRecShards}
+use Rattle.dash_record.specs.Refused.{NoStamp, Records}
+use Rattle.dash_record.specs.declared.record.RecordFault.{RecordFault}
+use Rattle.dash_record.specs.declared.record.RecordFault.TheVariants as fault
+use Rattle.dash_history.specs.Map.{LeavesRecShard, Logged, RecMapState, SawRecShards}
 use Rattle.dash_history.specs.OneHistory.{Matches}
-use Rattle.dash_steps.specs.Steps.{alike_step}
+use Rattle.dash_steps.specs.Steps.{IsPart, alike_step}
 use Rattle.dash_steps.specs.Takes.{Known, rules}
 use Rattle.dash_steps.specs.inner.Kinds.{kinds}
 use Rattle.dash_record.proofs.Telling.{tells-of}
@@ -25,7 +28,7 @@ use Rattle.dash_script.specs.declared.threads.Refusal.TheVariants.{Map, LastStam
 use Rattle.dash_script.specs.declared.threads.Worker.{Worker}
 use Rattle.dash_script.specs.Replay.{IsThreadStep}
 use Rattle.dash_shard.specs.Shard.{EachAt}
-use Rattle.dash_script.specs.Threads.{IsSize, AreDone, IsJudged, IsSo, thread_step}
+use Rattle.dash_script.specs.Threads.{HasNoStamp, IsSize, AreDone, IsJudged, IsSo, thread_step}
 use Rattle.dash_script.specs.inner.Threads.{LogsStep, IsIdle, IsFirstRefusal, MayRefuse, Works, AllDone, HasTaken, IsJudgedOf, IsJudgedBy, idle, steps_in, thread_steps}
 
 -- steps of threads: they carry no action
@@ -55,6 +58,18 @@ not-outside route n (Get k) known below outside = omega (arith, below k, outside
 not-outside route n (Insert k v) known below outside = omega (arith, below k, outside)
 not-outside route n (Remove k) known below outside = omega (arith, below k, outside)
 not-outside route n step known below outside = absurd known
+
+-- and it is no part of a whole step
+pub not-part : (step : ShardStep ℕ ℕ (Unit {0})) → IsThreadStep step → IsPart step → ⊥
+not-part (Get k) known part = part
+not-part (Insert k v) known part = part
+not-part (Remove k) known part = part
+not-part step known part = absurd known
+
+-- where it is refused for want of a stamp, its shard had none
+pub no-stamp : (w : Known ℕ ℕ (Unit {0}) PlaceState) (m : RecMapState ℕ ℕ (Unit {0}) PlaceState) (i : ℕ) (l l' : LogState ℕ ℕ (Unit {0})) (step : ShardStep ℕ ℕ (Unit {0})) (result : Result (Reply ℕ ℕ) (ShardStep ℕ ℕ (Unit {0}) × RecordFault))
+    → result ≡ Err (step, fault.LastStamp) → l' ≡ l → (result ≡ Err (step, fault.Locked)) ⊎ LeavesRecShard w m i (λ s t. Records w s t l l' step result) → HasNoStamp w m l'
+no-stamp w m i l l' step result is same found = ⊎_elim (λ locked. absurd (cc)) (λ left. (i, left.0, left.1, left.2, left.3, subst (λ (x : LogState ℕ ℕ (Unit {0})). NoStamp left.0.last x.last) (sym same) (left.6.last_stamp.0 is).1)) found
 
 -- a step that was logged
 pub logged : (w : Keys ℕ) (l l' : LogState ℕ ℕ (Unit {0})) (step : ShardStep ℕ ℕ (Unit {0})) (reply : Reply ℕ ℕ) → IsThreadStep step → Logged (kinds (λ _ _. true) idle_acts (rules nat_eq nat_eq w)) l l' step reply → LogsStep l l' step

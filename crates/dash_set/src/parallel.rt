@@ -9,8 +9,8 @@ ghost use Rattle.dash_shard.specs.Hashing.{by, HashAlike};
 ghost use Rattle.dash_shard.specs.declared.error.ConstructError.TheVariants.{Memory, Parallelism};
 ghost use Rattle.dash_map.specs.Amounts.{IsDefault, IsParallelism};
 ghost use Rattle.dash_map.specs.Alone.{IsAlone, contents};
-ghost use Rattle.dash_map.specs.Behind.{EndedShards, SawShards};
-ghost use Rattle.dash_map.specs.Map.{made_for, shape};
+ghost use Rattle.dash_map.specs.Behind.{EndedShards, MadeShards, SawShards};
+ghost use Rattle.dash_map.specs.Map.{shape};
 ghost use Rattle.dash_map.specs.Extend.{MadeOf, ParExtends, ParExtendsBehind, PutsEachBehind};
 ghost use Rattle.dash_set.specs.Set.{MayMapKey, keys_of, members};
 
@@ -152,7 +152,7 @@ impl<K: Eq + Hash + Send + Drop, S: BuildHasher + Clone + Default + Send + Drop>
     where
         S::Hasher: Send,
         requires { (s t : S) → S.is_clone s t → HashAlike ⟦<Self as Keyed>⟧.by s t }
-        ensures made { IfOk result (λ s. MadeOf ⟦<Self as Keyed>⟧.by (members list.items) (made_for s)) }
+        ensures made { IfOk result (λ s. MadeShards ⟦<Self as Keyed>⟧.by s (MadeOf ⟦<Self as Keyed>⟧.by (members list.items))) }
         ensures hasher { IfOk result (λ s. S.is_default s.hasher) }
         ensures amount { IfOk result (λ s. IsDefault parallelism s.amount) }
         ensures bad_parallelism { IsErrOf result Parallelism ↔ (IsParallelism parallelism → ⊥) }

@@ -10,11 +10,11 @@ ghost use Rattle.dash_map.specs.Alone.{contents, len_in, room_in};
 ghost use Rattle.dash_map.specs.AllPairs.{ClearsAlone, RetainsAlone, ShrinksAlone};
 ghost use Rattle.dash_map.specs.Amounts.{IsDefault, IsParallelism, OverflowsDefault, share};
 ghost use Rattle.dash_map.specs.Copies.{CopiesAlone};
-ghost use Rattle.dash_map.specs.Behind.{CallableOnPairs, EndedShards, LeavesShard, LeavesShards, Removes, RemovesBy, SawAt, SawShards};
+ghost use Rattle.dash_map.specs.Behind.{CallableOnPairs, EndedShards, LeavesShard, LeavesShards, MadeShards, Removes, RemovesBy, SawAt, SawShards};
 ghost use Rattle.dash_map.specs.Folds.{FoldsEach, MayFold, MayVisit, VisitsEach, of_key};
 ghost use Rattle.dash_map.specs.Gets.{IsGot};
 ghost use Rattle.dash_map.specs.Locks.{IsMap, made_of};
-ghost use Rattle.dash_map.specs.Map.{IsNew, made_for, shape};
+ghost use Rattle.dash_map.specs.Map.{IsNew, shape};
 ghost use Rattle.dash_map.specs.Walking.{at_start};
 ghost use Rattle.dash_set.specs.Set.{AnsweredKey, CalledAtKey, TakesKey, inserted, keys_of, member};
 
@@ -361,7 +361,7 @@ impl<K: KeptKey + Drop, S: BuildHasher + Clone + Drop> DashSet<K, S> {
     pub fn clone<R: Wait + Clock>(&self, rt: &R) -> Result<Self, AllocError>
         requires { (s t : S) → S.is_clone s t → HashAlike ⟦<Self as Keyed>⟧.by s t }
         ensures { IfOk result (λ copy. SawShards {V = Unit {0}} ⟦<Self as Keyed>⟧.by self.now
-            (λ a. CopiesAlone K.eq K.alike (λ _ _. true) S.is_clone a (made_for copy))) }
+            (λ a. MadeShards ⟦<Self as Keyed>⟧.by copy (CopiesAlone K.eq K.alike (λ _ _. true) S.is_clone a))) }
     {
         let inner = self.inner.clone(rt)?;
         Ok(DashSet { inner })

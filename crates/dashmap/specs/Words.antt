@@ -24,7 +24,7 @@ pub use Rattle.dash_ref.specs.declared.mapref.entry.EntryCase.TheVariants.{Occup
 pub use Rattle.dash_map.specs.Alone.{AloneState, contents, IsAlone, KeepsRoom, ReservesAlone, TakesAlone, TakesAloneBy, keys_in, len_in, room_in}
 pub use Rattle.dash_map.specs.AllPairs.{AltersAllAlone, ClearsAlone, RetainsAlone, ShrinksAlone}
 pub use Rattle.dash_map.specs.Amounts.{IsDefault, IsFresh, IsParallelism, share}
-pub use Rattle.dash_map.specs.Behind.{AreBehind, AreEnded, EndedShards, LeavesShard, LeavesShards, LeftShards, Relocks, SawAt, SawShard, SawShards, IsShardOf, StandsAt, Removes, RemovesBy, AltersBy}
+pub use Rattle.dash_map.specs.Behind.{AreBehind, AreEnded, EndedShards, LeavesShard, LeavesShards, LeftShards, MadeShards, Relocks, SawAt, SawShard, SawShards, IsShardOf, StandsAt, Removes, RemovesBy, AltersBy}
 pub use Rattle.dash_map.specs.Folds.{Folds, FoldsEach, MayFold, MayVisit, Visits, VisitsEach, of_key, of_pair}
 pub use Rattle.dash_map.specs.Gets.{IsGot, IsGotMut, IsGotEntry}
 pub use Rattle.dash_map.specs.Lends.{with_value_at}

@@ -21,13 +21,7 @@ impl<S: BuildHasher + Drop> Recorded<S> {
     where
         R: Wait + Clock,
     {
-        let step = step_of(self.alloc, call)?;
-        let Ok(copy) = step.copy() else {
-            drop(step);
-            return Err(AllocError);
-        };
-        let taken = apply(rt, &self.map, self.logs.first_mut(), step, way);
-        Ok(match came_back(taken, copy, RecordFault::Memory) {
+        Ok(match self.sent(rt, call, way, RecordFault::Memory)? {
             None => {
                 self.records = self.records.saturating_add(2);
                 Ended::answered(pairs_after(call), true)
@@ -41,14 +35,25 @@ impl<S: BuildHasher + Drop> Recorded<S> {
     where
         R: Wait + Clock,
     {
+        let came_back = self.sent(rt, call, way, RecordFault::LastStamp)?;
+        Ok(Ended::answered(FULL, came_back == Some(true)))
+    }
+
+    // Sends a step by caller 0, and says whether it came back as it was, by this refusal, unless it was taken.
+    fn sent<R: Wait + Clock>(
+        &mut self,
+        rt: &R,
+        call: &str,
+        way: &str,
+        wanted: RecordFault,
+    ) -> Result<Option<bool>, AllocError> {
         let step = step_of(self.alloc, call)?;
         let Ok(copy) = step.copy() else {
             drop(step);
             return Err(AllocError);
         };
         let taken = apply(rt, &self.map, self.logs.first_mut(), step, way);
-        let came_back = came_back(taken, copy, RecordFault::LastStamp);
-        Ok(Ended::answered(FULL, came_back == Some(true)))
+        Ok(came_back(taken, copy, wanted))
     }
 
     /// A step of all shards by caller 0 where a stamp is the last.

@@ -5,7 +5,8 @@ ghost use Rattle.dash_shard.specs.Hashing.{HashAlike};
 ghost use Rattle.dash_shard.specs.declared.error.ConstructError.TheVariants.{Parallelism};
 ghost use Rattle.dash_map.specs.Alone.{IsAlone};
 ghost use Rattle.dash_map.specs.Amounts.{IsDefault, IsParallelism};
-ghost use Rattle.dash_map.specs.Map.{made_for, shape};
+ghost use Rattle.dash_map.specs.Behind.{MadeShards};
+ghost use Rattle.dash_map.specs.Map.{shape};
 ghost use Rattle.dash_map.specs.Extend.{Extends, ExtendsBehind, Gave, MadeOf, NotMade, IsRefusedOf};
 ghost use Rattle.dash_map.specs.declared.extend.FromRefused.TheVariants.{Construct};
 ghost use Rattle.dash_set.specs.Set.{of_members};
@@ -110,7 +111,7 @@ impl<K: Eq + Hash + Drop, S: BuildHasher + Clone + Default + Drop> DashSet<K, S>
         requires alike { (s t : S) → S.is_clone s t → HashAlike ⟦<Self as Keyed>⟧.by s t }
         requires finite { IsFiniteIterable U.into_iter_gives U.IntoIter.can_next U.IntoIter.remaining iter }
         ensures made { IfOk result (λ s. Gave U.into_iter_gives (of_members U.IntoIter.next_gives) iter None
-            (λ ps. MadeOf ⟦<Self as Keyed>⟧.by ps (made_for s))) }
+            (λ ps. MadeShards ⟦<Self as Keyed>⟧.by s (MadeOf ⟦<Self as Keyed>⟧.by ps))) }
         ensures hasher { IfOk result (λ s. S.is_default s.hasher) }
         ensures amount { IfOk result (λ s. IsDefault parallelism s.amount) }
         ensures bad_parallelism { IsErrOf result (Construct Parallelism) ↔ (IsParallelism parallelism → ⊥) }

@@ -1,5 +1,5 @@
 -- An open table of pairs: slots in groups of sixteen, found by their marks.
-use Rattle.std.specs.Prelude.{ℕ, ◌≡◌, ◌⊎◌, ◌+◌, ◌-◌, ◌*◌, ◌/◌, ◌%◌, ◌<◌, ◌≤◌, true, false, Bool, List, [], length, slice_index, slice_set, Option, Some, None, IsSome}
+use Rattle.std.specs.Prelude.{ℕ, ◌≡◌, ◌⊎◌, ◌+◌, ◌-◌, ◌*◌, ◌/◌, ◌%◌, ◌^◌, ◌<◌, ◌≤◌, true, false, Bool, List, [], length, slice_index, slice_set, Option, Some, None, IsSome}
 use Rattle.std.specs.Borrow.{Bor}
 use Rattle.std.specs.Cmp.{IsEquivalence}
 use Rattle.std.specs.Hash.{HashWrites}
@@ -11,6 +11,7 @@ use Rattle.dash_slots.specs.inner.Slots.{SlotsState}
 use Rattle.dash_shard.specs.Hashing.{KeyHash, hash_of}
 use Rattle.dash_shard.specs.Contents.{Keys, Distinct, EachOnce}
 use Rattle.dash_shard.specs.Shard.{ShardState, IsShard, shard_len, slot, taken}
+use Rattle.dash_shard.specs.Each.{close_room}
 use Rattle.dash_shard.specs.Search.{class_of, groups}
 use Rattle.dash_shard.specs.Memory.{NoMemory}
 use Rattle.dash_shard.specs.inner.Marks.{step_to, group_at, IsFull, IsMarked, IsPlace}
@@ -20,6 +21,12 @@ use Rattle.dash_shard.specs.declared.shard.table.Table.{Table}
 -- how many pairs there may be in n slots: seven in eight
 abbrev pub limit : ℕ → ℕ
 limit n = n / 8 * 7
+
+-- so many groups have room for the pairs, but not for many more, and their slots can be counted
+pub record IsEnough (pairs count : ℕ) : Type 0 where
+  pub room : pairs ≤ limit (16 * count)
+  pub close : limit (16 * count) ≤ close_room pairs
+  pub counted : 16 * count < 2 ^ 64
 
 -- memory for a table of so many groups was refused
 abbrev pub NoMemoryFor : ℕ → Type 0

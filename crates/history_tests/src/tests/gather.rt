@@ -75,6 +75,27 @@ fn three_stamps_are_one_history(rt: HostRuntime) {
     }
 }
 
+// Gathers a map twice by the logs of its two callers, which it returns.
+fn gather_twice(rt: &impl Abort, map: &mut Map, logs: [Log; 2], wanted: &[At]) -> [Log; 2] {
+    for _ in 0..2 {
+        let gathered = gather(map, &logs).expect(rt, "refused");
+        is(rt, gathered.as_slice(), wanted);
+    }
+    logs
+}
+
+// Both times it gives the same, and then the callers go on.
+#[test]
+fn a_gathered_map_goes_on(rt: HostRuntime) {
+    let (mut map, first, second) = three_inserts(&rt, rt.alloc(), 4, 4, true);
+    let [mut first, mut second] = gather_twice(&rt, &mut map, [first, second], &three_places());
+    put(&rt, &map, &mut second, (2, 40), true);
+    put(&rt, &map, &mut first, (4, 50), true);
+    let [one, two, three] = three_places();
+    let all = [one, two, three, at(2, 2, 0, 1), at(3, 0, 2, 0)];
+    drop(gather_twice(&rt, &mut map, [first, second], &all));
+}
+
 // While shard 0 is held the others are free. A shard that is missing is refused before one that is held, and that before the last
 // stamp.
 #[test]

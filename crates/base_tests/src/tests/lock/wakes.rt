@@ -82,7 +82,7 @@ impl Drop for Shared<'_> {
 struct Exclusive<'a> {
     lock: &'a RawRwLock,
     hold: ExclusiveHold<'a>,
-    is_softened: bool,
+    is_downgraded: bool,
     ghost own: { hold ≡ lock.now },
 }
 
@@ -91,9 +91,9 @@ impl Drop for Exclusive<'_> {
         let Self {
             lock,
             hold,
-            is_softened,
+            is_downgraded,
         } = self;
-        if is_softened {
+        if is_downgraded {
             lock.unlock_shared(lock.downgrade(hold));
         } else {
             lock.unlock_exclusive(hold);
@@ -118,13 +118,13 @@ fn raw_wakes_writer<R: Wait + Clock, B: Drop>(rt: &R, lock: &RawRwLock, hold: B)
 fn take_exclusive<'a, R: Wait + Clock>(
     rt: &R,
     lock: &'a RawRwLock,
-    is_softened: bool,
+    is_downgraded: bool,
 ) -> Exclusive<'a> {
     let hold = lock.lock_exclusive(rt);
     Exclusive {
         lock,
         hold,
-        is_softened,
+        is_downgraded,
     }
 }
 

@@ -2,7 +2,7 @@
 ghost use Rattle.std.specs.Prelude.{ℕ, ◌≡◌, ◌⊎◌, ◌+◌, ◌*◌, ◌^◌, ◌<◌, ◌≤◌, [], None, IsOk, IfOk, OnOk, OnErr, length, replicate};
 ghost use Rattle.dash_shard.specs.Each.{close_room};
 ghost use Rattle.dash_shard.specs.Memory.{NoMemory};
-ghost use Rattle.dash_shard.specs.inner.Table.{IsTable, IsHashedBy, CarriesOnce, IsCarried, IsMoved, NoMemoryFor, TellsTaken, limit, slots_in, groups_in, pairs_in, hashes_in};
+ghost use Rattle.dash_shard.specs.inner.Table.{IsTable, IsHashedBy, CarriesOnce, IsCarried, IsEnough, IsMoved, NoMemoryFor, TellsTaken, limit, slots_in, groups_in, pairs_in, hashes_in};
 ghost use Rattle.dash_shard.specs.inner.Cursors.{ComesInGroups};
 ghost use Rattle.dash_shard.specs.Shard.{taken};
 ghost use Rattle.dash_slots.specs.inner.Slots.{IsBlank};
@@ -24,9 +24,7 @@ const MOST: usize = 1 << 59;
 // The least power of two of groups with room for so many pairs, if their slots can be counted.
 fn power_for(pairs: usize) -> Result<usize, AllocError>
     requires { 0 < pairs }
-    ensures room { IfOk result (λ n. pairs ≤ limit (16 * n)) }
-    ensures close { IfOk result (λ n. limit (16 * n) ≤ close_room pairs) }
-    ensures counted { IfOk result (λ n. 16 * n < 2 ^ 64) }
+    ensures enough { IfOk result (IsEnough pairs) }
     ensures many { OnErr result (14 * 2 ^ 59 < pairs) }
 {
     let needed = (pairs - 1) / 14 + 1;
@@ -39,9 +37,7 @@ fn power_for(pairs: usize) -> Result<usize, AllocError>
 // The least number of groups with room for so many pairs: a power of two or, where there are many, three times one.
 fn groups_for(pairs: usize) -> Result<usize, AllocError>
     requires { 0 < pairs }
-    ensures room { IfOk result (λ n. pairs ≤ limit (16 * n)) }
-    ensures close { IfOk result (λ n. limit (16 * n) ≤ close_room pairs) }
-    ensures counted { IfOk result (λ n. 16 * n < 2 ^ 64) }
+    ensures enough { IfOk result (IsEnough pairs) }
     ensures many { OnErr result (14 * 2 ^ 59 < pairs) }
 {
     let power = power_for(pairs)?;

@@ -23,7 +23,7 @@ fn are_held(map: &Places) -> [bool; 4] {
     [0, 1, 2, 3].map(|key| is_held(map, key))
 }
 
-// Finds a walk that keeps the hold of a shard that it left, and one that keeps its hold when it is dropped.
+// Finds a walk that keeps the hold of a shard that it left, and one that keeps its hold when it is dropped. At its end it has the last shard.
 #[test]
 fn a_walk_gives_its_hold_back(rt: HostRuntime) {
     let map = map_of(&rt, rt.alloc(), [(0, 5), (4, 6), (1, 10), (3, 30)]);
@@ -47,6 +47,8 @@ fn a_walk_gives_its_hold_back(rt: HostRuntime) {
         drop(next_of(&rt, &mut walk));
     }
     is(&rt, walk.next().is_none(), true);
+    is(&rt, are_held(&map), [false, false, false, true]);
+    drop(walk);
     is(&rt, are_held(&map), [false; 4]);
 }
 

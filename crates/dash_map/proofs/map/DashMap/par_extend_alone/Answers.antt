@@ -4,7 +4,7 @@ use Rattle.dash_map.proofs.map.DashMap.par_extend_alone.Goals as goal
 
 pub returns-clause-extends : goal.returns-clause-extends
 returns-clause-extends g c =
-    locked-again (key_hash g.K.PartialEq.eq g.K.Hash.hash_input g.S.BuildHasher g.S.Hasher.Hasher) _ _ _ c.par_extend_gated-extended.new.self c.alone-alone.ensures c.par_extend_gated-extended.ensures.stays c.par_extend_gated-extended.ensures.lawful c.end.ensures.map _ c.par_extend_gated-extended.ensures
+    locked-again (key_hash g.K.PartialEq.eq g.K.Hash.hash_input g.S.BuildHasher g.S.Hasher.Hasher) _ _ _ c.par_extend_gated-extended.new.self c.alone-alone.ensures c.end.ensures.left c.end.ensures.map _ c.par_extend_gated-extended.ensures
 
 pub returns-clause-same : goal.returns-clause-same
 returns-clause-same g c = same-shape (key_hash g.K.PartialEq.eq g.K.Hash.hash_input g.S.BuildHasher g.S.Hasher.Hasher) _ _ _ c.par_extend_gated-extended.new.self c.alone-alone.ensures c.par_extend_gated-extended.ensures.stays c.end.ensures.map

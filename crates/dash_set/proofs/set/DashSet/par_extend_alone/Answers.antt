@@ -5,7 +5,7 @@ use Rattle.dash_set.proofs.set.DashSet.par_extend_alone.Goals as goal
 pub returns-clause-extends : goal.returns-clause-extends
 returns-clause-extends g c =
     let put = c.par_extend-extended in
-    (c.alone-alone.result, c.alone-alone.ensures, (put.new.self, ap made_for c.end.ensures.map, put.ensures.lawful, put.ensures))
+    (c.alone-alone.result, c.alone-alone.ensures, (put.new.self, c.end.ensures.left, (ap made_for c.end.ensures.map, put.ensures)))
 
 pub returns-clause-same : goal.returns-clause-same
 returns-clause-same g c =
