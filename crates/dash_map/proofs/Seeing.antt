@@ -11,8 +11,8 @@ use Rattle.dash_shard.proofs.Rows.{each-more as put-more}
 use Rattle.dash_shard.specs.Hashing.{KeyHash, IsAmount, route_by}
 use Rattle.dash_shard.specs.Contents.{at}
 use Rattle.dash_lock.specs.Lock.{FoundBehind, WasRead, LeftBehind}
-use Rattle.dash_shard.specs.Shard.{ShardState, SameShard, EachAt, Routes, IsShard, IsTagged, pairs, shard_len}
-use Rattle.dash_map.specs.Alone.{AloneState, IsAlone, KeepsRoom}
+use Rattle.dash_shard.specs.Shard.{ShardState, SameShard, Routes, IsShard, IsTagged, pairs, shard_len}
+use Rattle.dash_map.specs.Alone.{AloneState, KeepsRoom}
 use Rattle.dash_map.specs.Behind.{AreBehind, AreEnded, SawShard, SawShards, StandsAt, LeavesShard, Relocks}
 use Rattle.dash_map.specs.Map.{MapState, made_for, locked, shape}
 use Rattle.dash_map.proofs.Lifting.{keys-same, tagged-moved}
