@@ -53,23 +53,31 @@ same-step (ReadPart i) t known same = absurd known
 same-step s t known same = cc
 
 -- a step of a thread goes to the shard of its key, so to one of the shards
+pub inside : (route : ℕ → ℕ) (n : ℕ) (step : ShardStep ℕ ℕ (Unit {0})) → IsThreadStep step → ((k : ℕ) → route k < n) → shard_of (kinds (λ _ _. true) idle_acts (rules nat_eq nat_eq (keys nat_eq route n))) step < n
+inside route n (Get k) known below = below k
+inside route n (Insert k v) known below = below k
+inside route n (Remove k) known below = below k
+inside route n step known below = absurd known
+
 pub not-outside : (route : ℕ → ℕ) (n : ℕ) (step : ShardStep ℕ ℕ (Unit {0})) → IsThreadStep step → ((k : ℕ) → route k < n) → n ≤ shard_of (kinds (λ _ _. true) idle_acts (rules nat_eq nat_eq (keys nat_eq route n))) step → ⊥
-not-outside route n (Get k) known below outside = omega (arith, below k, outside)
-not-outside route n (Insert k v) known below outside = omega (arith, below k, outside)
-not-outside route n (Remove k) known below outside = omega (arith, below k, outside)
-not-outside route n step known below outside = absurd known
+not-outside route n step known below outside = omega (arith, inside route n step known below, outside)
 
 -- and it is no part of a whole step
 pub not-part : (step : ShardStep ℕ ℕ (Unit {0})) → IsThreadStep step → IsPart step → ⊥
-not-part (Get k) known part = part
-not-part (Insert k v) known part = part
-not-part (Remove k) known part = part
+not-part (Get k) known part = cc
+not-part (Insert k v) known part = cc
+not-part (Remove k) known part = cc
 not-part step known part = absurd known
+
+-- what a step is refused for, or another fault where it isn't
+abbrev fault-of : {R X : Type 0} → RecordFault → Result R (X × RecordFault) → RecordFault
+fault-of other (Ok r) = other
+fault-of other (Err e) = e.1
 
 -- where it is refused for want of a stamp, its shard had none
 pub no-stamp : (w : Known ℕ ℕ (Unit {0}) PlaceState) (m : RecMapState ℕ ℕ (Unit {0}) PlaceState) (i : ℕ) (l l' : LogState ℕ ℕ (Unit {0})) (step : ShardStep ℕ ℕ (Unit {0})) (result : Result (Reply ℕ ℕ) (ShardStep ℕ ℕ (Unit {0}) × RecordFault))
     → result ≡ Err (step, fault.LastStamp) → l' ≡ l → (result ≡ Err (step, fault.Locked)) ⊎ LeavesRecShard w m i (λ s t. Records w s t l l' step result) → HasNoStamp w m l'
-no-stamp w m i l l' step result is same found = ⊎_elim (λ locked. absurd (cc)) (λ left. (i, left.0, left.1, left.2, left.3, subst (λ (x : LogState ℕ ℕ (Unit {0})). NoStamp left.0.last x.last) (sym same) (left.6.last_stamp.0 is).1)) found
+no-stamp w m i l l' step result is same found = ⊎_elim (λ locked. let one : fault.LastStamp ≡ fault.Locked = ap (fault-of fault.Memory) (sym is ∙ locked) in absurd (cc)) (λ left. (i, (left.0, left.1, left.2, left.3, subst (λ (x : LogState ℕ ℕ (Unit {0})). NoStamp left.0.last x.last) (sym same) (left.4.2.last_stamp.0 is).1))) found
 
 -- a step that was logged
 pub logged : (w : Keys ℕ) (l l' : LogState ℕ ℕ (Unit {0})) (step : ShardStep ℕ ℕ (Unit {0})) (reply : Reply ℕ ℕ) → IsThreadStep step → Logged (kinds (λ _ _. true) idle_acts (rules nat_eq nat_eq w)) l l' step reply → LogsStep l l' step
