@@ -12,10 +12,12 @@ returns-clause-extends g c =
       (
         locked.0,
         locked.1,
-        locked.2,
-        record {
-          gains = came-inside (λ m. m.keys) (of_members g.U.IntoIter.Iterator.next_gives) _ _ _ (g.U.IntoIterator.into_iter_gives c.args.iter) c.into_iter-keys.ensures.into_iter_gives locked.3.gains;
-          refused = locked.3.refused;
-        },
+        (
+          locked.2.0,
+          record {
+            gains = came-inside (λ m. m.keys) (of_members g.U.IntoIter.Iterator.next_gives) _ _ _ (g.U.IntoIterator.into_iter_gives c.args.iter) c.into_iter-keys.ensures.into_iter_gives locked.2.1.gains;
+            refused = locked.2.1.refused;
+          },
+        ),
       ),
     )
