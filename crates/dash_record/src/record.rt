@@ -42,7 +42,7 @@ pub enum RecordFault {
     #[error("locked (21)")]
     Locked,
     /// The step is a part of a whole step, which no call takes by itself.
-    #[error("whole step's part (24)")]
+    #[error("part (24)")]
     Part,
 }
 

@@ -110,7 +110,7 @@ fault_text fault.LastStamp = codes "last stamp (18)"
 fault_text fault.Memory = codes "no memory (19)"
 fault_text fault.NoSuchShard = codes "no such shard (20)"
 fault_text fault.Locked = codes "locked (21)"
-fault_text fault.Part = codes "whole step's part (24)"
+fault_text fault.Part = codes "part (24)"
 
 abbrev pub stop_text : Stop → List ℕ
 stop_text (stops.BadStep line) = codes "refused line " ++ decimal line ++ codes ": bad step"

@@ -59,7 +59,7 @@ fn fault_text(fault: RecordFault) -> &'static str
         RecordFault::Memory => "no memory (19)",
         RecordFault::NoSuchShard => "no such shard (20)",
         RecordFault::Locked => "locked (21)",
-        RecordFault::Part => "whole step's part (24)",
+        RecordFault::Part => "part (24)",
     }
 }
 

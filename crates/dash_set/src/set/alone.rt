@@ -1,13 +1,13 @@
 //! A set of one owner, without locks.
-ghost use Rattle.std.specs.Prelude.{◌≡◌, ◌==◌, length, is_some, IfErr, IfOk, IfSome, OnErr};
+ghost use Rattle.std.specs.Prelude.{◌≡◌, ◌≤◌, ◌==◌, length, is_some, IfErr, IfOk, IfSome, OnErr};
 ghost use Rattle.std.specs.Option.{option_map};
 ghost use Rattle.std.specs.Fn.{FnOnceTakesAt};
 ghost use Rattle.std.specs.Map.Calls.{CallableOnEachPair};
 ghost use Rattle.dash_shard.specs.Hashing.{by};
 ghost use Rattle.dash_shard.specs.Contents.{at};
 ghost use Rattle.dash_shard.specs.Steps.{Insert, Old, Pair, Remove, RemoveIf};
-ghost use Rattle.dash_map.specs.Alone.{IsAlone, TakesAlone, TakesAloneBy, contents, len_in};
-ghost use Rattle.dash_map.specs.AllPairs.{ClearsAlone, RetainsAlone};
+ghost use Rattle.dash_map.specs.Alone.{IsAlone, ReservesAlone, TakesAlone, TakesAloneBy, contents, len_in, room_in};
+ghost use Rattle.dash_map.specs.AllPairs.{ClearsAlone, RetainsAlone, ShrinksAlone};
 ghost use Rattle.dash_lock.specs.Lock.{LeftBehind};
 ghost use Rattle.dash_map.specs.Behind.{AreBehind, AreEnded};
 ghost use Rattle.dash_map.specs.Map.{locked};
@@ -18,6 +18,7 @@ use super::DashSet;
 use crate::iter_set::OwningIter;
 use dash_map::alone::Alone;
 use dash_map::read_only::Keys;
+use dash_shard::error::TryReserveError;
 use dash_shard::keyed::Keyed;
 use std::hash::{BuildHasher, Hash};
 use std::marker::Model;
@@ -144,6 +145,36 @@ impl<K: Eq + Hash + Drop, S: BuildHasher> AloneSet<K, S> {
         ensures lawful { IsAlone ⟦<Self as Keyed>⟧.by self.now }
     {
         self.inner.is_empty()
+    }
+
+    /// How many keys there may be before some shard takes memory, if they spread as the shards' room does, saturating at 2^64 - 1. It
+    /// asks each shard once.
+    pub fn capacity(&self) -> usize
+        ensures capacity { result ≡ room_in self.now }
+        ensures holds { len_in self.now ≤ result }
+        ensures lawful { IsAlone ⟦<Self as Keyed>⟧.by self.now }
+    {
+        self.inner.capacity()
+    }
+
+    /// Makes room in each shard for so many keys more, where there is less, and the keys stay.
+    ///
+    /// It asks the shards in their order, and is refused (11) at the first that finds no memory: those before it keep their room.
+    pub fn try_reserve(&mut self, additional: usize) -> Result<(), TryReserveError>
+        ensures reserves { ReservesAlone K.eq additional self.old self.new result }
+        ensures lawful { IsAlone ⟦<Self as Keyed>⟧.by self.new }
+    {
+        self.inner.try_reserve(additional)
+    }
+
+    /// Moves each shard's keys to as few slots as hold them, which gives the rest of the memory back.
+    ///
+    /// A shard takes memory for its new slots, and keeps the old ones where there is none. It waits for nobody.
+    pub fn shrink_to_fit(&mut self)
+        ensures shrinks { ShrinksAlone K.eq self.old self.new }
+        ensures lawful { IsAlone ⟦<Self as Keyed>⟧.by self.new }
+    {
+        self.inner.shrink_to_fit();
     }
 
     /// The keys, by rising shard and in each by rising slot.

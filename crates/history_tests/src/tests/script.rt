@@ -73,7 +73,11 @@ fn check<T: Abort + Wait + Clock>(
 
 #[test]
 fn replies_are_printed(rt: HostRuntime) {
-    let rows: [(&[u8], &str); 8] = [
+    let rows: [(&[u8], &str); 9] = [
+        (
+            b"insert 0 1\ninsert 1 2\ninsert 3 4\ncountall\nreadall\n",
+            "old none\nold none\nold none\nnumber 3\npairs 0:1 1:2 3:4\n",
+        ),
         (
             b"insert 1 10\ninsert 5 50\ninsert 1 11\nget 1\ncount 1\nread 1\nremove 5\ncontains 5\ncontains 1\n",
             "old none\nold none\nold 10\npair 1 11\nnumber 2\npairs 1:11 5:50\npair 5 50\nfound no\nfound yes\n",

@@ -53,6 +53,29 @@ fn a_whole_step_stands_at_one_place(rt: HostRuntime) {
     }
 }
 
+// The steps of the script `insert 0 1`, `insert 1 2`, `insert 3 4`, `countall`, `readall`, by one caller: five stamps, and eleven records.
+#[test]
+fn a_count_and_a_copy_of_three_pairs(rt: HostRuntime) {
+    for waits in [true, false] {
+        let (map, mut log, other) = map_of_two(&rt, rt.alloc(), 4);
+        for pair in PAIRS {
+            put(&rt, &map, &mut log, pair, waits);
+        }
+        assert!(rt; log.caller() < map.callers());
+        let (number, copies) = if waits {
+            (map.count_all(&rt, &mut log), map.clone_all(&rt, &mut log))
+        } else {
+            (map.try_count_all(&mut log), map.try_clone_all(&mut log))
+        };
+        is(&rt, number, Ok(3));
+        are_pairs(&rt, copies.expect(&rt, "refused"), &PAIRS);
+        is(&rt, (log.last_stamp(), log.entries().len()), (5, 11));
+        let ats = map.alone().gather(&[log, other]).expect(&rt, "refused");
+        is(&rt, ats.len(), 11);
+        is(&rt, ats.last().map(|at| at.stamp), Some(5));
+    }
+}
+
 // A held shard is said before the last stamp.
 fn try_beside_a_hold<R: Abort + Wait + Clock>(rt: &R, map: &Map, log: &mut Log) {
     assert!(rt; log.caller() < map.callers());

@@ -73,7 +73,8 @@ fn a_removal_asks_first(rt: HostRuntime) {
 
 #[test]
 fn room_is_made(rt: HostRuntime) {
-    let mut map = map_of_four(&rt, rt.alloc());
+    let made = DashMap::<u64, u64>::with_capacity(rt.alloc(), 0, 1);
+    let mut map = made.expect(&rt, "refused");
     is(&rt, map.capacity(&rt), 0);
     is(&rt, map.try_reserve(10), Ok(()));
     is(&rt, map.capacity(&rt) >= 10, true);
@@ -103,6 +104,17 @@ fn shards_with_pairs_shrink(rt: HostRuntime) {
     }
 }
 
+#[test]
+fn clear_keeps_the_room(rt: HostRuntime) {
+    let map = map_of_four(&rt, rt.alloc());
+    for key in 0..100 {
+        put(&rt, &map, key, key);
+    }
+    let room = map.capacity(&rt);
+    map.clear(&rt);
+    is(&rt, (map.len(&rt), map.capacity(&rt)), (0, room));
+}
+
 // Takes a pair of equal numbers out, and says whether it was there.
 fn take<R: Wait + Clock, S: BuildHasher>(rt: &R, map: &DashMap<u64, u64, S>, key: u64) -> bool {
     map.remove(rt, &key) == Some((key, key))
@@ -130,6 +142,14 @@ fn one_shard_may_have_all_keys(rt: HostRuntime) {
         has(&rt, &map, key + 1, Some(key + 1));
     }
     is(&rt, map.len(&rt), 100);
+    for key in 200..300 {
+        put(&rt, &map, key, key);
+    }
+    for half in 0..100u64 {
+        has(&rt, &map, 2 * half + 1, Some(2 * half + 1));
+        has(&rt, &map, half + 200, Some(half + 200));
+    }
+    is(&rt, map.len(&rt), 200);
 }
 
 // A value that has memory of its own.

@@ -45,6 +45,27 @@ fn an_entry_holds_its_shard(rt: HostRuntime) {
     is(&rt, map.len(&rt), 1);
 }
 
+// What `try_entry` returns at a key.
+fn case_of(map: &Places, key: u64) -> &'static str {
+    match map.try_entry(key) {
+        Ok(Entry::Occupied(_)) => "occupied",
+        Ok(Entry::Vacant(_)) => "vacant",
+        Err(TryEntryRefused::Locked(_)) => "locked",
+        Err(TryEntryRefused::Memory(_)) => "no memory",
+    }
+}
+
+#[test]
+fn a_try_tells_a_pair_from_none(rt: HostRuntime) {
+    let map = map_of(&rt, rt.alloc(), [(1, 10)]);
+    for (key, case) in [(1, "occupied"), (5, "vacant")] {
+        is(&rt, (key, case_of(&map, key)), (key, case));
+        let held = map.get(&rt, &1);
+        is(&rt, (key, case_of(&map, key)), (key, "locked"));
+        drop(held);
+    }
+}
+
 type Named = DashMap<Noted, u64, PlaceState>;
 
 // The entry of a key that has a pair, in a shard that nobody has.

@@ -42,6 +42,7 @@ fn texts(rt: HostRuntime) {
         (RecordFault::Memory, "no memory (19)"),
         (RecordFault::NoSuchShard, "no such shard (20)"),
         (RecordFault::Locked, "locked (21)"),
+        (RecordFault::Part, "part (24)"),
     ];
     have_texts(&rt, rt.alloc(), &record);
     has_text(&rt, rt.alloc(), &GatherError::Mismatch, "mismatch (22)");

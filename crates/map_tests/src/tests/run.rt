@@ -93,6 +93,25 @@ impl Action<u64, u64> for Adds {
     ghost acts_alike = { λ f j k u v key value. rw (eqb-true u v value) (nat_eq_equiv.refl ((v + f.0) % 2 ^ 64), refl) };
 }
 
+// A count of a shard that isn't there stands between two inserts: what stood before it was done, and the rest comes back.
+#[test]
+fn every_shard_call(rt: HostRuntime) {
+    let mut map = map_of_four(&rt, rt.alloc());
+    let steps: Vec<ShardStep<u64, u64>> = vec![in rt.alloc();
+        ShardStep::Insert(1, 10),
+        ShardStep::Count(4),
+        ShardStep::Insert(2, 20),
+    ]
+    .expect(&rt, "refused");
+    prints(
+        &rt,
+        rt.alloc(),
+        &map.run(steps),
+        "RunOutcome { replies: [Old(None)], stopped: Some(([Count(4), Insert(2, 20)], NoSuchShard)) }",
+    );
+    prints(&rt, rt.alloc(), &map.waiting(&rt), "{1: 10}");
+}
+
 // The run stops at a shard that isn't there, and the rest comes back.
 #[test]
 fn steps_on_each_pair_of_a_shard(rt: HostRuntime) {

@@ -2,7 +2,7 @@
 use crate::tests::checks::{is, prints};
 use crate::tests::maps::{Places, add_one, is_held, is_written, map_of, put, tried, value_of};
 use dash_map::map::DashMap;
-use dash_ref::mapref::one::RefMut;
+use dash_ref::mapref::one::{First, RefMut};
 use dash_ref::try_result::TryResult;
 use dash_ref::util::SharedValue;
 use dash_shard::hash::PlaceState;
@@ -24,7 +24,7 @@ fn grow_older(rt: &impl Abort, ages: &Ages, name: &'static str) {
 fn count_shards<R: Wait + Clock>(rt: &R, ages: &Ages) -> usize {
     let mut count = 0usize;
     for lock in ages.shards() {
-        count = count.saturating_add(lock.write(rt).len());
+        count = count.saturating_add(lock.write(rt).iter().count());
     }
     count
 }
@@ -116,6 +116,36 @@ fn held_pairs(rt: HostRuntime) {
     is(&rt, (map.contains_key(&rt, &0), map.len(&rt)), (true, 2));
     is(&rt, is_held(&map, 0), true);
     drop(held);
+}
+
+// Each of these holds shards for reading, so it returns beside a reference that reads.
+#[test]
+fn readers_go_beside_a_reference(rt: HostRuntime) {
+    let map = map_of(&rt, rt.alloc(), [(0, 10), (1, 11)]);
+    let held = map.get(&rt, &0).expect(&rt, "no pair");
+    is(&rt, value_of(&rt, &map, 0), Some(10));
+    is(&rt, (map.is_empty(&rt), map.capacity(&rt)), (false, 28));
+    is(&rt, map.clone(&rt).expect(&rt, "refused").len(&rt), 2);
+    is(&rt, map.pairs(&rt).expect(&rt, "refused").len(), 2);
+    let values = map.par_iter().map_collect(&rt, |_: &u64, value: &u64| *value);
+    is(&rt, values.expect(&rt, "refused").len(), 2);
+    is(&rt, *held, 10);
+}
+
+// A reference to a pair, or to a part of its value, hands its shard on, held.
+#[test]
+fn a_held_shard_is_handed_on(rt: HostRuntime) {
+    let map = map_of(&rt, rt.alloc(), [(1, (10, 11)), (5, (50, 51))]);
+    let mut found = map.get_mut(&rt, &1).expect(&rt, "no pair");
+    found.0 = 12;
+    let shard = found.into_shard();
+    is(&rt, shard.get(&1), Some((&1, &(12, 11))));
+    is(&rt, map.try_get(&5).is_locked(), true);
+    drop(shard);
+    let found = map.get_mut(&rt, &1).expect(&rt, "no pair");
+    is(&rt, found.map(First).into_shard().len(), 2);
+    is(&rt, map.try_get(&5).is_present(), true);
+    is(&rt, map.try_get(&9).is_absent(), true);
 }
 
 #[test]

@@ -1,6 +1,8 @@
 //! Views of a map that nobody writes any more.
-use crate::tests::checks::{is, prints};
+use crate::tests::checks::is;
 use crate::tests::maps::{Names, map_of, put, text};
+use dash_map::map::DashMap;
+use dash_kept::Kept;
 use std::alloc::Global;
 use std::process::Abort;
 use std::rt::Clock;
@@ -53,22 +55,29 @@ fn a_view_and_back(rt: HostRuntime) {
     are_four(&rt, &map.pairs(&rt).expect(&rt, "refused"));
 }
 
+// A view of a map that a list made.
+#[test]
+fn a_clone_of_a_view(rt: HostRuntime) {
+    let list = vec![in rt.alloc(); (1, 10), (5, 50), (1, 11)].expect(&rt, "refused");
+    let map = DashMap::<u64, u64>::from_iter(rt.alloc(), list, 1).expect(&rt, "refused");
+    let view = map.into_read_only();
+    let copy = view.clone().expect(&rt, "refused");
+    drop(view);
+    is(&rt, (copy.len(), copy.get(&1), copy.get(&5)), (2, Some(&11), Some(&50)));
+}
+
 #[test]
 fn a_view_by_workers(rt: HostRuntime) {
     let view = four_names(&rt, rt.alloc()).into_read_only();
-    let mut found = view
+    let copies = view
         .par_iter()
-        .map_collect(&rt, |key: &u64, name: &String| {
-            (*key, is_one(*key, name.as_str()))
-        })
-        .expect(&rt, "refused");
-    found.sort_unstable();
-    prints(
-        &rt,
-        rt.alloc(),
-        &found,
-        "[(1, true), (10, true), (27, true), (45, true)]",
-    );
+        .map_collect(&rt, |key: &u64, name: &String| (*key, name.copy()));
+    let copies = copies.expect(&rt, "refused");
+    is(&rt, copies.len(), 4);
+    for (key, name) in &copies {
+        let name = name.as_ref().expect(&rt, "refused");
+        is(&rt, (*key, is_one(*key, name.as_str())), (*key, true));
+    }
     are_four(
         &rt,
         &view.into_par_iter().collect(&rt).expect(&rt, "refused"),

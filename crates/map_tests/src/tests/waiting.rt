@@ -12,10 +12,12 @@ fn operators(rt: HostRuntime) {
     is(&rt, (map << (1, 10)).expect(&rt, "refused"), None);
     is(&rt, (map << (1, 11)).expect(&rt, "refused"), Some(10));
     is(&rt, (map >> &1).map(|found| *found), Some(11));
+    is(&rt, (map >> &2).is_none(), true);
     is(&rt, (map | &1).map(|found| *found), Some(11));
     is(&rt, map & &1, true);
     is(&rt, map - &1, Some((1, 11)));
     is(&rt, map & &1, false);
+    is(&rt, (map | &1).is_none(), true);
 }
 
 // Ends the test where three pairs, two of them in one shard, print as another text.

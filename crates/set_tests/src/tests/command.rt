@@ -88,6 +88,7 @@ fn checks_the_command_line_first(rt: HostRuntime) {
         "threads 18446744073709551617 1",
         "threads 4 100 1",
         "memo 65 1",
+        "memo 0 1",
         "--help",
     ] {
         leaves(&rt, rt.alloc(), line, "", USAGE, 2);
@@ -105,6 +106,71 @@ fn threads_are_legal_and_a_cache_computes_each_value_once(rt: HostRuntime) {
         ("memo 64 1", "answers 64\nright 64\ncomputed 1\n"),
     ] {
         leaves(&rt, rt.alloc(), line, output, "", 0);
+    }
+}
+
+// Runs a script, which is to leave these. It is refused where it prints an error.
+fn scripts<T: Threads + Wait + Clock + Abort + Sync>(
+    rt: &T,
+    alloc: Global,
+    script: &str,
+    output: &str,
+    errors: &str,
+) {
+    let mut input = script.as_bytes();
+    let (mut out, mut err) = (Vec::new(alloc), Vec::new(alloc));
+    let code = run(rt, alloc, "script", &mut input, &mut out, &mut err);
+    is(
+        rt,
+        (script, code, out.as_slice(), err.as_slice()),
+        (
+            script,
+            !errors.is_empty() as u8,
+            output.as_bytes(),
+            errors.as_bytes(),
+        ),
+    );
+}
+
+// The program's first run, actions, edges, and steps of all shards.
+#[test]
+fn scripts_are_answered(rt: HostRuntime) {
+    for (script, output, errors) in [
+        (
+            "insert 1 10\ninsert 1 11\nget 1\n",
+            "old none\nold 10\npair 1 11\n",
+            "",
+        ),
+        (
+            "insert 0 5\ninsert 4 9\nretain 0 addbelow 1 10\nread 0\nremoveif 0 below 6\nremoveifmut 0 addbelow 1 7\nremoveifmut 0 addbelow 0 8\ncount 0\n",
+            "old none\nold none\ndone\npairs 0:6\npair none\npair none\npair 0 7\nnumber 0\n",
+            "",
+        ),
+        ("", "", ""),
+        ("get 1", "pair none\n", ""),
+        (
+            "get 1\nread 4\n",
+            "pair none\n",
+            "refused line 2: no such shard (20)\n",
+        ),
+        (
+            "insert 18446744073709551616 1\n",
+            "",
+            "refused line 1: bad step\n",
+        ),
+        (
+            "insert 18446744073709551615 0\ncount 3\n",
+            "old none\nnumber 1\n",
+            "",
+        ),
+        (
+            "insert 0 1\ninsert 1 2\ninsert 3 4\ncountall\nreadall\n",
+            "old none\nold none\nold none\nnumber 3\npairs 0:1 1:2 3:4\n",
+            "",
+        ),
+        ("countall 0\n", "", "refused line 1: bad step\n"),
+    ] {
+        scripts(&rt, rt.alloc(), script, output, errors);
     }
 }
 

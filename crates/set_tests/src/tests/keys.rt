@@ -18,11 +18,12 @@ struct Noted {
     note: u64,
 }
 
+// Copies are alike their sources in the note too.
 impl Kept for Noted {
-    ghost use Rattle.std.specs.Prelude.{◌==◌};
     ghost use Rattle.std.specs.Cmp.{nat_eq_equiv, on_equiv};
+    ghost use Rattle.dashmap.specs.Words.{pair_equiv};
 
-    ghost alike = { λ j k. j.name == k.name };
+    ghost alike = { λ j k. ⟦<(u64, u64) as Kept>⟧.alike (j.name, j.note) (k.name, k.note) };
 
     fn copy(&self) -> Result<Noted, AllocError> {
         Ok(Noted {
@@ -32,14 +33,17 @@ impl Kept for Noted {
     }
 
     fn same(&self, other: &Noted) -> bool {
-        self.name == other.name
+        (self.name, self.note) == (other.name, other.note)
     }
 
-    ghost alike_laws = { on_equiv (λ k. k.name) nat_eq_equiv };
+    ghost alike_laws = { on_equiv (λ k. (k.name, k.note)) (pair_equiv nat_eq_equiv nat_eq_equiv) };
 }
 
 impl KeptKey for Noted {
-    ghost alike_equal = { λ j k same. same };
+    ghost use Rattle.std.specs.Prelude.{◌==◌};
+    ghost use Rattle.std.proofs.lemmas.Bool.{and_parts};
+
+    ghost alike_equal = { λ j k same. (and_parts (j.name == k.name) (j.note == k.note) same).0 };
 }
 
 fn make_noted(name: u64, note: u64) -> Noted {
@@ -93,6 +97,15 @@ fn put_beside<R: Abort + Wait + Clock, S: BuildHasher>(rt: &R, map: &Map<S>) {
     );
 }
 
+// Copies of a map's pairs have the stored key, with its note.
+fn copies<R: Abort + Wait + Clock, S: BuildHasher>(rt: &R, map: &Map<S>) {
+    is(rt, map.insert(rt, a(1), 100).expect(rt, "refused"), None);
+    is(rt, map.insert(rt, a(2), 200).expect(rt, "refused"), Some(100));
+    let pairs = map.pairs(rt).expect(rt, "refused");
+    let (key, value) = pairs.first().expect(rt, "no pair");
+    is(rt, (key.same(&a(1)), key.same(&a(2)), *value), (true, false, 200));
+}
+
 // Of equal keys in a list the first stays, and the last value, by one worker and by more.
 fn first_and_last<R: Abort + Threads + Sync, S: BuildHasher + Send + Sync>(
     rt: &R,
@@ -122,7 +135,17 @@ where
     equal_keys(rt, &map);
     put_beside(rt, &map);
     map.clear(rt);
+    copies(rt, &map);
+    map.clear(rt);
     first_and_last(rt, alloc, &mut map.alone());
+}
+
+// A list of (a#1, 1) and (a#2, 2) leaves (a#1, 2).
+#[test]
+fn the_first_key_of_a_list_and_the_last_value(rt: HostRuntime) {
+    let list = vec![in rt.alloc(); (a(1), 1), (a(2), 2)].expect(&rt, "refused");
+    let map = Map::<FixedState>::from_pairs(rt.alloc(), list, 1).expect(&rt, "refused");
+    has_a(&rt, &map, 1, 2);
 }
 
 #[test]

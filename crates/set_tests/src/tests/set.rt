@@ -1,6 +1,6 @@
 //! Sets that threads share, and of one owner.
 use crate::tests::checks::{is, prints};
-use dashmap::DashSet;
+use dashmap::{DashSet, TryReserveError};
 use dashmap::hash::{FixedState, PlaceState};
 use dashmap::iter_set::Iter;
 use dashmap::set::AloneSet;
@@ -93,7 +93,26 @@ fn get(rt: HostRuntime) {
     let found = set.get(&rt, &0).expect(&rt, "no key");
     is(&rt, (*found, *found.key()), (0, 0));
     is(&rt, set.get(&rt, &1).is_none(), true);
-    prints(&rt, rt.alloc(), &set.waiting(&rt), "{0: ()}");
+}
+
+#[test]
+fn prints_its_keys_with_nothing_beside(rt: HostRuntime) {
+    let set = Keys::new(rt.alloc(), 1).expect(&rt, "refused");
+    prints(&rt, rt.alloc(), &set.waiting(&rt), "{}");
+    is(&rt, set.insert(&rt, 7), Ok(true));
+    prints(&rt, rt.alloc(), &set.waiting(&rt), "{7: ()}");
+}
+
+#[test]
+fn clear_keeps_the_room(rt: HostRuntime) {
+    let set = Keys::new(rt.alloc(), 1).expect(&rt, "refused");
+    for key in 0..100 {
+        is(&rt, set.insert(&rt, key), Ok(true));
+    }
+    let room = set.capacity(&rt);
+    is(&rt, room >= 100, true);
+    set.clear(&rt);
+    is(&rt, (set.len(&rt), set.capacity(&rt)), (0, room));
 }
 
 #[test]
@@ -134,6 +153,17 @@ fn of_one_owner(rt: HostRuntime) {
     set.clear();
     is(&rt, set.is_empty(), true);
     is(&rt, set.into_iter().last(), None);
+}
+
+#[test]
+fn room_of_one_owner(rt: HostRuntime) {
+    let made = AloneSet::<u64, PlaceState>::from_iter(rt.alloc(), 0..4, 1);
+    let mut set = made.expect(&rt, "refused");
+    is(&rt, set.try_reserve(100), Ok(()));
+    is(&rt, set.capacity() >= 404, true);
+    is(&rt, set.try_reserve(usize::MAX), Err(TryReserveError {}));
+    set.shrink_to_fit();
+    is(&rt, (set.len(), set.capacity()), (4, 56));
 }
 
 #[test]

@@ -131,7 +131,7 @@ fn texts_are_those_of_the_map(rt: HostRuntime) -> Result<(), Fail> {
         ),
         (
             RecordFault::Part,
-            "whole step's part (24), refused line 3: whole step's part (24)",
+            "part (24), refused line 3: part (24)",
         ),
     ] {
         let said = format!(in rt.alloc(); "{fault}, {}", Stop::Step { line: 3, fault })?;

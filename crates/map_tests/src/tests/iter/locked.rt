@@ -47,13 +47,14 @@ fn gives_each_pair_by_rising_shard(rt: HostRuntime) {
     is(&rt, (shards, keys), (112_233, 255));
 }
 
+// The copy begins anew, where the walk goes on.
 #[test]
 fn a_cloned_walk(rt: HostRuntime) {
     let map = three_pairs(&rt, rt.alloc());
     let mut walk = map._iter(&rt);
-    drop(next_of(&rt, &mut walk));
-    let second = next_of(&rt, &mut walk);
+    let first = next_of(&rt, &mut walk);
     let copy = walk.clone().expect(&rt, "refused");
+    is(&rt, *next_of(&rt, &mut walk), 10);
     let copies = held_items(rt.alloc(), copy).expect(&rt, "refused");
     prints(
         &rt,
@@ -63,7 +64,7 @@ fn a_cloned_walk(rt: HostRuntime) {
     );
     drop(copies);
     drop(walk);
-    drop(second);
+    drop(first);
     is(&rt, put(&rt, &map, 1, 11), Some(10));
 }
 

@@ -38,8 +38,10 @@ fn an_item_of_an_alone(rt: HostRuntime) {
     if walk.advance() {
         let mut pair = walk.item_mut();
         *pair = pair.wrapping_add(*pair.key());
+        let (key, value) = pair.pair_mut();
+        *value = value.wrapping_add(*key);
     }
-    is(&rt, alone.get(&1), Some((&1, &11)));
+    is(&rt, alone.get(&1), Some((&1, &12)));
 }
 
 // Whether somebody writes in the shards 0, 2 and 3.
