@@ -27,7 +27,7 @@ impl Rule<Key, Key> for Echo {
     ghost equal_alike = { λ j k same. same };
 }
 
-impl<S: BuildHasher + Clone + Copy + Send + Sync + Drop> Tried<S>
+impl<S: BuildHasher + Clone + Copy + Default + Send + Sync + Drop> Tried<S>
 where
     S::Hasher: Send + Sync,
 {

@@ -2,19 +2,15 @@
 
 use crate::caches::Echo;
 use crate::maps::{Map, has};
-use crate::sets::{keys_from, set_has};
-use dashmap::error::{ConstructError, FromRefused};
+use dashmap::error::ConstructError;
 use dashmap::{DashMap, DashSet, Memo};
-use refusing::keys::{FULL, Key, Value, pairs_from};
+use refusing::keys::{FULL, Key};
 use refusing::trial::Ended;
 use std::alloc::{AllocError, Global};
 use std::hash::BuildHasher;
 use std::rt::Clock;
 use std::sync::Wait;
 use std::thread::Threads;
-
-// So many pairs get room for `FULL` in each of four shards. One of these gets more.
-const LIST: u64 = 4 * FULL;
 
 /// How a call with the default hasher ended.
 pub fn take_fixed<R>(rt: &R, alloc: Global, call: &str) -> Result<Ended, AllocError>
@@ -45,57 +41,13 @@ where
         "memo_new" => {
             Memo::new(alloc, Echo, 1).map(|cache: Memo<Key, Key, Echo>| cache.len(rt) == 0)
         }
-        _ => return take_list(rt, alloc, call),
+        _ => return Ok(Ended::unknown(FULL)),
     };
     Ok(ended(is_empty))
 }
 
-// How a call ended that makes a map or a set of a list.
-fn take_list<R>(rt: &R, alloc: Global, call: &str) -> Result<Ended, AllocError>
-where
-    R: Threads + Wait + Clock + Sync,
-{
-    let (pairs, keys) = (pairs_from(alloc, 0, LIST)?, keys_from(alloc, 0, LIST)?);
-    Ok(match call {
-        "from_pairs" => made_of(rt, alloc, DashMap::from_pairs(alloc, pairs, 1)),
-        "from_iter" => made_of(rt, alloc, DashMap::from_iter(alloc, pairs, 1)),
-        "from_par_iter" => {
-            let map = DashMap::<Key, Value>::from_par_iter(rt, alloc, pairs, 1, 2);
-            made(rt, alloc, LIST, map)
-        }
-        "set_from_iter" => match DashSet::<Key>::from_iter(alloc, keys, 1) {
-            Ok(set) => Ended::answered(FULL, set_has(rt, alloc, &set, LIST)),
-            Err(refused) => not_made_of(refused),
-        },
-        "set_from_par_iter" => {
-            let set = DashSet::<Key>::from_par_iter(rt, alloc, keys, 1, 2);
-            ended(set.map(|set: DashSet<Key>| set_has(rt, alloc, &set, LIST)))
-        }
-        _ => Ended::unknown(FULL),
-    })
-}
-
-// What a constructor of a list shows: it is refused by 8, or at a pair (12).
-fn made_of<R: Wait + Clock>(
-    rt: &R,
-    alloc: Global,
-    map: Result<DashMap<Key, Value>, FromRefused<Key, Value>>,
-) -> Ended {
-    match map {
-        Ok(map) => made(rt, alloc, LIST, Ok(map)),
-        Err(refused) => not_made_of(refused),
-    }
-}
-
-fn not_made_of<K: Drop, V: Drop>(refused: FromRefused<K, V>) -> Ended {
-    match refused {
-        FromRefused::Construct(refused) => Ended::not_made(refused),
-        FromRefused::Pair(_) => Ended::refused("FromRefused::Pair (12)", FULL, true),
-    }
-}
-
-// How a constructor ended: by 8, or with a map or set that has what it should have, or hasn't.
-fn ended(has_all: Result<bool, ConstructError>) -> Ended {
+/// How a constructor ended: by 8, or with a map or set that has what it should have, or hasn't.
+pub fn ended(has_all: Result<bool, ConstructError>) -> Ended {
     match has_all {
         Ok(has_all) => Ended::answered(FULL, has_all),
         Err(refused) => Ended::not_made(refused),

@@ -15,7 +15,7 @@ use std::thread::Threads;
 /// So many pairs are put in behind those that fill the shard, by calls that take a list.
 pub const MORE: u64 = 20;
 
-impl<S: BuildHasher + Clone + Copy + Send + Sync + Drop> Tried<S>
+impl<S: BuildHasher + Clone + Copy + Default + Send + Sync + Drop> Tried<S>
 where
     S::Hasher: Send + Sync,
 {

@@ -9,6 +9,7 @@ ghost use Rattle.dash_shard.specs.Hashing.{HashAlike};
 mod caches;
 mod entries;
 mod fixed;
+mod listed;
 mod lists;
 mod making;
 mod maps;
@@ -52,7 +53,7 @@ where
 fn trial<R, S>(rt: &R, alloc: Global, hasher: S, call: &str) -> Outcome
 where
     R: Threads + Wait + Clock + Sync,
-    S: BuildHasher + Clone + Copy + Send + Sync + Drop,
+    S: BuildHasher + Clone + Copy + Default + Send + Sync + Drop,
     S::Hasher: Send + Sync,
     requires { (s t : S) → S.is_clone s t → HashAlike ⟦<Map<S> as Keyed>⟧.by s t }
 {

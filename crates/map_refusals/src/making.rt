@@ -2,6 +2,7 @@
 ghost use Rattle.dash_shard.specs.Hashing.{HashAlike};
 
 use crate::fixed::{made, take_fixed};
+use crate::listed::take_list;
 use crate::maps::{Map, Tried, ended_with, has};
 use dashmap::ReadOnlyView;
 use dashmap::keyed::Keyed;
@@ -16,7 +17,7 @@ use std::thread::Threads;
 // The map as a view.
 type View<S> = ReadOnlyView<Key, Value, S>;
 
-impl<S: BuildHasher + Clone + Copy + Send + Sync + Drop> Tried<S>
+impl<S: BuildHasher + Clone + Copy + Default + Send + Sync + Drop> Tried<S>
 where
     S::Hasher: Send + Sync,
 {
@@ -104,9 +105,23 @@ where
             "with_capacity_and_hasher_and_shard_amount" => {
                 Map::with_capacity_and_hasher_and_shard_amount(alloc, 20, hasher, 4)
             }
-            _ => return take_fixed(rt, alloc, call),
+            _ => return self.make_of_list(rt, call),
         };
         Ok(made(rt, alloc, 0, map))
+    }
+
+    // Takes a constructor of a list, or one with the default hasher.
+    fn make_of_list<R>(&self, rt: &R, call: &str) -> Result<Ended, AllocError>
+    where
+        R: Threads + Wait + Clock + Sync,
+        requires { (s t : S) → S.is_clone s t → HashAlike ⟦<Map<S> as Keyed>⟧.by s t }
+    {
+        match call {
+            "from_pairs" | "from_iter" | "from_par_iter" | "set_from_iter" | "set_from_par_iter" => {
+                take_list::<R, S>(rt, self.alloc, call)
+            }
+            _ => take_fixed(rt, self.alloc, call),
+        }
     }
 }
 

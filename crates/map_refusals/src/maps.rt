@@ -45,7 +45,7 @@ impl<S: BuildHasher + Clone + Copy + Drop> Tried<S> {
     }
 }
 
-impl<S: BuildHasher + Clone + Copy + Send + Sync + Drop> Tried<S>
+impl<S: BuildHasher + Clone + Copy + Default + Send + Sync + Drop> Tried<S>
 where
     S::Hasher: Send + Sync,
 {
@@ -111,7 +111,8 @@ impl<S: BuildHasher + Drop> Tried<S> {
         let mut lawful = true;
         while let Some(item) = walk.next() {
             let Ok(pair) = item else {
-                return Ended::refused("AllocError (4)", FULL, walk.next().is_none());
+                let over = walk.next().is_none() && walk.next().is_none() && walk.next().is_none();
+                return Ended::refused("AllocError (4)", FULL, over);
             };
             lawful &= is_listed(pair.key(), pair.value());
             count = count.saturating_add(1);

@@ -14,7 +14,7 @@ use std::rt::Clock;
 use std::sync::Wait;
 use std::thread::Threads;
 
-impl<S: BuildHasher + Clone + Copy + Send + Sync + Drop> Tried<S>
+impl<S: BuildHasher + Clone + Copy + Default + Send + Sync + Drop> Tried<S>
 where
     S::Hasher: Send + Sync,
 {

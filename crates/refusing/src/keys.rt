@@ -18,11 +18,13 @@ pub struct Key {
 /// The list of a number.
 pub type Value = Vec<u64>;
 
+// Copies are alike their sources in the list too.
 impl Kept for Key {
-    ghost use Rattle.std.specs.Prelude.{◌==◌};
     ghost use Rattle.std.specs.Cmp.{nat_eq_equiv, on_equiv};
+    ghost use Rattle.std.specs.Cmp.Lexicographic.{lists_equiv};
+    ghost use Rattle.dash_kept.specs.inner.AlikeLaws.{pair_equiv};
 
-    ghost alike = { λ j k. j.name == k.name };
+    ghost alike = { λ j k. ⟦<(u64, Vec<u64>) as Kept>⟧.alike (j.name, j.note) (k.name, k.note) };
 
     fn copy(&self) -> Result<Key, AllocError> {
         Ok(Key {
@@ -32,14 +34,17 @@ impl Kept for Key {
     }
 
     fn same(&self, other: &Key) -> bool {
-        self.name == other.name
+        self.name == other.name && self.note.same(&other.note)
     }
 
-    ghost alike_laws = { on_equiv (λ k. k.name) nat_eq_equiv };
+    ghost alike_laws = { on_equiv (λ k. (k.name, k.note.items)) (pair_equiv nat_eq_equiv (lists_equiv nat_eq_equiv)) };
 }
 
 impl KeptKey for Key {
-    ghost alike_equal = { λ j k same. same };
+    ghost use Rattle.std.specs.Prelude.{◌==◌};
+    ghost use Rattle.std.proofs.lemmas.Bool.{and_parts};
+
+    ghost alike_equal = { λ j k same. (and_parts (j.name == k.name) (⟦<Vec<u64> as Kept>⟧.alike j.note k.note) same).0 };
 }
 
 /// A key to look up by, with this number. It takes no memory. By `PlaceState` and by `ZeroState` it goes to shard 0 of four.
