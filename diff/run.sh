@@ -4,9 +4,10 @@
 # usage: diff/run.sh [CALLS]     so many calls by each of three hashers, 300000 if none are named
 #        diff/run.sh --plant     each fault that `rust_diff` can plant must be found
 #
-# It wants Debian's package librust-dashmap-dev, cargo, and rt. It proves and builds `dash_diff`, and builds the Rust program offline from
-# Debian's packages. Keyed calls, entries, walks, sets and lists are drawn, on one thread. Pairs have an order by shard alone, so a walk is
-# compared by a digest that any order in a shard gives. Where the answers differ it prints the first line that does, and ends with status 1.
+# It wants Debian's package librust-dashmap-dev, cargo, and rt. It takes the `dash_diff` that the gate left, or else proves and builds it, and
+# builds the Rust program offline from Debian's packages. Keyed calls, entries, walks, sets and lists are drawn, on one thread. Pairs have an
+# order by shard alone, so a walk is compared by a digest that any order in a shard gives. Where the answers differ it prints the first line
+# that does, and ends with status 1.
 set -euo pipefail
 top=$(CDPATH='' cd -- "$(dirname -- "$0")/.." && pwd)
 registry=/usr/share/cargo/registry
@@ -23,8 +24,7 @@ esac
 (cd "$top/diff/rust" && cargo build --release --offline --quiet \
     --config 'source.crates-io.replace-with="debian"' --config "source.debian.directory=\"$registry\"")
 theirs=$top/diff/rust/target/release/rust_diff
-ours=$top/crates/dash_diff/out/dash_diff
-(cd "$top/crates/dash_diff" && rt run -- fixed 1 >&2)
+ours=$("$top/.ci/built" dash_diff)
 lines=$(mktemp -d)
 trap 'rm -rf "$lines"' EXIT
 
