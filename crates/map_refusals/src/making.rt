@@ -117,9 +117,8 @@ where
         requires { (s t : S) → S.is_clone s t → HashAlike ⟦<Map<S> as Keyed>⟧.by s t }
     {
         match call {
-            "from_pairs" | "from_iter" | "from_par_iter" | "set_from_iter" | "set_from_par_iter" => {
-                take_list::<R, S>(rt, self.alloc, call)
-            }
+            "from_pairs" | "from_iter" | "from_par_iter" | "set_from_iter" | "set_from_par_iter" =>
+                { take_list::<R, S>(rt, self.alloc, call) }
             _ => take_fixed(rt, self.alloc, call),
         }
     }

@@ -127,7 +127,9 @@ fn readers_go_beside_a_reference(rt: HostRuntime) {
     is(&rt, (map.is_empty(&rt), map.capacity(&rt)), (false, 28));
     is(&rt, map.clone(&rt).expect(&rt, "refused").len(&rt), 2);
     is(&rt, map.pairs(&rt).expect(&rt, "refused").len(), 2);
-    let values = map.par_iter().map_collect(&rt, |_: &u64, value: &u64| *value);
+    let values = map
+        .par_iter()
+        .map_collect(&rt, |_: &u64, value: &u64| *value);
     is(&rt, values.expect(&rt, "refused").len(), 2);
     is(&rt, *held, 10);
 }

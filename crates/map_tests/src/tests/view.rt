@@ -1,8 +1,8 @@
 //! Views of a map that nobody writes any more.
 use crate::tests::checks::is;
 use crate::tests::maps::{Names, map_of, put, text};
-use dash_map::map::DashMap;
 use dash_kept::Kept;
+use dash_map::map::DashMap;
 use std::alloc::Global;
 use std::process::Abort;
 use std::rt::Clock;
@@ -63,7 +63,11 @@ fn a_clone_of_a_view(rt: HostRuntime) {
     let view = map.into_read_only();
     let copy = view.clone().expect(&rt, "refused");
     drop(view);
-    is(&rt, (copy.len(), copy.get(&1), copy.get(&5)), (2, Some(&11), Some(&50)));
+    is(
+        &rt,
+        (copy.len(), copy.get(&1), copy.get(&5)),
+        (2, Some(&11), Some(&50)),
+    );
 }
 
 #[test]

@@ -19,7 +19,9 @@ fn sizes_past_the_end(rt: HostRuntime) {
 #[test]
 fn a_list_for_no_processor(rt: HostRuntime) {
     let list = vec![in rt.alloc(); (1, 10)].expect(&rt, "refused");
-    let refused = Map::from_pairs(rt.alloc(), list, 0).err().expect(&rt, "a map");
+    let refused = Map::from_pairs(rt.alloc(), list, 0)
+        .err()
+        .expect(&rt, "a map");
     let text = format!(in rt.alloc(); "{refused}").expect(&rt, "refused");
     is(&rt, text.as_str(), "parallelism (6)");
     let is_construct = matches!(refused, FromRefused::Construct(ConstructError::Parallelism));

@@ -100,10 +100,18 @@ fn put_beside<R: Abort + Wait + Clock, S: BuildHasher>(rt: &R, map: &Map<S>) {
 // Copies of a map's pairs have the stored key, with its note.
 fn copies<R: Abort + Wait + Clock, S: BuildHasher>(rt: &R, map: &Map<S>) {
     is(rt, map.insert(rt, a(1), 100).expect(rt, "refused"), None);
-    is(rt, map.insert(rt, a(2), 200).expect(rt, "refused"), Some(100));
+    is(
+        rt,
+        map.insert(rt, a(2), 200).expect(rt, "refused"),
+        Some(100),
+    );
     let pairs = map.pairs(rt).expect(rt, "refused");
     let (key, value) = pairs.first().expect(rt, "no pair");
-    is(rt, (key.same(&a(1)), key.same(&a(2)), *value), (true, false, 200));
+    is(
+        rt,
+        (key.same(&a(1)), key.same(&a(2)), *value),
+        (true, false, 200),
+    );
 }
 
 // Of equal keys in a list the first stays, and the last value, by one worker and by more.

@@ -1,9 +1,9 @@
 //! Sets that threads share, and of one owner.
 use crate::tests::checks::{is, prints};
-use dashmap::{DashSet, TryReserveError};
 use dashmap::hash::{FixedState, PlaceState};
 use dashmap::iter_set::Iter;
 use dashmap::set::AloneSet;
+use dashmap::{DashSet, TryReserveError};
 use std::alloc::Global;
 use std::process::Abort;
 use std::rt::Clock;

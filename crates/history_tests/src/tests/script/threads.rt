@@ -129,10 +129,7 @@ fn texts_are_those_of_the_map(rt: HostRuntime) -> Result<(), Fail> {
             RecordFault::Locked,
             "locked (21), refused line 3: locked (21)",
         ),
-        (
-            RecordFault::Part,
-            "part (24), refused line 3: part (24)",
-        ),
+        (RecordFault::Part, "part (24), refused line 3: part (24)"),
     ] {
         let said = format!(in rt.alloc(); "{fault}, {}", Stop::Step { line: 3, fault })?;
         is(&rt, said.as_str(), text);
