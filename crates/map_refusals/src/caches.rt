@@ -13,15 +13,40 @@ use std::rt::Clock;
 use std::sync::Wait;
 use std::thread::Threads;
 
+/// A key, as a value. Two are alike where the keys are equal, as values of equal keys have to be.
+#[derive(Drop)]
+pub struct Echoed {
+    key: Key,
+}
+
+impl Kept for Echoed {
+    ghost use Rattle.std.specs.Prelude.{◌==◌};
+    ghost use Rattle.std.specs.Cmp.{nat_eq_equiv, on_equiv};
+
+    ghost alike = { λ v w. v.key.name == w.key.name };
+
+    fn copy(&self) -> Result<Echoed, AllocError> {
+        Ok(Echoed {
+            key: self.key.copy()?,
+        })
+    }
+
+    fn same(&self, other: &Echoed) -> bool {
+        self.key == other.key
+    }
+
+    ghost alike_laws = { on_equiv (λ v. v.key.name) nat_eq_equiv };
+}
+
 /// The key itself, in memory of its own.
 #[derive(Drop)]
 pub struct Echo;
 
-impl Rule<Key, Key> for Echo {
-    ghost value_of = { λ key. key };
+impl Rule<Key, Echoed> for Echo {
+    ghost value_of = { λ key. record { key = key } };
 
-    fn compute(&self, key: &Key) -> Result<Key, AllocError> {
-        key.copy()
+    fn compute(&self, key: &Key) -> Result<Echoed, AllocError> {
+        Ok(Echoed { key: key.copy()? })
     }
 
     ghost equal_alike = { λ j k same. same };
@@ -63,7 +88,7 @@ impl<S: BuildHasher + Drop> Tried<S> {
         let after = self.cache.len(rt);
         let stays = before <= after && after <= 1;
         Ok(match answer {
-            Ok(value) => Ended::answered(FULL, stays && is_key_of(&value, FULL)),
+            Ok(value) => Ended::answered(FULL, stays && is_key_of(&value.key, FULL)),
             Err(_) => Ended::refused("MemoRefused (25)", FULL, stays),
         })
     }

@@ -1,6 +1,6 @@
 //! Calls that make a map, a set or a cache with the default hasher. Where one is refused nothing is made.
 
-use crate::caches::Echo;
+use crate::caches::{Echo, Echoed};
 use crate::maps::{Map, has};
 use dashmap::error::ConstructError;
 use dashmap::{DashMap, DashSet, Memo};
@@ -39,7 +39,7 @@ where
             DashSet::with_capacity(alloc, 20, 1).map(|set: DashSet<Key>| set.is_empty(rt))
         }
         "memo_new" => {
-            Memo::new(alloc, Echo, 1).map(|cache: Memo<Key, Key, Echo>| cache.len(rt) == 0)
+            Memo::new(alloc, Echo, 1).map(|cache: Memo<Key, Echoed, Echo>| cache.len(rt) == 0)
         }
         _ => return Ok(Ended::unknown(FULL)),
     };

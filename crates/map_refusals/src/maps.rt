@@ -1,7 +1,7 @@
 //! A map whose first shard is full, which calls are taken on, beside a set and a cache.
 ghost use Rattle.dash_shard.specs.Hashing.{HashAlike};
 
-use crate::caches::Echo;
+use crate::caches::{Echo, Echoed};
 use crate::sets::{keys_from, set_has};
 use dashmap::keyed::Keyed;
 use dashmap::try_result::TryResult;
@@ -23,7 +23,7 @@ pub struct Tried<S: BuildHasher> {
     pub alloc: Global,
     pub map: Map<S>,
     pub set: DashSet<Key, S>,
-    pub cache: Memo<Key, Key, Echo, S>,
+    pub cache: Memo<Key, Echoed, Echo, S>,
 }
 
 impl<S: BuildHasher + Clone + Copy + Drop> Tried<S> {

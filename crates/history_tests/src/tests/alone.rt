@@ -1,7 +1,7 @@
 //! A recorded map of one owner, and what both kinds of map are refused for.
 use crate::tests::checks::{is, prints};
 use crate::tests::gather::is_gathered;
-use crate::tests::maps::{Alone, Log, Map, Step, answers, map_of_two};
+use crate::tests::maps::{Alone, Log, Map, Step, answers, last_of, map_of_two};
 use dash_history::gather::GatherError;
 use dash_shard::error::ConstructError;
 use dash_shard::hash::PlaceState;
@@ -69,13 +69,17 @@ fn one_recorded_step(rt: HostRuntime) {
         assert!(rt; log.caller() < alone.callers());
         prints(&rt, rt.alloc(), &alone.apply(&mut log, step), text);
     }
-    is(&rt, (log.last_stamp(), alone.last_of(1)), (3, 3));
+    is(&rt, (log.last_stamp(), last_of(&rt, &alone, 1)), (3, 3));
 
     let (map, mut log, _) = map_of_two(&rt, rt.alloc(), 4);
     for (step, text) in three_steps() {
         answers(&rt, rt.alloc(), &map, &mut log, step, text);
     }
-    is(&rt, (log.last_stamp(), map.alone().last_of(1)), (3, 3));
+    is(
+        &rt,
+        (log.last_stamp(), last_of(&rt, &map.alone(), 1)),
+        (3, 3),
+    );
 }
 
 // A map of four shards that one owner has, and the logs of its two callers.
@@ -98,9 +102,9 @@ fn a_stamp_is_above_the_last_of_shard_and_caller(rt: HostRuntime) {
     let (mut alone, mut first, mut second) = alone_of_two(&rt, rt.alloc());
     put_all(&rt, &mut alone, &mut first, &[0, 4, 8, 12, 16, 20, 24]);
     put_all(&rt, &mut alone, &mut second, &[1, 5, 9, 13]);
-    is(&rt, (first.last_stamp(), alone.last_of(1)), (7, 4));
+    is(&rt, (first.last_stamp(), last_of(&rt, &alone, 1)), (7, 4));
     put_all(&rt, &mut alone, &mut first, &[17]);
-    is(&rt, (first.last_stamp(), alone.last_of(1)), (8, 8));
+    is(&rt, (first.last_stamp(), last_of(&rt, &alone, 1)), (8, 8));
 }
 
 // An untouched map merges to nothing, and so it gathers by its own two logs, but not where one comes twice.
