@@ -2,6 +2,7 @@
 use crate::tests::checks::{is, prints};
 use crate::tests::maps::{Alone, Log, Map, Step, answers, are_pairs, map_of_two, put, take};
 use dash_history::gather::{At, gather};
+use dash_shard::hash::PlaceState;
 use std::alloc::Global;
 use std::process::Abort;
 use std::rt::Clock;
@@ -75,25 +76,40 @@ fn three_stamps_are_one_history(rt: HostRuntime) {
     }
 }
 
-// Gathers a map twice by the logs of its two callers, which it returns.
-fn gather_twice(rt: &impl Abort, map: &mut Map, logs: [Log; 2], wanted: &[At]) -> [Log; 2] {
-    for _ in 0..2 {
-        let gathered = gather(map, &logs).expect(rt, "refused");
-        is(rt, gathered.as_slice(), wanted);
-    }
-    logs
+// Puts a pair by the caller of this number.
+fn put_by<R: Abort + Wait + Clock>(
+    rt: &R,
+    map: &Map,
+    logs: &mut [Log],
+    caller: usize,
+    pair: (u64, u64),
+) {
+    let log = logs.get_mut(caller).expect(rt, "no log");
+    put(rt, map, log, pair, true);
 }
 
-// Both times it gives the same, and then the callers go on.
+// Gathers a map twice, and ends the test where it doesn't give these places both times.
+fn gather_twice(rt: &impl Abort, map: &mut Map, logs: &[Log], wanted: &[At]) {
+    for _ in 0..2 {
+        let gathered = gather(map, logs).expect(rt, "refused");
+        is(rt, gathered.as_slice(), wanted);
+    }
+}
+
+// The callers go on between two gathers and after them.
 #[test]
 fn a_gathered_map_goes_on(rt: HostRuntime) {
-    let (mut map, first, second) = three_inserts(&rt, rt.alloc(), 4, 4, true);
-    let [mut first, mut second] = gather_twice(&rt, &mut map, [first, second], &three_places());
-    put(&rt, &map, &mut second, (2, 40), true);
-    put(&rt, &map, &mut first, (4, 50), true);
+    let (mut map, mut logs) = Map::new(rt.alloc(), PlaceState, 4, 2).expect(&rt, "refused");
+    put_by(&rt, &map, &mut logs, 0, (1, 10));
+    put_by(&rt, &map, &mut logs, 1, (4, 30));
+    put_by(&rt, &map, &mut logs, 0, (0, 20));
+    gather_twice(&rt, &mut map, &logs, &three_places());
+    put_by(&rt, &map, &mut logs, 1, (2, 40));
+    put_by(&rt, &map, &mut logs, 0, (4, 50));
     let [one, two, three] = three_places();
     let all = [one, two, three, at(2, 2, 0, 1), at(3, 0, 2, 0)];
-    drop(gather_twice(&rt, &mut map, [first, second], &all));
+    gather_twice(&rt, &mut map, &logs, &all);
+    is(&rt, map.pairs().expect(&rt, "refused").len(), 4);
 }
 
 // While shard 0 is held the others are free. A shard that is missing is refused before one that is held, and that before the last
