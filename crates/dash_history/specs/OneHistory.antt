@@ -1,10 +1,9 @@
 -- One history of a recorded map: the merge of the histories of its shards, and when the logs of its callers match them.
-use Rattle.std.specs.Prelude.{ℕ, ◌≡◌, ◌+◌, ◌-◌, ◌^◌, min, take, drop, ◌<◌, ◌≤◌, ◌==◌, List, [], map, filter, flat_map, length, Option, Some, slice_get, All, IsTrue, Result, IfOk, Err, Vec}
+use Rattle.std.specs.Prelude.{ℕ, ◌≡◌, ◌+◌, ◌-◌, ◌^◌, min, take, drop, ◌<◌, ◌≤◌, ◌==◌, List, [], map, filter, flat_map, length, Some, slice_get, All, Result, IfOk, Err, Vec}
 use Rattle.std.specs.List.{Contains}
 use Rattle.dash_shard.specs.Shard.{EachAt, pairs}
-use Rattle.std.specs.Option.{option_eq}
 use Rattle.dash_kept.specs.Alike.{CopiesEach}
-use Rattle.dash_steps.specs.Steps.{alike_record, part_of}
+use Rattle.dash_steps.specs.Steps.{part_of}
 use Rattle.dash_steps.specs.declared.step.Whole.{Whole}
 use Rattle.dash_steps.specs.declared.step.Whole.TheVariants as whole
 use Rattle.dash_record.specs.Joined.{joined_number, joined_pairs}
@@ -12,7 +11,7 @@ use Rattle.dash_shard.specs.Contents.{EachOnce}
 use Rattle.dash_steps.specs.Takes.{Known, Runs}
 use Rattle.dash_record.specs.History.{LogState, done}
 use Rattle.dash_history.specs.Alone.{RecAloneState, kinds_in}
-use Rattle.dash_gather.specs.Merge.{AreCallers, IsMerge, Same, along, of_caller, record_at}
+use Rattle.dash_gather.specs.Merge.{AreCallers, IsMerge, Same, along, of_caller}
 use Rattle.dash_steps.specs.declared.step.Record.{Record}
 use Rattle.dash_gather.specs.declared.place.At.{At}
 use Rattle.dash_history.specs.declared.gather.GatherError.{GatherError}
@@ -41,10 +40,6 @@ module _ {K V A S : Type 0} where
   rec_contents a = flat_map (λ s. pairs s.shard) a.row
 
 module _ {K V A S : Type 0} (w : Known K V A S) where
-  -- a copy of the record at a place, or none where there is none
-  abbrev pub CopiesEntry : RecAloneState K V A S → ℕ → ℕ → Option (Record K V A) → Type 0
-  CopiesEntry a s p found = IsTrue (option_eq (alike_record w.alike_key w.alike_value w.alike_action) (record_at (histories a) s p) found)
-
   -- copies of the pairs of all shards, each once
   abbrev pub CopiesRecPairs : RecAloneState K V A S → List (K × V) → Type 0
   CopiesRecPairs a copies = CopiesEach w.alike_key w.alike_value (rec_contents a) copies

@@ -8,7 +8,7 @@ ghost use Rattle.dash_history.specs.Alone.{RecAloneState, IsCallers, IsRecAlone,
 ghost use Rattle.dash_history.specs.inner.Fresh.{FreshRow};
 ghost use Rattle.dash_shard.specs.Shard.{EachAt, pairs};
 ghost use Rattle.dash_steps.specs.inner.Copied.{alike_pairs};
-ghost use Rattle.dash_history.specs.OneHistory.{IsOneHistory, Gathers, CopiesEntry, CopiesRecPairs, histories};
+ghost use Rattle.dash_history.specs.OneHistory.{IsOneHistory, Gathers, CopiesRecPairs, histories};
 ghost use Rattle.dash_gather.specs.Merge.{record_at};
 ghost use Rattle.dash_record.specs.Refused.{HandsBack, RefusesPart};
 ghost use Rattle.dash_record.specs.declared.record.RecordFault.TheVariants as fault;
@@ -336,21 +336,6 @@ impl<K: KeptKey + Drop, V: Kept + Drop, S: BuildHasher, A: KeptAction<K, V> + Dr
         ensures { option_map (λ r. r.now) result ≡ record_at (histories self.now) shard place }
     {
         self.row[shard].history().get(place)
-    }
-
-    // A copy of the record at a place.
-    pub(crate) fn copy_entry(
-        &self,
-        shard: usize,
-        place: usize,
-    ) -> Result<Option<Record<K, V, A>>, AllocError>
-        requires { shard < length self.now.row }
-        ensures { IfOk result (CopiesEntry ⟦<Self as Recorded>⟧.known self.now shard place) }
-    {
-        match self.entry_at(shard, place) {
-            Some(entry) => Ok(Some(entry.copy()?)),
-            None => Ok(None),
-        }
     }
 
     /// Copies of the pairs of all shards, each once (4).

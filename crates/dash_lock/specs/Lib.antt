@@ -3,4 +3,5 @@ pub mod KeepsFit
 pub mod Lock
 pub mod LockState
 pub mod Made
+pub mod Stays
 pub mod inner

@@ -3,4 +3,3 @@ pub mod Codes
 pub mod Holding
 pub mod IsHold
 pub mod Lending
-pub mod Stays

@@ -3,7 +3,7 @@ ghost use Rattle.std.specs.Prelude.{◌≡◌};
 ghost use Rattle.std.specs.Borrow.{sem};
 ghost use Rattle.dash_lock.specs.Lock.{FoundBehind, LeftBehind};
 ghost use Rattle.dash_lock.specs.inner.Holding.{lock_owns, lock_shares, IsMark};
-ghost use Rattle.dash_lock.specs.inner.Stays.{StaysAt};
+ghost use Rattle.dash_lock.specs.Stays.{StaysAt};
 
 use dash_traits::Tagged;
 use std::marker::{Brand, Model, Move, Owns, PhantomData};

@@ -48,6 +48,10 @@ impl<T: Tagged + Drop> Drop for RwLock<T> {
 }
 
 impl<T: Tagged> RwLock<T> {
+    ghost use Rattle.std.specs.Borrow.{sem};
+    ghost use Rattle.dash_lock.specs.Stays.{StaysAt};
+    ghost use Rattle.dash_lock.specs.contracts.lock.RwLock.{the_row};
+
     /// A lock that nobody has. It takes no memory. The original's `new` takes no tag.
     #[inline]
     pub fn new(value: T, tag: &T::Tag) -> RwLock<T>
@@ -79,9 +83,10 @@ impl<T: Tagged> RwLock<T> {
         cell.into_inner()
     }
 
-    /// Lends the value for reading, as the original's `get_mut` does for writing. It waits for nobody.
+    /// Lends the value for reading, as the original's `get_mut` does for writing. It waits for nobody, and the lock stays as it is.
     #[inline]
     pub fn get(&mut self) -> &T
+        ensures* stays { sem 𝓛 (StaysAt (the_row T.row T.Tag.row (record { fits = T.fits })) self.entry) }
         ensures fits { T.fits self.old.tag result.now }
         ensures found { FoundBehind result.now }
     {

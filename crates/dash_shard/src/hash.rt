@@ -114,6 +114,8 @@ impl BuildHasher for ZeroState {
 
 /// The hasher by which key `k` goes to shard `k` modulo the amount: a written number of 64 bits makes the hash
 /// `k * 2^55`, wrapped, so that its low bits choose the shard. For tests and worked examples: it spreads keys over shards alone.
+///
+/// Eight bytes that are written at once are that number, the lowest first, as a `u64` writes itself. Any other write leaves the hash.
 #[derive(Clone, Copy, Default)]
 pub struct PlaceState;
 

@@ -3,7 +3,7 @@ ghost use Rattle.std.specs.Prelude.{◌≡◌, ◌↔◌, ◌∷◌, [], true, I
 ghost use Rattle.dash_shard.specs.Errors.{IsOneOf};
 ghost use Rattle.dash_shard.specs.Hashing.{by, HashAlike, IsAmount};
 ghost use Rattle.dash_shard.specs.declared.error.ConstructError.TheVariants.{Memory, Parallelism, ShardAmount};
-ghost use Rattle.dash_map.specs.Alone.{len_in};
+ghost use Rattle.dash_map.specs.Alone.{len_in, room_in};
 ghost use Rattle.dash_map.specs.AllPairs.{ClearsAlone};
 ghost use Rattle.dash_map.specs.Amounts.{IsDefault, IsParallelism};
 ghost use Rattle.dash_map.specs.Behind.{LeavesShards, Removes, SawShards};
@@ -234,5 +234,13 @@ impl<K: KeptKey + Drop, V: Kept + Drop, R: Rule<K, V> + Drop, S: BuildHasher> Me
         ensures { SawShards {V = K × V} ⟦<Self as Keyed>⟧.by self.now (λ a. result ≡ len_in a) }
     {
         self.map.len(rt)
+    }
+
+    /// How many values there may be before some shard takes memory, if their keys spread as the shards' room does, saturating at
+    /// 2^64 - 1. It waits as `len` does.
+    pub fn capacity<W: Wait + Clock>(&self, rt: &W) -> usize
+        ensures { SawShards {V = K × V} ⟦<Self as Keyed>⟧.by self.now (λ a. result ≡ room_in a) }
+    {
+        self.map.capacity(rt)
     }
 }

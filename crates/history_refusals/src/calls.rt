@@ -48,7 +48,7 @@ impl<S: BuildHasher + Clone + Copy + Drop> Recorded<S> {
             "gather" => Ok(self.gather()),
             "merged" => Ok(self.merged()),
             "recorded_pairs" => Ok(Ended::listed(FULL, FULL, self.map.pairs())),
-            "entry_at" => Ok(Ended::by_memory(FULL, self.entry_at())),
+            "entry_at" => Ok(Ended::answered(FULL, self.has_first())),
             "count_all" | "try_count_all" | "clone_all" | "try_clone_all" => {
                 Ok(self.whole(rt, call))
             }
@@ -107,16 +107,9 @@ impl<S: BuildHasher + Drop> Recorded<S> {
     }
 
     // Whether there is a first record of shard 0.
-    fn entry_at(&mut self) -> Result<bool, AllocError> {
-        if self.map.shard_count() == 0 {
-            return Ok(false);
-        }
-        is_there(self.map.entry_at(0, 0))
+    fn has_first(&mut self) -> bool {
+        self.map.shard_count() != 0 && self.map.entry_at(0, 0).is_some()
     }
-}
-
-fn is_there<T: Drop>(found: Result<Option<T>, AllocError>) -> Result<bool, AllocError> {
-    Ok(found?.is_some())
 }
 
 // The merge of the histories, and the map after it.

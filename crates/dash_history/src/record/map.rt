@@ -1,7 +1,9 @@
 //! A recorded map that threads share, and its two moves: shards out of their locks, and behind them again.
-ghost use Rattle.std.specs.Prelude.{◌∷◌, [], ◌≡◌, ◌<◌, ◌↔◌, Some, IsErrOf, IfOk, IfErr, IfSome, length};
+ghost use Rattle.std.specs.Prelude.{◌∷◌, [], ◌≡◌, ◌<◌, ◌↔◌, Some, IsErrOf, IfOk, IfErr, IfSome, length, option_map, slice_get};
 ghost use Rattle.crossbeam_utils.specs.Padded.{padded_value};
+ghost use Rattle.std.specs.Borrow.{sem};
 ghost use Rattle.dash_lock.specs.Lock.{FoundBehind, LeftBehind, EndedWith};
+ghost use Rattle.dash_lock.specs.Stays.{StaysAt};
 ghost use Rattle.dash_shard.specs.Shard.{EachAt};
 ghost use Rattle.dash_shard.specs.Errors.{IsOneOf};
 ghost use Rattle.dash_shard.specs.declared.error.ConstructError.TheVariants.{Callers, Memory, ShardAmount};
@@ -9,8 +11,8 @@ ghost use Rattle.dash_shard.specs.Hashing.{by, IsAmount, HashAlike};
 ghost use Rattle.dash_history.specs.Alone.{IsCallers, EachRecShard, fresh_logs, last_at};
 ghost use Rattle.dash_record.specs.Held.{IsRecTagged};
 ghost use Rattle.dash_record.specs.History.{IsFresh, IsRecorded};
-ghost use Rattle.dash_history.specs.Map.{IsRecFound, IsRecShardOf, RelocksRecShards, locked, made_for, rec_map, shape, shard_on};
-ghost use Rattle.dash_history.specs.OneHistory.{CopiesEntry, CopiesRecPairs};
+ghost use Rattle.dash_history.specs.Map.{IsRecFound, IsRecShardOf, RelocksRecShards, SawRecShard, locked, made_for, rec_map, shape, shard_on};
+ghost use Rattle.dash_history.specs.OneHistory.{CopiesRecPairs};
 ghost use Rattle.dash_history.specs.inner.Locks.{IsRecAt, LeavesLock, made_of};
 ghost use Rattle.dash_steps.specs.inner.Hashed.{IsHashBy};
 ghost use Rattle.dash_steps.specs.Takes.{known};
@@ -80,6 +82,8 @@ impl<K: KeptKey + Drop, V: Kept + Drop, S: BuildHasher, A: KeptAction<K, V> + Dr
     S,
     A,
 > {
+    ghost use Rattle.dash_history.specs.contracts.record.map.RecordedMap.{the_row};
+
     /// A map of `amount` shards with no pairs, beside the logs of its callers, which are numbered from 0.
     ///
     /// It is refused where the amount is no power of two above 1 (5), then where there are not 1 to 65,536 callers (17), then
@@ -198,24 +202,21 @@ impl<K: KeptKey + Drop, V: Kept + Drop, S: BuildHasher, A: KeptAction<K, V> + Dr
         }
     }
 
-    /// A copy of the record at a place: at the index `place` of the history of a shard, if it has so many (4).
+    /// The record at a place: at the index `place` of the history of a shard, if it has so many.
     ///
-    /// As nobody else has the map, it waits for nobody, even where a hold was leaked. The shards leave their locks for it and go
-    /// back.
-    pub fn entry_at(
-        &mut self,
-        shard: usize,
-        place: usize,
-    ) -> Result<Option<Record<K, V, A>>, AllocError>
+    /// As nobody else has the map, it waits for nobody, even where a hold was leaked. No shard leaves its lock.
+    pub fn entry_at(&mut self, shard: usize, place: usize) -> Option<&Record<K, V, A>>
         requires { shard < self.old.amount }
-        ensures entry { RelocksRecShards ⟦<Self as Recorded>⟧.known self.old self.new
-            (λ a. IfOk result (CopiesEntry ⟦<Self as Recorded>⟧.known a shard place)) }
-        ensures same { shape self.new ≡ shape self.old }
+        ensures* stays { sem 𝓛 (StaysAt (the_row K.row V.row S.row A.row S.Hasher.row (record {}) (record { alike = K.alike }) (record {}) (record { eq = K.eq }) (record { hash_input = K.hash_input }) (record { alike = V.alike }) S.BuildHasher S.Hasher.Hasher (record {}) (record { acts = A.acts }) (record { alike = A.alike })) self.entry) }
+        ensures entry { SawRecShard ⟦<Self as Recorded>⟧.known self.old shard
+            (λ s. option_map (λ r. r.now) result ≡ slice_get s.history place) }
     {
-        replace_with(self, (shard, place), Self::entry_alone)
+        self.row[shard].get().history().get(place)
     }
 
-    /// The stamp of the last step of a shard, 0 for none. It waits as `entry_at` does.
+    /// The stamp of the last step of a shard, 0 for none.
+    ///
+    /// It waits for nobody, as `entry_at`. The shards leave their locks for it and go back.
     pub fn last_of(&mut self, shard: usize) -> u64
         requires { shard < self.old.amount }
         ensures last { RelocksRecShards ⟦<Self as Recorded>⟧.known self.old self.new (λ a. result ≡ last_at a shard) }
@@ -224,25 +225,13 @@ impl<K: KeptKey + Drop, V: Kept + Drop, S: BuildHasher, A: KeptAction<K, V> + Dr
         replace_with(self, shard, Self::last_alone)
     }
 
-    /// Copies of the pairs of all shards, each once (4). It waits as `entry_at` does.
+    /// Copies of the pairs of all shards, each once (4). It waits for nobody, as `last_of`.
     pub fn pairs(&mut self) -> Result<Vec<(K, V)>, AllocError>
         ensures pairs { RelocksRecShards ⟦<Self as Recorded>⟧.known self.old self.new
             (λ a. IfOk result (λ pairs. CopiesRecPairs ⟦<Self as Recorded>⟧.known a pairs.items)) }
         ensures same { shape self.new ≡ shape self.old }
     {
         replace_with(self, (), Self::pairs_alone)
-    }
-
-    // The copy, and the map after it.
-    fn entry_alone(self, at: (usize, usize)) -> (Self, Result<Option<Record<K, V, A>>, AllocError>)
-        requires { at.0 < self.amount }
-        ensures entry { RelocksRecShards ⟦<Self as Recorded>⟧.known self result.0
-            (λ a. IfOk result.1 (CopiesEntry ⟦<Self as Recorded>⟧.known a at.0 at.1)) }
-        ensures same { shape result.0 ≡ shape self }
-    {
-        let alone = self.alone();
-        let found = alone.copy_entry(at.0, at.1);
-        (alone.end(), found)
     }
 
     // The stamp, and the map after it.

@@ -74,6 +74,20 @@ fn what_is_kept_is_not_computed_again(rt: HostRuntime) {
     is(&rt, cache.len(&rt), 0);
 }
 
+#[test]
+fn clear_keeps_the_room(rt: HostRuntime) {
+    let (computed, goes_on) = (AtomicU64::new(0), AtomicU64::new(1));
+    let rule = rule_of(&computed, &goes_on);
+    let cache = Memo::new(rt.alloc(), rule, 1).expect(&rt, "refused");
+    for key in 0..100u64 {
+        is(&rt, cache.ask(&rt, &key), Ok(key * key + 1));
+    }
+    let room = cache.capacity(&rt);
+    is(&rt, room >= 100, true);
+    cache.clear(&rt);
+    is(&rt, (cache.len(&rt), cache.capacity(&rt)), (0, room));
+}
+
 // Finds a try form that computes anew what it keeps, as where it takes a free shard for a held one: each of 64 shards has some of the keys.
 #[test]
 fn each_shard_without_pairs_is_free(rt: HostRuntime) {
