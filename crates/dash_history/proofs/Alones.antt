@@ -19,11 +19,11 @@ use Rattle.dash_steps.specs.Steps.{step_of}
 use Rattle.dash_steps.specs.inner.Hashed.{OfKey, IsHashBy, HasHash}
 use Rattle.dash_steps.specs.Takes.{Kinds, Known, kinds_at, rules}
 use Rattle.dash_steps.specs.inner.Kinds.{kinds, kinds_of}
-use Rattle.dash_record.specs.History.{RecState, LogState, IsRecorded, Recorded, last_or, shard_of}
+use Rattle.dash_history.specs.History.{RecState, LogState, IsRecorded, Recorded, last_or, shard_of}
 use Rattle.dash_history.specs.OneHistory.{histories}
-use Rattle.dash_gather.specs.Merge.{record_at}
+use Rattle.dash_history.specs.Merge.{record_at}
 use Rattle.dash_history.specs.Alone.{RecAloneState, IsRecAlone, Applied, last_at, kinds_in}
-use Rattle.dash_record.specs.Held.{IsRecTagged}
+use Rattle.dash_history.specs.Held.{IsRecTagged}
 
 module _ {K V A S : Type 0} (h : KeyHash K S) where
   pub tagged-moved : (base : S) (n c i : ℕ) (s t : RecState K V A S) → IsRecTagged h base n c i s → SameShard s.shard t.shard → t.callers ≡ s.callers → IsRecTagged h base n c i t

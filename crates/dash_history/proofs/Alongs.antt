@@ -3,14 +3,14 @@ use Rattle.std.proofs.Common.{◌≡◌, ℕ, ◌<◌, ◌==◌, ◌⊎◌, List
 use Rattle.std.proofs.lemmas.List.Elements.{same_from_all_zip}
 use Rattle.std.proofs.lemmas.Option.{same_Some}
 use Rattle.std.proofs.lemmas.Bool.{cases_eq, cases_lt}
-use Rattle.dash_record.specs.History.{Rises, Follows, FollowOn, LogRises}
-use Rattle.dash_gather.specs.Merge.{Earlier, IsMerge, record_at, along}
+use Rattle.dash_history.specs.History.{Rises, Follows, FollowOn, LogRises}
+use Rattle.dash_history.specs.Merge.{Earlier, IsMerge, record_at, along}
 use Rattle.dash_history.specs.OneHistory.{of_shard, StampsStandInOrder}
 use Rattle.dash_steps.specs.declared.step.Record.{Record}
-use Rattle.dash_gather.specs.declared.place.At.{At}
-use Rattle.dash_gather.proofs.Members.{Has, has-get, get-has, has-contains, contains-has, InOrder}
+use Rattle.dash_history.specs.declared.place.At.{At}
+use Rattle.dash_history.proofs.Ordered.{Has, has-get, get-has, has-contains, contains-has, InOrder}
 use Rattle.dash_history.proofs.Members.{has-kept, kept-has, get-in_order, in_order-kept, in_order-mapped, agree, has-mapped, mapped-has}
-use Rattle.dash_gather.proofs.Merging.{at-from, from-at}
+use Rattle.dash_history.proofs.Merging.{at-from, from-at}
 
 -- by stamp, and among equal stamps by shard: without circles
 earlier-never : (a b : At) → Earlier a b → Earlier b a → ⊥

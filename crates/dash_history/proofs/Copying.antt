@@ -1,11 +1,11 @@
 -- Copies of the pairs that each item of a list has, as far as the loop has come.
 use Rattle.std.proofs.Common.{◌≡◌, ℕ, ◌+◌, ◌<◌, ◌≤◌, Bool, true, IsTrue, List, [], ◌++◌, flat_map, length, get_or, drop, sym, ap, subst, ◌∙◌, drop_of_length-le, append_assoc, append-nil}
-use Rattle.dash_kept.specs.Alike.{alike_pair}
+use Rattle.dash_steps.specs.Kept.{alike_pair}
 use Rattle.dash_steps.specs.inner.Copied.{alike_pairs}
 use Rattle.std.specs.Cmp.Lexicographic.{pointwise}
 use Rattle.dash_steps.specs.inner.Sweep.{AddsAlike}
-use Rattle.dash_kept.proofs.Items.{alike-append}
-use Rattle.dash_record.proofs.Lists.{drop-next}
+use Rattle.dash_steps.proofs.Items.{alike-append}
+use Rattle.dash_history.proofs.Lists.{drop-next}
 
 module _ {X K V : Type 0} (k : K → K → Bool) (v : V → V → Bool) (pairs : X → List (K × V)) (row : List X) where
   abbrev pub all : List X → List (K × V)

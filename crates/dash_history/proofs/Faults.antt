@@ -3,8 +3,8 @@ use Rattle.std.proofs.Common.{◌≡◌, ◌⊎◌, ◌↔◌, Bool, false, IsTr
 use Rattle.std.proofs.lemmas.Bool.{both_ways}
 use Rattle.std.specs.Prelude.{IfErr}
 use Rattle.std.proofs.lemmas.Result.{IfErr-at_err}
-use Rattle.dash_record.specs.declared.record.RecordFault.{RecordFault}
-use Rattle.dash_record.specs.declared.record.RecordFault.TheVariants.{LastStamp, Memory, NoSuchShard, Part}
+use Rattle.dash_history.specs.declared.record.RecordFault.{RecordFault}
+use Rattle.dash_history.specs.declared.record.RecordFault.TheVariants.{LastStamp, Memory, NoSuchShard, Part}
 
 other : (f : RecordFault) → f ≡ NoSuchShard → (f ≡ Part) ⊎ (f ≡ LastStamp) ⊎ (f ≡ Memory) → ⊥
 other f e h = ⊎_elim (λ (x : f ≡ Part). cc) (⊎_elim (λ (x : f ≡ LastStamp). cc) (λ (x : f ≡ Memory). cc)) h

@@ -5,15 +5,15 @@ use Rattle.dash_shard.specs.Contents.{keys}
 use Rattle.dash_shard.specs.Hashing.{route_by}
 use Rattle.std.proofs.lemmas.List.{length-map}
 use Rattle.dash_history.specs.Alone.{RecAloneState, IsRecAlone, kinds_in}
-use Rattle.dash_gather.specs.inner.Gathering.{EachLog, KeepsCallers}
-use Rattle.dash_record.specs.History.{LogState, RecState}
-use Rattle.dash_gather.specs.Merge.{AreCallers, IsMerge}
+use Rattle.dash_history.specs.inner.Gathering.{EachLog, KeepsCallers}
+use Rattle.dash_history.specs.History.{LogState, RecState}
+use Rattle.dash_history.specs.Merge.{AreCallers, IsMerge}
 use Rattle.dash_history.specs.OneHistory.{Matches, IsGathered, histories}
 use Rattle.dash_steps.specs.Takes.{Known, rules}
-use Rattle.dash_gather.specs.declared.place.At.{At}
+use Rattle.dash_history.specs.declared.place.At.{At}
 use Rattle.dash_steps.proofs.Copies.{Lawful}
 use Rattle.dash_history.proofs.Matching.{order-from-match, shards-from-order, match-from-order}
-use Rattle.dash_gather.proofs.Members.{contains-has}
+use Rattle.dash_history.proofs.Ordered.{contains-has}
 use Rattle.dash_history.proofs.Whole.{tidy, one-history, caller-below, all-has, has-all}
 
 module _ {K V A S : Type 0} (w : Known K V A S) (a : RecAloneState K V A S) (alone : IsRecAlone w a) (laws : Lawful (kinds_in w a).rules)

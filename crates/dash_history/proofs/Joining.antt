@@ -9,19 +9,19 @@ use Rattle.std.specs.Cmp.Lexicographic.{pointwise}
 use Rattle.std.specs.List.{sum_by}
 use Rattle.dash_shard.specs.Shard.{pairs}
 use Rattle.dash_shard.specs.Steps.{Reply, Number, Pairs}
-use Rattle.dash_kept.specs.Alike.{alike_pair}
+use Rattle.dash_steps.specs.Kept.{alike_pair}
 use Rattle.dash_steps.specs.Alike.{alike_reply}
 use Rattle.dash_steps.specs.Steps.{reply_of}
 use Rattle.dash_steps.specs.Takes.{Known}
 use Rattle.dash_steps.specs.declared.step.Record.{Record}
 use Rattle.dash_steps.specs.declared.step.Whole.TheVariants as whole
 use Rattle.dash_steps.proofs.AlikeLaws.{chained, reply_equiv}
-use Rattle.dash_kept.proofs.Items.{alike-append}
+use Rattle.dash_steps.proofs.Items.{alike-append}
 use Rattle.dash_history.specs.Alone.{RecAloneState}
-use Rattle.dash_record.specs.History.{LogState, RecState}
+use Rattle.dash_history.specs.History.{LogState, RecState}
 use Rattle.dash_history.specs.OneHistory.{CopiesRecPairs, rec_contents}
 use Rattle.dash_history.specs.WholeSteps.{AppliedWhole}
-use Rattle.dash_record.specs.Joined.{joined_number, joined_pairs, number_in, pairs_in}
+use Rattle.dash_history.specs.Joined.{joined_number, joined_pairs, number_in, pairs_in}
 
 -- the sum along a list, from its front
 pub total : {X : Type 0} → (X → ℕ) → List X → ℕ

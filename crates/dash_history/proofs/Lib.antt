@@ -1,3 +1,16 @@
+pub mod Lists
+pub mod Made
+mod Growing
+pub mod Telling
+mod Recording
+pub mod Parts
+mod Adding
+pub mod WholeLogs
+pub mod Ordered
+pub mod Merging
+mod Placing
+mod Indexing
+mod Following
 mod Alones
 mod Faults
 mod Logging

@@ -8,11 +8,11 @@ use Rattle.dash_steps.specs.declared.step.Reply as program
 use Rattle.dash_steps.specs.declared.step.Record.{Record}
 use Rattle.dash_steps.specs.Steps.{reply_of, alike_step, alike_record}
 use Rattle.dash_steps.specs.Takes.{Kinds}
-use Rattle.dash_record.specs.History.{RecState, LogState, Recorded, shard_of, stamp_of}
-use Rattle.dash_record.specs.inner.Tells.{Tells}
+use Rattle.dash_history.specs.History.{RecState, LogState, Recorded, shard_of, stamp_of}
+use Rattle.dash_history.specs.inner.Tells.{Tells}
 use Rattle.dash_history.specs.Map.{Logged}
 use Rattle.dash_steps.proofs.AlikeLaws.{chained, reply_equiv}
-use Rattle.dash_record.proofs.Telling.{told, tells-of}
+use Rattle.dash_history.proofs.Telling.{told, tells-of}
 
 module _ {K V A : Type 0} {k : K → K → Bool} {v : V → V → Bool} {f : A → A → Bool} (lk : IsEquivalence k) (lv : IsEquivalence v) (lf : IsEquivalence f) where
   both_at : (i j l : ℕ) (a b c : A) → ((i == j) && f a b) ≡ true → ((j == l) && f b c) ≡ true → ((i == l) && f a c) ≡ true

@@ -6,21 +6,21 @@ use Rattle.std.specs.Cmp.{IsEquivalence}
 use Rattle.crossbeam_utils.specs.declared.cache_padded.CachePadded.{CachePadded}
 use Rattle.crossbeam_utils.specs.Padded.{padded_value}
 use Rattle.dash_shard.specs.Hashing.{KeyHash, IsAmount, HashAlike}
-use Rattle.dash_lock.specs.Lock.{FoundBehind, LeftBehind, EndedWith}
-use Rattle.dash_lock.specs.Made.{Made}
+use Rattle.dash_shard.specs.Lock.{FoundBehind, LeftBehind, EndedWith}
+use Rattle.dash_shard.specs.Made.{Made}
 use Rattle.dash_shard.specs.inner.Rows.{Moved}
 use Rattle.dash_shard.proofs.Rows.{moved-length, moved-from, moved-to}
-use Rattle.dash_record.specs.declared.record.tag.RecTag.{RecTag}
-use Rattle.dash_record.specs.History.{RecState, LogState, Recorded, IsRecorded, shard_of}
+use Rattle.dash_history.specs.declared.record.tag.RecTag.{RecTag}
+use Rattle.dash_history.specs.History.{RecState, LogState, Recorded, IsRecorded, shard_of}
 use Rattle.dash_history.specs.Alone.{RecAloneState, EachRecShard, IsRecAlone}
-use Rattle.dash_record.specs.Held.{IsRecTagged, FitsRecTag}
+use Rattle.dash_history.specs.Held.{IsRecTagged, FitsRecTag}
 use Rattle.dash_history.specs.Map.{IsRecFound, RecMapShape, RecMapState, RelocksRecShards, Logs, kinds_on, locked, made_for, rec_map, shape}
-use Rattle.dash_record.specs.Refused.{Records}
+use Rattle.dash_history.specs.Refused.{Records}
 use Rattle.dash_steps.specs.Takes.{Known}
 use Rattle.dash_steps.specs.inner.Kinds.{kinds_of}
 use Rattle.dash_steps.specs.declared.step.ShardStep.{ShardStep}
 use Rattle.dash_steps.specs.declared.step.Reply.{Reply}
-use Rattle.dash_record.specs.declared.record.RecordFault.{RecordFault}
+use Rattle.dash_history.specs.declared.record.RecordFault.{RecordFault}
 use Rattle.dash_history.proofs.Alones.{kinds-same}
 use Rattle.dash_history.proofs.Faults.{never-missing}
 use Rattle.dash_history.proofs.Logging.{logged}

@@ -4,7 +4,7 @@ use Rattle.std.specs.List.{AllZip, filter_map, cons_option}
 use Rattle.std.proofs.lemmas.Option.{slice_get-get_or, slice_get_past}
 use Rattle.std.specs.Option.{MatchOption, IfSome, option_map}
 use denote.Ref.{Bor}
-use Rattle.dash_gather.proofs.Members.{Has, has-get, InOrder}
+use Rattle.dash_history.proofs.Ordered.{Has, has-get, InOrder}
 
 module _ {X : Type 0} where
   -- what a filter keeps

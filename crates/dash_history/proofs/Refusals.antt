@@ -6,9 +6,9 @@ use Rattle.dash_shard.specs.declared.error.ConstructError.{ConstructError}
 use Rattle.dash_shard.specs.declared.error.ConstructError.TheVariants.{ShardAmount, Callers, Memory}
 use Rattle.dash_history.specs.declared.gather.GatherError.{GatherError}
 use Rattle.dash_history.specs.declared.gather.GatherError.TheVariants as gather
-use Rattle.dash_record.specs.declared.record.RecordFault.{RecordFault}
-use Rattle.dash_record.specs.declared.record.RecordFault.TheVariants.{LastStamp, NoSuchShard}
-use Rattle.dash_record.specs.declared.record.RecordFault.TheVariants as fault
+use Rattle.dash_history.specs.declared.record.RecordFault.{RecordFault}
+use Rattle.dash_history.specs.declared.record.RecordFault.TheVariants.{LastStamp, NoSuchShard}
+use Rattle.dash_history.specs.declared.record.RecordFault.TheVariants as fault
 
 pub callers-amount : {T : Type 0} → ◌≡◌ {A = Result T ConstructError} (Err Callers) (Err ShardAmount) → ⊥
 callers-amount same = cc

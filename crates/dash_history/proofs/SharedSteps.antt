@@ -5,7 +5,7 @@ use Rattle.std.specs.Result.{IsErrAnd}
 use Rattle.std.proofs.lemmas.List.{length_push}
 use Rattle.std.proofs.lemmas.Option.{none-some, same_Some}
 use Rattle.std.specs.Cmp.{IsEquivalence}
-use Rattle.dash_lock.specs.Lock.{FoundBehind, LeftBehind}
+use Rattle.dash_shard.specs.Lock.{FoundBehind, LeftBehind}
 use Rattle.dash_shard.specs.Hashing.{KeyHash, IsAmount}
 use Rattle.dash_shard.specs.Shard.{EachAt}
 use Rattle.dash_shard.specs.Steps.{Act}
@@ -15,11 +15,11 @@ use Rattle.dash_steps.specs.Takes.{Known}
 use Rattle.dash_steps.specs.declared.step.Record.{Record}
 use Rattle.dash_steps.specs.declared.step.Whole.{Whole}
 use Rattle.dash_steps.proofs.Copies.{ActAlike}
-use Rattle.dash_record.specs.History.{LogState, RecState, IsRecorded}
-use Rattle.dash_record.specs.Part.{greatest}
-use Rattle.dash_record.specs.declared.record.RecordFault.{RecordFault}
-use Rattle.dash_record.specs.declared.record.RecordFault.TheVariants.{LastStamp}
-use Rattle.dash_record.specs.inner.Parts.{AddedEach, Planned, SameEach}
+use Rattle.dash_history.specs.History.{LogState, RecState, IsRecorded}
+use Rattle.dash_history.specs.Part.{greatest}
+use Rattle.dash_history.specs.declared.record.RecordFault.{RecordFault}
+use Rattle.dash_history.specs.declared.record.RecordFault.TheVariants.{LastStamp}
+use Rattle.dash_history.specs.inner.Parts.{AddedEach, Planned, SameEach}
 use Rattle.dash_history.specs.Alone.{RecAloneState, IsCallers, IsRecAlone}
 use Rattle.dash_history.specs.Map.{AreRecBehind, IsRecFound, IsRecShardOf, LeavesRecShards, RecMapState}
 use Rattle.dash_history.specs.SharedSteps.{FaultsWhole, StepsWhole}

@@ -12,16 +12,16 @@ use Rattle.dash_steps.specs.declared.step.Record.{Record}
 use Rattle.dash_steps.specs.declared.step.Whole.{Whole}
 use Rattle.dash_steps.proofs.Copies.{Lawful}
 use Rattle.dash_history.specs.Alone.{RecAloneState, IsRecAlone, kinds_in}
-use Rattle.dash_record.specs.History.{LogState, RecState, shard_of}
-use Rattle.dash_gather.specs.Merge.{Earlier, along, of_caller, record_at}
+use Rattle.dash_history.specs.History.{LogState, RecState, shard_of}
+use Rattle.dash_history.specs.Merge.{Earlier, along, of_caller, record_at}
 use Rattle.dash_history.specs.OneHistory.{HasWhole, IsGathered, IsWhole, StandsWhole, WholesStand, histories, of_shard}
-use Rattle.dash_gather.specs.declared.place.At.{At}
+use Rattle.dash_history.specs.declared.place.At.{At}
 use Rattle.dash_history.proofs.Matching.{like-has, zipped}
 use Rattle.dash_history.proofs.Matching as matching
-use Rattle.dash_gather.proofs.Members.{Has, contains-has, get-has, has-contains, has-get}
+use Rattle.dash_history.proofs.Ordered.{Has, contains-has, get-has, has-contains, has-get}
 use Rattle.dash_history.proofs.Members.{has-kept, kept-has}
-use Rattle.dash_record.proofs.Lists.{get-within}
-use Rattle.dash_gather.proofs.Merging.{at-from, from-at}
+use Rattle.dash_history.proofs.Lists.{get-within}
+use Rattle.dash_history.proofs.Merging.{at-from, from-at}
 use Rattle.dash_history.proofs.There.{one-map}
 use Rattle.dash_history.proofs.Whole.{of-shard}
 use Rattle.std.specs.List.{filter_map}

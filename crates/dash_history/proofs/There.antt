@@ -12,7 +12,7 @@ use Rattle.dash_shard.specs.Contents.{EachOnce, IsOnShard, at, on}
 use Rattle.dash_shard.specs.Shard.{pairs}
 use Rattle.dash_shard.specs.Steps.{Number}
 use Rattle.dash_shard.specs.inner.Steps.{step_shard}
-use Rattle.dash_kept.specs.Alike.{alike_pair}
+use Rattle.dash_steps.specs.Kept.{alike_pair}
 use Rattle.dash_steps.specs.Alike.{alike_reply}
 use Rattle.dash_steps.specs.Steps.{part, reply_of, step_of}
 use Rattle.dash_steps.specs.Takes.{Answers, Kinds, Known, Runs}
@@ -22,17 +22,17 @@ use Rattle.dash_steps.specs.declared.step.Whole.TheVariants as whole
 use Rattle.dash_steps.proofs.Copies.{Lawful}
 use Rattle.dash_steps.proofs.Frames.{Spread, runs-union}
 use Rattle.dash_history.specs.Alone.{RecAloneState, IsRecAlone, kinds_in}
-use Rattle.dash_record.specs.History.{RecState, done, shard_of}
-use Rattle.dash_gather.specs.Merge.{IsMerge, along}
+use Rattle.dash_history.specs.History.{RecState, done, shard_of}
+use Rattle.dash_history.specs.Merge.{IsMerge, along}
 use Rattle.dash_history.specs.OneHistory.{Joined, histories, of_shard, rec_contents}
-use Rattle.dash_record.specs.Joined.{joined_number, joined_pairs, number_in, pairs_in}
-use Rattle.dash_gather.specs.declared.place.At.{At}
+use Rattle.dash_history.specs.Joined.{joined_number, joined_pairs, number_in, pairs_in}
+use Rattle.dash_history.specs.declared.place.At.{At}
 use Rattle.dash_history.proofs.Alongs.{keeps-shard}
 use Rattle.dash_history.proofs.Counting.{same-length}
 use Rattle.dash_history.proofs.Cutting.{choose, runs-cut, runs-on}
 use Rattle.dash_history.proofs.Joining.{joined-alike, number-alike, pairs-alike, total-held, total-is}
-use Rattle.dash_gather.proofs.Members.{Has, has-back, has-front}
-use Rattle.dash_record.proofs.Lists.{get-within}
+use Rattle.dash_history.proofs.Ordered.{Has, has-back, has-front}
+use Rattle.dash_history.proofs.Lists.{get-within}
 use Rattle.dash_history.proofs.Members.{has-kept}
 use Rattle.dash_history.proofs.Whole.{blank, blank-at, blank-spread, blank-union, flat_map-map, goes, in-range, legal, steps-of, tidy}
 

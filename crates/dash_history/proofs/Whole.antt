@@ -8,18 +8,18 @@ use Rattle.dash_shard.specs.Contents.{IsOnShard}
 use Rattle.dash_shard.specs.inner.Steps.{step_shard}
 use Rattle.dash_shard.specs.Shard.{pairs}
 use Rattle.dash_history.specs.Alone.{RecAloneState, IsRecAlone, kinds_in}
-use Rattle.dash_record.specs.History.{RecState, IsHistory, Rises, done, shard_of}
-use Rattle.dash_gather.specs.Merge.{IsMerge, along}
+use Rattle.dash_history.specs.History.{RecState, IsHistory, Rises, done, shard_of}
+use Rattle.dash_history.specs.Merge.{IsMerge, along}
 use Rattle.dash_history.specs.OneHistory.{IsOneHistory, of_shard, histories, rec_contents}
 use Rattle.dash_steps.specs.Takes.{Known, Kinds, Runs}
 use Rattle.dash_steps.specs.declared.step.Record.{Record}
-use Rattle.dash_gather.specs.declared.place.At.{At}
+use Rattle.dash_history.specs.declared.place.At.{At}
 use Rattle.dash_history.proofs.Alones.{kinds-same}
 use Rattle.dash_history.proofs.Alongs.{Tidy, along-has, caller-along, keeps-shard}
 use Rattle.dash_steps.proofs.Copies.{Lawful}
 use Rattle.dash_steps.proofs.Frames.{Spread, at_shard, runs-union}
-use Rattle.dash_gather.proofs.Members.{Has, has-get, mapped-get}
-use Rattle.dash_record.proofs.Lists.{get-within}
+use Rattle.dash_history.proofs.Ordered.{Has, has-get, mapped-get}
+use Rattle.dash_history.proofs.Lists.{get-within}
 
 pub all-has : {X : Type 0} (P : X → Type 0) (xs : List X) (x : X) → All P xs → Has xs x → P x
 all-has P xs x all m =

@@ -15,16 +15,16 @@ use Rattle.dash_steps.specs.Steps.{reply_of}
 use Rattle.dash_steps.specs.Takes.{Known}
 use Rattle.dash_steps.proofs.AlikeLaws.{chained, reply_equiv}
 use Rattle.dash_steps.proofs.Copies.{ActAlike}
-use Rattle.dash_record.specs.History.{LogState, RecState, IsRecorded}
+use Rattle.dash_history.specs.History.{LogState, RecState, IsRecorded}
 use Rattle.dash_history.specs.Alone.{RecAloneState, IsRecAlone}
-use Rattle.dash_record.specs.Held.{IsRecTagged}
+use Rattle.dash_history.specs.Held.{IsRecTagged}
 use Rattle.dash_history.specs.WholeSteps.{AppliedWhole}
-use Rattle.dash_record.specs.Joined.{part_reply}
-use Rattle.dash_record.specs.Part.{TellsPart, and_record}
-use Rattle.dash_record.specs.inner.Parts.{AddedEach, IsNext, Planned, SameEach, TellsTwice}
-use Rattle.dash_record.proofs.Lists.{get-within}
-use Rattle.dash_record.proofs.Parts.{next-recorded}
-use Rattle.dash_record.proofs.WholeLogs.{each-next, part-copied}
+use Rattle.dash_history.specs.Joined.{part_reply}
+use Rattle.dash_history.specs.Part.{TellsPart, and_record}
+use Rattle.dash_history.specs.inner.Parts.{AddedEach, IsNext, Planned, SameEach, TellsTwice}
+use Rattle.dash_history.proofs.Lists.{get-within}
+use Rattle.dash_history.proofs.Parts.{next-recorded}
+use Rattle.dash_history.proofs.WholeLogs.{each-next, part-copied}
 
 -- lists with the same elements at the same indexes
 same-lists : {X : Type 0} (xs ys : List X) → length xs ≡ length ys → ((i : ℕ) (x : X) → slice_get ys i ≡ Some x → slice_get xs i ≡ Some x) → xs ≡ ys

@@ -1,6 +1,12 @@
+pub mod History
+pub mod Held
+pub mod Refused
+pub mod Joined
+pub mod Part
+pub mod inner
+pub mod Merge
 pub mod Alone
 pub mod Map
 pub mod OneHistory
 pub mod WholeSteps
 pub mod SharedSteps
-pub mod inner

@@ -1,19 +1,19 @@
 -- A recorded map behind its locks, and what a step through them leaves in the caller's log.
 use Rattle.std.specs.Prelude.{ℕ, ◌≡◌, ◌<◌, ◌↔◌, ◌⊎◌, List, [], ◌∷◌, ◌++◌, length, Result, Err, IfOk, IfErr}
 use Rattle.dash_shard.specs.Hashing.{KeyHash}
-use Rattle.dash_lock.specs.Lock.{FoundBehind, LeftBehind, EndedWith}
+use Rattle.dash_shard.specs.Lock.{FoundBehind, LeftBehind, EndedWith}
 use Rattle.dash_shard.specs.Shard.{EachAt}
 use Rattle.dash_steps.specs.Steps.{step_of, reply_of, IsPart}
 use Rattle.dash_steps.specs.Takes.{Known, kinds_at, Kinds, Answers}
-use Rattle.dash_record.specs.History.{RecState, LogState, IsCopy, IsRecorded, NoShard, shard_of}
+use Rattle.dash_history.specs.History.{RecState, LogState, IsCopy, IsRecorded, NoShard, shard_of}
 use Rattle.dash_history.specs.Alone.{RecAloneState, IsRecAlone, EachRecShard}
-use Rattle.dash_record.specs.Held.{IsRecTagged}
-use Rattle.dash_record.specs.Refused.{Records, RefusesPart}
+use Rattle.dash_history.specs.Held.{IsRecTagged}
+use Rattle.dash_history.specs.Refused.{Records, RefusesPart}
 use Rattle.dash_steps.specs.declared.step.ShardStep.{ShardStep}
 use Rattle.dash_steps.specs.declared.step.Reply.{Reply}
 use Rattle.dash_steps.specs.declared.step.Record.{Record}
-use Rattle.dash_record.specs.declared.record.RecordFault.{RecordFault}
-use Rattle.dash_record.specs.declared.record.RecordFault.TheVariants.{Locked, NoSuchShard}
+use Rattle.dash_history.specs.declared.record.RecordFault.{RecordFault}
+use Rattle.dash_history.specs.declared.record.RecordFault.TheVariants.{Locked, NoSuchShard}
 
 -- the hasher, the number of the callers and that of the shards
 pub record RecMapShape (S : Type 0) : Type 0 where

@@ -2,18 +2,18 @@
 use Rattle.std.specs.Prelude.{ℕ, ◌≡◌, ◌+◌, ◌-◌, ◌^◌, min, take, drop, ◌<◌, ◌≤◌, ◌==◌, List, [], map, filter, flat_map, length, Some, slice_get, All, Result, IfOk, Err, Vec}
 use Rattle.std.specs.List.{Contains}
 use Rattle.dash_shard.specs.Shard.{EachAt, pairs}
-use Rattle.dash_kept.specs.Alike.{CopiesEach}
+use Rattle.dash_steps.specs.Kept.{CopiesEach}
 use Rattle.dash_steps.specs.Steps.{part_of}
 use Rattle.dash_steps.specs.declared.step.Whole.{Whole}
 use Rattle.dash_steps.specs.declared.step.Whole.TheVariants as whole
-use Rattle.dash_record.specs.Joined.{joined_number, joined_pairs}
+use Rattle.dash_history.specs.Joined.{joined_number, joined_pairs}
 use Rattle.dash_shard.specs.Contents.{EachOnce}
 use Rattle.dash_steps.specs.Takes.{Known, Runs}
-use Rattle.dash_record.specs.History.{LogState, done}
+use Rattle.dash_history.specs.History.{LogState, done}
 use Rattle.dash_history.specs.Alone.{RecAloneState, kinds_in}
-use Rattle.dash_gather.specs.Merge.{AreCallers, IsMerge, Same, along, of_caller}
+use Rattle.dash_history.specs.Merge.{AreCallers, IsMerge, Same, along, of_caller}
 use Rattle.dash_steps.specs.declared.step.Record.{Record}
-use Rattle.dash_gather.specs.declared.place.At.{At}
+use Rattle.dash_history.specs.declared.place.At.{At}
 use Rattle.dash_history.specs.declared.gather.GatherError.{GatherError}
 use Rattle.dash_history.specs.declared.gather.GatherError.TheVariants.{Mismatch}
 

@@ -1,9 +1,9 @@
 -- What a whole step through the locks makes of the shards that it finds there, and of the caller's log.
 use Rattle.std.specs.Prelude.{ℕ, ◌≡◌, ◌-◌, ◌^◌, ◌↔◌, Result, Vec, IfOk, OnErr, IsErrOf}
 use Rattle.dash_steps.specs.Takes.{Known}
-use Rattle.dash_record.specs.History.{LogState}
-use Rattle.dash_record.specs.declared.record.RecordFault.{RecordFault}
-use Rattle.dash_record.specs.declared.record.RecordFault.TheVariants.{LastStamp}
+use Rattle.dash_history.specs.History.{LogState}
+use Rattle.dash_history.specs.declared.record.RecordFault.{RecordFault}
+use Rattle.dash_history.specs.declared.record.RecordFault.TheVariants.{LastStamp}
 use Rattle.dash_history.specs.Alone.{RecAloneState}
 use Rattle.dash_history.specs.Map.{RecMapState, LeavesRecShards}
 use Rattle.dash_history.specs.WholeSteps.{CountsAll, ClonesAll, top_of}

@@ -1,13 +1,13 @@
 //! Steps of callers on a map that threads share.
 ghost use Rattle.std.specs.Prelude.{◌≡◌, ◌<◌};
 ghost use Rattle.dash_history.specs.Map.{Logs};
-ghost use Rattle.dash_record.specs.declared.record.RecordFault.TheVariants.{Locked};
+ghost use Rattle.dash_history.specs.declared.record.RecordFault.TheVariants.{Locked};
 
+use crate::known::Recorded;
 use crate::record::map::RecordedMap;
-use dash_kept::{Kept, KeptKey};
-use dash_record::known::Recorded;
-use dash_record::record::{CallerLog, RecordFault};
+use crate::record::{CallerLog, RecordFault};
 use dash_steps::action::KeptAction;
+use dash_steps::kept::{Kept, KeptKey};
 use dash_steps::step::{Reply, ShardStep};
 use std::hash::BuildHasher;
 use std::rt::Clock;

@@ -1,19 +1,19 @@
 //! One history of a recorded map: the histories of its shards merged, where the logs of its callers match them.
 ghost use Rattle.std.specs.Prelude.{◌≡◌, List};
 ghost use Rattle.dash_history.specs.Alone.{RecAloneState};
-ghost use Rattle.dash_record.specs.History.{LogState};
-ghost use Rattle.dash_gather.specs.declared.place.At.{At};
+ghost use Rattle.dash_history.specs.History.{LogState};
+ghost use Rattle.dash_history.specs.declared.place.At.{At};
 ghost use Rattle.dash_history.specs.OneHistory.{IsGathered, Gathers, StampsStandInOrder};
 ghost use Rattle.dash_history.specs.Map.{RelocksRecShards, shape};
 ghost use Rattle.dash_steps.specs.Takes.{Known};
 
+use crate::known::Recorded;
+pub use crate::place::At;
+use crate::record::CallerLog;
 use crate::record::map::RecordedMap;
 use core::mem::replace_with;
-pub use dash_gather::place::At;
-use dash_kept::{Kept, KeptKey};
-use dash_record::known::Recorded;
-use dash_record::record::CallerLog;
 use dash_steps::action::KeptAction;
+use dash_steps::kept::{Kept, KeptKey};
 use std::hash::BuildHasher;
 use thiserror::Error;
 

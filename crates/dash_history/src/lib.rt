@@ -1,11 +1,13 @@
-//! Recorded steps of a sharded hash map: histories of shards and logs of callers.
+//! Recorded steps of a sharded hash map: histories of shards, logs of callers, their merge, and the recorded map.
 #![tactic(auto)]
-
-pub use dash_record::known;
 
 pub mod alone;
 mod apply;
 pub mod gather;
 mod joined;
+pub mod known;
+pub mod matching;
+pub mod merge;
+pub mod place;
 pub mod record;
 mod whole_steps;

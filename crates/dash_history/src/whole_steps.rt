@@ -1,6 +1,6 @@
 //! Whole steps on a map that threads share: a count or a copy of all shards at one place of its history.
 ghost use Rattle.std.specs.Prelude.{◌≡◌, ◌-◌, ◌^◌, [], ◌∷◌, ◌<◌, ◌↔◌, ◌⊎◌, IsFalse, IsTrue, IfErr, IfOk, IfSome, OnErr};
-ghost use Rattle.dash_lock.specs.Lock.{LeftBehind};
+ghost use Rattle.dash_shard.specs.Lock.{LeftBehind};
 ghost use Rattle.dash_shard.specs.Errors.{IsOneOf};
 ghost use Rattle.dash_shard.specs.Shard.{EachAt};
 ghost use Rattle.dash_steps.specs.declared.step.Whole.{Whole};
@@ -9,17 +9,17 @@ ghost use Rattle.dash_history.specs.Map.{IsRecFound, LeavesRecShards};
 ghost use Rattle.dash_history.specs.SharedSteps.{CountsShared, ClonesShared, FaultsWhole, StepsWhole};
 ghost use Rattle.dash_history.specs.WholeSteps.{AppliedWhole, CountsAll, ClonesAll};
 ghost use Rattle.dash_history.specs.inner.Locks.{of_holds};
-ghost use Rattle.dash_record.specs.inner.Parts.{Planned};
-ghost use Rattle.dash_record.specs.declared.record.RecordFault.TheVariants.{LastStamp, Locked, Memory};
+ghost use Rattle.dash_history.specs.inner.Parts.{Planned};
+ghost use Rattle.dash_history.specs.declared.record.RecordFault.TheVariants.{LastStamp, Locked, Memory};
 
 use crate::joined::{join_numbers, join_pairs};
+use crate::known::Recorded;
 use crate::record::held::RecShardMut;
 use crate::record::map::RecordedMap;
-use dash_kept::{Kept, KeptKey};
-use dash_record::known::Recorded;
-use dash_record::record::whole::Parts;
-use dash_record::record::{CallerLog, RecordFault};
+use crate::record::whole::Parts;
+use crate::record::{CallerLog, RecordFault};
 use dash_steps::action::KeptAction;
+use dash_steps::kept::{Kept, KeptKey};
 use dash_steps::step::Whole;
 use std::alloc::AllocError;
 use std::hash::BuildHasher;

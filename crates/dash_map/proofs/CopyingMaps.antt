@@ -4,7 +4,7 @@ use Rattle.std.proofs.lemmas.List.{length_push}
 use Rattle.std.proofs.lemmas.Option.{none-some, slice_get_within, slice_get-get_or}
 use Rattle.dash_shard.specs.Hashing.{KeyHash, HashAlike, IsAmount}
 use Rattle.dash_shard.specs.Shard.{ShardState}
-use Rattle.dash_lock.specs.Lock.{WasRead}
+use Rattle.dash_shard.specs.Lock.{WasRead}
 use Rattle.dash_map.specs.Alone.{AloneState, IsAlone}
 use Rattle.dash_map.specs.Copies.{CopiesAlone}
 use Rattle.dash_rows.specs.inner.Copies.{IsCopied, AreCopied}

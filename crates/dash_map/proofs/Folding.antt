@@ -4,7 +4,7 @@ use Rattle.std.proofs.lemmas.Grind.{flat_map-append}
 use Rattle.std.proofs.lemmas.List.{map-append}
 use Rattle.std.specs.Fn.{Mut}
 use Rattle.std.specs.List.{FoldsTo}
-use Rattle.dash_lock.specs.Lock.{WasRead}
+use Rattle.dash_shard.specs.Lock.{WasRead}
 use Rattle.dash_shard.specs.Hashing.{KeyHash}
 use Rattle.dash_shard.specs.Shard.{ShardState, IsTagged, pairs}
 use Rattle.dash_map.specs.Folds.{Folds, MayFold, MayVisit, Visits}

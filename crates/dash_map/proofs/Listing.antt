@@ -3,9 +3,9 @@ use Rattle.std.proofs.Common.{◌≡◌, Bool, List, [], ◌∷◌, ◌++◌, Is
 use Rattle.std.proofs.lemmas.Grind.{flat_map-append}
 use Rattle.std.specs.Cmp.Lexicographic.{pointwise}
 use Rattle.dash_shard.specs.Shard.{ShardState, pairs}
-use Rattle.dash_kept.specs.Alike.{alike_pair}
+use Rattle.dash_steps.specs.Kept.{alike_pair}
 use Rattle.dash_steps.specs.inner.Sweep.{AddsAlike}
-use Rattle.dash_kept.proofs.Items.{alike-append}
+use Rattle.dash_steps.proofs.Items.{alike-append}
 
 module _ {K V : Type 0} (k : K → K → Bool) (v : V → V → Bool) where
   -- no copy is one of no pair

@@ -5,8 +5,8 @@ use Rattle.crossbeam_utils.specs.declared.cache_padded.CachePadded.{CachePadded}
 use Rattle.crossbeam_utils.specs.Padded.{padded_value}
 use Rattle.dash_shard.specs.Hashing.{KeyHash, IsAmount, HashAlike}
 use Rattle.dash_shard.specs.Held.{FitsTag}
-use Rattle.dash_lock.specs.Lock.{FoundBehind, LeftBehind, EndedWith}
-use Rattle.dash_lock.specs.Made.{Made}
+use Rattle.dash_shard.specs.Lock.{FoundBehind, LeftBehind, EndedWith}
+use Rattle.dash_shard.specs.Made.{Made}
 use Rattle.dash_shard.specs.inner.Rows.{Moved}
 use Rattle.dash_shard.specs.Shard.{ShardState, IsTagged}
 use Rattle.dash_shard.specs.declared.shard.tag.ShardTag.{ShardTag}

@@ -1,7 +1,7 @@
 -- A list of pairs of which none was put.
 use Rattle.std.proofs.Common.{◌≢◌, List, [], length, get_or, arith}
-use Rattle.dash_parallel.specs.Apart.{SomePart}
-use Rattle.dash_parallel.proofs.Taking.{none-short}
+use Rattle.dash_rows.specs.Apart.{SomePart}
+use Rattle.dash_rows.proofs.Taking.{none-short}
 use Rattle.dash_shard.specs.Hashing.{KeyHash}
 use Rattle.dash_shard.proofs.Routing.{route_below}
 use Rattle.dash_map.specs.Alone.{AloneState, IsAlone, keys_in}

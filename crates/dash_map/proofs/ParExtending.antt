@@ -4,10 +4,10 @@ use Rattle.std.specs.Prelude.{⊤, OnOk, OnErr}
 use Rattle.std.proofs.Math.Seq.{take-append_seam}
 use Rattle.std.proofs.lemmas.List.{get_or_default}
 use Rattle.std.proofs.lemmas.Option.{slice_get-get_or, slice_get_within, get_or_from_slice_get}
-use Rattle.dash_parallel.specs.Apart.{EachPart, RanShort, RanWhole, SomePart, TakenInTurn, of_part, steps_of}
-use Rattle.dash_parallel.specs.inner.Lanes.{FitsAll}
-use Rattle.dash_parallel.specs.inner.Rows.{TakesInRow}
-use Rattle.dash_parallel.proofs.Weaving.{weave}
+use Rattle.dash_rows.specs.Apart.{EachPart, RanShort, RanWhole, SomePart, TakenInTurn, of_part, steps_of}
+use Rattle.dash_rows.specs.inner.Lanes.{FitsAll}
+use Rattle.dash_rows.specs.inner.Rows.{TakesInRow}
+use Rattle.dash_rows.proofs.Weaving.{weave}
 use Rattle.dash_shard.specs.Hashing.{KeyHash, route_by, route_of_hash}
 use Rattle.dash_shard.specs.inner.Keys.{IsLawful, RoutesAs}
 use Rattle.dash_shard.specs.inner.Rows.{with_items}

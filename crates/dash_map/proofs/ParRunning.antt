@@ -9,10 +9,10 @@ use Rattle.std.proofs.lemmas.Bool.{cases_eq, true≢false}
 use Rattle.std.proofs.lemmas.List.{length-map, get_or_default}
 use Rattle.std.proofs.lemmas.List.Elements.{All-head, All-tail, All-nil, All-cons}
 use Rattle.std.proofs.lemmas.Option.{slice_get-get_or, slice_get_within, same_Some, none-some, get_or_from_slice_get}
-use Rattle.dash_parallel.specs.Apart.{TakenInTurn, ParRan, of_part}
-use Rattle.dash_parallel.specs.inner.Lanes.{FitsAll}
-use Rattle.dash_parallel.specs.inner.Rows.{TakesInRow, replied, untaken}
-use Rattle.dash_parallel.proofs.Weaving.{weave}
+use Rattle.dash_rows.specs.Apart.{TakenInTurn, ParRan, of_part}
+use Rattle.dash_rows.specs.inner.Lanes.{FitsAll}
+use Rattle.dash_rows.specs.inner.Rows.{TakesInRow, replied, untaken}
+use Rattle.dash_rows.proofs.Weaving.{weave}
 use Rattle.dash_shard.specs.Hashing.{KeyHash, IsAmount, route_by}
 use Rattle.dash_shard.specs.inner.Keys.{IsLawful}
 use Rattle.dash_shard.specs.inner.Rows.{with_items}

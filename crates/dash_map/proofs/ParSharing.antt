@@ -2,10 +2,10 @@
 use Rattle.std.proofs.Common.{◌≡◌, ℕ, ◌<◌, Bool, false, List, All, Result, get_or, refl, sym, subst, arith}
 use Rattle.std.specs.Prelude.{⊤, OnOk}
 use Rattle.std.proofs.lemmas.Result.{IfOk-weaker}
-use Rattle.dash_parallel.specs.Apart.{steps_of}
-use Rattle.dash_parallel.specs.inner.Lanes.{LaneRan}
+use Rattle.dash_rows.specs.Apart.{steps_of}
+use Rattle.dash_rows.specs.inner.Lanes.{LaneRan}
 use Rattle.dash_shard.specs.Hashing.{KeyHash, route_by}
-use Rattle.dash_lock.specs.Lock.{FoundBehind, LeftBehind}
+use Rattle.dash_shard.specs.Lock.{FoundBehind, LeftBehind}
 use Rattle.dash_shard.specs.Shard.{ShardState, IsTagged}
 use Rattle.dash_shard.proofs.Routing.{route_below}
 use Rattle.dash_map.specs.Extend.{PutsAll, PutsBehind, PutsEachBehind}

@@ -10,7 +10,7 @@ use Rattle.std.specs.Map.Iter.{deref_pair}
 use Rattle.dash_shard.proofs.Rows.{each-more as put-more}
 use Rattle.dash_shard.specs.Hashing.{KeyHash, IsAmount, route_by}
 use Rattle.dash_shard.specs.Contents.{at}
-use Rattle.dash_lock.specs.Lock.{FoundBehind, WasRead, LeftBehind}
+use Rattle.dash_shard.specs.Lock.{FoundBehind, WasRead, LeftBehind}
 use Rattle.dash_shard.specs.Shard.{ShardState, SameShard, Routes, IsShard, IsTagged, pairs, shard_len}
 use Rattle.dash_map.specs.Alone.{AloneState, KeepsRoom}
 use Rattle.dash_map.specs.Behind.{AreBehind, AreEnded, SawShard, SawShards, StandsAt, LeavesShard, Relocks}

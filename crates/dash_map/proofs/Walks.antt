@@ -6,7 +6,7 @@ use Rattle.std.proofs.lemmas.Bool.{cases_Bool, cases_eq, and_parts}
 use Rattle.dash_shard.specs.Contents.{at, on, Distinct}
 use Rattle.dash_shard.specs.Steps.{Step, Reply, Read, Pairs}
 use Rattle.dash_shard.proofs.Equals.{at-equal}
-use Rattle.dash_kept.specs.Alike.{alike_pair}
+use Rattle.dash_steps.specs.Kept.{alike_pair}
 use Rattle.dash_steps.specs.Alike.{alike_reply}
 use Rattle.dash_steps.specs.Takes.{Rules, Answers, Runs}
 use Rattle.dash_steps.specs.inner.Copied.{AlikeAt}

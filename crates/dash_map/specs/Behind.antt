@@ -4,7 +4,7 @@ use Rattle.std.specs.Map.Calls.{CallableOnEachPair}
 use Rattle.dash_shard.specs.Hashing.{KeyHash, route_by}
 use Rattle.dash_shard.specs.Contents.{at}
 use Rattle.dash_shard.specs.Held.{Loses}
-use Rattle.dash_lock.specs.Lock.{FoundBehind, GivenBack, WasRead, LeftBehind, EndedWith}
+use Rattle.dash_shard.specs.Lock.{FoundBehind, GivenBack, WasRead, LeftBehind, EndedWith}
 use Rattle.dash_shard.specs.Steps.{Act, Step, Remove, Alter, Pair, Done}
 use Rattle.dash_shard.specs.Shard.{ShardState, EachAt, IsTagged, TakesInPlace, TakesBy, pairs, shard_len}
 use Rattle.dash_map.specs.Alone.{AloneState, IsAlone, EachShard}

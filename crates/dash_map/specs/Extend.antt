@@ -9,7 +9,7 @@ use Rattle.dash_shard.specs.Shard.{ShardState, shard_len}
 use Rattle.dash_shard.specs.Puts.{PutsPair}
 use Rattle.dash_shard.specs.Errors.{IsOneOf}
 use Rattle.dash_shard.specs.declared.error.ConstructError.TheVariants.{Parallelism, Memory}
-use Rattle.dash_parallel.specs.Apart.{EachPart, RanFront, RanShort, RanWhole, SomePart, steps_of}
+use Rattle.dash_rows.specs.Apart.{EachPart, RanFront, RanShort, RanWhole, SomePart, steps_of}
 use Rattle.dash_map.specs.Alone.{AloneState, IsAlone, KeepsRoom, TakesAlone, contents, keys_in}
 use Rattle.dash_map.specs.Behind.{LeavesShard, Relocks}
 use Rattle.dash_map.specs.Map.{MapState}

@@ -7,7 +7,7 @@ use Rattle.dash_ref.specs.EntryCases.{Entry, IsEntryOf, entry_shard}
 use Rattle.dash_ref.specs.Ref.{RefState, Stands, pair_of}
 use Rattle.dash_ref.specs.RefMut.{RefMutState, GetsMut}
 use Rattle.dash_ref.specs.declared.mapref.entry.EntryRefused.{EntryRefused}
-use Rattle.dash_lock.specs.Lock.{GivenBack}
+use Rattle.dash_shard.specs.Lock.{GivenBack}
 use Rattle.dash_map.specs.Behind.{SawShard, StandsAt}
 use Rattle.dash_map.specs.Map.{MapState}
 

@@ -2,7 +2,7 @@
 use Rattle.std.specs.Prelude.{ℕ, ◌≡◌, List}
 use Rattle.crossbeam_utils.specs.declared.cache_padded.CachePadded.{CachePadded}
 use Rattle.crossbeam_utils.specs.Padded.{padded_value}
-use Rattle.dash_lock.specs.Made.{Made}
+use Rattle.dash_shard.specs.Made.{Made}
 use Rattle.dash_shard.specs.Hashing.{IsAmount}
 use Rattle.dash_shard.specs.Shard.{ShardState, EachAt}
 use Rattle.dash_shard.specs.declared.shard.tag.ShardTag.{ShardTag}

@@ -4,7 +4,7 @@ use Rattle.std.specs.List.{Any, zip}
 use Rattle.dash_shard.specs.Hashing.{KeyHash}
 use Rattle.dash_shard.specs.Shard.{ShardState}
 use Rattle.dash_shard.specs.Steps as table
-use Rattle.dash_parallel.specs.Apart.{ParRan, of_part}
+use Rattle.dash_rows.specs.Apart.{ParRan, of_part}
 use Rattle.dash_steps.specs.Steps.{step_of, reply_of}
 use Rattle.dash_steps.specs.Takes.{rules, Runs, TakesOn}
 use Rattle.dash_steps.specs.declared.step.ShardStep.{ShardStep}

@@ -3,7 +3,7 @@ use Rattle.std.specs.Prelude.{ℕ, ◌≡◌, ◌+◌, ◌-◌, ◌*◌, ◌^◌
 use Rattle.std.specs.Option.{option_map_or}
 use Rattle.std.specs.Iterator.{Count, at_most}
 use Rattle.dash_shard.specs.Hashing.{KeyHash}
-use Rattle.dash_lock.specs.Lock.{FoundBehind}
+use Rattle.dash_shard.specs.Lock.{FoundBehind}
 use Rattle.dash_shard.specs.Shard.{ShardState, IsNextTaken, IsTagged}
 use Rattle.dash_ref.specs.Ref.{RefState, Stands}
 use Rattle.dash_map.specs.Map.{MapState}

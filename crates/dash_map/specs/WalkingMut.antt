@@ -4,7 +4,7 @@ use Rattle.std.specs.Borrow.{Fml, RattleType, MutBor, LendsSo}
 use Rattle.std.specs.Option.{option_map}
 use Rattle.std.specs.Iterator.{size}
 use Rattle.dash_shard.specs.Hashing.{KeyHash}
-use Rattle.dash_lock.specs.Lock.{LeftBehind}
+use Rattle.dash_shard.specs.Lock.{LeftBehind}
 use Rattle.dash_shard.specs.Shard.{ShardState, slot, with_value_in}
 use Rattle.dash_ref.specs.Ref.{RefState}
 use Rattle.dash_map.specs.Walking.{IterState, StepsOn, steps_left}

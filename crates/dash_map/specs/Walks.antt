@@ -3,7 +3,7 @@ use Rattle.std.specs.Prelude.{ℕ, suc, ◌≡◌, ◌++◌, ◌⊎◌, List, []
 use Rattle.std.specs.Option.{option_eq}
 use Rattle.dash_shard.specs.Contents.{at, Distinct}
 use Rattle.dash_shard.specs.Steps.{Step, Reply, Read, Pairs}
-use Rattle.dash_kept.specs.Alike.{alike_pair}
+use Rattle.dash_steps.specs.Kept.{alike_pair}
 use Rattle.dash_steps.specs.Takes.{Rules, Runs}
 
 -- Read(i) to Read(n - 1) stand in this order among the steps; their lists of pairs, one after the other, are the gift

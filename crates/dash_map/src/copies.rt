@@ -7,10 +7,10 @@ ghost use Rattle.dash_map.specs.Copies.{CopiesAlone};
 
 use crate::alone::Alone;
 use crate::map::DashMap;
-use dash_kept::{Kept, KeptKey};
 use dash_rows::copies::copy_shard;
 use dash_shard::keyed::Keyed;
 use dash_shard::row::Row;
+use dash_steps::kept::{Kept, KeptKey};
 use std::alloc::AllocError;
 use std::hash::BuildHasher;
 use std::rt::Clock;

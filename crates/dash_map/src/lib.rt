@@ -12,4 +12,5 @@ pub mod parallel;
 pub mod read_only;
 pub mod run;
 mod shards;
+pub mod t;
 pub mod waiting;

@@ -9,10 +9,10 @@ ghost use Rattle.dash_map.specs.Map.{IsNew, shape};
 
 use crate::alone::Alone;
 use crossbeam_utils::CachePadded;
-use dash_lock::lock::RwLock;
 use dash_shard::error::ConstructError;
 use dash_shard::hash::{FixedState, determine_shard};
 use dash_shard::keyed::Keyed;
+use dash_shard::lock::RwLock;
 use dash_shard::row::Row;
 use dash_shard::shard::Shard;
 use std::alloc::Global;

@@ -1,16 +1,16 @@
 //! Lists of copies of a map's pairs, and what a closure makes of them.
 ghost use Rattle.std.specs.Prelude.{IfOk, map};
 ghost use Rattle.std.specs.List.{FoldsTo};
-ghost use Rattle.dash_kept.specs.Alike.{CopiesEach};
+ghost use Rattle.dash_steps.specs.Kept.{CopiesEach};
 ghost use Rattle.dash_map.specs.Alone.{IsAlone, contents};
 ghost use Rattle.dash_map.specs.Behind.{SawShards};
 ghost use Rattle.dash_map.specs.Folds.{Folds, MayFold, MayVisit, Visits, of_key, of_pair};
 
 use crate::alone::Alone;
 use crate::map::DashMap;
-use dash_kept::Kept;
 use dash_shard::keyed::Keyed;
 use dash_shard::shard::Iter;
+use dash_steps::kept::Kept;
 use dash_steps::sweep::add_copies;
 use std::alloc::AllocError;
 use std::hash::{BuildHasher, Hash};

@@ -1,7 +1,7 @@
 -- What is known of an entry, by its case.
 use Rattle.std.specs.Prelude.{◌≡◌, ◌≤◌, Bool, None, Result, Ok, Err}
 use Rattle.dash_shard.specs.Contents.{at}
-use Rattle.dash_lock.specs.Lock.{LeftBehind}
+use Rattle.dash_shard.specs.Lock.{LeftBehind}
 use Rattle.dash_shard.specs.Shard.{ShardState, pairs, shard_len}
 use Rattle.dash_ref.specs.Entry.{OccupiedState, VacantState, OccupiedOf, VacantOf}
 use Rattle.dash_ref.specs.declared.mapref.entry.EntryRefused.{EntryRefused}

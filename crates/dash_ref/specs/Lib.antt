@@ -1,7 +1,7 @@
+pub mod inner
 pub mod Part
 pub mod Multi
 pub mod Ref
-pub mod inner
 pub mod RefMut
 pub mod Entry
 pub mod EntryCases

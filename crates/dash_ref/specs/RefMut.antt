@@ -1,7 +1,7 @@
 -- What contracts see of a reference to a pair that may be written: the shard that it holds, and a position in it.
 use Rattle.std.specs.Prelude.{ℕ, ◌≡◌, Bool, Option, IfSome, IfNone, option_and_then}
 use Rattle.std.specs.Option.{option_map_or}
-use Rattle.dash_lock.specs.Lock.{LeftBehind}
+use Rattle.dash_shard.specs.Lock.{LeftBehind}
 use Rattle.dash_shard.specs.Shard.{ShardState, RepliesOn, slot, with_value_in}
 use Rattle.dash_shard.specs.Steps.{Get, Pair}
 

@@ -10,7 +10,7 @@ use Rattle.dash_shard.specs.Shard.{ShardState, pairs, shard_len, Routes, IsShard
 use Rattle.dash_shard.specs.inner.Keys.{IsLawful, keys_of}
 use Rattle.dash_shard.proofs.Equals.{along, apart, at-equal}
 use Rattle.dash_shard.proofs.Unions.{tail-none}
-use Rattle.dash_kept.specs.Alike.{alike_pair}
+use Rattle.dash_steps.specs.Kept.{alike_pair}
 use Rattle.dash_rows.specs.inner.Copies.{or_else, PutsCopy, IsCopying, IsCopied}
 
 pub none-of-length : {A : Type 0} (xs : List A) → length xs ≡ 0 → xs ≡ []

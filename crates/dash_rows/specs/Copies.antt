@@ -3,7 +3,7 @@ use Rattle.std.specs.Prelude.{◌≡◌, Bool, IsTrue}
 use Rattle.std.specs.Option.{option_eq}
 use Rattle.dash_shard.specs.Contents.{at}
 use Rattle.dash_shard.specs.Shard.{ShardState, pairs, shard_len}
-use Rattle.dash_kept.specs.Alike.{alike_pair}
+use Rattle.dash_steps.specs.Kept.{alike_pair}
 
 -- by which keys are equal, which keys and values are alike, and which hasher is a clone
 module _ {K V S : Type 0} (eq like_key : K → K → Bool) (like_value : V → V → Bool) (is_clone : S → S → Type 0) where

@@ -1,3 +1,4 @@
 pub mod Copies
 pub mod Parallel
 pub mod inner
+pub mod Apart

@@ -1,2 +1,6 @@
--- What only proofs and the contracts of calls for the crates here alone use.
+-- What only proofs, invariants and the contracts of private functions use.
 pub mod Copies
+pub mod Halves
+pub mod Held
+pub mod Lanes
+pub mod Rows

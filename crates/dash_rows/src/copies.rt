@@ -5,9 +5,9 @@ ghost use Rattle.dash_shard.specs.Contents.{at};
 ghost use Rattle.dash_shard.specs.Shard.{pairs, shard_len, Routes, IsShard};
 ghost use Rattle.dash_rows.specs.inner.Copies.{PutsCopy, IsCopied, AreCopied};
 
-use dash_kept::{Kept, KeptKey};
 use dash_shard::keyed::Keyed;
 use dash_shard::shard::Shard;
+use dash_steps::kept::{Kept, KeptKey};
 use std::alloc::{AllocError, Global};
 use std::hash::BuildHasher;
 

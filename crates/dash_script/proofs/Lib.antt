@@ -7,3 +7,4 @@ mod Taking
 mod Texts
 mod Wholes
 pub mod Working
+mod OneWord

@@ -12,17 +12,17 @@ use Rattle.std.proofs.lemmas.List.{drop_all}
 use Rattle.dash_shard.specs.Contents.{at, Distinct, EachOnce}
 use Rattle.dash_shard.specs.Steps as table
 use Rattle.dash_shard.specs.inner.Steps.{Replies, after, step_shard}
-use Rattle.dash_kept.specs.Alike.{alike_pair}
+use Rattle.dash_steps.specs.Kept.{alike_pair}
 use Rattle.dash_steps.specs.Alike.{alike_reply}
-use Rattle.dash_kept.specs.inner.AlikeLaws.{pair_equiv}
+use Rattle.dash_steps.specs.inner.AlikeLaws.{pair_equiv}
 use Rattle.dash_steps.specs.Steps.{reply_of}
 use Rattle.dash_steps.specs.Takes.{Answers, Takes, Runs}
 use Rattle.dash_steps.specs.declared.step.ShardStep.{ShardStep}
 use Rattle.dash_steps.specs.declared.step.ShardStep.TheVariants.{Get, Insert, Remove}
 use Rattle.dash_steps.specs.declared.step.Reply.TheVariants.{Pair, Old}
 use Rattle.dash_steps.specs.declared.step.Record.{Record}
-use Rattle.dash_gather.specs.declared.place.At.{At}
-use Rattle.dash_gather.specs.Merge.{along, record_at}
+use Rattle.dash_history.specs.declared.place.At.{At}
+use Rattle.dash_history.specs.Merge.{along, record_at}
 use Rattle.dash_script.specs.Replay.{IsThreadStep, IsReplay, plain}
 use Rattle.dash_script.specs.inner.Replay.{Fits, Makes, bare}
 use Rattle.dash_script.proofs.PlainMaps.{paired, at-lookup, at-put, distinct}

@@ -8,14 +8,14 @@ use Rattle.dash_shard.specs.declared.error.ConstructError.TheVariants.{ShardAmou
 use Rattle.dash_history.specs.Alone.{IsCallers}
 use Rattle.dash_shard.specs.inner.Steps.{step_shard}
 use Rattle.dash_steps.specs.Steps.{step_of}
-use Rattle.dash_record.specs.History.{shard_of}
+use Rattle.dash_history.specs.History.{shard_of}
 use Rattle.dash_steps.specs.Takes.{rules}
 use Rattle.dash_steps.specs.inner.Kinds.{kinds}
 use Rattle.dash_script.specs.Change.{acts}
 use Rattle.dash_script.specs.inner.AlikeChange.{alike_change}
 use Rattle.dash_steps.specs.declared.step.ShardStep.TheVariants.{Get, Contains, Insert, Remove, RemoveIf, RemoveIfMut, Alter, Read, Count, AlterAll, Retain, CountPart, ReadPart}
-use Rattle.dash_record.specs.declared.record.RecordFault.{RecordFault}
-use Rattle.dash_record.specs.declared.record.RecordFault.TheVariants.{NoSuchShard}
+use Rattle.dash_history.specs.declared.record.RecordFault.{RecordFault}
+use Rattle.dash_history.specs.declared.record.RecordFault.TheVariants.{NoSuchShard}
 use Rattle.dash_script.specs.declared.step.Line.TheVariants as says
 use Rattle.dash_script.specs.Script.{IsFaultOf, written}
 use Rattle.dash_script.specs.inner.Words.{ScriptStep}

@@ -5,7 +5,7 @@ use Rattle.std.specs.Io.KnownBytes.{Appends}
 use Rattle.std.proofs.lemmas.List.{append-nil, flat_map_more}
 use Rattle.std.proofs.lemmas.List.Elements.{All-append, All-nil}
 use Rattle.dash_steps.specs.declared.step.Reply.{Reply}
-use Rattle.dash_record.specs.declared.record.RecordFault.{RecordFault}
+use Rattle.dash_history.specs.declared.record.RecordFault.{RecordFault}
 use Rattle.dash_script.specs.declared.script.Stop.TheVariants.{BadStep, Step}
 use Rattle.dash_script.specs.declared.step.Line.{Line}
 use Rattle.dash_script.specs.Script.{text_of, StartsWithLines, Took, IsNext, IsFaultOf, StopsAt}

@@ -4,3 +4,6 @@ pub mod Script
 pub mod Status
 pub mod Threads
 pub mod inner
+pub mod Command
+pub mod Memo
+pub mod CommandWords

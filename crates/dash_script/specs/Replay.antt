@@ -2,7 +2,7 @@
 use Rattle.std.specs.Prelude.{ℕ, true, ⊤, List, map, nat_eq, All}
 use Rattle.dash_shard.specs.Contents.{keys, EachOnce}
 use Rattle.dash_steps.specs.Takes.{Rules, rules, Runs}
-use Rattle.dash_record.specs.History.{done}
+use Rattle.dash_history.specs.History.{done}
 use Rattle.dash_steps.specs.declared.step.ShardStep.{ShardStep}
 use Rattle.dash_steps.specs.declared.step.ShardStep.TheVariants.{Get, Insert, Remove}
 use Rattle.dash_steps.specs.declared.step.Record.{Record}

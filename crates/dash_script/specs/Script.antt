@@ -14,9 +14,9 @@ use Rattle.dash_steps.specs.declared.step.ShardStep.TheVariants.{Get, Contains, 
 use Rattle.dash_steps.specs.declared.step.Reply.{Reply}
 use Rattle.dash_steps.specs.declared.step.Reply.TheVariants.{Pair, Found, Old, Pairs, Number, Done}
 use Rattle.dash_steps.specs.declared.step.Whole.TheVariants as whole
-use Rattle.dash_record.specs.Joined.{part_reply}
-use Rattle.dash_record.specs.declared.record.RecordFault.{RecordFault}
-use Rattle.dash_record.specs.declared.record.RecordFault.TheVariants as fault
+use Rattle.dash_history.specs.Joined.{part_reply}
+use Rattle.dash_history.specs.declared.record.RecordFault.{RecordFault}
+use Rattle.dash_history.specs.declared.record.RecordFault.TheVariants as fault
 use Rattle.dash_script.specs.declared.change.Change.{Change}
 use Rattle.dash_script.specs.declared.change.Change.TheVariants.{Add, Below, AddBelow}
 use Rattle.dash_script.specs.Change.{acts}

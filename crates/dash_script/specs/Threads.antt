@@ -5,13 +5,13 @@ use Rattle.std.specs.Io.KnownBytes.{Appends}
 use Rattle.dash_shard.specs.Shard.{EachAt}
 use Rattle.dash_shard.specs.declared.hash.PlaceState.{PlaceState}
 use Rattle.dash_history.specs.Alone.{RecAloneState, IsRecAlone}
-use Rattle.dash_record.specs.History.{LogState}
+use Rattle.dash_history.specs.History.{LogState}
 use Rattle.dash_history.specs.Map.{RecMapState, SawRecShard}
 use Rattle.dash_history.specs.OneHistory.{IsGathered, Matches, histories, rec_contents}
-use Rattle.dash_gather.specs.Merge.{along}
-use Rattle.dash_record.specs.Refused.{NoStamp}
+use Rattle.dash_history.specs.Merge.{along}
+use Rattle.dash_history.specs.Refused.{NoStamp}
 use Rattle.dash_steps.specs.Takes.{Known}
-use Rattle.dash_gather.specs.declared.place.At.{At}
+use Rattle.dash_history.specs.declared.place.At.{At}
 use Rattle.dash_steps.specs.declared.step.ShardStep.{ShardStep}
 use Rattle.dash_steps.specs.declared.step.ShardStep.TheVariants.{Get, Insert, Remove}
 use Rattle.dash_script.specs.Replay.{IsReplay}

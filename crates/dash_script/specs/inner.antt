@@ -5,3 +5,5 @@ pub mod Lines
 pub mod Replay
 pub mod Threads
 pub mod Words
+pub mod Command
+pub mod Memo

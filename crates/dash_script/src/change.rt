@@ -3,8 +3,8 @@ ghost use Rattle.std.specs.Prelude.{◌≡◌, Bool, true, IfOk, IsTrue};
 ghost use Rattle.dash_script.specs.Change.{acts};
 ghost use Rattle.dash_script.specs.inner.AlikeChange.{alike_change};
 
-use dash_kept::Kept;
 use dash_steps::action::{Action, KeptAction};
+use dash_steps::kept::Kept;
 use std::alloc::AllocError;
 
 /// What a step of a script does with a value.

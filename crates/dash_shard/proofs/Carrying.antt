@@ -3,7 +3,7 @@ use Rattle.std.proofs.Common.{◌≡◌, ◌⊎◌, ℕ, ◌+◌, ◌<◌, ◌�
 use Rattle.std.specs.Cmp.{IsEquivalence}
 use Rattle.std.proofs.lemmas.Bool.{cases_Bool, cases_eq}
 use Rattle.std.proofs.lemmas.Option.{none-some, same_Some}
-use Rattle.dash_slots.specs.inner.Slots.{SlotsState}
+use Rattle.dash_shard.specs.inner.SlotRows.Slots.{SlotsState}
 use Rattle.dash_shard.specs.Contents.{Keys, at, Distinct}
 use Rattle.dash_shard.specs.declared.shard.table.Table.{Table}
 use Rattle.dash_shard.specs.Shard.{slot, taken}

@@ -1,3 +1,5 @@
+mod SlotRows
+mod Locks
 mod Altering
 pub mod Alls
 mod Amounts

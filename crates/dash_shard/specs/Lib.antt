@@ -1,3 +1,10 @@
+pub mod inner
+pub mod Guarded
+pub mod KeepsFit
+pub mod Lock
+pub mod LockState
+pub mod Made
+pub mod Stays
 pub mod Hashing
 pub mod Contents
 pub mod Steps
@@ -9,4 +16,3 @@ pub mod Closures
 pub mod Errors
 pub mod Memory
 pub mod Each
-pub mod inner

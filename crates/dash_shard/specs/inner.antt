@@ -1,4 +1,6 @@
 -- What only proofs, invariants and the contracts of private functions use.
+pub mod SlotRows
+pub mod Locks
 pub mod Codes
 pub mod Gives
 pub mod Keys

@@ -4,7 +4,7 @@ use Rattle.std.proofs.lemmas.Bool.{cases_Bool, both_ways}
 use Rattle.std.specs.Cmp.{IsEquivalence, nat_eq_equiv, bool_eq_equiv}
 use Rattle.dash_shard.specs.Steps.{Reply, Pair, Found, Old, Pairs, Number, Done}
 use Rattle.dash_steps.specs.Alike.{alike_reply}
-pub use Rattle.dash_kept.specs.inner.AlikeLaws.{pair_equiv}
+pub use Rattle.dash_steps.specs.inner.AlikeLaws.{pair_equiv}
 pub use Rattle.std.specs.Cmp.Lexicographic.{options_equiv, lists_equiv}
 
 module _ {X : Type 0} {e : X → X → Bool} (laws : IsEquivalence e) where

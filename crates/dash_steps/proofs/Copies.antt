@@ -10,7 +10,7 @@ use Rattle.dash_shard.specs.Steps.{Line, at_key, on_shard, Step, Reply, Act, lin
 use Rattle.dash_shard.specs.inner.Steps.{Becomes, key_or, value, after, step_shard}
 use Rattle.dash_steps.specs.declared.step.ShardStep.{ShardStep}
 use Rattle.dash_steps.specs.declared.step.ShardStep.TheVariants.{Get, Contains, Insert, Remove, RemoveIf, RemoveIfMut, Alter, Read, Count, AlterAll, Retain, CountPart, ReadPart}
-use Rattle.dash_kept.specs.Alike.{alike_pair}
+use Rattle.dash_steps.specs.Kept.{alike_pair}
 use Rattle.dash_steps.specs.Alike.{alike_reply}
 use Rattle.dash_steps.specs.Steps.{step_of, alike_step}
 use Rattle.dash_steps.specs.Takes.{Rules, rules, Kinds, Answers, Takes, Runs}

@@ -1,3 +1,4 @@
+pub mod Items
 pub mod AlikeLaws
 pub mod Copies
 pub mod Finding

@@ -1,4 +1,5 @@
+pub mod Kept
+pub mod inner
 pub mod Alike
 pub mod Steps
 pub mod Takes
-pub mod inner

@@ -9,7 +9,7 @@ use Rattle.dash_shard.specs.Contents.{Keys, keys, at, Distinct}
 use Rattle.dash_shard.specs.Steps.{Step, Insert, Reply, Act, line, line_shard, line_after, LineReplies}
 use Rattle.std.specs.Option.{option_eq}
 use Rattle.dash_shard.specs.Shard.{ShardState, SameShard, IsShard, pairs, shard_len}
-use Rattle.dash_kept.specs.Alike.{alike_pair}
+use Rattle.dash_steps.specs.Kept.{alike_pair}
 use Rattle.dash_steps.specs.Alike.{alike_reply}
 use Rattle.dash_steps.specs.Steps.{reply_of}
 use Rattle.dash_steps.specs.declared.step.Reply as program

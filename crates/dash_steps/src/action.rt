@@ -1,7 +1,7 @@
 //! Changes of a pair's value that steps carry.
 ghost use Rattle.std.specs.Prelude.{◌≡◌, Bool, true, IsTrue, refl};
 
-use dash_kept::Kept;
+use crate::kept::Kept;
 
 /// A change of a pair's value, which returns a `bool` too. It stands where the original takes a closure, since a record keeps it.
 ///

@@ -11,8 +11,8 @@ ghost use Rattle.dash_steps.specs.Steps.{step_of};
 ghost use Rattle.dash_steps.specs.inner.Hashed.{Asks};
 
 use crate::action::Action;
+use crate::kept::Kept;
 use crate::step::{Reply, ShardStep};
-use dash_kept::Kept;
 use dash_shard::keyed::Keyed;
 use dash_shard::shard::Shard;
 use std::alloc::AllocError;

@@ -3,7 +3,7 @@ ghost use Rattle.std.specs.Prelude.{◌≡◌, ◌<◌, ◌↔◌, IfOk, IsTrue}
 ghost use Rattle.dash_shard.specs.Hashing.{by};
 
 use crate::action::Action;
-use dash_kept::Kept;
+use crate::kept::Kept;
 use dash_shard::hash::determine_shard;
 use std::alloc::AllocError;
 use std::hash::{BuildHasher, Hash};

@@ -8,7 +8,7 @@ ghost use Rattle.dash_steps.specs.inner.Sweep.{keeping, GivesEach, PutsNext, Add
 
 use crate::action::Action;
 use crate::change::{Change, ask};
-use dash_kept::{Kept, KeptKey};
+use crate::kept::{Kept, KeptKey};
 use dash_shard::keyed::Keyed;
 use dash_shard::shard::{Iter, Shard};
 use std::alloc::{AllocError, Global};

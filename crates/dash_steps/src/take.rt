@@ -9,12 +9,12 @@ ghost use Rattle.dash_steps.specs.inner.Take.{Goes, goes-after};
 
 use crate::action::Action;
 use crate::change::{copy_found, look, make_change, plan_asked};
+use crate::kept::{Kept, KeptKey};
 use crate::step::{Reply, ShardStep};
 use crate::sweep::copy_pairs;
-use dash_kept::{Kept, KeptKey};
 use dash_shard::keyed::Keyed;
+use dash_shard::part::Part;
 use dash_shard::shard::Shard;
-use dash_traits::Part;
 use std::hash::BuildHasher;
 
 // Takes a step that asks its action of the pair at its key, as `take` does.

@@ -1,7 +1,7 @@
 //! `dashcheck` takes a script of steps on a recorded map and prints each reply, lets threads take steps on one, or lets them ask a cache.
 #![tactic(auto)]
 
-use dash_command::command::{exit_code, refuse_memory, run_words};
+use dash_script::command::{exit_code, refuse_memory, run_words};
 use std::process::ExitCode;
 use std::{env, io};
 

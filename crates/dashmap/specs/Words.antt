@@ -1,13 +1,13 @@
 -- The words of the contracts, for clauses of programs that use the maps.
-pub use Rattle.dash_kept.specs.Alike.{CopiesEach, alike_pair}
-pub use Rattle.dash_kept.specs.inner.AlikeLaws.{pair_equal, pair_equiv}
-pub use Rattle.dash_parallel.specs.Apart.{EachPart, RanFront, RanShort, RanWhole, SomePart, TakenInTurn, steps_of}
+pub use Rattle.dash_steps.specs.Kept.{CopiesEach, alike_pair}
+pub use Rattle.dash_steps.specs.inner.AlikeLaws.{pair_equal, pair_equiv}
+pub use Rattle.dash_rows.specs.Apart.{EachPart, RanFront, RanShort, RanWhole, SomePart, TakenInTurn, steps_of}
 pub use Rattle.dash_shard.specs.Contents.{at}
 pub use Rattle.dash_shard.specs.Hashing.{IsAmount, HashAlike, route_by}
 pub use Rattle.dash_shard.specs.Each.{Shrinks, close_room}
 pub use Rattle.dash_shard.specs.Held.{Inserts, Loses}
 pub use Rattle.dash_shard.specs.Memory.{NoMemory}
-pub use Rattle.dash_lock.specs.Lock.{FoundBehind, GivenBack, WasRead, LeftBehind, EndedWith, Leaves}
+pub use Rattle.dash_shard.specs.Lock.{FoundBehind, GivenBack, WasRead, LeftBehind, EndedWith, Leaves}
 pub use Rattle.dash_shard.specs.Puts.{PutsPair}
 pub use Rattle.dash_shard.specs.Shard.{ShardState, slot, pairs, shard_len, HasKey, IsShard, IsTagged, RepliesOn, TakesInPlace}
 pub use Rattle.dash_shard.specs.Steps.{Step, Reply, Get, Contains, Insert, Remove, RemoveIf, RemoveIfMut, Alter, Read, Count, AlterAll, Retain, Pair, Found, Old, Number, Pairs, Done}
@@ -38,4 +38,4 @@ pub use Rattle.dash_map.specs.Copies.{CopiesAlone}
 pub use Rattle.dash_map.specs.Extend.{Extends, ExtendsBehind, Gains, Gave, HasNoRoom, IsRefusedAmong, IsRefusedOf, InsertsEach, MadeOf, NotMade, Overfills, ParExtends, ParExtendsBehind, PutsAll, PutsEachBehind, PutsFront, PutsShort, first_with_last}
 pub use Rattle.dash_rows.specs.Parallel.{MayMap, Maps, MapsEach}
 pub use Rattle.dash_map.specs.Parallel.{MayWrite, Writes}
-pub use Rattle.dash_set.specs.Set.{stood, member, inserted, keys_of, members, of_members, MayMapKey}
+pub use Rattle.dashmap.specs.Set.{stood, member, inserted, keys_of, members, of_members, MayMapKey}

@@ -12,19 +12,23 @@
 //!   `with_hasher`, or somebody may choose keys that all go to one shard and one group of slots.
 #![tactic(auto)]
 
-pub use dash_kept::{Kept, KeptKey};
 pub use dash_map::alone::Alone;
 pub use dash_map::map::DashMap;
 pub use dash_map::read_only::ReadOnlyView;
+pub use dash_map::t::Map;
 pub use dash_map::waiting::Waiting;
 pub use dash_ref::mapref::entry::{Entry, OccupiedEntry, VacantEntry};
 pub use dash_ref::util::SharedValue;
-pub use dash_set::set::DashSet;
 pub use dash_shard::error::TryReserveError;
-pub use dash_t::Map;
+pub use dash_steps::kept::{Kept, KeptKey};
 pub use memo::Memo;
+pub use set::DashSet;
 
+pub mod iter_set;
 pub mod memo;
+pub mod rayon;
+pub mod set;
+pub mod setref;
 
 /// What calls are refused for.
 pub mod error {
@@ -49,11 +53,6 @@ pub mod iter {
     pub use dash_map::iter::{AloneIterMut, Iter, IterMut, OwningIter};
 }
 
-/// Walks over the keys of a set.
-pub mod iter_set {
-    pub use dash_set::iter_set::{Iter, OwningIter};
-}
-
 /// Names for a type's keys, for contracts alone.
 pub mod keyed {
     pub use dash_shard::keyed::{Keyed, Lender};
@@ -61,9 +60,9 @@ pub mod keyed {
 
 /// The lock of a shard.
 pub mod lock {
-    pub use dash_lock::lock::raw::{ExclusiveHold, RawRwLock, SharedHold};
-    pub use dash_lock::lock::{RwLock, RwLockReadGuard, RwLockWriteGuard};
-    pub use dash_lock::word::{LockEvent, LockWord, Mark};
+    pub use dash_shard::lock::raw::{ExclusiveHold, RawRwLock, SharedHold};
+    pub use dash_shard::lock::word::{LockEvent, LockWord, Mark};
+    pub use dash_shard::lock::{RwLock, RwLockReadGuard, RwLockWriteGuard};
 }
 
 /// References into a map, each of which holds a shard.
@@ -86,25 +85,6 @@ pub mod mapref {
     }
 }
 
-/// The parallel forms, as the original has them behind its feature `rayon`: calls that share their work among several workers. They are
-/// methods of the map, of its view and of the set.
-pub mod rayon {
-    /// Walks over the pairs of a map.
-    pub mod map {
-        pub use dash_map::parallel::map::{Iter, IterMut, OwningIter};
-    }
-
-    /// A walk over the pairs of a view.
-    pub mod read_only {
-        pub use dash_map::parallel::read_only::Iter;
-    }
-
-    /// Walks over the keys of a set.
-    pub mod set {
-        pub use dash_set::parallel::{Iter, OwningIter};
-    }
-}
-
 /// A view of a map that nobody writes any more.
 pub mod read_only {
     pub use dash_map::read_only::{Keys, ReadOnlyView, Values, ViewIter};
@@ -117,33 +97,15 @@ pub mod run {
     pub use dash_steps::step::{Reply, ShardStep};
 }
 
-/// A set that threads share, and one of one owner.
-pub mod set {
-    pub use dash_set::set::{AloneSet, DashSet};
-}
-
-/// References into a set, each of which holds a shard.
-pub mod setref {
-    /// References that a walk gives.
-    pub mod multiple {
-        pub use dash_set::setref::multiple::RefMulti;
-    }
-
-    /// References to one key.
-    pub mod one {
-        pub use dash_set::setref::one::Ref;
-    }
-}
-
 /// One shard of a map.
 pub mod shard {
-    pub use dash_held::held::{IntoShard, ShardMut};
+    pub use dash_ref::held::{IntoShard, ShardMut};
     pub use dash_shard::shard::Shard;
 }
 
 /// What is generic in a map that threads share.
 pub mod t {
-    pub use dash_t::Map;
+    pub use dash_map::t::Map;
 }
 
 /// What a look-up that waits for nobody returns.

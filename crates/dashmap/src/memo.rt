@@ -9,12 +9,12 @@ ghost use Rattle.dash_map.specs.Amounts.{IsDefault, IsParallelism};
 ghost use Rattle.dash_map.specs.Behind.{LeavesShards, Removes, SawShards};
 ghost use Rattle.dash_map.specs.Map.{IsNew, shape};
 
-use dash_kept::{Kept, KeptKey};
 use dash_map::map::DashMap;
 use dash_ref::mapref::entry::Entry;
 use dash_shard::error::ConstructError;
 use dash_shard::hash::FixedState;
 use dash_shard::keyed::Keyed;
+use dash_steps::kept::{Kept, KeptKey};
 use std::alloc::{AllocError, Global};
 use std::hash::BuildHasher;
 use std::marker::{Model, PhantomData};

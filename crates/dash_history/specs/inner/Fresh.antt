@@ -2,8 +2,8 @@
 use Rattle.std.specs.Prelude.{ℕ, List}
 use Rattle.dash_shard.specs.Shard.{EachAt}
 use Rattle.dash_steps.specs.Takes.{Known}
-use Rattle.dash_record.specs.History.{RecState, IsRecorded, IsFresh}
-use Rattle.dash_record.specs.Held.{IsRecTagged}
+use Rattle.dash_history.specs.History.{RecState, IsRecorded, IsFresh}
+use Rattle.dash_history.specs.Held.{IsRecTagged}
 
 module _ {K V A S : Type 0} (w : Known K V A S) where
   -- each shard of the row has the number of its index, no pair and no history

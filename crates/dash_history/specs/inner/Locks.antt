@@ -3,13 +3,13 @@ use Rattle.std.specs.Prelude.{ℕ, ◌≡◌, List}
 use Rattle.crossbeam_utils.specs.declared.cache_padded.CachePadded.{CachePadded}
 use Rattle.crossbeam_utils.specs.Padded.{padded_value}
 use Rattle.dash_shard.specs.Hashing.{IsAmount}
-use Rattle.dash_lock.specs.Made.{Made}
+use Rattle.dash_shard.specs.Made.{Made}
 use Rattle.dash_shard.specs.Shard.{EachAt}
 use Rattle.dash_steps.specs.Takes.{Known}
 use Rattle.dash_history.specs.Alone.{IsCallers, RecAloneState}
-use Rattle.dash_record.specs.Held.{FitsRecTag}
-use Rattle.dash_record.specs.History.{RecState, IsRecorded}
-use Rattle.dash_record.specs.declared.record.tag.RecTag.{RecTag}
+use Rattle.dash_history.specs.Held.{FitsRecTag}
+use Rattle.dash_history.specs.History.{RecState, IsRecorded}
+use Rattle.dash_history.specs.declared.record.tag.RecTag.{RecTag}
 use Rattle.dash_history.specs.Map.{RecMapShape, RecMapState}
 
 module _ {K V A S : Type 0} where

@@ -2,7 +2,7 @@
 use Rattle.std.specs.Prelude.{ℕ, List}
 use Rattle.std.specs.Fn.{Shared}
 use Rattle.dash_shard.specs.Hashing.{KeyHash}
-use Rattle.dash_lock.specs.Lock.{FoundBehind, WasRead, LeftBehind}
+use Rattle.dash_shard.specs.Lock.{FoundBehind, WasRead, LeftBehind}
 use Rattle.dash_shard.specs.Shard.{ShardState, IsShard, pairs}
 use Rattle.dash_shard.specs.inner.Walks.{SweepsShard, altered}
 use Rattle.dash_map.specs.Behind.{IsShardOf}

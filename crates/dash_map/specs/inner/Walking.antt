@@ -1,7 +1,7 @@
 -- Where a walk over a map's locks stands, and how far a step of it has come.
 use Rattle.std.specs.Prelude.{◌≡◌, ◌+◌, ◌-◌, ◌<◌, ◌≤◌, ◌⊎◌, Some, IfSome, IsSome}
 use Rattle.dash_shard.specs.Hashing.{KeyHash}
-use Rattle.dash_lock.specs.Lock.{FoundBehind}
+use Rattle.dash_shard.specs.Lock.{FoundBehind}
 use Rattle.dash_shard.specs.Shard.{IsTagged, IsNextTaken}
 use Rattle.dash_ref.specs.Ref.{RefState, Stands}
 use Rattle.dash_map.specs.Walking.{IterState, IsDone, SawNone}

@@ -3,7 +3,7 @@ ghost use Rattle.dash_map.specs.Gets.{IsGotEntry};
 ghost use Rattle.dash_map.specs.Tries.{UnlessLockedOut};
 
 use crate::map::DashMap;
-use dash_held::held::IntoShard;
+use dash_ref::held::IntoShard;
 use dash_ref::mapref::entry::{Entry, EntryRefused, TryEntryRefused};
 use dash_shard::keyed::Keyed;
 use std::hash::{BuildHasher, Hash};

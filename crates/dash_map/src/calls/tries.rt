@@ -1,16 +1,16 @@
 //! Calls of threads on a map that they share, for those who wait for nobody.
 ghost use Rattle.std.specs.Prelude.{◌<◌, IfSome};
-ghost use Rattle.dash_lock.specs.Lock.{FoundBehind};
+ghost use Rattle.dash_shard.specs.Lock.{FoundBehind};
 ghost use Rattle.dash_map.specs.Behind.{IsShardOf};
 ghost use Rattle.dash_map.specs.Gets.{IsGot, IsGotMut};
 ghost use Rattle.dash_map.specs.Tries.{UnlessLocked};
 
 use crate::map::DashMap;
-use dash_held::held::{IntoShard, ShardMut};
-use dash_lock::lock::RwLockReadGuard;
+use dash_ref::held::{IntoShard, ShardMut};
 use dash_ref::mapref::one::{Ref, RefMut};
 use dash_ref::try_result::TryResult;
 use dash_shard::keyed::Keyed;
+use dash_shard::lock::RwLockReadGuard;
 use dash_shard::shard::Shard;
 use std::hash::{BuildHasher, Hash};
 

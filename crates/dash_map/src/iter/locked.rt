@@ -1,16 +1,16 @@
 //! The walks over a map that threads share, which hold one shard after the other.
 ghost use Rattle.std.specs.Prelude.{◌≡◌, ◌+◌, ◌<◌, ◌↔◌, IsTrue, IsSome, None, OnOk, OnErr, IfOk, IfSome, IfNone, ⊤};
 ghost use Rattle.std.specs.Iterator.{size};
-ghost use Rattle.dash_lock.specs.Lock.{FoundBehind};
+ghost use Rattle.dash_shard.specs.Lock.{FoundBehind};
 ghost use Rattle.dash_shard.specs.Hashing.{by};
 ghost use Rattle.dash_shard.specs.Shard.{IsTagged};
 ghost use Rattle.dash_map.specs.Walking.{IterState, StepsOn, IsDone, IsOver, at_start, steps_left};
 ghost use Rattle.dash_map.specs.inner.Walking.{IsWalk, GivesHere};
 
 use crate::map::DashMap;
-use dash_lock::lock::RwLockReadGuard;
 use dash_ref::mapref::multiple::RefMulti;
 use dash_shard::keyed::Keyed;
+use dash_shard::lock::RwLockReadGuard;
 use dash_shard::shard::{Cursor, Shard};
 use std::alloc::AllocError;
 use std::hash::{BuildHasher, Hash};

@@ -6,7 +6,7 @@ ghost use Rattle.dash_map.specs.Behind.{EndedShards};
 
 use crate::alone::Alone;
 use crate::map::DashMap;
-pub use dash_walks::owning::OwningIter;
+pub use dash_rows::owning::OwningIter;
 use std::hash::{BuildHasher, Hash};
 
 impl<K: Eq + Hash + Drop, V: Drop, S: BuildHasher + Drop> IntoIterator for Alone<K, V, S> {

@@ -3,11 +3,11 @@ ghost use Rattle.std.specs.Prelude.{◌≡◌};
 ghost use Rattle.dash_shard.specs.Hashing.{IsAmount, by, route_by};
 ghost use Rattle.dash_steps.specs.inner.Hashed.{shard_by, IsHashBy};
 
-use dash_kept::{Kept, KeptKey};
 use dash_shard::hash::determine_shard;
+use dash_shard::part::Dealer;
 use dash_steps::action::Action;
+use dash_steps::kept::{Kept, KeptKey};
 use dash_steps::step::ShardStep;
-use dash_traits::Dealer;
 use std::hash::{BuildHasher, Hash};
 use std::marker::Model;
 

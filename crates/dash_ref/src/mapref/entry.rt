@@ -6,13 +6,13 @@ ghost use Rattle.dash_ref.specs.RefMut.{rewritten, stored};
 ghost use Rattle.dash_ref.specs.Entry.{MayModify, Modified, Puts, PutsCopy, revalued};
 ghost use Rattle.dash_ref.specs.EntryCases.{MatchEntry, entry_shard, IsEntryOf};
 ghost use Rattle.dash_shard.specs.Hashing.{by};
-ghost use Rattle.dash_lock.specs.Lock.{LeftBehind};
+ghost use Rattle.dash_shard.specs.Lock.{LeftBehind};
 ghost use Rattle.dash_shard.specs.Shard.{Routes, IsShard};
 
+use crate::held::ShardMut;
 use crate::mapref::one::RefMut;
-use dash_held::held::ShardMut;
-use dash_kept::KeptKey;
 use dash_shard::keyed::Keyed;
+use dash_steps::kept::KeptKey;
 pub use occupied::OccupiedEntry;
 use std::alloc::AllocError;
 use std::fmt::{self, Debug};

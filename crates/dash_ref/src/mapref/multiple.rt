@@ -7,8 +7,8 @@ ghost use Rattle.dash_shard.specs.Shard.{slot, IsShard};
 ghost use Rattle.dash_ref.specs.Multi.{lent_pair, lent_value, with_lent_value};
 ghost use Rattle.dash_ref.specs.Ref.{Stands, pair_of};
 
-use dash_lock::lock::RwLockReadGuard;
 use dash_shard::keyed::{Keyed, Lender};
+use dash_shard::lock::RwLockReadGuard;
 use dash_shard::shard::Shard;
 use std::fmt;
 use std::hash::{BuildHasher, Hash};

@@ -2,15 +2,15 @@
 ghost use Rattle.std.specs.Prelude.{◌≡◌, ◌↔◌, IsTrue, IsSome, IfSome, IsNone, IfNone, None};
 ghost use Rattle.std.specs.Option.{option_map};
 ghost use Rattle.std.specs.Map.Iter.{deref_pair};
-ghost use Rattle.dash_lock.specs.Lock.{GivenBack};
+ghost use Rattle.dash_shard.specs.Lock.{GivenBack};
 ghost use Rattle.dash_shard.specs.Hashing.{by};
 ghost use Rattle.dash_shard.specs.Contents.{at};
 ghost use Rattle.dash_shard.specs.Steps.{Get, Pair};
 ghost use Rattle.dash_shard.specs.Shard.{slot, pairs, IsShard, RepliesOn};
 ghost use Rattle.dash_ref.specs.Ref.{Stands, pair_of};
 
-use dash_lock::lock::RwLockReadGuard;
 use dash_shard::keyed::Keyed;
+use dash_shard::lock::RwLockReadGuard;
 use dash_shard::shard::Shard;
 pub use mapped::MappedRef;
 pub use parts::{First, Payload, Second};

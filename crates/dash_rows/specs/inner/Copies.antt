@@ -6,7 +6,7 @@ use Rattle.dash_shard.specs.Contents.{at, IsOnShard}
 use Rattle.dash_shard.specs.Steps.{Insert, Old}
 use Rattle.dash_shard.specs.Shard.{ShardState, pairs, shard_len, IsShard, TakesInPlace}
 use Rattle.dash_shard.specs.inner.Keys.{keys_of}
-use Rattle.dash_kept.specs.Alike.{alike_pair}
+use Rattle.dash_steps.specs.Kept.{alike_pair}
 use Rattle.dash_rows.specs.Copies.{CopiesShard}
 
 -- the one, or where it is none the other

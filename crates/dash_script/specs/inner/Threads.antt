@@ -2,12 +2,12 @@
 use Rattle.std.specs.Prelude.{◌≡◌, ◌↔◌, IsTrue, Bool, ℕ, zero, suc, ◌<◌, ◌++◌, List, [], ◌∷◌, None, Some, IfNone, IfSome, IsSomeAnd, ⊤, length, map, slice_get, slice_index_or}
 use Rattle.dash_shard.specs.declared.hash.PlaceState.{PlaceState}
 use Rattle.dash_history.specs.Alone.{RecAloneState}
-use Rattle.dash_record.specs.History.{LogState}
+use Rattle.dash_history.specs.History.{LogState}
 use Rattle.dash_history.specs.Map.{RecMapState}
 use Rattle.dash_history.specs.OneHistory.{IsGathered, histories, rec_contents}
-use Rattle.dash_gather.specs.Merge.{along}
+use Rattle.dash_history.specs.Merge.{along}
 use Rattle.dash_steps.specs.Takes.{Known}
-use Rattle.dash_gather.specs.declared.place.At.{At}
+use Rattle.dash_history.specs.declared.place.At.{At}
 use Rattle.dash_steps.specs.declared.step.ShardStep.{ShardStep}
 use Rattle.dash_script.specs.Replay.{IsReplay}
 use Rattle.dash_script.specs.Threads.{HasNoStamp, thread_step}

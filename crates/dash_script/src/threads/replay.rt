@@ -3,9 +3,9 @@ ghost use Rattle.std.specs.Prelude.{◌≡◌, ◌↔◌, [], IfOk, IsTrue, Some
 ghost use Rattle.std.specs.HashMap.{IsUnique};
 ghost use Rattle.std.specs.List.{Contains};
 ghost use Rattle.dash_shard.specs.Contents.{EachOnce};
-ghost use Rattle.dash_gather.specs.Merge.{Names, along, record_at};
+ghost use Rattle.dash_history.specs.Merge.{Names, along, record_at};
 ghost use Rattle.dash_history.specs.OneHistory.{histories};
-ghost use Rattle.dash_gather.specs.declared.place.At.{At};
+ghost use Rattle.dash_history.specs.declared.place.At.{At};
 ghost use Rattle.dash_script.specs.Replay.{IsReplay};
 ghost use Rattle.dash_script.specs.inner.Replay.{Fits, Makes};
 

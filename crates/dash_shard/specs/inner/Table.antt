@@ -7,7 +7,7 @@ use Rattle.std.specs.Int.{bit_at}
 use Rattle.std.specs.Option.{option_map}
 use Rattle.std.specs.declared.hash.Hasher as hasher
 use Rattle.std.specs.declared.hash.BuildHasher as builder
-use Rattle.dash_slots.specs.inner.Slots.{SlotsState}
+use Rattle.dash_shard.specs.inner.SlotRows.Slots.{SlotsState}
 use Rattle.dash_shard.specs.Hashing.{KeyHash, hash_of}
 use Rattle.dash_shard.specs.Contents.{Keys, Distinct, EachOnce}
 use Rattle.dash_shard.specs.Shard.{ShardState, IsShard, shard_len, slot, taken}

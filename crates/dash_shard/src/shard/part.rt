@@ -5,7 +5,7 @@ ghost use Rattle.dash_shard.specs.Puts.{PutsPair};
 ghost use Rattle.dash_shard.specs.inner.Keys.{RoutesAs, routes-stay};
 
 use super::Shard;
-use dash_traits::Part;
+use crate::part::Part;
 use std::hash::{BuildHasher, Hash};
 
 impl<K: Eq + Hash + Drop, V: Drop, S: BuildHasher> Part<(K, V), ()> for Shard<K, V, S> {

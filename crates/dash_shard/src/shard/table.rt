@@ -4,18 +4,18 @@ ghost use Rattle.dash_shard.specs.inner.Table.{IsTable, IsHashedBy, Holds, IsAbs
 ghost use Rattle.dash_shard.specs.inner.Marks.{group_at};
 ghost use Rattle.dash_shard.specs.inner.Cursors.{IsSlotCursor, Advances};
 ghost use Rattle.dash_shard.specs.Shard.{slot, IsNextTaken};
-ghost use Rattle.dash_slots.specs.inner.Slots.{IsBlank};
+ghost use Rattle.dash_shard.specs.inner.SlotRows.Slots.{IsBlank};
 ghost use Rattle.std.specs.Int.{bit_at};
 ghost use Rattle.std.specs.Option.{option_map};
 ghost use Rattle.std.specs.Map.Iter.{deref_pair};
 
 use crate::shard::group::probe;
 use cursor::Cursor;
-use dash_slots::Slots;
 use marks::{
     class, count_at, group_of, has_lane, home, next_group, next_pair, own_lane, split_lowest,
     steps_to, tag,
 };
+use slots::Slots;
 use std::alloc::Global;
 use std::hash::{BuildHasher, Hash};
 use std::mem;
@@ -24,6 +24,7 @@ pub mod cursor;
 mod growth;
 mod marks;
 mod places;
+mod slots;
 mod sweep;
 mod values;
 pub mod walk;

@@ -5,8 +5,8 @@ ghost use Rattle.dash_shard.specs.Held.{FitsTag};
 ghost use Rattle.dash_shard.specs.Shard.{slot, with_value_in};
 
 use crate::keyed::Keyed;
+use crate::lock::{Lendable, Tagged};
 use crate::shard::Shard;
-use dash_traits::{Lendable, Tagged};
 use std::hash::{BuildHasher, Hash};
 use std::snapshot::Snapshot;
 

@@ -2,7 +2,7 @@
 use Rattle.std.specs.Prelude.{Bool, List, Option, IsTrue}
 use Rattle.std.specs.Option.{option_eq}
 use Rattle.std.specs.Cmp.Lexicographic.{pointwise}
-use Rattle.dash_kept.specs.Alike.{alike_pair}
+use Rattle.dash_steps.specs.Kept.{alike_pair}
 use Rattle.dash_steps.specs.Takes.{Rules}
 
 module _ {K V : Type 0} (k : K → K → Bool) (v : V → V → Bool) where

@@ -9,7 +9,7 @@ use Rattle.dash_shard.specs.inner.Steps.{key_or, after}
 use Rattle.dash_shard.specs.Hashing.{KeyHash}
 use Rattle.dash_shard.specs.Shard.{ShardState, pairs, IsShard, slot}
 use Rattle.dash_shard.specs.inner.Keys.{keys_of}
-use Rattle.dash_kept.specs.Alike.{alike_pair}
+use Rattle.dash_steps.specs.Kept.{alike_pair}
 use Rattle.dash_steps.specs.Alike.{alike_reply}
 use Rattle.dash_steps.specs.Steps.{step_of, reply_of}
 use Rattle.dash_steps.specs.inner.Hashed.{OfKey}

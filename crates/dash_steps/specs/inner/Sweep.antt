@@ -3,7 +3,7 @@ use Rattle.std.specs.Prelude.{◌≡◌, ◌++◌, ◌||◌, Bool, List, [], ◌
 use Rattle.dash_shard.specs.Contents.{at}
 use Rattle.dash_shard.specs.Steps.{Act, changed, if_yes}
 use Rattle.std.specs.Option.{option_eq}
-use Rattle.dash_kept.specs.Alike.{alike_pair}
+use Rattle.dash_steps.specs.Kept.{alike_pair}
 use Rattle.dash_steps.specs.inner.Copied.{alike_pairs}
 
 -- copies of these pairs, alike them and in their order, were added at the end

@@ -1,9 +1,9 @@
 use Rattle.std.proofs.Common.{◌≡◌, ◌∙◌, sym, subst, arith, Some, slice_get, List, ℕ, length}
 use Rattle.dash_shard.specs.Hashing.{HashAlike}
 use Rattle.dash_shard.specs.Hashing.{key_hash}
-use Rattle.dash_record.specs.History.{RecState, IsRecorded, IsFresh}
+use Rattle.dash_history.specs.History.{RecState, IsRecorded, IsFresh}
 use Rattle.dash_steps.specs.Takes.{known_by}
-use Rattle.dash_record.specs.Held.{IsRecTagged}
+use Rattle.dash_history.specs.Held.{IsRecTagged}
 use Rattle.dash_shard.proofs.Rows.{each-more}
 use Rattle.dash_history.proofs.alone.fresh_row.Goals as goal
 

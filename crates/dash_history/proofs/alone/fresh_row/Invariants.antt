@@ -1,6 +1,6 @@
 use Rattle.std.proofs.Common.{◌≡◌, ℕ, Some, length, slice_get}
-use Rattle.dash_record.specs.Held.{IsRecTagged}
-use Rattle.dash_record.specs.History.{IsFresh, IsRecorded}
+use Rattle.dash_history.specs.Held.{IsRecTagged}
+use Rattle.dash_history.specs.History.{IsFresh, IsRecorded}
 use Rattle.dash_steps.specs.Takes.{known_by}
 use Rattle.dash_history.proofs.alone.fresh_row.Given as goal
 use Rattle.dash_shard.specs.Hashing.{key_hash}

@@ -1,9 +1,9 @@
 use Rattle.std.proofs.Common.{IsTrue, subst, sym}
 use Rattle.std.specs.Cmp.Lexicographic.{pointwise}
-use Rattle.dash_kept.specs.Alike.{alike_pair}
+use Rattle.dash_steps.specs.Kept.{alike_pair}
 use Rattle.dash_steps.specs.Steps.{reply_of}
 use Rattle.dash_steps.specs.declared.step.Reply.{Reply}
-use Rattle.dash_record.specs.Joined.{pairs_in}
+use Rattle.dash_history.specs.Joined.{pairs_in}
 use Rattle.dash_history.proofs.joined.add_pairs.Goals as goal
 
 pub returns-in_ok-append : goal.returns-in_ok-append

@@ -2,7 +2,7 @@ use Rattle.std.proofs.Common.{ap, ◌∙◌, arith}
 use Rattle.std.proofs.lemmas.List.{take_all}
 use Rattle.std.proofs.lemmas.List.Sums.{sum_by_more}
 use Rattle.dash_steps.specs.Steps.{reply_of}
-use Rattle.dash_record.specs.Joined.{joined_number, number_in}
+use Rattle.dash_history.specs.Joined.{joined_number, number_in}
 use Rattle.dash_history.proofs.joined.join_numbers.Goals as goal
 
 pub loop-entry-preserved : goal.loop-entry-preserved

@@ -1,8 +1,8 @@
 use Rattle.std.proofs.Common.{◌≡◌, ◌++◌, true, sym, subst}
 use Rattle.std.specs.Cmp.Lexicographic.{pointwise}
-use Rattle.dash_kept.specs.Alike.{alike_pair}
+use Rattle.dash_steps.specs.Kept.{alike_pair}
 use Rattle.dash_steps.specs.Steps.{reply_of}
-use Rattle.dash_record.specs.Joined.{pairs_in}
+use Rattle.dash_history.specs.Joined.{pairs_in}
 use Rattle.dash_history.proofs.Copying.{all, copied-more, copied-all}
 use Rattle.dash_history.proofs.joined.join_pairs.Goals as goal
 

@@ -1,5 +1,5 @@
 use Rattle.dash_steps.specs.Steps.{reply_of}
-use Rattle.dash_record.specs.Joined.{pairs_in}
+use Rattle.dash_history.specs.Joined.{pairs_in}
 use Rattle.dash_history.proofs.Copying.{Copied}
 use Rattle.dash_history.proofs.joined.join_pairs.Given as goal
 

@@ -1,18 +1,18 @@
 //! A key that has no pair.
 ghost use Rattle.std.specs.Prelude.{◌≡◌, ◌<◌, None, IfOk, IfErr};
 ghost use Rattle.dash_shard.specs.Hashing.{by};
-ghost use Rattle.dash_lock.specs.Lock.{LeftBehind};
+ghost use Rattle.dash_shard.specs.Lock.{LeftBehind};
 ghost use Rattle.dash_shard.specs.Contents.{at};
 ghost use Rattle.dash_shard.specs.Shard.{pairs, shard_len, Routes};
 ghost use Rattle.dash_shard.specs.inner.Table.{IsPlaceFor};
 ghost use Rattle.dash_ref.specs.Entry.{Puts, PutsCopy};
 
 use super::{InsertEntryRefused, OccupiedEntry};
+use crate::held::ShardMut;
 use crate::mapref::one::RefMut;
-use dash_held::held::ShardMut;
-use dash_kept::KeptKey;
 use dash_shard::keyed::Keyed;
 use dash_shard::shard::Place;
+use dash_steps::kept::KeptKey;
 use std::hash::{BuildHasher, Hash};
 use std::marker::Model;
 

@@ -1,7 +1,7 @@
 use Rattle.std.proofs.Common.{◌≡◌, ◌↔◌, [], subst, ◌∙◌}
 use Rattle.std.specs.List.{Contains}
 use Rattle.std.specs.Prelude.{IsTrue}
-use Rattle.dash_gather.specs.Merge.{along}
+use Rattle.dash_history.specs.Merge.{along}
 use Rattle.dash_history.specs.OneHistory.{histories, rec_contents}
 use Rattle.dash_script.specs.Replay.{IsReplay}
 use Rattle.dash_script.proofs.Replaying.{same-pairs}

@@ -5,12 +5,12 @@ ghost use Rattle.dash_shard.specs.Memory.{NoMemory};
 ghost use Rattle.dash_shard.specs.inner.Table.{IsTable, IsHashedBy, CarriesOnce, IsCarried, IsEnough, IsMoved, NoMemoryFor, TellsTaken, limit, slots_in, groups_in, pairs_in, hashes_in};
 ghost use Rattle.dash_shard.specs.inner.Cursors.{ComesInGroups};
 ghost use Rattle.dash_shard.specs.Shard.{taken};
-ghost use Rattle.dash_slots.specs.inner.Slots.{IsBlank};
+ghost use Rattle.dash_shard.specs.inner.SlotRows.Slots.{IsBlank};
 
 use super::Table;
 use super::cursor::Cursor;
 use super::marks::EMPTY;
-use dash_slots::Slots;
+use crate::shard::table::slots::Slots;
 use std::alloc::{AllocError, Global};
 use std::hash::{BuildHasher, Hash};
 use std::mem;

@@ -8,7 +8,7 @@ ghost use Rattle.dash_shard.specs.inner.Walks.{Asks, Visits, Sweeps, if_kept, al
 
 use super::Table;
 use super::marks::EMPTY;
-use dash_slots::Slots;
+use crate::shard::table::slots::Slots;
 use std::hash::{BuildHasher, Hash};
 
 // Lets the pair of each taken slot from `from` on go.

@@ -8,7 +8,7 @@ ghost use Rattle.dash_shard.specs.Shard.{taken};
 use super::Table;
 use super::cursor::Cursor;
 use super::sweep::let_go;
-use dash_slots::Slots;
+use crate::shard::table::slots::Slots;
 use std::alloc::AllocError;
 use std::iter::FusedIterator;
 use std::marker::Model;

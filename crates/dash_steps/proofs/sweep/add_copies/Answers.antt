@@ -1,6 +1,6 @@
 use Rattle.std.proofs.Common.{◌≡◌, [], ◌∷◌, ◌++◌, true, refl, sym, ap, subst, ◌∙◌, append-nil, append_assoc, IsTrue}
 use Rattle.std.proofs.lemmas.Bool.{and_from}
-use Rattle.dash_kept.specs.Alike.{alike_pair}
+use Rattle.dash_steps.specs.Kept.{alike_pair}
 use Rattle.dash_steps.specs.inner.Copied.{alike_pairs}
 use Rattle.std.specs.Cmp.Lexicographic.{pointwise}
 use Rattle.dash_steps.proofs.sweep.add_copies.Goals as goal

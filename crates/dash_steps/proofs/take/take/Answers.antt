@@ -6,7 +6,7 @@ use Rattle.dash_shard.specs.Shard.{pairs}
 use Rattle.dash_shard.specs.Steps as table
 use Rattle.dash_shard.specs.inner.Keys.{keys_of}
 use Rattle.dash_shard.proofs.Lawful.{lawful-of}
-use Rattle.dash_kept.specs.Alike.{alike_pair}
+use Rattle.dash_steps.specs.Kept.{alike_pair}
 use Rattle.dash_steps.specs.declared.step.Reply.TheVariants.{Pair, Found, Old, Pairs, Number}
 use Rattle.dash_steps.specs.inner.Sweep.{keeping}
 use Rattle.dash_steps.proofs.AlikeLaws.{reply_equiv}

@@ -1,6 +1,6 @@
 use Rattle.std.proofs.Common.{◌<◌, ◌≤◌, max, length, refl, sym, ap, ◌∙◌, arith}
 use Rattle.std.proofs.lemmas.Result.{IfOk-weaker, MatchResult-weaker}
-use Rattle.dash_record.specs.History.{Recorded}
+use Rattle.dash_history.specs.History.{Recorded}
 use Rattle.dash_steps.specs.inner.Kinds.{kinds_of}
 use Rattle.dash_history.proofs.Alones.{here, alone-set, goes_there, callers_are, past_row, shard_is, count_is, last_is, applied, unchanged, hash_there}
 use Rattle.dash_history.proofs.Faults.{never-missing, not_part}

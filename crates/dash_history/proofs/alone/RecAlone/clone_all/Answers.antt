@@ -1,11 +1,11 @@
 use Rattle.std.proofs.Common.{List, IsTrue, subst}
 use Rattle.std.specs.Cmp.Lexicographic.{pointwise}
-use Rattle.dash_kept.specs.Alike.{alike_pair}
-use Rattle.dash_record.specs.declared.record.RecordFault.TheVariants.{LastStamp}
+use Rattle.dash_steps.specs.Kept.{alike_pair}
+use Rattle.dash_history.specs.declared.record.RecordFault.TheVariants.{LastStamp}
 use Rattle.dash_steps.specs.Takes.{known_by}
 use Rattle.dash_steps.specs.declared.step.Record.{Record}
 use Rattle.dash_steps.specs.declared.step.Whole.TheVariants as whole
-use Rattle.dash_record.specs.Joined.{joined_pairs}
+use Rattle.dash_history.specs.Joined.{joined_pairs}
 use Rattle.dash_history.proofs.Joining.{copies-joined}
 use Rattle.dash_history.proofs.Refusals.{made-too, passed-on, planned-memory}
 use Rattle.dash_history.proofs.alone.RecAlone.clone_all.Goals as goal

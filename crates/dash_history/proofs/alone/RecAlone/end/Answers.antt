@@ -1,6 +1,6 @@
 use Rattle.std.proofs.Common.{◌≡◌, ◌∙◌, sym, subst, ap, length, map as list_map}
 use Rattle.dash_shard.proofs.Rows.{moved-length}
-use Rattle.dash_record.specs.Held.{IsRecTagged}
+use Rattle.dash_history.specs.Held.{IsRecTagged}
 use Rattle.dash_history.specs.Map.{locked, rec_map}
 use Rattle.dash_history.specs.inner.Locks.{made_of}
 use Rattle.dash_history.proofs.Maps.{map-of_alone, left-of_alone, made-of_alone}

@@ -3,14 +3,14 @@ use Rattle.std.proofs.lemmas.Bool.{both_ways}
 use Rattle.std.specs.List.{Contains}
 use Rattle.dash_shard.proofs.Lawful.{lawful-of}
 use Rattle.dash_shard.specs.Hashing.{key_hash}
-use Rattle.dash_gather.specs.Merge.{AreCallers}
-use Rattle.dash_gather.specs.inner.Gathering.{EachRecorded, Finds}
+use Rattle.dash_history.specs.Merge.{AreCallers}
+use Rattle.dash_history.specs.inner.Gathering.{EachRecorded, Finds}
 use Rattle.dash_steps.specs.Takes.{known_by}
 use Rattle.dash_history.proofs.Gathering.{below-seen, gathered-seen, merge-again, mismatch-seen}
 use Rattle.dash_history.proofs.Refusals.{memory-mismatch}
 use Rattle.dash_history.proofs.Standing.{wholes-seen}
 use Rattle.dash_steps.proofs.Copies.{lawful-by}
-use Rattle.dash_record.proofs.Refusals.{made-refused}
+use Rattle.dash_history.proofs.Made.{made-refused}
 use Rattle.dash_history.proofs.alone.RecAlone.gather.Goals as goal
 
 pub merge-requires : goal.merge-requires

@@ -2,9 +2,9 @@ use Rattle.std.proofs.Common.{List, length, map, subst, sym}
 use Rattle.std.proofs.lemmas.Result.{IfOk-weaker}
 use Rattle.dash_shard.proofs.Lawful.{lawful-of}
 use Rattle.dash_shard.specs.Hashing.{key_hash}
-use Rattle.dash_record.specs.History.{RecState}
-use Rattle.dash_gather.specs.inner.Gathering.{EachRecorded}
-use Rattle.dash_gather.specs.Merge.{IsMerge}
+use Rattle.dash_history.specs.History.{RecState}
+use Rattle.dash_history.specs.inner.Gathering.{EachRecorded}
+use Rattle.dash_history.specs.Merge.{IsMerge}
 use Rattle.dash_history.specs.OneHistory.{IsOneHistory}
 use Rattle.dash_steps.specs.Takes.{known_by}
 use Rattle.dash_steps.proofs.Copies.{lawful-by}

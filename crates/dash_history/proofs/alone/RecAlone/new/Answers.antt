@@ -2,10 +2,10 @@ use Rattle.std.proofs.Common.{ℕ, ◌≡◌, List, Some, slice_get, arith, subs
 use Rattle.dash_shard.specs.Hashing.{IsAmount}
 use Rattle.dash_shard.specs.Hashing.{key_hash}
 use Rattle.dash_steps.specs.Takes.{known_by}
-use Rattle.dash_record.specs.History.{IsFresh, RecState}
+use Rattle.dash_history.specs.History.{IsFresh, RecState}
 use Rattle.dash_history.specs.Alone.{IsCallers, IsRecAlone}
-use Rattle.dash_record.specs.Held.{IsRecTagged}
-use Rattle.dash_record.proofs.Refusals.{made-refused}
+use Rattle.dash_history.specs.Held.{IsRecTagged}
+use Rattle.dash_history.proofs.Made.{made-refused}
 use Rattle.dash_history.proofs.Refusals.{callers-amount, memory-amount, memory-callers}
 use Rattle.dash_history.proofs.alone.RecAlone.new.Goals as goal
 

@@ -2,9 +2,9 @@ use Rattle.std.proofs.Common.{List, IsTrue, flat_map, subst}
 use Rattle.std.specs.Cmp.Lexicographic.{pointwise}
 use Rattle.std.specs.Prelude.{IfOk}
 use Rattle.dash_shard.specs.Shard.{pairs}
-use Rattle.dash_kept.specs.Alike.{alike_pair}
+use Rattle.dash_steps.specs.Kept.{alike_pair}
 use Rattle.dash_history.specs.Alone.{RecAloneState}
-use Rattle.dash_record.specs.History.{RecState}
+use Rattle.dash_history.specs.History.{RecState}
 use Rattle.dash_history.specs.OneHistory.{rec_contents}
 use Rattle.dash_history.proofs.alone.RecAlone.pairs.Goals as goal
 

@@ -1,9 +1,9 @@
 use Rattle.std.proofs.Common.{◌≡◌, ◌-◌, ◌^◌, List, subst}
 use Rattle.std.specs.Prelude.{IsErrOf, ◌↔◌}
 use Rattle.dash_history.specs.Alone.{RecAloneState}
-use Rattle.dash_record.specs.History.{RecState}
-use Rattle.dash_record.specs.Part.{greatest}
-use Rattle.dash_record.specs.declared.record.RecordFault.TheVariants.{LastStamp}
+use Rattle.dash_history.specs.History.{RecState}
+use Rattle.dash_history.specs.Part.{greatest}
+use Rattle.dash_history.specs.declared.record.RecordFault.TheVariants.{LastStamp}
 use Rattle.dash_history.proofs.alone.RecAlone.plan.Goals as goal
 
 pub returns-clause-last_stamp : goal.returns-clause-last_stamp

@@ -3,9 +3,9 @@ use Rattle.std.proofs.lemmas.Bool.{cases_Bool}
 use Rattle.dash_shard.proofs.Lawful.{lawful-of}
 use Rattle.dash_shard.specs.inner.Rows.{with_items}
 use Rattle.dash_history.specs.Alone.{RecAloneState, IsRecAlone}
-use Rattle.dash_record.specs.History.{RecState}
+use Rattle.dash_history.specs.History.{RecState}
 use Rattle.dash_history.specs.WholeSteps.{AppliedWhole}
-use Rattle.dash_record.specs.inner.Parts.{Planned}
+use Rattle.dash_history.specs.inner.Parts.{Planned}
 use Rattle.dash_steps.specs.Takes.{known_by}
 use Rattle.dash_steps.specs.declared.step.Whole.{Whole}
 use Rattle.dash_history.proofs.WholeAlone.{lent-numbers, lent-callers, lent-legal, put-lawful, applied-whole, put-same}

@@ -1,6 +1,6 @@
 use Rattle.std.proofs.Common.{◌≡◌, ◌++◌, List, true}
 use Rattle.std.specs.Cmp.Lexicographic.{pointwise}
-use Rattle.dash_kept.specs.Alike.{alike_pair}
+use Rattle.dash_steps.specs.Kept.{alike_pair}
 use Rattle.dash_map.specs.Alone.{contents}
 use Rattle.dash_map.proofs.alone.Alone.pairs.Given as goal
 

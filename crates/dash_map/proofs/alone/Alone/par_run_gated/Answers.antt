@@ -7,7 +7,7 @@ use Rattle.std.proofs.lemmas.List.Elements.{All-nil}
 use Rattle.std.proofs.lemmas.Option.{none-some, same_Some}
 use Rattle.dash_shard.specs.Hashing.{key_hash}
 use Rattle.dash_shard.proofs.Lawful.{lawful-of}
-use Rattle.dash_parallel.proofs.Taking.{none-ran}
+use Rattle.dash_rows.proofs.Taking.{none-ran}
 use Rattle.dash_steps.specs.declared.step.ShardStep.{ShardStep}
 use Rattle.dash_map.specs.Alone.{AloneState, IsAlone}
 use Rattle.dash_map.specs.ParRun.{goes_to, TakesThere}

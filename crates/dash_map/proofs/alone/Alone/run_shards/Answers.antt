@@ -2,8 +2,8 @@ use Rattle.std.proofs.Common.{◌≡◌, ◌<◌, All, List, length, sym, ap, su
 use Rattle.dash_shard.specs.Hashing.{key_hash}
 use Rattle.dash_shard.specs.Shard.{ShardState, IsShard}
 use Rattle.dash_shard.specs.inner.Rows.{with_items}
-use Rattle.dash_parallel.specs.Apart.{ParRan}
-use Rattle.dash_parallel.specs.inner.Lanes.{FitsAll}
+use Rattle.dash_rows.specs.Apart.{ParRan}
+use Rattle.dash_rows.specs.inner.Lanes.{FitsAll}
 use Rattle.dash_steps.specs.inner.Hashed.{shard_by, IsHashBy}
 use Rattle.dash_steps.specs.inner.Take.{Goes}
 use Rattle.dash_map.specs.Alone.{AloneState, IsAlone, KeepsRoom}

@@ -1,5 +1,5 @@
 use Rattle.std.proofs.Common.{◌∙◌, ap, map, subst}
-use Rattle.dash_lock.specs.Lock.{EndedWith}
+use Rattle.dash_shard.specs.Lock.{EndedWith}
 use Rattle.dash_shard.proofs.Rows.{moved-length}
 use Rattle.dash_map.specs.Alone.{AloneState, EachShard}
 use Rattle.dash_map.specs.Map.{MapState, made_for, shape}

@@ -1,6 +1,6 @@
 use Rattle.std.proofs.Common.{◌∙◌, sym, subst}
 use Rattle.std.proofs.lemmas.Option.{IfSome_then}
-use Rattle.dash_lock.specs.Lock.{FoundBehind}
+use Rattle.dash_shard.specs.Lock.{FoundBehind}
 use Rattle.dash_shard.specs.Hashing.{key_hash}
 use Rattle.dash_map.proofs.Seeing.{stands-at}
 use Rattle.dash_map.proofs.map.DashMap.get_mut.Goals as goal

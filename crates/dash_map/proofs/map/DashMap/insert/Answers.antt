@@ -1,5 +1,5 @@
 use Rattle.std.proofs.Common.{sym, subst}
-use Rattle.dash_lock.specs.Lock.{FoundBehind}
+use Rattle.dash_shard.specs.Lock.{FoundBehind}
 use Rattle.dash_shard.specs.Held.{Inserts}
 use Rattle.dash_shard.specs.Hashing.{key_hash}
 use Rattle.dash_map.proofs.Lifting.{settled}

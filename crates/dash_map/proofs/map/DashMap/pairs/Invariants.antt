@@ -2,7 +2,7 @@ use Rattle.std.proofs.Common.{IsTrue, flat_map}
 use Rattle.std.specs.Cmp.Lexicographic.{pointwise}
 use Rattle.dash_shard.specs.Hashing.{key_hash}
 use Rattle.dash_shard.specs.Shard.{pairs}
-use Rattle.dash_kept.specs.Alike.{alike_pair}
+use Rattle.dash_steps.specs.Kept.{alike_pair}
 use Rattle.dash_map.proofs.Seeing.{SeenSo}
 use Rattle.dash_map.proofs.map.DashMap.pairs.Given as goal
 

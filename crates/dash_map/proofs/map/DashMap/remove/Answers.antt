@@ -1,5 +1,5 @@
 use Rattle.std.proofs.Common.{sym, subst}
-use Rattle.dash_lock.specs.Lock.{FoundBehind}
+use Rattle.dash_shard.specs.Lock.{FoundBehind}
 use Rattle.dash_shard.specs.Held.{Loses}
 use Rattle.dash_shard.specs.Steps.{Remove, Pair}
 use Rattle.dash_shard.specs.Shard.{TakesInPlace, pairs}

@@ -1,5 +1,5 @@
 use Rattle.std.proofs.Common.{sym, subst}
-use Rattle.dash_lock.specs.Lock.{FoundBehind}
+use Rattle.dash_shard.specs.Lock.{FoundBehind}
 use Rattle.dash_map.proofs.map.DashMap.try_shards_mut.Goals as goal
 
 pub returns-in-Some : goal.returns-in-Some

@@ -2,15 +2,15 @@
 ghost use Rattle.std.specs.Prelude.{[], ◌≡◌, ◌↔◌, IsSome, Some, IfOk, IfErr, IsOk, option_and_then};
 ghost use Rattle.std.specs.Option.{option_map};
 ghost use Rattle.std.specs.Borrow.{Lends, sem};
-ghost use Rattle.dash_lock.specs.Lock.{LeftBehind};
+ghost use Rattle.dash_shard.specs.Lock.{LeftBehind};
 ghost use Rattle.dash_ref.specs.RefMut.{stored, part_in, with_part};
 
 use super::{HeldRef, RefMut};
+use crate::held::ShardMut;
+use crate::held::holds::{Holds, Writing};
 use crate::mapref::one::projection::{Compose, Projection};
-use dash_held::held::ShardMut;
-use dash_held::held::holds::{Holds, Writing};
-use dash_lock::lock::RwLock;
 use dash_shard::keyed::Lender;
+use dash_shard::lock::RwLock;
 use dash_shard::shard::Shard;
 use std::fmt;
 use std::hash::{BuildHasher, Hash};

@@ -1,5 +1,5 @@
 use Rattle.std.proofs.Common.{◌∙◌, ap, subst}
-use Rattle.dash_lock.specs.Lock.{EndedWith}
+use Rattle.dash_shard.specs.Lock.{EndedWith}
 use Rattle.dash_shard.proofs.Rows.{moved-length}
 use Rattle.dash_history.specs.Alone.{RecAloneState, EachRecShard}
 use Rattle.dash_history.specs.Map.{RecMapState, made_for}

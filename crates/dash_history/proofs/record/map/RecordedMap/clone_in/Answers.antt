@@ -1,8 +1,8 @@
 use Rattle.std.proofs.Common.{List, IsTrue, refl, subst}
 use Rattle.std.specs.Cmp.Lexicographic.{pointwise}
-use Rattle.dash_kept.specs.Alike.{alike_pair}
-use Rattle.dash_record.specs.Joined.{joined_pairs}
-use Rattle.dash_record.specs.declared.record.RecordFault.TheVariants.{LastStamp}
+use Rattle.dash_steps.specs.Kept.{alike_pair}
+use Rattle.dash_history.specs.Joined.{joined_pairs}
+use Rattle.dash_history.specs.declared.record.RecordFault.TheVariants.{LastStamp}
 use Rattle.dash_steps.specs.Takes.{known_by}
 use Rattle.dash_steps.specs.declared.step.Record.{Record}
 use Rattle.dash_steps.specs.declared.step.Whole.TheVariants as whole

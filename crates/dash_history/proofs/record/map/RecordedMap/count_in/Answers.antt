@@ -1,6 +1,6 @@
 use Rattle.std.proofs.Common.{◌≡◌, ap, refl, ◌∙◌}
-use Rattle.dash_record.specs.Joined.{joined_number}
-use Rattle.dash_record.specs.declared.record.RecordFault.TheVariants.{LastStamp}
+use Rattle.dash_history.specs.Joined.{joined_number}
+use Rattle.dash_history.specs.declared.record.RecordFault.TheVariants.{LastStamp}
 use Rattle.dash_steps.specs.Takes.{known_by}
 use Rattle.dash_steps.specs.declared.step.Whole.TheVariants as whole
 use Rattle.dash_history.specs.inner.Locks.{of_holds}

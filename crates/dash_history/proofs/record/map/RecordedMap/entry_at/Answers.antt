@@ -4,7 +4,7 @@ use Rattle.std.proofs.lemmas.List.{set-get_or}
 use Rattle.dash_history.proofs.Members.{got}
 use Rattle.dash_history.specs.inner.Locks.{made_of}
 use Rattle.crossbeam_utils.specs.Padded.{padded_value, padded_with_value}
-use Rattle.dash_record.specs.Held.{FitsRecTag}
+use Rattle.dash_history.specs.Held.{FitsRecTag}
 use Rattle.dash_history.specs.Map.{shape}
 use Rattle.dash_history.proofs.Maps.{shard-behind}
 use Rattle.dash_shard.specs.Hashing.{key_hash}

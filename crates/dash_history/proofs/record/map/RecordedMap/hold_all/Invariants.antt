@@ -1,5 +1,5 @@
 use Rattle.std.proofs.Common.{◌≡◌, ◌≤◌, length, vec_capacity}
-use Rattle.dash_lock.specs.Lock.{FoundBehind}
+use Rattle.dash_shard.specs.Lock.{FoundBehind}
 use Rattle.dash_steps.specs.Takes.{known_by}
 use Rattle.dash_history.proofs.SharedSteps.{InPlace}
 use Rattle.dash_history.proofs.record.map.RecordedMap.hold_all.Given as goal

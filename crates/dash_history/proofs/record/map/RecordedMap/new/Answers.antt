@@ -1,6 +1,6 @@
 use Rattle.std.proofs.Common.{List, ap, subst, sym}
 use Rattle.dash_shard.specs.Shard.{EachAt}
-use Rattle.dash_record.specs.History.{RecState, IsFresh}
+use Rattle.dash_history.specs.History.{RecState, IsFresh}
 use Rattle.dash_shard.specs.declared.error.ConstructError.TheVariants.{Callers, ShardAmount}
 use Rattle.dash_history.proofs.Refusals.{made-too, passed-on}
 use Rattle.dash_history.proofs.record.map.RecordedMap.new.Goals as goal

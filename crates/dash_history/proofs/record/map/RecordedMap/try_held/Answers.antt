@@ -1,7 +1,7 @@
 use Rattle.std.proofs.Common.{◌<◌, ◌∙◌, ap, subst, length, arith, sym}
 use Rattle.crossbeam_utils.specs.Padded.{padded_value}
-use Rattle.dash_lock.specs.Lock.{FoundBehind}
-use Rattle.dash_record.specs.Held.{FitsRecTag}
+use Rattle.dash_shard.specs.Lock.{FoundBehind}
+use Rattle.dash_history.specs.Held.{FitsRecTag}
 use Rattle.dash_history.specs.Map.{shape}
 use Rattle.dash_history.proofs.Maps.{shard-behind}
 use Rattle.dash_shard.specs.Hashing.{key_hash}

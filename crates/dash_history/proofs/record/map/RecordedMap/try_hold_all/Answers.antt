@@ -1,6 +1,6 @@
 use Rattle.std.proofs.Common.{◌+◌, ap, length, ◌∙◌, arith}
 use Rattle.std.proofs.lemmas.List.{length_push}
-use Rattle.dash_lock.specs.Lock.{FoundBehind}
+use Rattle.dash_shard.specs.Lock.{FoundBehind}
 use Rattle.dash_steps.specs.Takes.{known_by}
 use Rattle.dash_history.proofs.SharedSteps.{in-place-none, in-place-more, all-behind}
 use Rattle.dash_history.proofs.record.map.RecordedMap.try_hold_all.Goals as goal

@@ -1,6 +1,6 @@
 use Rattle.std.proofs.Common.{◌≡◌, ◌+◌, [], ◌∷◌, Option, Some, None, Bor, length, ap, subst, sym, ◌∙◌, arith}
 use Rattle.std.proofs.Math.ListN.{drop, drop_of_length-le}
-use Rattle.dash_slots.specs.inner.Slots.{SlotsState}
+use Rattle.dash_shard.specs.inner.SlotRows.Slots.{SlotsState}
 use Rattle.dash_shard.specs.Shard.{IsNextTaken, slot, taken}
 use Rattle.dash_shard.specs.inner.Table.{values_of}
 use Rattle.dash_shard.proofs.Cursors.{next-by-slots, passes-next}

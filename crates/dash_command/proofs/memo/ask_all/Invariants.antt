@@ -1,5 +1,0 @@
-use Rattle.dash_command.specs.inner.Memo.{AreAllRight}
-use Rattle.dash_command.proofs.memo.ask_all.Given as goal
-
-abbrev pub invariant-loop-key : goal.invariant-loop-key
-invariant-loop-key g l = AreAllRight l.key-counter l.tally

@@ -1,6 +1,0 @@
-use Rattle.std.proofs.Common.{◌*◌}
-use Rattle.dash_command.specs.inner.Memo.{AreAllRight}
-use Rattle.dash_command.proofs.memo.sum_of.Given as goal
-
-abbrev pub invariant-loop-tally : goal.invariant-loop-tally
-invariant-loop-tally l = AreAllRight (l.tally-index * l.keys) l.sum

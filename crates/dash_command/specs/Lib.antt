@@ -1,4 +1,0 @@
-pub mod Command
-pub mod Memo
-pub mod Words
-pub mod inner

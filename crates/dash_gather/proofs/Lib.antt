@@ -1,5 +1,0 @@
-pub mod Members
-pub mod Merging
-mod Placing
-mod Indexing
-mod Following

@@ -1,2 +1,0 @@
--- What only proofs, invariants and the contracts of private functions use.
-pub mod Lending

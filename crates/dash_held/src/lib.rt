@@ -1,4 +1,0 @@
-//! A shard that is held for writing behind its lock.
-#![tactic(auto)]
-
-pub mod held;

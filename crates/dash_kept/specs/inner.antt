@@ -1,2 +1,0 @@
--- What only proofs use.
-pub mod AlikeLaws

@@ -1,8 +1,0 @@
-pub mod Lists
-pub mod Refusals
-mod Growing
-pub mod Telling
-mod Recording
-pub mod Parts
-mod Adding
-pub mod WholeLogs

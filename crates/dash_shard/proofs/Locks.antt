@@ -1,0 +1,13 @@
+pub mod Changing
+pub mod Counting
+pub mod Exchanging
+pub mod Fitting
+pub mod Handing
+pub mod HoldFields
+pub mod LockBorrows
+pub mod LockShown
+pub mod RoundParts
+pub mod Rounds
+pub mod Walking
+pub mod WordSteps
+pub mod Words

@@ -1,0 +1,4 @@
+pub mod Crosses
+pub mod Places
+pub mod Rows
+pub mod Walking

@@ -1,0 +1,4 @@
+pub mod Codes
+pub mod Holding
+pub mod IsHold
+pub mod Lending

@@ -1,0 +1,4 @@
+pub mod Slots
+pub mod Lends
+pub mod Row
+pub mod Cells

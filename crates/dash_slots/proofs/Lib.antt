@@ -1,4 +1,0 @@
-mod Crosses
-mod Places
-mod Rows
-mod Walking

@@ -1,5 +1,0 @@
-use Rattle.dash_slots.proofs.Rows.{reaches}
-use Rattle.dash_slots.proofs.slots.Slots.get_mut.Goals as goal
-
-pub get_mut-requires : goal.get_mut-requires
-get_mut-requires g c = let s = c.self.inside in reaches s.start s.cells s.deed s.len c.args.index c.args.self.now c.self.invariant c.self.view_is c.requires

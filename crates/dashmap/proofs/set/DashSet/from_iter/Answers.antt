@@ -1,0 +1,11 @@
+use Rattle.std.proofs.Common.{ap}
+use Rattle.dash_map.specs.Map.{made_for}
+use Rattle.dashmap.proofs.set.DashSet.from_iter.Goals as goal
+
+pub returns-clause-made : goal.returns-clause-made
+returns-clause-made g c =
+    let made = c.in_ok-from_iter.ensures.made in
+    (made.0, made.1, made.2, made.3, made.4, (c.in_ok-from_iter.field-0, c.end.ensures.left, (ap made_for c.end.ensures.map, made.5)))
+
+pub returns-clause-bad_parallelism : goal.returns-clause-bad_parallelism
+returns-clause-bad_parallelism g c = (λ e. absurd (cc), λ p. absurd (cc (c.in_ok-from_iter.ensures.bad_parallelism.1 p)))
