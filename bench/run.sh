@@ -3,7 +3,7 @@
 #
 # usage: bench/run.sh [WORK..]     with no WORK: all of them
 #
-# It wants Debian's packages librust-dashmap-dev and librust-bstr-dev, cargo, and rt. It takes the `dash_bench` that the gate left, or else proves
+# It wants Debian's packages librust-dashmap-dev and librust-bstr-dev, cargo, and rt. It takes the `tool_bench` that the gate left, or else proves
 # and builds it, builds the Rust program offline from Debian's packages, runs both by turns, five times each, and ends with status 1 where two
 # checksums differ. It prints the best times, and the Rust crate's time by ours, above 1 where this map is faster: of the best, and the median of
 # the rounds.
@@ -21,7 +21,7 @@ works=("$@")
 (cd "$top/bench/rust" && cargo build --release --offline --quiet \
     --config 'source.crates-io.replace-with="debian"' --config "source.debian.directory=\"$registry\"")
 theirs=$top/bench/rust/target/release/rust_bench
-ours=$("$top/.ci/built" dash_bench)
+ours=$("$top/.ci/built" tool_bench)
 
 # Both programs, by turns, each first in every other round: prints the best NS an operation of ours and of theirs, the BYTES of both, and the
 # median of the rounds' ratios.

@@ -1,9 +1,9 @@
 #!/usr/bin/env bash
-# Times `crates/wordcount` beside the same program over the Rust crate `dashmap`, and compares what they count with what Python counts.
+# Times `crates/example_wordcount` beside the same program over the Rust crate `dashmap`, and compares what they count with what Python counts.
 #
 # usage: bench/wordcount.sh [MEGABYTES]     with no number: 100
 #
-# It wants Debian's packages librust-dashmap-dev and librust-bstr-dev, cargo, python3 and rt. It takes the `wordcount` that the gate left, or
+# It wants Debian's packages librust-dashmap-dev and librust-bstr-dev, cargo, python3 and rt. It takes the `example_wordcount` that the gate left, or
 # else proves and builds it. It makes a text, and bytes that are none, runs both programs by turns, five times each, at 1, 2, 4 and 16 threads,
 # and ends with status 1 where a count differs. It prints the best times, and the Rust program's time by ours, the median of the rounds.
 set -euo pipefail
@@ -16,7 +16,7 @@ trap 'rm -rf "$room"' EXIT
 (cd "$top/bench/rust" && cargo build --release --offline --quiet \
     --config 'source.crates-io.replace-with="debian"' --config "source.debian.directory=\"$registry\"")
 theirs=$top/bench/rust/target/release/wordcount
-ours=$("$top/.ci/built" wordcount)
+ours=$("$top/.ci/built" example_wordcount)
 
 python3 - "$room" "${1:-100}" <<'PYTHON'
 import random, re, sys

@@ -1,4 +1,4 @@
-//! `rust_bench WORK THREADS [SHARDS]`: what `dash_bench` does, over the Rust crate `dashmap`, with the same keys, hasher and shards.
+//! `rust_bench WORK THREADS [SHARDS]`: what `tool_bench` does, over the Rust crate `dashmap`, with the same keys, hasher and shards.
 
 mod hash;
 mod keys;

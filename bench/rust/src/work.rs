@@ -1,4 +1,4 @@
-//! The kinds of work that are measured, as `dash_bench` has them.
+//! The kinds of work that are measured, as `tool_bench` has them.
 
 /// One kind of work.
 #[derive(Clone, Copy, PartialEq, Eq)]

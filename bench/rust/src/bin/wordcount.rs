@@ -1,4 +1,4 @@
-//! `wordcount -t THREADS -n TOP FILE..`: what `crates/wordcount` does, over the Rust crate `dashmap`, with the same hasher.
+//! `wordcount -t THREADS -n TOP FILE..`: what `crates/example_wordcount` does, over the Rust crate `dashmap`, with the same hasher.
 
 #[path = "../hash.rs"]
 mod hash;

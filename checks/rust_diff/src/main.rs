@@ -1,4 +1,4 @@
-//! `rust_diff HASHER CALLS [FAULT]`: the calls of `dash_diff`, taken by the Rust crate `dashmap`, and a line for each.
+//! `rust_diff HASHER CALLS [FAULT]`: the calls of `tool_diff`, taken by the Rust crate `dashmap`, and a line for each.
 //!
 //! FAULT plants one: `insert` keeps the old value of one key in a thousand, `remove_entry` answers the key that was handed in, `walk` ends
 //! one shard early.

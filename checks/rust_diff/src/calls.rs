@@ -1,4 +1,4 @@
-//! The calls, as `dash_diff` takes them.
+//! The calls, as `tool_diff` takes them.
 
 use crate::answer::{Answer, Noted, Walk};
 use crate::hashers::FixedState;
