@@ -21,8 +21,8 @@ EndedWith x y = Unit {0}
 pub NoMemory : ℕ → Type 0
 NoMemory most = Unit {0}
 
--- The words are closed: no proof unfolds them. These lemmas show them, and `dash_lock` and `dash_shard` alone can cite these, which hand on
--- the words without them.
+-- The words are closed: no proof unfolds them. These lemmas show them, and `dash_shard` alone can cite these, which hands on the
+-- words without them.
 pub found : {X : Type 0} (x : X) → FoundBehind x
 unfolding FoundBehind
 found x = tt
