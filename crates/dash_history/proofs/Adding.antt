@@ -5,7 +5,7 @@ use Rattle.std.proofs.lemmas.Option.{same_Some, slice_get_within, slice_get-get_
 use Rattle.std.proofs.Math.ListN.{length-set}
 use Rattle.dash_shard.proofs.Rows.{slice_get-set_same, slice_get-set_other}
 use Rattle.dash_steps.specs.Takes.{Known}
-use Rattle.dash_steps.specs.declared.step.Record.{Record}
+use Rattle.dash_history.specs.declared.record.Record.{Record}
 use Rattle.dash_steps.specs.declared.step.Whole.{Whole}
 use Rattle.dash_history.specs.History.{RecState, IsRecorded}
 use Rattle.dash_history.specs.Part.{and_record}

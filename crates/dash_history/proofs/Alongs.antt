@@ -6,7 +6,7 @@ use Rattle.std.proofs.lemmas.Bool.{cases_eq, cases_lt}
 use Rattle.dash_history.specs.History.{Rises, Follows, FollowOn, LogRises}
 use Rattle.dash_history.specs.Merge.{Earlier, IsMerge, record_at, along}
 use Rattle.dash_history.specs.OneHistory.{of_shard, StampsStandInOrder}
-use Rattle.dash_steps.specs.declared.step.Record.{Record}
+use Rattle.dash_history.specs.declared.record.Record.{Record}
 use Rattle.dash_history.specs.declared.place.At.{At}
 use Rattle.dash_history.proofs.Ordered.{Has, has-get, get-has, has-contains, contains-has, InOrder}
 use Rattle.dash_history.proofs.Members.{has-kept, kept-has, get-in_order, in_order-kept, in_order-mapped, agree, has-mapped, mapped-has}

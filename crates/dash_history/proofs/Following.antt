@@ -9,7 +9,7 @@ use Rattle.std.specs.Cmp.Lexicographic.{pointwise}
 use Rattle.dash_history.specs.inner.Gathering.{agrees, Finds}
 use Rattle.dash_history.specs.History.{LogState, RecState}
 use Rattle.dash_history.specs.Merge.{AreCallers, IsMerge, Names, along, of_caller, record_at}
-use Rattle.dash_steps.specs.declared.step.Record.{Record}
+use Rattle.dash_history.specs.declared.record.Record.{Record}
 use Rattle.dash_history.specs.declared.place.At.{At}
 use Rattle.dash_history.proofs.Ordered.{get-has, has-contains}
 use Rattle.dash_history.proofs.Merging.{from-at}

@@ -2,7 +2,7 @@
 use Rattle.std.proofs.Common.{◌≡◌, ℕ, ◌<◌, List, [], ◌∷◌, ◌++◌, length, map, All, inl, refl, sym, subst, arith}
 use Rattle.std.proofs.lemmas.List.Elements.{All-append, All-cons, All-nil}
 use Rattle.std.proofs.lemmas.List.{map-append}
-use Rattle.dash_steps.specs.declared.step.Record.{Record}
+use Rattle.dash_history.specs.declared.record.Record.{Record}
 use Rattle.dash_steps.specs.Takes.{Kinds, Takes, Runs}
 use Rattle.dash_history.specs.History.{last_or, Rises, FollowOn, LogRises, done, shard_of, IsHistory, LogState, IsLog}
 use Rattle.dash_steps.proofs.Copies.{runs-more}

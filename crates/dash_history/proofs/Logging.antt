@@ -5,10 +5,10 @@ use Rattle.std.specs.Cmp.{IsEquivalence, nat_eq_equiv}
 use Rattle.dash_steps.specs.declared.step.ShardStep.{ShardStep}
 use Rattle.dash_steps.specs.declared.step.ShardStep.TheVariants.{Get, Contains, Insert, Remove, RemoveIf, RemoveIfMut, Alter, Read, Count, AlterAll, Retain, CountPart, ReadPart}
 use Rattle.dash_steps.specs.declared.step.Reply as program
-use Rattle.dash_steps.specs.declared.step.Record.{Record}
-use Rattle.dash_steps.specs.Steps.{reply_of, alike_step, alike_record}
+use Rattle.dash_history.specs.declared.record.Record.{Record}
+use Rattle.dash_steps.specs.Steps.{reply_of, alike_step}
+use Rattle.dash_history.specs.History.{alike_record, RecState, LogState, Recorded, shard_of, stamp_of}
 use Rattle.dash_steps.specs.Takes.{Kinds}
-use Rattle.dash_history.specs.History.{RecState, LogState, Recorded, shard_of, stamp_of}
 use Rattle.dash_history.specs.inner.Tells.{Tells}
 use Rattle.dash_history.specs.Map.{Logged}
 use Rattle.dash_steps.proofs.AlikeLaws.{chained, reply_equiv}

@@ -4,11 +4,10 @@ use Rattle.std.specs.List.{AllZip}
 use Rattle.std.proofs.lemmas.Bool.{and_parts, and_from}
 use Rattle.std.proofs.lemmas.Option.{slice_get-get_or, slice_get_within}
 use Rattle.std.specs.Cmp.Lexicographic.{pointwise}
-use Rattle.dash_history.specs.History.{LogRises}
+use Rattle.dash_history.specs.History.{LogRises, alike_record}
 use Rattle.dash_history.specs.Merge.{IsMerge, along, of_caller}
 use Rattle.dash_history.specs.OneHistory.{of_shard}
-use Rattle.dash_steps.specs.Steps.{alike_record}
-use Rattle.dash_steps.specs.declared.step.Record.{Record}
+use Rattle.dash_history.specs.declared.record.Record.{Record}
 use Rattle.dash_history.specs.declared.place.At.{At}
 use Rattle.dash_history.proofs.Alongs.{Before, never, Tidy, log-in_order, along-in_order, along-has, has-along, keeps-shard}
 use Rattle.dash_history.proofs.Ordered.{Has}

@@ -12,7 +12,7 @@ use Rattle.dash_history.specs.inner.Gathering.{EachRecorded, places, places_from
 use Rattle.dash_steps.specs.Takes.{Known}
 use Rattle.dash_history.specs.History.{RecState, Rises}
 use Rattle.dash_history.specs.Merge.{Earlier, Names, IsMerge, record_at}
-use Rattle.dash_steps.specs.declared.step.Record.{Record}
+use Rattle.dash_history.specs.declared.record.Record.{Record}
 use Rattle.dash_history.specs.declared.place.At.{At}
 use Rattle.dash_history.proofs.Ordered.{Has, has-contains, contains-has, has-either, has-front, has-back, InOrder, in_order-get, mapped-get}
 

@@ -8,7 +8,7 @@ use Rattle.dash_shard.specs.Steps.{Act, Read, Count}
 use Rattle.dash_shard.specs.Steps as table
 use Rattle.dash_shard.specs.Shard.{ShardState, IsShard, pairs}
 use Rattle.dash_steps.specs.declared.step.Reply as program
-use Rattle.dash_steps.specs.declared.step.Record.{Record}
+use Rattle.dash_history.specs.declared.record.Record.{Record}
 use Rattle.dash_steps.specs.declared.step.Whole.{Whole}
 use Rattle.dash_steps.specs.declared.step.Whole.TheVariants as whole
 use Rattle.dash_steps.specs.Alike.{alike_reply}

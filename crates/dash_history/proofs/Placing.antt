@@ -3,7 +3,7 @@ use Rattle.std.proofs.Common.{◌≡◌, ℕ, ◌+◌, ◌<◌, ◌≤◌, List,
 use Rattle.dash_history.specs.inner.Gathering.{places, places_from, place_of}
 use Rattle.dash_history.proofs.Lists.{drop-next}
 use Rattle.dash_history.specs.History.{RecState}
-use Rattle.dash_steps.specs.declared.step.Record.{Record}
+use Rattle.dash_history.specs.declared.record.Record.{Record}
 use Rattle.dash_history.specs.declared.place.At.{At}
 
 module _ {K V A : Type 0} where

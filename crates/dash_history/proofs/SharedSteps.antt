@@ -12,7 +12,7 @@ use Rattle.dash_shard.specs.Steps.{Act}
 use Rattle.dash_shard.specs.inner.Keys.{IsLawful}
 use Rattle.dash_shard.proofs.Rows.{each-more}
 use Rattle.dash_steps.specs.Takes.{Known}
-use Rattle.dash_steps.specs.declared.step.Record.{Record}
+use Rattle.dash_history.specs.declared.record.Record.{Record}
 use Rattle.dash_steps.specs.declared.step.Whole.{Whole}
 use Rattle.dash_steps.proofs.Copies.{ActAlike}
 use Rattle.dash_history.specs.History.{LogState, RecState, IsRecorded}

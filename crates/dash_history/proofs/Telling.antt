@@ -3,8 +3,8 @@ use Rattle.std.proofs.Common.{ℕ, Bool, sym, IsTrue, eqb-true, eq-eqb}
 use Rattle.std.proofs.lemmas.Bool.{and_parts, and_from}
 use Rattle.dash_steps.specs.declared.step.ShardStep.{ShardStep}
 use Rattle.dash_steps.specs.declared.step.Reply as program
-use Rattle.dash_steps.specs.declared.step.Record.{Record}
-use Rattle.dash_steps.specs.Steps.{alike_record}
+use Rattle.dash_history.specs.declared.record.Record.{Record}
+use Rattle.dash_history.specs.History.{alike_record}
 use Rattle.dash_history.specs.inner.Tells.{Tells}
 
 module _ {K V A : Type 0} {k : K → K → Bool} {v : V → V → Bool} {f : A → A → Bool} where

@@ -16,7 +16,7 @@ use Rattle.dash_steps.specs.Kept.{alike_pair}
 use Rattle.dash_steps.specs.Alike.{alike_reply}
 use Rattle.dash_steps.specs.Steps.{part, reply_of, step_of}
 use Rattle.dash_steps.specs.Takes.{Answers, Kinds, Known, Runs}
-use Rattle.dash_steps.specs.declared.step.Record.{Record}
+use Rattle.dash_history.specs.declared.record.Record.{Record}
 use Rattle.dash_steps.specs.declared.step.Whole.{Whole}
 use Rattle.dash_steps.specs.declared.step.Whole.TheVariants as whole
 use Rattle.dash_steps.proofs.Copies.{Lawful}

@@ -12,7 +12,7 @@ use Rattle.dash_history.specs.History.{RecState, IsHistory, Rises, done, shard_o
 use Rattle.dash_history.specs.Merge.{IsMerge, along}
 use Rattle.dash_history.specs.OneHistory.{IsOneHistory, of_shard, histories, rec_contents}
 use Rattle.dash_steps.specs.Takes.{Known, Kinds, Runs}
-use Rattle.dash_steps.specs.declared.step.Record.{Record}
+use Rattle.dash_history.specs.declared.record.Record.{Record}
 use Rattle.dash_history.specs.declared.place.At.{At}
 use Rattle.dash_history.proofs.Alones.{kinds-same}
 use Rattle.dash_history.proofs.Alongs.{Tidy, along-has, caller-along, keeps-shard}

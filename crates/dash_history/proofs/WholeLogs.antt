@@ -8,7 +8,7 @@ use Rattle.dash_steps.specs.Takes.{Known}
 use Rattle.dash_steps.specs.Steps.{alike_step, part, part_of}
 use Rattle.dash_steps.specs.declared.step.ShardStep.{ShardStep}
 use Rattle.dash_steps.specs.declared.step.ShardStep.TheVariants.{CountPart, ReadPart}
-use Rattle.dash_steps.specs.declared.step.Record.{Record}
+use Rattle.dash_history.specs.declared.record.Record.{Record}
 use Rattle.dash_steps.specs.declared.step.Whole.{Whole}
 use Rattle.dash_steps.specs.declared.step.Whole.TheVariants as whole
 use Rattle.dash_history.specs.History.{LogState, RecState, IsLog, FollowOn, LogRises, last_or}

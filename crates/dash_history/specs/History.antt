@@ -1,14 +1,19 @@
 -- The history of a shard and the log of a caller, and how both grow.
-use Rattle.std.specs.Prelude.{ℕ, ◌≡◌, ◌+◌, ◌<◌, ◌≤◌, ◌⊎◌, max, List, [], ◌∷◌, ◌++◌, map, All, ⊤, IsTrue}
+use Rattle.std.specs.Prelude.{ℕ, ◌≡◌, ◌==◌, ◌&&◌, ◌+◌, ◌<◌, ◌≤◌, ◌⊎◌, Bool, max, List, [], ◌∷◌, ◌++◌, map, All, ⊤, IsTrue}
 use Rattle.std.specs.List.{fold}
 use Rattle.dash_shard.specs.Steps as table
 use Rattle.dash_shard.specs.Steps.{line, line_shard}
 use Rattle.dash_shard.specs.Shard.{ShardState, IsShard, SameShard, pairs}
-use Rattle.dash_steps.specs.Steps.{step_of, reply_of, alike_record, part_of, IsPart}
+use Rattle.dash_steps.specs.Alike.{alike_reply}
+use Rattle.dash_steps.specs.Steps.{step_of, reply_of, part_of, alike_step, IsPart}
 use Rattle.dash_steps.specs.Takes.{Known, kinds_at, Kinds, Takes, Runs}
 use Rattle.dash_steps.specs.declared.step.ShardStep.{ShardStep}
 use Rattle.dash_steps.specs.declared.step.Reply.{Reply}
-use Rattle.dash_steps.specs.declared.step.Record.{Record}
+use Rattle.dash_history.specs.declared.record.Record.{Record}
+
+-- the two say alike things of one step
+abbrev pub alike_record : {K V A : Type 0} → (K → K → Bool) → (V → V → Bool) → (A → A → Bool) → Record K V A → Record K V A → Bool
+alike_record k v f r q = (r.stamp == q.stamp) && (r.caller == q.caller) && (r.shard == q.shard) && alike_step k v f r.step q.step && alike_reply k v (reply_of r.reply) (reply_of q.reply)
 
 -- the stamp of the last record, or the one given where there is none
 abbrev pub last_or : {K V A : Type 0} → ℕ → List (Record K V A) → ℕ

@@ -11,7 +11,7 @@ use Rattle.dash_history.specs.Held.{IsRecTagged}
 use Rattle.dash_history.specs.Refused.{Records, RefusesPart}
 use Rattle.dash_steps.specs.declared.step.ShardStep.{ShardStep}
 use Rattle.dash_steps.specs.declared.step.Reply.{Reply}
-use Rattle.dash_steps.specs.declared.step.Record.{Record}
+use Rattle.dash_history.specs.declared.record.Record.{Record}
 use Rattle.dash_history.specs.declared.record.RecordFault.{RecordFault}
 use Rattle.dash_history.specs.declared.record.RecordFault.TheVariants.{Locked, NoSuchShard}
 

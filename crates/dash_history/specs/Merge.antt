@@ -3,10 +3,9 @@ use Rattle.std.specs.Prelude.{ℕ, ◌≡◌, ◌<◌, ◌==◌, ◌⊎◌, ◌�
 use Rattle.std.specs.List.{Contains, filter_map}
 use Rattle.std.specs.Cmp.Lexicographic.{pointwise}
 use Rattle.dash_shard.specs.Shard.{EachAt}
-use Rattle.dash_steps.specs.Steps.{alike_record}
+use Rattle.dash_history.specs.History.{alike_record, LogState}
 use Rattle.dash_steps.specs.Takes.{Known}
-use Rattle.dash_steps.specs.declared.step.Record.{Record}
-use Rattle.dash_history.specs.History.{LogState}
+use Rattle.dash_history.specs.declared.record.Record.{Record}
 use Rattle.dash_history.specs.declared.place.At.{At}
 
 -- first by stamp, and among equal stamps by shard

@@ -12,7 +12,7 @@ use Rattle.dash_steps.specs.Takes.{Known, Runs}
 use Rattle.dash_history.specs.History.{LogState, done}
 use Rattle.dash_history.specs.Alone.{RecAloneState, kinds_in}
 use Rattle.dash_history.specs.Merge.{AreCallers, IsMerge, Same, along, of_caller}
-use Rattle.dash_steps.specs.declared.step.Record.{Record}
+use Rattle.dash_history.specs.declared.record.Record.{Record}
 use Rattle.dash_history.specs.declared.place.At.{At}
 use Rattle.dash_history.specs.declared.gather.GatherError.{GatherError}
 use Rattle.dash_history.specs.declared.gather.GatherError.TheVariants.{Mismatch}

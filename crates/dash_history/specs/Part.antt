@@ -5,7 +5,7 @@ use Rattle.dash_shard.specs.Shard.{pairs}
 use Rattle.dash_steps.specs.Alike.{alike_reply}
 use Rattle.dash_steps.specs.Steps.{reply_of, part}
 use Rattle.dash_steps.specs.Takes.{Known}
-use Rattle.dash_steps.specs.declared.step.Record.{Record}
+use Rattle.dash_history.specs.declared.record.Record.{Record}
 use Rattle.dash_steps.specs.declared.step.Whole.{Whole}
 use Rattle.dash_history.specs.History.{RecState}
 use Rattle.dash_history.specs.Joined.{part_reply}

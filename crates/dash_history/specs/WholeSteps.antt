@@ -2,13 +2,12 @@
 use Rattle.std.specs.Prelude.{ℕ, ◌≡◌, ◌+◌, ◌-◌, ◌^◌, min, List, ◌++◌, length, Some, slice_get, IsTrue}
 use Rattle.dash_shard.specs.Shard.{EachAt}
 use Rattle.dash_steps.specs.Kept.{CopiesEach}
-use Rattle.dash_steps.specs.Steps.{alike_record}
+use Rattle.dash_history.specs.History.{alike_record, LogState, RecState}
 use Rattle.dash_steps.specs.Takes.{Known}
-use Rattle.dash_steps.specs.declared.step.Record.{Record}
+use Rattle.dash_history.specs.declared.record.Record.{Record}
 use Rattle.dash_steps.specs.declared.step.Whole.{Whole}
 use Rattle.dash_steps.specs.declared.step.Whole.TheVariants as whole
 use Rattle.dash_history.specs.Alone.{RecAloneState}
-use Rattle.dash_history.specs.History.{LogState, RecState}
 use Rattle.dash_history.specs.Joined.{joined_number, joined_pairs}
 use Rattle.dash_history.specs.Part.{TellsPart, and_record, greatest}
 use Rattle.dash_history.specs.OneHistory.{CopiesRecPairs, rec_contents}

@@ -6,8 +6,9 @@ ghost use Rattle.dash_history.specs.Joined.{joined_number, joined_pairs, number_
 ghost use Rattle.dash_steps.specs.Steps.{reply_of};
 ghost use Rattle.dash_steps.specs.inner.Sweep.{AddsAlike};
 
+use crate::record::Record;
 use dash_steps::kept::Kept;
-use dash_steps::step::{Record, Reply};
+use dash_steps::step::Reply;
 use std::alloc::{AllocError, Global};
 
 // The number that the record of a part of a count replies.

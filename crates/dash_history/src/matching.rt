@@ -1,17 +1,16 @@
 //! Whether the logs of callers match the histories. For the crates here alone.
 ghost use Rattle.std.specs.Prelude.{◌≡◌, ◌+◌, ◌^◌, ◌<◌, ◌↔◌, ◌⊎◌, IfOk, IsTrue, MatchOption, Some, length, map};
 ghost use Rattle.std.specs.List.{Contains};
-ghost use Rattle.dash_steps.specs.Steps.{alike_record};
+ghost use Rattle.dash_history.specs.History.{alike_record};
 ghost use Rattle.dash_history.specs.inner.Gathering.{agrees, AllEnded, EachLog, Finds, KeepsCallers, SomeGoesOn};
 ghost use Rattle.dash_history.specs.Merge.{AreCallers, IsMerge, Names, record_at};
 ghost use Rattle.dash_history.specs.declared.place.At.{At};
 
 use crate::known::Recorded;
 use crate::place::At;
-use crate::record::{CallerLog, RecShard};
+use crate::record::{CallerLog, RecShard, Record};
 use dash_steps::action::KeptAction;
 use dash_steps::kept::{Kept, KeptKey};
-use dash_steps::step::Record;
 use std::alloc::{AllocError, Global};
 use std::hash::BuildHasher;
 

@@ -5,10 +5,9 @@ ghost use Rattle.dash_history.specs.Merge.{IsMerge};
 
 use crate::known::Recorded;
 use crate::place::At;
-use crate::record::RecShard;
+use crate::record::{RecShard, Record};
 use dash_steps::action::KeptAction;
 use dash_steps::kept::{Kept, KeptKey};
-use dash_steps::step::Record;
 use std::alloc::{AllocError, Global};
 use std::hash::BuildHasher;
 

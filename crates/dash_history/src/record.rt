@@ -2,7 +2,7 @@
 ghost use Rattle.std.specs.Prelude.{◌≡◌, ◌<◌, [], IsTrue, IfOk, IfErr, vec_len, vec_capacity, max};
 ghost use Rattle.dash_shard.specs.Hashing.{IsAmount};
 ghost use Rattle.dash_shard.specs.Shard.{SameShard};
-ghost use Rattle.dash_steps.specs.Steps.{alike_record, IsPart};
+ghost use Rattle.dash_steps.specs.Steps.{IsPart};
 ghost use Rattle.dash_steps.specs.Takes.{known};
 ghost use Rattle.dash_history.specs.History.{IsFresh, IsLog, IsRecorded, GoesTo, last_or};
 ghost use Rattle.dash_history.specs.inner.Tells.{Tells};
@@ -14,7 +14,7 @@ use crate::known::Recorded;
 use dash_shard::shard::Shard;
 use dash_steps::action::KeptAction;
 use dash_steps::kept::{Kept, KeptKey};
-use dash_steps::step::{Record, Reply, ShardStep};
+use dash_steps::step::{Reply, ShardStep};
 use plan::{carry_out, find, prepare};
 use std::alloc::{AllocError, Global};
 use std::hash::BuildHasher;
@@ -45,6 +45,46 @@ pub enum RecordFault {
     /// The step is a part of a whole step, which no call takes by itself.
     #[error("part (24)")]
     Part,
+}
+
+/// A recorded step. It is kept once in its shard's history and once in its caller's log.
+#[derive(Debug, Drop)]
+pub struct Record<K, V, A = ()> {
+    pub stamp: u64,
+    pub caller: u32,
+    pub shard: usize,
+    pub step: ShardStep<K, V, A>,
+    pub reply: Reply<K, V>,
+}
+
+impl<K: Kept + Drop, V: Kept + Drop, A: Kept> Record<K, V, A> {
+    ghost use Rattle.dash_history.specs.History.{alike_record};
+
+    /// A copy of the record, alike it.
+    pub fn copy(&self) -> Result<Record<K, V, A>, AllocError>
+    where
+        A: Drop,
+        ensures { IfOk result (λ copy. IsTrue (alike_record K.alike V.alike A.alike self.now copy)) }
+    {
+        Ok(Record {
+            stamp: self.stamp,
+            caller: self.caller,
+            shard: self.shard,
+            step: self.step.copy()?,
+            reply: self.reply.copy()?,
+        })
+    }
+
+    /// Whether the two are alike.
+    pub fn same(&self, other: &Self) -> bool
+        ensures { result ≡ alike_record K.alike V.alike A.alike self.now other.now }
+    {
+        self.stamp == other.stamp
+            && self.caller == other.caller
+            && self.shard == other.shard
+            && self.step.same(&other.step)
+            && self.reply.same(&other.reply)
+    }
 }
 
 /// What one caller did, in its order.

@@ -20,7 +20,7 @@ use Rattle.dash_steps.specs.Takes.{Answers, Takes, Runs}
 use Rattle.dash_steps.specs.declared.step.ShardStep.{ShardStep}
 use Rattle.dash_steps.specs.declared.step.ShardStep.TheVariants.{Get, Insert, Remove}
 use Rattle.dash_steps.specs.declared.step.Reply.TheVariants.{Pair, Old}
-use Rattle.dash_steps.specs.declared.step.Record.{Record}
+use Rattle.dash_history.specs.declared.record.Record.{Record}
 use Rattle.dash_history.specs.declared.place.At.{At}
 use Rattle.dash_history.specs.Merge.{along, record_at}
 use Rattle.dash_script.specs.Replay.{IsThreadStep, IsReplay, plain}

@@ -5,7 +5,7 @@ use Rattle.dash_steps.specs.Takes.{Rules, rules, Runs}
 use Rattle.dash_history.specs.History.{done}
 use Rattle.dash_steps.specs.declared.step.ShardStep.{ShardStep}
 use Rattle.dash_steps.specs.declared.step.ShardStep.TheVariants.{Get, Insert, Remove}
-use Rattle.dash_steps.specs.declared.step.Record.{Record}
+use Rattle.dash_history.specs.declared.record.Record.{Record}
 
 -- a thread looks up, puts and takes out, and nothing else
 abbrev pub IsThreadStep : ShardStep ℕ ℕ (Unit {0}) → Type 0

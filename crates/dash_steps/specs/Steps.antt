@@ -1,14 +1,12 @@
--- The program's steps, replies and records, in the words of the step table.
+-- The program's steps and replies, in the words of the step table.
 use Rattle.std.specs.Prelude.{ℕ, ◌==◌, ◌&&◌, Bool, false, Option, Some, None, IsSome}
 use Rattle.dash_shard.specs.Steps as table
-use Rattle.dash_steps.specs.Alike.{alike_reply}
 use Rattle.dash_steps.specs.declared.step.ShardStep.{ShardStep}
 use Rattle.dash_steps.specs.declared.step.ShardStep.TheVariants.{Get, Contains, Insert, Remove, RemoveIf, RemoveIfMut, Alter, Read, Count, AlterAll, Retain, CountPart, ReadPart}
 use Rattle.dash_steps.specs.declared.step.Whole.{Whole}
 use Rattle.dash_steps.specs.declared.step.Whole.TheVariants as whole
 use Rattle.dash_steps.specs.declared.step.Reply.{Reply}
 use Rattle.dash_steps.specs.declared.step.Reply.TheVariants.{Pair, Found, Old, Pairs, Number, Done}
-use Rattle.dash_steps.specs.declared.step.Record.{Record}
 
 -- the reply that the table speaks of
 abbrev pub reply_of : {K V : Type 0} → Reply K V → table.Reply K V
@@ -65,6 +63,3 @@ alike_step k v f (Retain i a) (Retain j b) = (i == j) && f a b
 alike_step k v f (CountPart i) (CountPart j) = i == j
 alike_step k v f (ReadPart i) (ReadPart j) = i == j
 alike_step k v f _ _ = false
-
-abbrev pub alike_record : {K V A : Type 0} → (K → K → Bool) → (V → V → Bool) → (A → A → Bool) → Record K V A → Record K V A → Bool
-alike_record k v f r q = (r.stamp == q.stamp) && (r.caller == q.caller) && (r.shard == q.shard) && alike_step k v f r.step q.step && alike_reply k v (reply_of r.reply) (reply_of q.reply)

@@ -80,16 +80,6 @@ pub enum Reply<K, V> {
     Done,
 }
 
-/// A recorded step. It is kept once in its shard's history and once in its caller's log.
-#[derive(Debug, Drop)]
-pub struct Record<K, V, A = ()> {
-    pub stamp: u64,
-    pub caller: u32,
-    pub shard: usize,
-    pub step: ShardStep<K, V, A>,
-    pub reply: Reply<K, V>,
-}
-
 impl<K, V: Kept, A> ShardStep<K, V, A> {
     ghost use Rattle.dash_shard.specs.Contents.{keys};
     ghost use Rattle.dash_shard.specs.Hashing.{IsAmount, route_by};
@@ -301,35 +291,5 @@ impl<K: Kept + Drop, V: Kept + Drop> Reply<K, V> {
             (Reply::Done, Reply::Done) => true,
             _ => false,
         }
-    }
-}
-
-impl<K: Kept + Drop, V: Kept + Drop, A: Kept> Record<K, V, A> {
-    ghost use Rattle.dash_steps.specs.Steps.{alike_record};
-
-    /// A copy of the record, alike it.
-    pub fn copy(&self) -> Result<Record<K, V, A>, AllocError>
-    where
-        A: Drop,
-        ensures { IfOk result (λ copy. IsTrue (alike_record K.alike V.alike A.alike self.now copy)) }
-    {
-        Ok(Record {
-            stamp: self.stamp,
-            caller: self.caller,
-            shard: self.shard,
-            step: self.step.copy()?,
-            reply: self.reply.copy()?,
-        })
-    }
-
-    /// Whether the two are alike.
-    pub fn same(&self, other: &Self) -> bool
-        ensures { result ≡ alike_record K.alike V.alike A.alike self.now other.now }
-    {
-        self.stamp == other.stamp
-            && self.caller == other.caller
-            && self.shard == other.shard
-            && self.step.same(&other.step)
-            && self.reply.same(&other.reply)
     }
 }

@@ -5,7 +5,7 @@ use Rattle.dash_shard.specs.Shard.{EachAt}
 use Rattle.dash_steps.specs.Takes.{Known}
 use Rattle.dash_history.specs.History.{LogState, RecState, IsLog, IsRecorded}
 use Rattle.dash_history.specs.Merge.{along, of_caller, Same}
-use Rattle.dash_steps.specs.declared.step.Record.{Record}
+use Rattle.dash_history.specs.declared.record.Record.{Record}
 use Rattle.dash_history.specs.declared.place.At.{At}
 
 module _ {K V A : Type 0} where

@@ -1,11 +1,10 @@
 -- The records of a whole step, and how they are added to the shards of a row and to a log.
 use Rattle.std.specs.Prelude.{ℕ, ◌≡◌, ◌+◌, ◌<◌, ◌≤◌, List, length, Some, slice_get, IsTrue}
 use Rattle.dash_shard.specs.Shard.{EachAt}
-use Rattle.dash_steps.specs.Steps.{alike_record}
+use Rattle.dash_history.specs.History.{alike_record, LogState, RecState, IsRecorded}
 use Rattle.dash_steps.specs.Takes.{Known}
-use Rattle.dash_steps.specs.declared.step.Record.{Record}
+use Rattle.dash_history.specs.declared.record.Record.{Record}
 use Rattle.dash_steps.specs.declared.step.Whole.{Whole}
-use Rattle.dash_history.specs.History.{LogState, RecState, IsRecorded}
 use Rattle.dash_history.specs.Part.{and_record, greatest, TellsPart}
 
 module _ {K V A S : Type 0} (w : Known K V A S) where

@@ -16,12 +16,12 @@ ghost use Rattle.dash_steps.specs.Takes.{known};
 
 pub use super::tag::RecTag;
 use super::whole::{self, Member, Parts};
-use super::{CallerLog, RecShard, RecordFault};
+use super::{CallerLog, RecShard, Record, RecordFault};
 use crate::known::Recorded;
 use dash_shard::lock::RwLockWriteGuard;
 use dash_steps::action::KeptAction;
 use dash_steps::kept::{Kept, KeptKey};
-use dash_steps::step::{Record, Reply, ShardStep, Whole};
+use dash_steps::step::{Reply, ShardStep, Whole};
 use std::alloc::{AllocError, Global};
 use std::hash::BuildHasher;
 use std::marker::Model;

@@ -5,7 +5,7 @@ use Rattle.dash_shard.specs.inner.Steps.{Replies, after}
 use Rattle.dash_shard.specs.Steps as table
 use Rattle.dash_steps.specs.Steps.{step_of, reply_of}
 use Rattle.dash_steps.specs.declared.step.ShardStep.{ShardStep}
-use Rattle.dash_steps.specs.declared.step.Record.{Record}
+use Rattle.dash_history.specs.declared.record.Record.{Record}
 use Rattle.dash_script.specs.Replay.{IsThreadStep, plain}
 
 -- the step that the table speaks of

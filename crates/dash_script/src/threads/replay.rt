@@ -11,8 +11,9 @@ ghost use Rattle.dash_script.specs.inner.Replay.{Fits, Makes};
 
 use dash_history::alone::RecAlone;
 use dash_history::gather::At;
+use dash_history::record::Record;
 use dash_shard::hash::PlaceState;
-use dash_steps::step::{Record, Reply, ShardStep};
+use dash_steps::step::{Reply, ShardStep};
 use std::alloc::{AllocError, Global};
 use std::collections::HashMap;
 

@@ -1,7 +1,7 @@
 use Rattle.std.proofs.Common.{rules, refl, false, ◌≡◌, length, map, get_or, ap, sym, ◌∙◌, arith, ⊎_elim}
 use Rattle.std.proofs.lemmas.Bool.{both_ways}
 use Rattle.std.specs.Prelude.{IsTrue}
-use Rattle.dash_steps.specs.Steps.{alike_record}
+use Rattle.dash_history.specs.History.{alike_record}
 use Rattle.dash_history.proofs.Following.{followed-none, followed-all, left-over, turn, turn-log, turn-differs, turn-followed}
 use Rattle.dash_history.proofs.matching.follows.Goals as goal
 

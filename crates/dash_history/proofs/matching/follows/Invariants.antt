@@ -1,5 +1,5 @@
 use Rattle.std.proofs.Common.{map}
-use Rattle.dash_steps.specs.Steps.{alike_record}
+use Rattle.dash_history.specs.History.{alike_record}
 use Rattle.dash_history.proofs.Following.{Followed}
 use Rattle.dash_history.proofs.matching.follows.Given as goal
 

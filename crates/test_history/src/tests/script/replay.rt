@@ -1,7 +1,8 @@
 //! What a replay says of true and of false replies, and of other pairs.
 use crate::tests::checks::is;
+use dash_history::record::Record;
 use dash_script::threads::replay::{has_just, takes};
-use dash_steps::step::{Record, Reply, ShardStep};
+use dash_steps::step::{Reply, ShardStep};
 use std::alloc::{AllocError, Global};
 use std::collections::HashMap;
 

@@ -1,7 +1,7 @@
 use Rattle.std.proofs.Common.{List, ◌≡◌, ◌<◌, ◌++◌, ◌∷◌, [], ap, subst, sym, ◌∙◌, refl}
 use Rattle.dash_history.specs.History.{IsRecorded, RecState, shard_of}
 use Rattle.dash_history.specs.inner.Tells.{Tells}
-use Rattle.dash_steps.specs.declared.step.Record.{Record}
+use Rattle.dash_history.specs.declared.record.Record.{Record}
 use Rattle.dash_steps.specs.inner.Kinds.{kinds_of}
 use Rattle.dash_history.proofs.Recording.{taken, recorded}
 use Rattle.dash_history.proofs.Telling.{told}

@@ -1,7 +1,7 @@
 use Rattle.std.proofs.Common.{ℕ, List, ◌≡◌, ◌+◌, ◌++◌, ◌∷◌, [], ap, subst, sym, ◌∙◌, arith, max}
 use Rattle.dash_history.specs.History.{LogState, RecState, stamp_of}
 use Rattle.dash_history.specs.inner.Grows.{Grown}
-use Rattle.dash_steps.specs.declared.step.Record.{Record}
+use Rattle.dash_history.specs.declared.record.Record.{Record}
 use Rattle.dash_steps.specs.inner.Kinds.{kinds_of}
 use Rattle.dash_history.proofs.Growing.{log-more}
 use Rattle.dash_history.proofs.Recording.{same-stamp, same-caller}

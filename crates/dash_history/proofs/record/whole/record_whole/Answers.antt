@@ -1,6 +1,6 @@
 use Rattle.std.proofs.Common.{◌++◌, List, refl, ap, sym, subst, ◌∙◌}
 use Rattle.dash_steps.specs.Takes.{known_by}
-use Rattle.dash_steps.specs.declared.step.Record.{Record}
+use Rattle.dash_history.specs.declared.record.Record.{Record}
 use Rattle.dash_history.specs.History.{LogState}
 use Rattle.dash_history.specs.inner.Parts.{Planned}
 use Rattle.dash_history.proofs.WholeLogs.{each-next, each-logged, above-log, log-whole}

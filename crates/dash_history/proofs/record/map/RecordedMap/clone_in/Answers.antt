@@ -4,7 +4,7 @@ use Rattle.dash_steps.specs.Kept.{alike_pair}
 use Rattle.dash_history.specs.Joined.{joined_pairs}
 use Rattle.dash_history.specs.declared.record.RecordFault.TheVariants.{LastStamp}
 use Rattle.dash_steps.specs.Takes.{known_by}
-use Rattle.dash_steps.specs.declared.step.Record.{Record}
+use Rattle.dash_history.specs.declared.record.Record.{Record}
 use Rattle.dash_steps.specs.declared.step.Whole.TheVariants as whole
 use Rattle.dash_history.specs.inner.Locks.{of_holds}
 use Rattle.dash_history.proofs.Joining.{copies-joined}
