@@ -17,9 +17,9 @@ use Rattle.dash_steps.specs.declared.step.ShardStep.{ShardStep}
 use Rattle.dash_steps.specs.declared.step.Reply as program
 use Rattle.dash_steps.specs.Steps.{step_of}
 use Rattle.dash_steps.specs.inner.Hashed.{OfKey, IsHashBy, HasHash}
-use Rattle.dash_steps.specs.Takes.{Kinds, Known, kinds_at, rules}
+use Rattle.dash_steps.specs.Takes.{Kinds, Known, kinds_at, rules, shard_of}
 use Rattle.dash_steps.specs.inner.Kinds.{kinds, kinds_of}
-use Rattle.dash_history.specs.History.{RecState, LogState, IsRecorded, Recorded, last_or, shard_of}
+use Rattle.dash_history.specs.History.{RecState, LogState, IsRecorded, Recorded, last_or}
 use Rattle.dash_history.specs.OneHistory.{histories}
 use Rattle.dash_history.specs.Merge.{record_at}
 use Rattle.dash_history.specs.Alone.{RecAloneState, IsRecAlone, Applied, last_at, kinds_in}

@@ -3,8 +3,8 @@ use Rattle.std.proofs.Common.{◌≡◌, ℕ, ◌<◌, List, [], ◌∷◌, ◌+
 use Rattle.std.proofs.lemmas.List.Elements.{All-append, All-cons, All-nil}
 use Rattle.std.proofs.lemmas.List.{map-append}
 use Rattle.dash_history.specs.declared.record.Record.{Record}
-use Rattle.dash_steps.specs.Takes.{Kinds, Takes, Runs}
-use Rattle.dash_history.specs.History.{last_or, Rises, FollowOn, LogRises, done, shard_of, IsHistory, LogState, IsLog}
+use Rattle.dash_steps.specs.Takes.{Kinds, Takes, Runs, shard_of}
+use Rattle.dash_history.specs.History.{last_or, Rises, FollowOn, LogRises, done, IsHistory, LogState, IsLog}
 use Rattle.dash_steps.proofs.Copies.{runs-more}
 
 module _ {K V A : Type 0} where

@@ -7,8 +7,8 @@ use Rattle.dash_steps.specs.declared.step.ShardStep.TheVariants.{Get, Contains, 
 use Rattle.dash_steps.specs.declared.step.Reply as program
 use Rattle.dash_history.specs.declared.record.Record.{Record}
 use Rattle.dash_steps.specs.Steps.{reply_of, alike_step}
-use Rattle.dash_history.specs.History.{alike_record, RecState, LogState, Recorded, shard_of, stamp_of}
-use Rattle.dash_steps.specs.Takes.{Kinds}
+use Rattle.dash_history.specs.History.{alike_record, RecState, LogState, Recorded, stamp_of}
+use Rattle.dash_steps.specs.Takes.{shard_of, Kinds}
 use Rattle.dash_history.specs.inner.Tells.{Tells}
 use Rattle.dash_history.specs.Map.{Logged}
 use Rattle.dash_steps.proofs.AlikeLaws.{chained, reply_equiv}

@@ -11,12 +11,12 @@ use Rattle.dash_shard.specs.Made.{Made}
 use Rattle.dash_shard.specs.inner.Rows.{Moved}
 use Rattle.dash_shard.proofs.Rows.{moved-length, moved-from, moved-to}
 use Rattle.dash_history.specs.declared.record.tag.RecTag.{RecTag}
-use Rattle.dash_history.specs.History.{RecState, LogState, Recorded, IsRecorded, shard_of}
+use Rattle.dash_history.specs.History.{RecState, LogState, Recorded, IsRecorded}
+use Rattle.dash_steps.specs.Takes.{shard_of, Known}
 use Rattle.dash_history.specs.Alone.{RecAloneState, EachRecShard, IsRecAlone}
 use Rattle.dash_history.specs.Held.{IsRecTagged, FitsRecTag}
 use Rattle.dash_history.specs.Map.{IsRecFound, RecMapShape, RecMapState, RelocksRecShards, Logs, kinds_on, locked, made_for, rec_map, shape}
 use Rattle.dash_history.specs.Refused.{Records}
-use Rattle.dash_steps.specs.Takes.{Known}
 use Rattle.dash_steps.specs.inner.Kinds.{kinds_of}
 use Rattle.dash_steps.specs.declared.step.ShardStep.{ShardStep}
 use Rattle.dash_steps.specs.declared.step.Reply.{Reply}

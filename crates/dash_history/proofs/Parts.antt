@@ -13,13 +13,13 @@ use Rattle.dash_steps.specs.declared.step.Whole.{Whole}
 use Rattle.dash_steps.specs.declared.step.Whole.TheVariants as whole
 use Rattle.dash_steps.specs.Alike.{alike_reply}
 use Rattle.dash_steps.specs.Steps.{step_of, reply_of, alike_step, part}
-use Rattle.dash_steps.specs.Takes.{Known, Takes}
+use Rattle.dash_steps.specs.Takes.{Known, Takes, shard_of}
 use Rattle.dash_steps.specs.inner.Kinds.{kinds_of}
 use Rattle.dash_steps.proofs.AlikeLaws.{reply_equiv}
 use Rattle.dash_steps.proofs.Copies.{ActAlike}
 use Rattle.dash_steps.proofs.Preparing.{answers-all}
 use Rattle.dash_steps.proofs.Taking.{reads, counts}
-use Rattle.dash_history.specs.History.{RecState, IsRecorded, last_or, shard_of}
+use Rattle.dash_history.specs.History.{RecState, IsRecorded, last_or}
 use Rattle.dash_history.specs.Joined.{part_reply}
 use Rattle.dash_history.specs.inner.Parts.{IsNext, HasOneMore}
 use Rattle.dash_history.proofs.Recording.{recorded}

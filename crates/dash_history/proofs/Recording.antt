@@ -10,8 +10,8 @@ use Rattle.dash_steps.specs.declared.step.ShardStep.{ShardStep}
 use Rattle.dash_steps.specs.declared.step.Reply as program
 use Rattle.dash_history.specs.declared.record.Record.{Record}
 use Rattle.dash_steps.specs.Steps.{step_of, reply_of}
-use Rattle.dash_history.specs.History.{alike_record, RecState, IsRecorded, last_or, shard_of}
-use Rattle.dash_steps.specs.Takes.{Known, Answers, Takes}
+use Rattle.dash_history.specs.History.{alike_record, RecState, IsRecorded, last_or}
+use Rattle.dash_steps.specs.Takes.{shard_of, Known, Answers, Takes}
 use Rattle.dash_history.specs.inner.Tells.{Tells}
 use Rattle.dash_steps.specs.inner.Kinds.{kinds_of}
 use Rattle.dash_steps.specs.inner.Plan.{Leaves}

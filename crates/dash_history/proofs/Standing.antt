@@ -4,11 +4,11 @@ use Rattle.std.proofs.lemmas.Bool.{and_parts, cases_eq, cases_lt}
 use Rattle.std.proofs.lemmas.List.{length-map}
 use Rattle.std.proofs.lemmas.Option.{slice_get-get_or, slice_get_within, same_Some}
 use Rattle.dash_steps.specs.Steps.{alike_step, part, part_of}
-use Rattle.dash_history.specs.History.{alike_record, LogState, RecState, shard_of}
+use Rattle.dash_history.specs.History.{alike_record, LogState, RecState}
+use Rattle.dash_steps.specs.Takes.{shard_of, Known, kinds_at}
 use Rattle.dash_steps.specs.declared.step.ShardStep.{ShardStep}
 use Rattle.dash_steps.specs.declared.step.ShardStep.TheVariants.{CountPart, ReadPart}
 use Rattle.dash_steps.specs.declared.step.Whole.TheVariants as whole
-use Rattle.dash_steps.specs.Takes.{Known, kinds_at}
 use Rattle.dash_history.specs.declared.record.Record.{Record}
 use Rattle.dash_steps.specs.declared.step.Whole.{Whole}
 use Rattle.dash_steps.proofs.Copies.{Lawful}

@@ -15,14 +15,14 @@ use Rattle.dash_shard.specs.inner.Steps.{step_shard}
 use Rattle.dash_steps.specs.Kept.{alike_pair}
 use Rattle.dash_steps.specs.Alike.{alike_reply}
 use Rattle.dash_steps.specs.Steps.{part, reply_of, step_of}
-use Rattle.dash_steps.specs.Takes.{Answers, Kinds, Known, Runs}
+use Rattle.dash_steps.specs.Takes.{Answers, Kinds, Known, Runs, shard_of}
 use Rattle.dash_history.specs.declared.record.Record.{Record}
 use Rattle.dash_steps.specs.declared.step.Whole.{Whole}
 use Rattle.dash_steps.specs.declared.step.Whole.TheVariants as whole
 use Rattle.dash_steps.proofs.Copies.{Lawful}
 use Rattle.dash_steps.proofs.Frames.{Spread, runs-union}
 use Rattle.dash_history.specs.Alone.{RecAloneState, IsRecAlone, kinds_in}
-use Rattle.dash_history.specs.History.{RecState, done, shard_of}
+use Rattle.dash_history.specs.History.{RecState, done}
 use Rattle.dash_history.specs.Merge.{IsMerge, along}
 use Rattle.dash_history.specs.OneHistory.{Joined, histories, of_shard, rec_contents}
 use Rattle.dash_history.specs.Joined.{joined_number, joined_pairs, number_in, pairs_in}

@@ -8,10 +8,10 @@ use Rattle.dash_shard.specs.Contents.{IsOnShard}
 use Rattle.dash_shard.specs.inner.Steps.{step_shard}
 use Rattle.dash_shard.specs.Shard.{pairs}
 use Rattle.dash_history.specs.Alone.{RecAloneState, IsRecAlone, kinds_in}
-use Rattle.dash_history.specs.History.{RecState, IsHistory, Rises, done, shard_of}
+use Rattle.dash_history.specs.History.{RecState, IsHistory, Rises, done}
+use Rattle.dash_steps.specs.Takes.{shard_of, Known, Kinds, Runs}
 use Rattle.dash_history.specs.Merge.{IsMerge, along}
 use Rattle.dash_history.specs.OneHistory.{IsOneHistory, of_shard, histories, rec_contents}
-use Rattle.dash_steps.specs.Takes.{Known, Kinds, Runs}
 use Rattle.dash_history.specs.declared.record.Record.{Record}
 use Rattle.dash_history.specs.declared.place.At.{At}
 use Rattle.dash_history.proofs.Alones.{kinds-same}

@@ -3,9 +3,9 @@ use Rattle.std.specs.Prelude.{ℕ, zero, suc, ◌≡◌, ◌<◌, ◌≤◌, Lis
 use Rattle.std.specs.Option.{option_map_or}
 use Rattle.dash_shard.specs.Hashing.{IsAmount}
 use Rattle.dash_shard.specs.Shard.{EachAt}
-use Rattle.dash_steps.specs.Takes.{Known, kinds_at, Kinds}
+use Rattle.dash_steps.specs.Takes.{Known, kinds_at, Kinds, shard_of}
 use Rattle.dash_steps.specs.Steps.{IsPart}
-use Rattle.dash_history.specs.History.{LogState, RecState, IsRecorded, Recorded, last_or, shard_of}
+use Rattle.dash_history.specs.History.{LogState, RecState, IsRecorded, Recorded, last_or}
 use Rattle.dash_history.specs.Held.{IsRecTagged}
 use Rattle.dash_history.specs.Refused.{NoStamp}
 use Rattle.dash_steps.specs.declared.step.ShardStep.{ShardStep}

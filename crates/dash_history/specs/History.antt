@@ -6,7 +6,7 @@ use Rattle.dash_shard.specs.Steps.{line, line_shard}
 use Rattle.dash_shard.specs.Shard.{ShardState, IsShard, SameShard, pairs}
 use Rattle.dash_steps.specs.Alike.{alike_reply}
 use Rattle.dash_steps.specs.Steps.{step_of, reply_of, part_of, alike_step, IsPart}
-use Rattle.dash_steps.specs.Takes.{Known, kinds_at, Kinds, Takes, Runs}
+use Rattle.dash_steps.specs.Takes.{Known, kinds_at, shard_of, Kinds, Takes, Runs}
 use Rattle.dash_steps.specs.declared.step.ShardStep.{ShardStep}
 use Rattle.dash_steps.specs.declared.step.Reply.{Reply}
 use Rattle.dash_history.specs.declared.record.Record.{Record}
@@ -46,10 +46,6 @@ module _ {K V A : Type 0} (m : Kinds K V A) where
   -- the one record is a copy of the other: they are alike in stamp, caller, shard, step and reply
   abbrev pub IsCopy : Record K V A → Record K V A → Type 0
   IsCopy r q = IsTrue (alike_record m.rules.alike_key m.rules.alike_value m.alike_action r q)
-
-  -- the number of a step's shard
-  abbrev pub shard_of : ShardStep K V A → ℕ
-  shard_of step = line_shard m.rules.keys (line (step_of m.acts step))
 
   -- the map has no such shard
   abbrev pub NoShard : ShardStep K V A → Type 0
@@ -100,10 +96,6 @@ pub record Recorded {K V A S : Type 0} (m : Kinds K V A) (s s' : RecState K V A 
   pub logged : Record K V A
   pub same : IsCopy m kept logged
   pub log : l' ≡ record l { last = stamp_of s l; entries = l.entries ++ logged ∷ [] }
-
--- the step goes to the shard
-abbrev pub GoesTo : {K V A S : Type 0} → Known K V A S → ShardState K V S → ShardStep K V A → Type 0
-GoesTo w s step = shard_of (kinds_at w s.hasher s.amount) step ≡ s.number
 
 -- a recorded shard: its history led to its pairs
 pub record IsRecorded {K V A S : Type 0} (w : Known K V A S) (s : RecState K V A S) : Type 0 where

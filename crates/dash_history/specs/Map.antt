@@ -4,8 +4,8 @@ use Rattle.dash_shard.specs.Hashing.{KeyHash}
 use Rattle.dash_shard.specs.Lock.{FoundBehind, LeftBehind, EndedWith}
 use Rattle.dash_shard.specs.Shard.{EachAt}
 use Rattle.dash_steps.specs.Steps.{step_of, reply_of, IsPart}
-use Rattle.dash_steps.specs.Takes.{Known, kinds_at, Kinds, Answers}
-use Rattle.dash_history.specs.History.{RecState, LogState, IsCopy, IsRecorded, NoShard, shard_of}
+use Rattle.dash_steps.specs.Takes.{Known, kinds_at, Kinds, Answers, shard_of}
+use Rattle.dash_history.specs.History.{RecState, LogState, IsCopy, IsRecorded, NoShard}
 use Rattle.dash_history.specs.Alone.{RecAloneState, IsRecAlone, EachRecShard}
 use Rattle.dash_history.specs.Held.{IsRecTagged}
 use Rattle.dash_history.specs.Refused.{Records, RefusesPart}

@@ -3,7 +3,8 @@ ghost use Rattle.std.specs.Prelude.{◌∷◌, [], ◌≡◌, ◌+◌, ◌<◌, 
 ghost use Rattle.dash_shard.specs.Errors.{IsOneOf};
 ghost use Rattle.dash_shard.specs.declared.error.ConstructError.TheVariants.{Callers, Memory, ShardAmount};
 ghost use Rattle.dash_shard.specs.Hashing.{IsAmount, HashAlike};
-ghost use Rattle.dash_history.specs.History.{LogState, NoShard, shard_of, IsFresh};
+ghost use Rattle.dash_history.specs.History.{LogState, NoShard, IsFresh};
+ghost use Rattle.dash_steps.specs.Takes.{shard_of, Known, known};
 ghost use Rattle.dash_history.specs.Alone.{RecAloneState, IsCallers, IsRecAlone, Applied, NoStampIn, fresh_logs, kinds_in, last_at};
 ghost use Rattle.dash_history.specs.inner.Fresh.{FreshRow};
 ghost use Rattle.dash_shard.specs.Shard.{EachAt, pairs};
@@ -16,14 +17,12 @@ ghost use Rattle.dash_history.specs.declared.record.RecordFault.TheVariants.{Las
 ghost use Rattle.dash_history.specs.WholeSteps.{AppliedWhole, CountsAll, ClonesAll, top_of};
 ghost use Rattle.dash_history.specs.inner.Parts.{Planned};
 ghost use Rattle.dash_steps.specs.declared.step.Whole.{Whole};
-ghost use Rattle.dash_steps.specs.Takes.{Known, known};
 ghost use Rattle.dash_steps.specs.Steps.{IsPart};
 ghost use Rattle.dash_steps.specs.declared.step.ShardStep.{ShardStep};
 ghost use Rattle.dash_steps.specs.declared.step.Reply.{Reply};
 
 use crate::gather::GatherError;
 use crate::joined::{join_numbers, join_pairs};
-use crate::known::Recorded;
 use crate::matching::{follows, index_of};
 use crate::merge::merge;
 use crate::place::At;
@@ -37,6 +36,7 @@ use dash_shard::row::Row;
 use dash_shard::shard::Shard;
 use dash_steps::action::KeptAction;
 use dash_steps::kept::{Kept, KeptKey};
+use dash_steps::known::Recorded;
 use dash_steps::step::{Reply, ShardStep, Whole};
 use dash_steps::sweep::add_copies;
 use std::alloc::{AllocError, Global};

@@ -3,11 +3,11 @@ ghost use Rattle.std.specs.Prelude.{◌≡◌, ◌<◌};
 ghost use Rattle.dash_history.specs.Map.{Logs};
 ghost use Rattle.dash_history.specs.declared.record.RecordFault.TheVariants.{Locked};
 
-use crate::known::Recorded;
 use crate::record::map::RecordedMap;
 use crate::record::{CallerLog, RecordFault};
 use dash_steps::action::KeptAction;
 use dash_steps::kept::{Kept, KeptKey};
+use dash_steps::known::Recorded;
 use dash_steps::step::{Reply, ShardStep};
 use std::hash::BuildHasher;
 use std::rt::Clock;

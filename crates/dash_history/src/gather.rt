@@ -7,13 +7,13 @@ ghost use Rattle.dash_history.specs.OneHistory.{IsGathered, Gathers, StampsStand
 ghost use Rattle.dash_history.specs.Map.{RelocksRecShards, shape};
 ghost use Rattle.dash_steps.specs.Takes.{Known};
 
-use crate::known::Recorded;
 pub use crate::place::At;
 use crate::record::CallerLog;
 use crate::record::map::RecordedMap;
 use core::mem::replace_with;
 use dash_steps::action::KeptAction;
 use dash_steps::kept::{Kept, KeptKey};
+use dash_steps::known::Recorded;
 use std::hash::BuildHasher;
 use thiserror::Error;
 

@@ -5,7 +5,6 @@ pub mod alone;
 mod apply;
 pub mod gather;
 mod joined;
-pub mod known;
 pub mod matching;
 pub mod merge;
 pub mod place;

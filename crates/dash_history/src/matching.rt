@@ -6,11 +6,11 @@ ghost use Rattle.dash_history.specs.inner.Gathering.{agrees, AllEnded, EachLog, 
 ghost use Rattle.dash_history.specs.Merge.{AreCallers, IsMerge, Names, record_at};
 ghost use Rattle.dash_history.specs.declared.place.At.{At};
 
-use crate::known::Recorded;
 use crate::place::At;
 use crate::record::{CallerLog, RecShard, Record};
 use dash_steps::action::KeptAction;
 use dash_steps::kept::{Kept, KeptKey};
+use dash_steps::known::Recorded;
 use std::alloc::{AllocError, Global};
 use std::hash::BuildHasher;
 

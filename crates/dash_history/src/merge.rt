@@ -3,11 +3,11 @@ ghost use Rattle.std.specs.Prelude.{◌≡◌, ◌++◌, map, IfOk, OnOk};
 ghost use Rattle.dash_history.specs.inner.Gathering.{EachRecorded, places, places_from};
 ghost use Rattle.dash_history.specs.Merge.{IsMerge};
 
-use crate::known::Recorded;
 use crate::place::At;
 use crate::record::{RecShard, Record};
 use dash_steps::action::KeptAction;
 use dash_steps::kept::{Kept, KeptKey};
+use dash_steps::known::Recorded;
 use std::alloc::{AllocError, Global};
 use std::hash::BuildHasher;
 

@@ -3,19 +3,19 @@ ghost use Rattle.std.specs.Prelude.{◌≡◌, ◌<◌, [], IsTrue, IfOk, IfErr,
 ghost use Rattle.dash_shard.specs.Hashing.{IsAmount};
 ghost use Rattle.dash_shard.specs.Shard.{SameShard};
 ghost use Rattle.dash_steps.specs.Steps.{IsPart};
-ghost use Rattle.dash_steps.specs.Takes.{known};
-ghost use Rattle.dash_history.specs.History.{IsFresh, IsLog, IsRecorded, GoesTo, last_or};
+ghost use Rattle.dash_steps.specs.Takes.{known, GoesTo};
+ghost use Rattle.dash_history.specs.History.{IsFresh, IsLog, IsRecorded, last_or};
 ghost use Rattle.dash_history.specs.inner.Tells.{Tells};
 ghost use Rattle.dash_history.specs.inner.Grows.{Adds};
 ghost use Rattle.dash_steps.specs.inner.Hashed.{HasHash};
 ghost use Rattle.dash_history.specs.Refused.{Records};
 
-use crate::known::Recorded;
 use dash_shard::shard::Shard;
 use dash_steps::action::KeptAction;
 use dash_steps::kept::{Kept, KeptKey};
+use dash_steps::known::Recorded;
+use dash_steps::plan::{carry_out, find, prepare};
 use dash_steps::step::{Reply, ShardStep};
-use plan::{carry_out, find, prepare};
 use std::alloc::{AllocError, Global};
 use std::hash::BuildHasher;
 use std::marker::Model;
@@ -23,7 +23,6 @@ use thiserror::Error;
 
 pub mod held;
 pub mod map;
-mod plan;
 pub mod tag;
 pub mod whole;
 

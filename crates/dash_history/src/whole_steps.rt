@@ -13,13 +13,13 @@ ghost use Rattle.dash_history.specs.inner.Parts.{Planned};
 ghost use Rattle.dash_history.specs.declared.record.RecordFault.TheVariants.{LastStamp, Locked, Memory};
 
 use crate::joined::{join_numbers, join_pairs};
-use crate::known::Recorded;
 use crate::record::held::RecShardMut;
 use crate::record::map::RecordedMap;
 use crate::record::whole::Parts;
 use crate::record::{CallerLog, RecordFault};
 use dash_steps::action::KeptAction;
 use dash_steps::kept::{Kept, KeptKey};
+use dash_steps::known::Recorded;
 use dash_steps::step::Whole;
 use std::alloc::AllocError;
 use std::hash::BuildHasher;

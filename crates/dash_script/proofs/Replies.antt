@@ -7,9 +7,8 @@ use Rattle.dash_shard.specs.declared.error.ConstructError.{ConstructError}
 use Rattle.dash_shard.specs.declared.error.ConstructError.TheVariants.{ShardAmount, Memory, Callers}
 use Rattle.dash_history.specs.Alone.{IsCallers}
 use Rattle.dash_shard.specs.inner.Steps.{step_shard}
-use Rattle.dash_steps.specs.Steps.{step_of}
-use Rattle.dash_history.specs.History.{shard_of}
-use Rattle.dash_steps.specs.Takes.{rules}
+use Rattle.dash_steps.specs.Steps.{step_of, IsPart}
+use Rattle.dash_steps.specs.Takes.{shard_of, rules}
 use Rattle.dash_steps.specs.inner.Kinds.{kinds}
 use Rattle.dash_script.specs.Change.{acts}
 use Rattle.dash_script.specs.inner.AlikeChange.{alike_change}
@@ -19,7 +18,6 @@ use Rattle.dash_history.specs.declared.record.RecordFault.TheVariants.{NoSuchSha
 use Rattle.dash_script.specs.declared.step.Line.TheVariants as says
 use Rattle.dash_script.specs.Script.{IsFaultOf, written}
 use Rattle.dash_script.specs.inner.Words.{ScriptStep}
-use Rattle.dash_steps.specs.Steps.{IsPart}
 
 -- the step goes outside a map of four shards exactly where it names a missing one
 module _ (route : ℕ → ℕ) (below : (k : ℕ) → route k < 4) where

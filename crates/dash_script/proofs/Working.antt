@@ -10,14 +10,14 @@ use Rattle.dash_shard.specs.declared.hash.PlaceState.{PlaceState}
 use Rattle.dash_shard.specs.Contents.{Keys, keys}
 use Rattle.std.proofs.lemmas.Result.{IfOk-weaker}
 use Rattle.dash_history.specs.Alone.{RecAloneState, fresh_logs}
-use Rattle.dash_history.specs.History.{LogState, shard_of}
+use Rattle.dash_history.specs.History.{LogState}
+use Rattle.dash_steps.specs.Takes.{shard_of, Known, rules}
 use Rattle.dash_history.specs.Refused.{NoStamp, Records}
 use Rattle.dash_history.specs.declared.record.RecordFault.{RecordFault}
 use Rattle.dash_history.specs.declared.record.RecordFault.TheVariants as fault
 use Rattle.dash_history.specs.Map.{LeavesRecShard, Logged, RecMapState, SawRecShards}
 use Rattle.dash_history.specs.OneHistory.{Matches}
 use Rattle.dash_steps.specs.Steps.{IsPart, alike_step}
-use Rattle.dash_steps.specs.Takes.{Known, rules}
 use Rattle.dash_steps.specs.inner.Kinds.{kinds}
 use Rattle.dash_history.proofs.Telling.{tells-of}
 use Rattle.dash_steps.specs.declared.step.ShardStep.{ShardStep}

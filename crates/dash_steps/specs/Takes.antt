@@ -11,8 +11,9 @@ use Rattle.std.specs.Option.{option_eq}
 use Rattle.dash_shard.specs.Shard.{ShardState, SameShard, IsShard, pairs, shard_len}
 use Rattle.dash_steps.specs.Kept.{alike_pair}
 use Rattle.dash_steps.specs.Alike.{alike_reply}
-use Rattle.dash_steps.specs.Steps.{reply_of}
+use Rattle.dash_steps.specs.Steps.{reply_of, step_of}
 use Rattle.dash_steps.specs.declared.step.Reply as program
+use Rattle.dash_steps.specs.declared.step.ShardStep.{ShardStep}
 
 -- what a map knows of its keys and values
 pub record Rules (K V : Type 0) : Type 0 where
@@ -80,3 +81,11 @@ known key v action b h = known_by key.eq key.hash_input key.alike v action.alike
 -- on a map with this hasher and amount
 abbrev pub kinds_at : {K V A S : Type 0} → Known K V A S → S → ℕ → Kinds K V A
 kinds_at w s n = record { rules = rules w.alike_key w.alike_value (keys w.keys.eq (route_by w.keys s n) n); acts = w.acts; alike_action = w.alike_action }
+
+-- the number of a step's shard
+abbrev pub shard_of : {K V A : Type 0} → Kinds K V A → ShardStep K V A → ℕ
+shard_of m step = line_shard m.rules.keys (line (step_of m.acts step))
+
+-- the step goes to the shard
+abbrev pub GoesTo : {K V A S : Type 0} → Known K V A S → ShardState K V S → ShardStep K V A → Type 0
+GoesTo w s step = shard_of (kinds_at w s.hasher s.amount) step ≡ s.number

@@ -6,6 +6,8 @@
 pub mod action;
 pub mod change;
 pub mod kept;
+pub mod known;
+pub mod plan;
 pub mod step;
 pub mod sweep;
 pub mod take;

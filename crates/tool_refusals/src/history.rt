@@ -10,8 +10,8 @@ mod steps;
 
 use crate::trial::Outcome;
 use crate::words::word;
-use dash_history::known::Recorded as Known;
 use dash_shard::hash::{PlaceState, ZeroState};
+use dash_steps::known::Recorded as Known;
 use recorded::{Map, Recorded};
 use std::alloc::Global;
 use std::env::Env;

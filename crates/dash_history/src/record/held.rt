@@ -3,7 +3,8 @@ ghost use Rattle.std.specs.Prelude.{◌≡◌, [], ◌∷◌, ◌++◌, ◌-◌,
 ghost use Rattle.dash_shard.specs.Errors.{IsOneOf};
 ghost use Rattle.dash_shard.specs.Shard.{EachAt, Routes};
 ghost use Rattle.dash_shard.specs.Lock.{LeftBehind};
-ghost use Rattle.dash_history.specs.History.{IsRecorded, GoesTo, RecState};
+ghost use Rattle.dash_history.specs.History.{IsRecorded, RecState};
+ghost use Rattle.dash_steps.specs.Takes.{GoesTo, known};
 ghost use Rattle.dash_history.specs.Part.{and_record, greatest};
 ghost use Rattle.dash_history.specs.inner.Parts.{AddedEach, HasOneMore, IsNext, Planned, SameEach};
 ghost use Rattle.dash_history.specs.declared.record.RecordFault.TheVariants.{LastStamp, Memory};
@@ -12,15 +13,14 @@ ghost use Rattle.dash_steps.specs.Steps.{IsPart};
 ghost use Rattle.dash_steps.specs.inner.Hashed.{HasHash};
 ghost use Rattle.dash_history.specs.Held.{FitsRecTag};
 ghost use Rattle.dash_history.specs.Refused.{Records};
-ghost use Rattle.dash_steps.specs.Takes.{known};
 
 pub use super::tag::RecTag;
 use super::whole::{self, Member, Parts};
 use super::{CallerLog, RecShard, Record, RecordFault};
-use crate::known::Recorded;
 use dash_shard::lock::RwLockWriteGuard;
 use dash_steps::action::KeptAction;
 use dash_steps::kept::{Kept, KeptKey};
+use dash_steps::known::Recorded;
 use dash_steps::step::{Reply, ShardStep, Whole};
 use std::alloc::{AllocError, Global};
 use std::hash::BuildHasher;

@@ -19,7 +19,6 @@ ghost use Rattle.dash_steps.specs.Takes.{known};
 
 use super::held::RecShardMut;
 use crate::alone::RecAlone;
-use crate::known::Recorded;
 use crate::record::tag::RecTag;
 use crate::record::{CallerLog, RecShard, Record};
 use core::mem::replace_with;
@@ -29,6 +28,7 @@ use dash_shard::lock::RwLock;
 use dash_shard::row::Row;
 use dash_steps::action::KeptAction;
 use dash_steps::kept::{Kept, KeptKey};
+use dash_steps::known::Recorded;
 use dash_steps::step::ShardStep;
 use std::alloc::{AllocError, Global};
 use std::hash::BuildHasher;

@@ -11,9 +11,9 @@ ghost use Rattle.dash_history.specs.inner.Parts.{AddedEach, HasOneMore, IsNext, 
 ghost use Rattle.dash_history.specs.declared.record.RecordFault.TheVariants.{LastStamp, Memory};
 
 use super::{CallerLog, RecShard, Record, RecordFault, make_room};
-use crate::known::Recorded;
 use dash_steps::action::KeptAction;
 use dash_steps::kept::{Kept, KeptKey};
+use dash_steps::known::Recorded;
 use dash_steps::step::{Reply, Whole};
 use dash_steps::sweep::copy_pairs;
 use std::alloc::{AllocError, Global};

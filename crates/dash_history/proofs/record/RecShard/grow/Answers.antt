@@ -1,5 +1,6 @@
 use Rattle.std.proofs.Common.{List, ◌≡◌, ◌<◌, ◌++◌, ◌∷◌, [], ap, subst, sym, ◌∙◌, refl}
-use Rattle.dash_history.specs.History.{IsRecorded, RecState, shard_of}
+use Rattle.dash_history.specs.History.{IsRecorded, RecState}
+use Rattle.dash_steps.specs.Takes.{shard_of, known_by}
 use Rattle.dash_history.specs.inner.Tells.{Tells}
 use Rattle.dash_history.specs.declared.record.Record.{Record}
 use Rattle.dash_steps.specs.inner.Kinds.{kinds_of}
@@ -9,7 +10,6 @@ use Rattle.dash_history.proofs.record.RecShard.grow.Given.{Over}
 use Rattle.dash_history.proofs.record.RecShard.grow.Goals.{After-push_reserved}
 use Rattle.dash_history.proofs.record.RecShard.grow.Goals as goal
 use Rattle.dash_shard.proofs.Lawful.{lawful-of}
-use Rattle.dash_steps.specs.Takes.{known_by}
 
 pub invariant_of-self : goal.invariant_of-self
 invariant_of-self g c = rw c.make_room.ensures.items c.self.invariant

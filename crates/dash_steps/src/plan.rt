@@ -1,33 +1,48 @@
 //! What a step will do to a shard: it is made first, since it takes memory, and carried out once all copies are there.
 ghost use Rattle.std.specs.Prelude.{◌≡◌, IfOk, IfErr, OnOk};
 ghost use Rattle.dash_shard.specs.Shard.{Routes, SameShard};
-ghost use Rattle.dash_history.specs.History.{GoesTo};
+ghost use Rattle.dash_steps.specs.Takes.{GoesTo, known};
 ghost use Rattle.dash_steps.specs.inner.Hashed.{HasHash};
 ghost use Rattle.dash_steps.specs.inner.Plan.{MayAnswer, Decides, Makes, StaysLawful, Leaves, IsFound, HasPlace};
 ghost use Rattle.dash_shard.specs.Held.{Finds};
 ghost use Rattle.dash_shard.specs.inner.Table.{MayTake};
 ghost use Rattle.std.specs.Result.{result_ok};
 
+use crate::action::KeptAction;
+use crate::change::{Change, copy_found, look, make_change, plan_asked};
+use crate::kept::{Kept, KeptKey};
 use crate::known::Recorded;
-use crate::record::RecShard;
+use crate::step::{Reply, ShardStep};
+use crate::sweep::{ask_each, copy_pairs, put_each};
 use dash_shard::keyed::Keyed;
 use dash_shard::shard::{InsertRefused, Place, Shard};
-use dash_steps::action::KeptAction;
-use dash_steps::change::{Change, copy_found, look, make_change, plan_asked};
-use dash_steps::kept::{Kept, KeptKey};
-use dash_steps::step::{Reply, ShardStep};
-use dash_steps::sweep::{ask_each, copy_pairs, put_each};
 use std::alloc::{AllocError, Global};
 use std::hash::BuildHasher;
+use std::marker::PhantomData;
+
+/// A shard whose steps have actions of this type, as contracts name it. No value of it is made.
+pub struct Acting<K, V, S, A>(PhantomData<(K, V, S, A)>);
+
+impl<K: KeptKey, V: Kept, S: BuildHasher, A: KeptAction<K, V>> Recorded for Acting<K, V, S, A> {
+    type Key = K;
+
+    type Value = V;
+
+    type Action = A;
+
+    type State = S;
+
+    ghost known = { known K.KeptKey V.alike A.KeptAction S.BuildHasher S.Hasher.Hasher };
+}
 
 /// The slot of the pair at the step's key, or else the place for one, if the step is an insert, and there is room.
-pub(super) fn find<K: KeptKey, V: Kept, S: BuildHasher, A: KeptAction<K, V>>(
+pub fn find<K: KeptKey, V: Kept, S: BuildHasher, A: KeptAction<K, V>>(
     shard: &Shard<K, V, S>,
     hash: u64,
     step: &ShardStep<K, V, A>,
 ) -> Result<usize, Place>
-    requires { HasHash ⟦<RecShard<K, V, S, A> as Recorded>⟧.known shard.now step.now hash }
-    ensures found { IsFound ⟦<RecShard<K, V, S, A> as Recorded>⟧.known shard.now step.now (result_ok result) }
+    requires { HasHash ⟦<Acting<K, V, S, A> as Recorded>⟧.known shard.now step.now hash }
+    ensures found { IsFound ⟦<Acting<K, V, S, A> as Recorded>⟧.known shard.now step.now (result_ok result) }
     ensures place { IfErr result (HasPlace shard.now step.now hash) }
 {
     if let ShardStep::Insert(key, _) = step {
@@ -40,23 +55,18 @@ pub(super) fn find<K: KeptKey, V: Kept, S: BuildHasher, A: KeptAction<K, V>>(
 }
 
 /// What the step may reply now, and what it makes of the pair at its key, or its action of each pair. It takes memory for copies.
-pub(super) fn prepare<
-    K: KeptKey + Drop,
-    V: Kept + Drop,
-    S: BuildHasher,
-    A: KeptAction<K, V> + Drop,
->(
+pub fn prepare<K: KeptKey + Drop, V: Kept + Drop, S: BuildHasher, A: KeptAction<K, V> + Drop>(
     alloc: Global,
     shard: &Shard<K, V, S>,
     found: Option<usize>,
     step: &ShardStep<K, V, A>,
 ) -> Result<(Reply<K, V>, Change<V>), AllocError>
-    requires goes { GoesTo ⟦<RecShard<K, V, S, A> as Recorded>⟧.known shard.now step.now }
-    requires found { IsFound ⟦<RecShard<K, V, S, A> as Recorded>⟧.known shard.now step.now found }
+    requires goes { GoesTo ⟦<Acting<K, V, S, A> as Recorded>⟧.known shard.now step.now }
+    requires found { IsFound ⟦<Acting<K, V, S, A> as Recorded>⟧.known shard.now step.now found }
     ensures answers { IfOk result (λ plan.
-        MayAnswer ⟦<RecShard<K, V, S, A> as Recorded>⟧.known shard.now step.now plan.0) }
+        MayAnswer ⟦<Acting<K, V, S, A> as Recorded>⟧.known shard.now step.now plan.0) }
     ensures decides { IfOk result (λ plan.
-        Decides ⟦<RecShard<K, V, S, A> as Recorded>⟧.known shard.now step.now plan.1) }
+        Decides ⟦<Acting<K, V, S, A> as Recorded>⟧.known shard.now step.now plan.1) }
 {
     let pair = look(shard, found);
     match step {
@@ -86,24 +96,19 @@ pub(super) fn prepare<
 }
 
 /// Does to the shard what the step says and what was decided, or hands the step back, where there is no memory for a new key.
-pub(super) fn carry_out<
-    K: KeptKey + Drop,
-    V: Kept + Drop,
-    S: BuildHasher,
-    A: KeptAction<K, V> + Drop,
->(
+pub fn carry_out<K: KeptKey + Drop, V: Kept + Drop, S: BuildHasher, A: KeptAction<K, V> + Drop>(
     shard: &mut Shard<K, V, S>,
     hash: u64,
     found: Result<usize, Place>,
     step: ShardStep<K, V, A>,
     decided: Change<V>,
 ) -> Result<(), ShardStep<K, V, A>>
-    requires goes { GoesTo ⟦<RecShard<K, V, S, A> as Recorded>⟧.known shard.old step }
-    requires hash { HasHash ⟦<RecShard<K, V, S, A> as Recorded>⟧.known shard.old step hash }
-    requires found { IsFound ⟦<RecShard<K, V, S, A> as Recorded>⟧.known shard.old step (result_ok found) }
+    requires goes { GoesTo ⟦<Acting<K, V, S, A> as Recorded>⟧.known shard.old step }
+    requires hash { HasHash ⟦<Acting<K, V, S, A> as Recorded>⟧.known shard.old step hash }
+    requires found { IsFound ⟦<Acting<K, V, S, A> as Recorded>⟧.known shard.old step (result_ok found) }
     requires place { IfErr found (HasPlace shard.old step hash) }
-    requires decides { Decides ⟦<RecShard<K, V, S, A> as Recorded>⟧.known shard.old step decided }
-    ensures ok { OnOk result (Leaves ⟦<RecShard<K, V, S, A> as Recorded>⟧.known shard.old step shard.new) }
+    requires decides { Decides ⟦<Acting<K, V, S, A> as Recorded>⟧.known shard.old step decided }
+    ensures ok { OnOk result (Leaves ⟦<Acting<K, V, S, A> as Recorded>⟧.known shard.old step shard.new) }
     ensures stays { SameShard shard.old shard.new }
     ensures lawful { StaysLawful ⟦<Shard<K, V, S> as Keyed>⟧.by shard.old shard.new }
     ensures err { IfErr result (λ back. (back ≡ step) × (shard.new ≡ shard.old)) }

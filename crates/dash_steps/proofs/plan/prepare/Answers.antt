@@ -11,8 +11,8 @@ use Rattle.dash_steps.specs.Steps.{step_of}
 use Rattle.dash_steps.proofs.AlikeLaws.{reply_equiv}
 use Rattle.dash_steps.proofs.Finding.{found-pair, found-taken, planned-answers, planned-fits}
 use Rattle.dash_steps.proofs.Preparing.{answers-all, mapped}
-use Rattle.dash_history.proofs.record.plan.prepare.Goals as goal
-use Rattle.dash_history.proofs.record.plan.prepare.Goals.{in-AlterAll-matches, in_default}
+use Rattle.dash_steps.proofs.plan.prepare.Goals as goal
+use Rattle.dash_steps.proofs.plan.prepare.Goals.{in-AlterAll-matches, in_default}
 
 pub look-pair-requires : goal.look-pair-requires
 look-pair-requires g c = found-taken (key_hash g.K.PartialEq.eq g.K.Hash.hash_input g.S.BuildHasher g.S.Hasher.Hasher) c.args.shard.now _ c.args.found c.requires.found

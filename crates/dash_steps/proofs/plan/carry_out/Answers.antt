@@ -12,7 +12,7 @@ use Rattle.dash_steps.proofs.Copies.{lawful-by}
 use Rattle.dash_shard.specs.Hashing.{key_hash}
 use Rattle.dash_steps.proofs.Finding.{found-taken, decided-at}
 use Rattle.dash_steps.proofs.Sweeping.{leaves}
-use Rattle.dash_history.proofs.record.plan.carry_out.Goals as goal
+use Rattle.dash_steps.proofs.plan.carry_out.Goals as goal
 use Rattle.dash_shard.proofs.Lawful.{lawful-of}
 use Rattle.dash_shard.specs.inner.Steps.{after}
 
