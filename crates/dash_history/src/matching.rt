@@ -1,4 +1,4 @@
-//! Whether the logs of callers match the histories. For the crates here alone.
+//! Whether the logs of callers match the histories.
 ghost use Rattle.std.specs.Prelude.{◌≡◌, ◌+◌, ◌^◌, ◌<◌, ◌↔◌, ◌⊎◌, IfOk, IsTrue, MatchOption, Some, length, map};
 ghost use Rattle.std.specs.List.{Contains};
 ghost use Rattle.dash_history.specs.History.{alike_record};
@@ -15,7 +15,7 @@ use std::alloc::{AllocError, Global};
 use std::hash::BuildHasher;
 
 /// By each caller the index of its log, or none where the logs are not those of the callers 0 to `callers - 1`, each once.
-pub fn index_of<K, V, A>(
+pub(crate) fn index_of<K, V, A>(
     alloc: Global,
     callers: usize,
     logs: &[CallerLog<K, V, A>],
@@ -81,7 +81,12 @@ fn ended<K: Drop, V: Drop, A>(next: &[usize], logs: &[CallerLog<K, V, A>]) -> bo
 }
 
 /// Whether the records of each caller stand along the places as in its log, and the log has no others.
-pub fn follows<K: KeptKey + Drop, V: Kept + Drop, S: BuildHasher, A: KeptAction<K, V> + Drop>(
+pub(crate) fn follows<
+    K: KeptKey + Drop,
+    V: Kept + Drop,
+    S: BuildHasher,
+    A: KeptAction<K, V> + Drop,
+>(
     alloc: Global,
     row: &[RecShard<K, V, S, A>],
     ats: &[At],

@@ -1,4 +1,4 @@
-//! The merge of the histories of a row of shards. For the crates here alone.
+//! The merge of the histories of a row of shards.
 ghost use Rattle.std.specs.Prelude.{◌≡◌, ◌++◌, map, IfOk, OnOk};
 ghost use Rattle.dash_history.specs.inner.Gathering.{EachRecorded, places, places_from};
 ghost use Rattle.dash_history.specs.Merge.{IsMerge};
@@ -56,7 +56,7 @@ fn places<K: KeptKey + Drop, V: Kept + Drop, S: BuildHasher, A: KeptAction<K, V>
 }
 
 /// The merge of the histories of these shards. It takes memory for the answer, and as much again while it sorts.
-pub fn merge<K: KeptKey + Drop, V: Kept + Drop, S: BuildHasher, A: KeptAction<K, V> + Drop>(
+pub(crate) fn merge<K: KeptKey + Drop, V: Kept + Drop, S: BuildHasher, A: KeptAction<K, V> + Drop>(
     alloc: Global,
     row: &[RecShard<K, V, S, A>],
 ) -> Result<Vec<At>, AllocError>

@@ -105,8 +105,8 @@ impl<K, V, A> Model for CallerLog<K, V, A> {
 }
 
 impl<K, V, A> CallerLog<K, V, A> {
-    /// A log with no entries, which takes no memory. For the crates here alone.
-    pub fn new(alloc: Global, caller: u32) -> CallerLog<K, V, A>
+    /// A log with no entries, which takes no memory.
+    pub(crate) fn new(alloc: Global, caller: u32) -> CallerLog<K, V, A>
         ensures { result ≡ record { caller = caller; last = 0; entries = [] } }
     {
         CallerLog {
@@ -238,8 +238,8 @@ impl<K: KeptKey + Drop, V: Kept + Drop, S: BuildHasher, A: KeptAction<K, V> + Dr
     S,
     A,
 > {
-    /// A shard with no pairs and no history. For the crates here alone.
-    pub fn new(
+    /// A shard with no pairs and no history.
+    pub(crate) fn new(
         alloc: Global,
         hasher: S,
         number: usize,
@@ -268,18 +268,18 @@ impl<K: KeptKey + Drop, V: Kept + Drop, S: BuildHasher, A: KeptAction<K, V> + Dr
         })
     }
 
-    /// The last stamp, 0 for none. For the crates here alone.
+    /// The last stamp, 0 for none.
     #[inline]
-    pub fn last_stamp(&self) -> u64
+    pub(crate) fn last_stamp(&self) -> u64
         ensures last { result ≡ self.now.last }
         ensures legal { IsRecorded ⟦<Self as Recorded>⟧.known self.now }
     {
         self.last
     }
 
-    /// The shard itself. For the crates here alone.
+    /// The shard itself.
     #[inline]
-    pub fn shard(&self) -> &Shard<K, V, S>
+    pub(crate) fn shard(&self) -> &Shard<K, V, S>
         ensures shard { result.now ≡ self.now.shard }
         ensures legal { IsRecorded ⟦<Self as Recorded>⟧.known self.now }
     {
@@ -295,9 +295,9 @@ impl<K: KeptKey + Drop, V: Kept + Drop, S: BuildHasher, A: KeptAction<K, V> + Dr
         self.callers
     }
 
-    /// The records of the shard's steps, in their order. For the crates here alone.
+    /// The records of the shard's steps, in their order.
     #[inline]
-    pub fn history(&self) -> &[Record<K, V, A>]
+    pub(crate) fn history(&self) -> &[Record<K, V, A>]
         ensures history { result.now ≡ self.now.history }
         ensures legal { IsRecorded ⟦<Self as Recorded>⟧.known self.now }
     {
@@ -353,8 +353,8 @@ impl<K: KeptKey + Drop, V: Kept + Drop, S: BuildHasher, A: KeptAction<K, V> + Dr
     /// Takes a step of this shard, and adds one same record of it at the end of its history and of the caller's log. The hash is
     /// that of the step's key.
     ///
-    /// Takes memory for the copies and the records, before anything changes. For the crates here alone.
-    pub fn record_hashed(
+    /// Takes memory for the copies and the records, before anything changes.
+    pub(crate) fn record_hashed(
         &mut self,
         log: &mut CallerLog<K, V, A>,
         hash: u64,

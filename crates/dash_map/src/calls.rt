@@ -71,9 +71,9 @@ impl<K: Eq + Hash, V, S: BuildHasher> DashMap<K, V, S> {
         &self.row[shard]
     }
 
-    /// Waits until no writer has the shard, and holds it for reading. For the crates here alone.
+    /// Waits until no writer has the shard, and holds it for reading.
     #[inline]
-    pub fn read_shard<R: Wait + Clock>(
+    pub(crate) fn read_shard<R: Wait + Clock>(
         &self,
         rt: &R,
         shard: usize,

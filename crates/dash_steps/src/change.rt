@@ -30,7 +30,7 @@ pub enum Change<V> {
 
 /// The pair of the slot that was found, if one was.
 #[inline]
-pub fn look<K: Eq + Hash, V, S: BuildHasher>(
+pub(crate) fn look<K: Eq + Hash, V, S: BuildHasher>(
     shard: &Shard<K, V, S>,
     found: Option<usize>,
 ) -> Option<(&K, &V)>
@@ -42,7 +42,7 @@ pub fn look<K: Eq + Hash, V, S: BuildHasher>(
 }
 
 /// Makes of the pair in the slot that was found, if one was, what was decided.
-pub fn make_change<K: Eq + Hash + Drop, V: Drop, S: BuildHasher>(
+pub(crate) fn make_change<K: Eq + Hash + Drop, V: Drop, S: BuildHasher>(
     shard: &mut Shard<K, V, S>,
     found: Option<usize>,
     change: Change<V>,
@@ -65,7 +65,7 @@ pub fn make_change<K: Eq + Hash + Drop, V: Drop, S: BuildHasher>(
 }
 
 /// A copy of a pair that was found.
-pub fn copy_found<K: Kept + Drop, V: Kept + Drop>(
+pub(crate) fn copy_found<K: Kept + Drop, V: Kept + Drop>(
     found: Option<(&K, &V)>,
 ) -> Result<Option<(K, V)>, AllocError>
     ensures copy { IfOk result (AlikeFound K.alike V.alike (option_map deref_pair found.entry)) }
@@ -81,7 +81,7 @@ pub fn copy_found<K: Kept + Drop, V: Kept + Drop>(
 }
 
 /// What the action makes of a copy of the value, and its answer.
-pub fn ask<K: Kept, V: Kept + Drop, A: Action<K, V>>(
+pub(crate) fn ask<K: Kept, V: Kept + Drop, A: Action<K, V>>(
     key: &K,
     value: &V,
     action: &A,
@@ -95,7 +95,7 @@ pub fn ask<K: Kept, V: Kept + Drop, A: Action<K, V>>(
 }
 
 /// The reply and the change of a step that asks its action of the pair at its key, where this pair stands there.
-pub fn plan_asked<K: Kept + Drop, V: Kept + Drop, A: Action<K, V>>(
+pub(crate) fn plan_asked<K: Kept + Drop, V: Kept + Drop, A: Action<K, V>>(
     found: Option<(&K, &V)>,
     step: &ShardStep<K, V, A>,
 ) -> Result<(Reply<K, V>, Change<V>), AllocError>

@@ -152,8 +152,8 @@ impl<K, V: Kept, A> ShardStep<K, V, A> {
         matches!(self, ShardStep::CountPart(_) | ShardStep::ReadPart(_))
     }
 
-    /// The key of a step that asks its action of the pair there. For the crates here alone.
-    pub fn asked_key(&self) -> &K
+    /// The key of a step that asks its action of the pair there.
+    pub(crate) fn asked_key(&self) -> &K
     where
         K: Kept,
         A: Action<K, V>,
@@ -164,23 +164,6 @@ impl<K, V: Kept, A> ShardStep<K, V, A> {
             ShardStep::RemoveIf(key, _)
             | ShardStep::RemoveIfMut(key, _)
             | ShardStep::Alter(key, _) => key,
-            _ => unreachable!(),
-        }
-    }
-
-    /// As `asked_key`, out of the step. For the crates here alone.
-    pub fn into_asked_key(self) -> K
-    where
-        K: Kept + Drop,
-        V: Drop,
-        A: Action<K, V> + Drop,
-        requires { Asks self }
-        ensures { OfKey (line (step_of A.acts self)) (λ k. result ≡ k) ⊥ }
-    {
-        match self {
-            ShardStep::RemoveIf(key, _action)
-            | ShardStep::RemoveIfMut(key, _action)
-            | ShardStep::Alter(key, _action) => key,
             _ => unreachable!(),
         }
     }

@@ -42,7 +42,7 @@ pub fn add_copies<K: Kept + Drop, V: Kept + Drop>(
 }
 
 /// What the action makes of copies of the values, and its answers: yes where all pairs stay.
-pub fn ask_each<K: Kept, V: Kept + Drop, A: Action<K, V>>(
+pub(crate) fn ask_each<K: Kept, V: Kept + Drop, A: Action<K, V>>(
     alloc: Global,
     pairs: Iter<'_, K, V>,
     action: &A,
@@ -60,7 +60,7 @@ pub fn ask_each<K: Kept, V: Kept + Drop, A: Action<K, V>>(
 
 /// Makes of each pair what was decided: puts the values in place of the shard's, in rising order of slots, and takes out each pair that has
 /// no yes beside its value.
-pub fn put_each<K: KeptKey + Drop, V: Kept + Drop, S: BuildHasher>(
+pub(crate) fn put_each<K: KeptKey + Drop, V: Kept + Drop, S: BuildHasher>(
     shard: &mut Shard<K, V, S>,
     change: Change<V>,
 )

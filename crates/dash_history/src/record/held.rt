@@ -153,8 +153,8 @@ impl<K: KeptKey + Drop, V: Kept + Drop, S: BuildHasher, A: KeptAction<K, V> + Dr
         step.route(shard.hasher(), shard.amount()).0
     }
 
-    /// As `record`, for a caller who has the hash of the step's key, and knows that it is no part. For the crates here alone.
-    pub fn record_hashed(
+    /// As `record`, for a caller who has the hash of the step's key, and knows that it is no part.
+    pub(crate) fn record_hashed(
         &mut self,
         log: &mut CallerLog<K, V, A>,
         hash: u64,
@@ -189,11 +189,10 @@ impl<K: KeptKey + Drop, V: Kept + Drop, S: BuildHasher, A: KeptAction<K, V> + Dr
         answer
     }
 
-    /// The records of a whole step of this kind by the log's caller on shards that are held, at one stamp above all lasts. For the
-    /// crates here alone.
+    /// The records of a whole step of this kind by the log's caller on shards that are held, at one stamp above all lasts.
     ///
     /// It is refused where there is no such stamp (18), then where there is no memory (19).
-    pub fn plan_whole(
+    pub(crate) fn plan_whole(
         row: &[Self],
         log: &CallerLog<K, V, A>,
         kind: Whole,
@@ -207,10 +206,10 @@ impl<K: KeptKey + Drop, V: Kept + Drop, S: BuildHasher, A: KeptAction<K, V> + Dr
     }
 
     /// Adds the records of a whole step: to each shard that is held its own at the end of its history, and all to the end of the
-    /// log. For the crates here alone.
+    /// log.
     ///
     /// It takes memory for their places (19).
-    pub fn record_whole(
+    pub(crate) fn record_whole(
         row: &mut [Self],
         log: &mut CallerLog<K, V, A>,
         parts: Parts<K, V, A>,

@@ -286,11 +286,10 @@ impl<K: KeptKey + Drop, V: Kept + Drop, S: BuildHasher, A: KeptAction<K, V> + Dr
     S,
     A,
 > {
-    /// The records of a whole step of this kind by the log's caller on shards of one owner, at one stamp above all lasts. For the
-    /// crates here alone.
+    /// The records of a whole step of this kind by the log's caller on shards of one owner, at one stamp above all lasts.
     ///
     /// It is refused where there is no such stamp (18), then where there is no memory (19).
-    pub fn plan_whole(
+    pub(crate) fn plan_whole(
         row: &[Self],
         log: &CallerLog<K, V, A>,
         kind: Whole,
@@ -304,10 +303,10 @@ impl<K: KeptKey + Drop, V: Kept + Drop, S: BuildHasher, A: KeptAction<K, V> + Dr
     }
 
     /// Adds the records of a whole step: to each shard of one owner its own at the end of its history, and all to the end of the
-    /// log. For the crates here alone.
+    /// log.
     ///
     /// It takes memory for their places (19).
-    pub fn record_whole(
+    pub(crate) fn record_whole(
         row: &mut [Self],
         log: &mut CallerLog<K, V, A>,
         parts: Parts<K, V, A>,

@@ -15,9 +15,9 @@ use dash_shard::shard::Shard;
 use std::hash::{BuildHasher, Hash};
 
 impl<K: Eq + Hash, V, S: BuildHasher> DashMap<K, V, S> {
-    /// A hold of the shard for reading, where `RwLock::try_read` gets it. For the crates here alone.
+    /// A hold of the shard for reading, where `RwLock::try_read` gets it.
     #[inline]
-    pub fn try_shard(&self, shard: usize) -> Option<RwLockReadGuard<'_, Shard<K, V, S>>>
+    pub(crate) fn try_shard(&self, shard: usize) -> Option<RwLockReadGuard<'_, Shard<K, V, S>>>
         requires { shard < self.now.amount }
         ensures tagged { IfSome result (λ r. IsShardOf ⟦<Self as Keyed>⟧.by self.now shard r.value) }
         ensures found { IfSome result (λ r. FoundBehind r.value) }
@@ -41,9 +41,9 @@ impl<K: Eq + Hash, V, S: BuildHasher> DashMap<K, V, S> {
         }
     }
 
-    /// A hold of the shard for writing, where `RwLock::try_write` gets it. For the crates here alone.
+    /// A hold of the shard for writing, where `RwLock::try_write` gets it.
     #[inline]
-    pub fn try_shards_mut(&self, shard: usize) -> Option<ShardMut<'_, K, V, S>>
+    pub(crate) fn try_shards_mut(&self, shard: usize) -> Option<ShardMut<'_, K, V, S>>
         requires { shard < self.now.amount }
         ensures tagged { IfSome result (IsShardOf ⟦<Self as Keyed>⟧.by self.now shard) }
         ensures found { IfSome result FoundBehind }

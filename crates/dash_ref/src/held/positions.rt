@@ -33,11 +33,11 @@ impl<K: Eq + Hash, V, S: BuildHasher> ShardMut<'_, K, V, S> {
         self.hold.change(|shard| shard.insert_new(key, value))
     }
 
-    /// The place that a search found for a new key, or another in room that is made, where there was none. For the crates here alone.
+    /// The place that a search found for a new key, or another in room that is made, where there was none.
     ///
     /// Takes memory where the shard is full, and is refused (11) only then.
     #[inline]
-    pub fn make_place(&mut self, hash: u64, place: Place) -> Result<Place, TryReserveError>
+    pub(crate) fn make_place(&mut self, hash: u64, place: Place) -> Result<Place, TryReserveError>
         requires { MayTake self.old hash place }
         ensures reserves { Reserves K.eq 1 self.old self.new result }
         ensures place { IfOk result (IsPlaceFor self.new hash) }
@@ -47,9 +47,9 @@ impl<K: Eq + Hash, V, S: BuildHasher> ShardMut<'_, K, V, S> {
         self.hold.change(|shard| shard.make_place(hash, place))
     }
 
-    /// As `insert_new`, for a caller who has the key's hash and a place for it. For the crates here alone.
+    /// As `insert_new`, for a caller who has the key's hash and a place for it.
     #[inline]
-    pub fn insert_new_at(&mut self, place: Place, hash: u64, key: K, value: V)
+    pub(crate) fn insert_new_at(&mut self, place: Place, hash: u64, key: K, value: V)
     where
         K: Drop,
         V: Drop,

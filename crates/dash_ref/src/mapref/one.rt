@@ -80,9 +80,12 @@ impl<K: Eq + Hash, V, S: BuildHasher> Drop for Ref<'_, K, V, S> {
 }
 
 impl<'a, K: Eq + Hash, V, S: BuildHasher> Ref<'a, K, V, S> {
-    /// The pair at a taken slot of the shard that the guard holds. For the crates here alone.
+    /// The pair at a taken slot of the shard that the guard holds.
     #[inline]
-    pub fn new(guard: RwLockReadGuard<'a, Shard<K, V, S>>, position: usize) -> Ref<'a, K, V, S>
+    pub(crate) fn new(
+        guard: RwLockReadGuard<'a, Shard<K, V, S>>,
+        position: usize,
+    ) -> Ref<'a, K, V, S>
         requires { IsSome (slot guard.value.slots position) }
         ensures shard { result.shard ≡ guard.entry.value }
         ensures position { result.position ≡ position }

@@ -113,9 +113,13 @@ impl<K: Eq + Hash, V, S: BuildHasher, H: Holds<Key = K, Value = V, State = S>> H
 }
 
 impl<'a, K: Eq + Hash + Drop, V: Drop, S: BuildHasher> OccupiedEntry<'a, K, V, S> {
-    /// The entry of a key, at the slot of the pair with an equal one. For the crates here alone.
+    /// The entry of a key, at the slot of the pair with an equal one.
     #[inline]
-    pub fn new(shard: ShardMut<'a, K, V, S>, position: usize, key: K) -> OccupiedEntry<'a, K, V, S>
+    pub(crate) fn new(
+        shard: ShardMut<'a, K, V, S>,
+        position: usize,
+        key: K,
+    ) -> OccupiedEntry<'a, K, V, S>
         requires { HasKey K.eq shard key position }
         ensures { result ≡ record { pair = record { shard = shard.entry; position = position }; key = key } }
     {

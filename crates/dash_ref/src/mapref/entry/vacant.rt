@@ -65,9 +65,9 @@ impl<K: Eq + Hash + Drop, V, S: BuildHasher> Drop for VacantEntry<'_, K, V, S> {
 
 impl<'a, K: Eq + Hash + Drop, V: Drop, S: BuildHasher> VacantEntry<'a, K, V, S> {
     /// The entry of a key that goes to the held shard, which has no equal one, and room, for a caller who has the key's hash and a place
-    /// for it. For the crates here alone.
+    /// for it.
     #[inline]
-    pub fn new(
+    pub(crate) fn new(
         shard: ShardMut<'a, K, V, S>,
         hash: u64,
         place: Place,

@@ -82,9 +82,9 @@ impl<K: Eq + Hash, V, S: BuildHasher, H: Holds<Key = K, Value = V, State = S>> D
 }
 
 impl<'a, K: Eq + Hash, V, S: BuildHasher> RefMut<'a, K, V, S> {
-    /// The pair at a taken slot of the held shard. For the crates here alone.
+    /// The pair at a taken slot of the held shard.
     #[inline]
-    pub fn new(shard: ShardMut<'a, K, V, S>, position: usize) -> RefMut<'a, K, V, S>
+    pub(crate) fn new(shard: ShardMut<'a, K, V, S>, position: usize) -> RefMut<'a, K, V, S>
         requires { IsSome (slot shard.slots position) }
         ensures { result ≡ record { shard = shard.entry; position = position } }
     {
