@@ -30,7 +30,7 @@ use crate::record::map::Locked;
 use crate::record::whole::Parts;
 use crate::record::{CallerLog, RecShard, Record, RecordFault};
 use dash_shard::error::ConstructError;
-use dash_shard::hash::is_shard_amount;
+use dash_shard::hash::{FixedState, is_shard_amount};
 use dash_shard::keyed::Keyed;
 use dash_shard::row::Row;
 use dash_shard::shard::Shard;
@@ -45,7 +45,7 @@ use std::marker::Model;
 
 /// A recorded map of one owner: its shards without locks, each with its history.
 #[derive(Drop)]
-pub struct RecAlone<K: KeptKey, V: Kept, S: BuildHasher, A: KeptAction<K, V> = ()> {
+pub struct RecAlone<K: KeptKey, V: Kept, S: BuildHasher = FixedState, A: KeptAction<K, V> = ()> {
     pub(crate) hasher: S,
     pub(crate) callers: u32,
     pub(crate) row: Row<RecShard<K, V, S, A>, Locked<K, V, S, A>>,

@@ -10,6 +10,7 @@ ghost use Rattle.dash_history.specs.inner.Grows.{Adds};
 ghost use Rattle.dash_steps.specs.inner.Hashed.{HasHash};
 ghost use Rattle.dash_history.specs.Refused.{Records};
 
+use dash_shard::hash::FixedState;
 use dash_shard::shard::Shard;
 use dash_steps::action::KeptAction;
 use dash_steps::kept::{Kept, KeptKey};
@@ -161,7 +162,7 @@ impl<K, V, A> CallerLog<K, V, A> {
 
 /// A shard with the history that led to its pairs.
 #[derive(Drop)]
-pub struct RecShard<K: KeptKey, V: Kept, S: BuildHasher, A: KeptAction<K, V> = ()> {
+pub struct RecShard<K: KeptKey, V: Kept, S: BuildHasher = FixedState, A: KeptAction<K, V> = ()> {
     shard: Shard<K, V, S>,
     history: Vec<Record<K, V, A>>,
     last: u64,

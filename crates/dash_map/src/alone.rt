@@ -24,7 +24,7 @@ use crate::read_only::{Keys, ViewIter};
 use crate::shards::Shards;
 use crossbeam_utils::CachePadded;
 use dash_shard::error::{ConstructError, TryReserveError};
-use dash_shard::hash::is_shard_amount;
+use dash_shard::hash::{FixedState, is_shard_amount};
 use dash_shard::keyed::Keyed;
 use dash_shard::lock::RwLock;
 use dash_shard::row::Row;
@@ -42,7 +42,7 @@ mod changes;
 ///
 /// A contract sees its hasher and the row of its shards.
 #[derive(Drop)]
-pub struct Alone<K: Eq + Hash, V, S: BuildHasher> {
+pub struct Alone<K: Eq + Hash, V, S: BuildHasher = FixedState> {
     pub(crate) hasher: S,
     pub(crate) row: Row<Shard<K, V, S>, Locked<K, V, S>>,
 }

@@ -17,6 +17,7 @@ use crate::map::DashMap;
 use crate::shards::Shards;
 use dash_rows::copies::copy_shards;
 pub use dash_rows::view::{Keys, Values, ViewIter};
+use dash_shard::hash::FixedState;
 use dash_shard::keyed::Keyed;
 use dash_shard::row::Row;
 use dash_shard::shard::Shard;
@@ -31,7 +32,7 @@ use thiserror::Error;
 ///
 /// A contract sees its hasher and the row of its shards, as of a map of one owner.
 #[derive(Drop)]
-pub struct ReadOnlyView<K: Eq + Hash, V, S: BuildHasher> {
+pub struct ReadOnlyView<K: Eq + Hash, V, S: BuildHasher = FixedState> {
     pub(crate) hasher: S,
     pub(crate) shards: Vec<Shard<K, V, S>>,
 }
@@ -58,7 +59,7 @@ impl<K: Eq + Hash, V, S: BuildHasher> Keyed for ReadOnlyView<K, V, S> {
 /// No memory for a view's row of locks (15). The view comes back whole.
 #[derive(Drop, Error)]
 #[error("no memory for a row of locks")]
-pub struct ViewRefused<K: Eq + Hash, V, S: BuildHasher> {
+pub struct ViewRefused<K: Eq + Hash, V, S: BuildHasher = FixedState> {
     pub owner: ReadOnlyView<K, V, S>,
 }
 

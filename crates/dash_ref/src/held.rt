@@ -11,6 +11,7 @@ ghost use Rattle.dash_shard.specs.Held.{FitsTag, Inserts, Reserves, Loses};
 ghost use Rattle.dash_shard.specs.Lock.{LeftBehind};
 
 use dash_shard::error::TryReserveError;
+use dash_shard::hash::FixedState;
 use dash_shard::keyed::Keyed;
 use dash_shard::lock::{RwLockReadGuard, RwLockWriteGuard};
 use dash_shard::shard::{InsertRefused, Shard};
@@ -37,7 +38,7 @@ pub struct HeldShard<K: Eq + Hash, V, S: BuildHasher, H: Holds<Key = K, Value = 
 }
 
 /// A shard that is held for writing, behind its lock.
-pub type ShardMut<'a, K, V, S> = HeldShard<K, V, S, Writing<'a, K, V, S>>;
+pub type ShardMut<'a, K, V, S = FixedState> = HeldShard<K, V, S, Writing<'a, K, V, S>>;
 
 impl<K: Eq + Hash, V, S: BuildHasher, H: Holds<Key = K, Value = V, State = S>> Model
     for HeldShard<K, V, S, H> {

@@ -4,6 +4,7 @@ ghost use Rattle.std.specs.Iterator.{at_most};
 ghost use Rattle.std.specs.Map.Iter.{TakesFirst};
 ghost use Rattle.dash_shard.specs.Shard.{pairs};
 
+use dash_shard::hash::FixedState;
 use dash_shard::shard::{IntoIter, Shard};
 use std::hash::{BuildHasher, Hash};
 use std::iter::FusedIterator;
@@ -14,7 +15,7 @@ use std::vec;
 ///
 /// It waits for nobody. A step looks at the next slots. It hashes and searches nothing.
 #[derive(Drop)]
-pub struct OwningIter<K: Eq + Hash, V, S: BuildHasher> {
+pub struct OwningIter<K: Eq + Hash, V, S: BuildHasher = FixedState> {
     // What is left of the shard that the walk is in, and the shards behind it.
     here: Option<IntoIter<K, V>>,
     shards: vec::IntoIter<Shard<K, V, S>>,

@@ -4,6 +4,7 @@ ghost use Rattle.std.specs.List.{AllZip};
 ghost use Rattle.dash_shard.specs.Shard.{pairs};
 ghost use Rattle.dash_rows.specs.Parallel.{MayMap, MapsEach};
 
+use dash_shard::hash::FixedState;
 use dash_shard::shard::{self, Shard};
 use rayon::prelude::*;
 use std::alloc::{AllocError, Global};
@@ -13,7 +14,7 @@ use std::thread::Threads;
 
 /// The pairs of a map that ended, by rising shard and in each by rising slot. A contract sees it as their list.
 #[derive(Drop)]
-pub struct OwningIter<K: Eq + Hash, V, S: BuildHasher> {
+pub struct OwningIter<K: Eq + Hash, V, S: BuildHasher = FixedState> {
     shards: Vec<Shard<K, V, S>>,
 }
 
@@ -76,7 +77,7 @@ where
 
 /// The pairs of a view, by rising shard and in each by rising slot. A contract sees it as their list.
 #[derive(Drop)]
-pub struct Iter<'a, K: Eq + Hash, V, S: BuildHasher> {
+pub struct Iter<'a, K: Eq + Hash, V, S: BuildHasher = FixedState> {
     shards: &'a Vec<Shard<K, V, S>>,
 }
 

@@ -4,6 +4,7 @@ ghost use Rattle.std.specs.Iterator.{at_most};
 ghost use Rattle.std.specs.Map.Iter.{TakesFirst, deref, deref_pair};
 ghost use Rattle.dash_shard.specs.Shard.{pairs};
 
+use dash_shard::hash::FixedState;
 use dash_shard::shard::{Iter, Shard};
 use std::alloc::AllocError;
 use std::hash::{BuildHasher, Hash};
@@ -14,7 +15,7 @@ use std::marker::Model;
 ///
 /// A step looks at the next slots. It hashes and searches nothing.
 #[derive(Drop)]
-pub struct ViewIter<'a, K: Eq + Hash, V, S: BuildHasher> {
+pub struct ViewIter<'a, K: Eq + Hash, V, S: BuildHasher = FixedState> {
     // What is left of the shard that the walk is in, and the shards behind it.
     here: Iter<'a, K, V>,
     shards: &'a [Shard<K, V, S>],
@@ -78,7 +79,7 @@ impl<'a, K: Eq + Hash, V, S: BuildHasher> Clone for ViewIter<'a, K, V, S> {
 
 /// The keys of a map without locks, in the order of its pairs. A contract sees it as the list of those that are left.
 #[derive(Drop)]
-pub struct Keys<'a, K: Eq + Hash, V, S: BuildHasher> {
+pub struct Keys<'a, K: Eq + Hash, V, S: BuildHasher = FixedState> {
     pairs: ViewIter<'a, K, V, S>,
 }
 
@@ -117,7 +118,7 @@ impl<'a, K: Eq + Hash, V, S: BuildHasher> FusedIterator for Keys<'a, K, V, S> {}
 
 /// The values of a map without locks, in the order of its pairs. A contract sees it as the list of those that are left.
 #[derive(Drop)]
-pub struct Values<'a, K: Eq + Hash, V, S: BuildHasher> {
+pub struct Values<'a, K: Eq + Hash, V, S: BuildHasher = FixedState> {
     pairs: ViewIter<'a, K, V, S>,
 }
 

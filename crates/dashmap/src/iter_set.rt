@@ -8,6 +8,7 @@ ghost use Rattle.dashmap.specs.Set.{keys_of};
 
 use crate::setref::multiple::RefMulti;
 use dash_map::iter;
+use dash_shard::hash::FixedState;
 use std::alloc::AllocError;
 use std::hash::{BuildHasher, Hash};
 use std::iter::FusedIterator;
@@ -19,7 +20,7 @@ use std::sync::Wait;
 ///
 /// It waits for nobody. A step looks at the next slots. It hashes and searches nothing.
 #[derive(Drop)]
-pub struct OwningIter<K: Eq + Hash, S: BuildHasher> {
+pub struct OwningIter<K: Eq + Hash, S: BuildHasher = FixedState> {
     inner: iter::OwningIter<K, (), S>,
 }
 

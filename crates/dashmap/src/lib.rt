@@ -20,6 +20,8 @@ pub use dash_map::waiting::Waiting;
 pub use dash_ref::mapref::entry::{Entry, OccupiedEntry, VacantEntry};
 pub use dash_ref::util::SharedValue;
 pub use dash_shard::error::TryReserveError;
+pub use dash_shard::lock::raw::RawRwLock;
+pub use dash_shard::lock::{RwLock, RwLockReadGuard, RwLockWriteGuard};
 pub use dash_steps::kept::{Kept, KeptKey};
 pub use memo::Memo;
 pub use set::DashSet;
@@ -48,6 +50,19 @@ pub mod hash {
     };
 }
 
+/// Recorded maps: each step is kept with its reply, and `gather` gives one history of all that threads did.
+pub mod history {
+    pub use dash_history::alone::RecAlone;
+    pub use dash_history::gather::{At, GatherError, gather};
+    pub use dash_history::record::held::RecShardMut;
+    pub use dash_history::record::map::RecordedMap;
+    pub use dash_history::record::{CallerLog, Record, RecordFault};
+    pub use dash_steps::action::{Action, KeptAction};
+    pub use dash_steps::kept::{Kept, KeptKey};
+    pub use dash_steps::known::Recorded;
+    pub use dash_steps::step::{Reply, ShardStep};
+}
+
 /// Walks over the pairs of a map.
 pub mod iter {
     pub use dash_map::iter::{AloneIterMut, Iter, IterMut, OwningIter};
@@ -62,7 +77,7 @@ pub mod keyed {
 pub mod lock {
     pub use dash_shard::lock::raw::{ExclusiveHold, RawRwLock, SharedHold};
     pub use dash_shard::lock::word::{LockEvent, LockWord, Mark};
-    pub use dash_shard::lock::{RwLock, RwLockReadGuard, RwLockWriteGuard};
+    pub use dash_shard::lock::{RwLock, RwLockReadGuard, RwLockWriteGuard, Tagged};
 }
 
 /// References into a map, each of which holds a shard.
@@ -100,7 +115,8 @@ pub mod run {
 /// One shard of a map.
 pub mod shard {
     pub use dash_ref::held::{IntoShard, ShardMut};
-    pub use dash_shard::shard::Shard;
+    pub use dash_shard::shard::lanes::Probe;
+    pub use dash_shard::shard::{Search, Shard, probe};
 }
 
 /// What is generic in a map that threads share.

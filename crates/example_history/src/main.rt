@@ -1,14 +1,12 @@
 //! Two threads take steps on a recorded map, and their logs give its one history.
 #![tactic(auto)]
 
-use dash_history::record::CallerLog;
-use dash_history::record::map::RecordedMap;
-use dash_shard::hash::FixedState;
-use dash_steps::step::ShardStep;
+use dashmap::hash::FixedState;
+use dashmap::history::{CallerLog, RecordedMap, ShardStep};
 use std::thread;
 
 fn main(rt: HostRuntime) -> anyhow::Result<()> {
-    let (map, mut logs) = RecordedMap::<u64, u64, FixedState>::new(rt.alloc(), FixedState, 4, 2)?;
+    let (map, mut logs) = RecordedMap::<u64, u64>::new(rt.alloc(), FixedState, 4, 2)?;
     let insert = |caller: usize, log: &mut CallerLog<u64, u64>| {
         let _ = map.apply(&rt, log, ShardStep::Insert(1, caller as u64));
     };

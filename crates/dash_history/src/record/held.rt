@@ -17,6 +17,7 @@ ghost use Rattle.dash_history.specs.Refused.{Records};
 pub use super::tag::RecTag;
 use super::whole::{self, Member, Parts};
 use super::{CallerLog, RecShard, Record, RecordFault};
+use dash_shard::hash::FixedState;
 use dash_shard::lock::RwLockWriteGuard;
 use dash_steps::action::KeptAction;
 use dash_steps::kept::{Kept, KeptKey};
@@ -29,7 +30,13 @@ use std::mem;
 
 /// A recorded shard that is held for writing: the hold ends when it is dropped. A contract sees it as the shard with its history.
 #[must_use]
-pub struct RecShardMut<'a, K: KeptKey, V: Kept, S: BuildHasher, A: KeptAction<K, V> = ()> {
+pub struct RecShardMut<
+    'a,
+    K: KeptKey,
+    V: Kept,
+    S: BuildHasher = FixedState,
+    A: KeptAction<K, V> = (),
+> {
     guard: RwLockWriteGuard<'a, RecShard<K, V, S, A>>,
 }
 

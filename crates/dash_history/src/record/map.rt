@@ -24,6 +24,7 @@ use crate::record::{CallerLog, RecShard, Record};
 use core::mem::replace_with;
 use crossbeam_utils::CachePadded;
 use dash_shard::error::ConstructError;
+use dash_shard::hash::FixedState;
 use dash_shard::lock::RwLock;
 use dash_shard::row::Row;
 use dash_steps::action::KeptAction;
@@ -45,7 +46,7 @@ pub(crate) type Locked<K, V, S, A> = CachePadded<RwLock<RecShard<K, V, S, A>>>;
 /// A contract sees its hasher, the number of its callers and that of its shards, and what its locks were made for. Only who holds a
 /// lock knows what is behind it.
 #[derive(Drop)]
-pub struct RecordedMap<K: KeptKey, V: Kept, S: BuildHasher, A: KeptAction<K, V> = ()> {
+pub struct RecordedMap<K: KeptKey, V: Kept, S: BuildHasher = FixedState, A: KeptAction<K, V> = ()> {
     hasher: S,
     callers: u32,
     row: Row<Locked<K, V, S, A>, RecShard<K, V, S, A>>,

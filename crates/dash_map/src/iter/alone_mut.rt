@@ -10,6 +10,7 @@ ghost use Rattle.dash_map.specs.Alone.{IsAlone, contents};
 
 use crate::alone::Alone;
 use dash_ref::mapref::multiple::RefMutMulti;
+use dash_shard::hash::FixedState;
 use dash_shard::keyed::{Keyed, Lender};
 use std::hash::{BuildHasher, Hash};
 
@@ -19,7 +20,7 @@ use std::hash::{BuildHasher, Hash};
 /// A step looks at the next slots. It hashes and searches nothing, takes no memory, and waits for nobody. A contract sees the map, the
 /// pairs that were passed, as they were left, and those to come.
 #[derive(Drop)]
-pub struct AloneIterMut<'a, K: Eq + Hash, V, S: BuildHasher> {
+pub struct AloneIterMut<'a, K: Eq + Hash, V, S: BuildHasher = FixedState> {
     map: &'a mut Alone<K, V, S>,
     shard_i: usize,
     // Where the walk goes on in that shard: behind the pair on which it stands.

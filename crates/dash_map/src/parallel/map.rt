@@ -12,6 +12,7 @@ use crate::alone::Alone;
 use crate::map::DashMap;
 pub use dash_rows::parallel::OwningIter;
 use dash_rows::parallel::{answers, joined};
+use dash_shard::hash::FixedState;
 use dash_shard::keyed::Keyed;
 use rayon::prelude::*;
 use std::alloc::AllocError;
@@ -23,7 +24,7 @@ use std::thread::Threads;
 
 /// The pairs of a map that threads share, by rising shard and in each by rising slot. A contract sees the map.
 #[derive(Drop)]
-pub struct Iter<'a, K: Eq + Hash, V, S: BuildHasher> {
+pub struct Iter<'a, K: Eq + Hash, V, S: BuildHasher = FixedState> {
     map: &'a DashMap<K, V, S>,
 }
 
@@ -79,7 +80,7 @@ where
 
 /// The pairs of a map that threads share, with their values to be written. A contract sees the map.
 #[derive(Drop)]
-pub struct IterMut<'a, K: Eq + Hash, V, S: BuildHasher> {
+pub struct IterMut<'a, K: Eq + Hash, V, S: BuildHasher = FixedState> {
     map: &'a DashMap<K, V, S>,
 }
 

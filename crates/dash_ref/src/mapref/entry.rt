@@ -11,6 +11,7 @@ ghost use Rattle.dash_shard.specs.Shard.{Routes, IsShard};
 
 use crate::held::ShardMut;
 use crate::mapref::one::RefMut;
+use dash_shard::hash::FixedState;
 use dash_shard::keyed::Keyed;
 use dash_steps::kept::KeptKey;
 pub use occupied::OccupiedEntry;
@@ -35,7 +36,10 @@ pub enum EntryCase<O, V> {
 /// A key and a hold of its shard for writing, with the pair that stands there or with room for one, as the original's `Entry`.
 ///
 /// No call of it takes memory or waits, nor does the drop, which ends the hold.
-pub type Entry<'a, K, V, S> = EntryCase<OccupiedEntry<'a, K, V, S>, VacantEntry<'a, K, V, S>>;
+pub type Entry<'a, K, V, S = FixedState> = EntryCase<
+    OccupiedEntry<'a, K, V, S>,
+    VacantEntry<'a, K, V, S>,
+>;
 
 /// No room for the pair of a vacant key (2), which comes back. The pairs are as they were, and the hold is over.
 #[derive(Debug, Drop, Error)]
@@ -55,7 +59,7 @@ impl<K: Drop> From<EntryRefused<K>> for AllocError {
 /// No memory for the copy of a vacant key (3). The pairs are as they were, and the entry goes on.
 #[derive(Drop, Error)]
 #[error("no memory for the copy of a vacant key")]
-pub struct InsertEntryRefused<'a, K: Eq + Hash, V, S: BuildHasher> {
+pub struct InsertEntryRefused<'a, K: Eq + Hash, V, S: BuildHasher = FixedState> {
     pub entry: VacantEntry<'a, K, V, S>,
     pub value: V,
 }

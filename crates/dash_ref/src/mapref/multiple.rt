@@ -7,6 +7,7 @@ ghost use Rattle.dash_shard.specs.Shard.{slot, IsShard};
 ghost use Rattle.dash_ref.specs.Multi.{lent_pair, lent_value, with_lent_value};
 ghost use Rattle.dash_ref.specs.Ref.{Stands, pair_of};
 
+use dash_shard::hash::FixedState;
 use dash_shard::keyed::{Keyed, Lender};
 use dash_shard::lock::RwLockReadGuard;
 use dash_shard::shard::Shard;
@@ -23,7 +24,7 @@ use std::snapshot::Snapshot;
 /// The share is an `Rc`, where the original has an `Arc`, since a walk stays in its thread. As with `Ref`, this has the pair's position in
 /// the held shard, and reads the pair there without a look-up; the snapshots have no bytes. No call takes memory or waits, nor does the
 /// drop. A contract sees it as the held shard, the position, and the key and value there.
-pub struct RefMulti<'a, K: Eq + Hash, V, S: BuildHasher> {
+pub struct RefMulti<'a, K: Eq + Hash, V, S: BuildHasher = FixedState> {
     guard: Rc<RwLockReadGuard<'a, Shard<K, V, S>>>,
     position: usize,
     key: Snapshot<K>,

@@ -9,6 +9,7 @@ ghost use Rattle.dash_shard.specs.Steps.{Get, Pair};
 ghost use Rattle.dash_shard.specs.Shard.{slot, pairs, IsShard, RepliesOn};
 ghost use Rattle.dash_ref.specs.Ref.{Stands, pair_of};
 
+use dash_shard::hash::FixedState;
 use dash_shard::keyed::Keyed;
 use dash_shard::lock::RwLockReadGuard;
 use dash_shard::shard::Shard;
@@ -34,7 +35,7 @@ mod write;
 /// snapshots have no bytes. No call takes memory or waits, nor does the drop. Meanwhile others may read the shard, and whoever wants to
 /// write it waits: a thread that has this and waits to write a key of the same shard waits for itself. A contract sees it as the held
 /// shard, the position, and the key and value there.
-pub struct Ref<'a, K: Eq + Hash, V, S: BuildHasher> {
+pub struct Ref<'a, K: Eq + Hash, V, S: BuildHasher = FixedState> {
     guard: RwLockReadGuard<'a, Shard<K, V, S>>,
     position: usize,
     key: Snapshot<K>,

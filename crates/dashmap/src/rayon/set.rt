@@ -20,6 +20,7 @@ use dash_map::alone::Alone;
 use dash_map::map::default_shard_amount;
 use dash_map::parallel::map;
 use dash_shard::error::ConstructError;
+use dash_shard::hash::FixedState;
 use dash_shard::keyed::Keyed;
 use std::alloc::{AllocError, Global};
 use std::hash::{BuildHasher, Hash};
@@ -185,7 +186,7 @@ impl<K: Eq + Hash + Send + Sync + Drop, S: BuildHasher + Send + Sync> DashSet<K,
 
 /// The keys of a set that ended, by rising shard and in each by rising slot. A contract sees it as their list.
 #[derive(Drop)]
-pub struct OwningIter<K: Eq + Hash, S: BuildHasher> {
+pub struct OwningIter<K: Eq + Hash, S: BuildHasher = FixedState> {
     inner: map::OwningIter<K, (), S>,
 }
 
@@ -214,7 +215,7 @@ where
 
 /// The keys of a set that threads share, by rising shard and in each by rising slot. A contract sees the set.
 #[derive(Drop)]
-pub struct Iter<'a, K: Eq + Hash, S: BuildHasher> {
+pub struct Iter<'a, K: Eq + Hash, S: BuildHasher = FixedState> {
     inner: map::Iter<'a, K, (), S>,
 }
 

@@ -19,6 +19,7 @@ use crate::iter_set::OwningIter;
 use dash_map::alone::Alone;
 use dash_map::read_only::Keys;
 use dash_shard::error::TryReserveError;
+use dash_shard::hash::FixedState;
 use dash_shard::keyed::Keyed;
 use std::hash::{BuildHasher, Hash};
 use std::marker::Model;
@@ -27,7 +28,7 @@ use std::marker::Model;
 ///
 /// A contract sees it as a map of one owner to unit.
 #[derive(Drop)]
-pub struct AloneSet<K: Eq + Hash, S: BuildHasher> {
+pub struct AloneSet<K: Eq + Hash, S: BuildHasher = FixedState> {
     pub(crate) inner: Alone<K, (), S>,
 }
 

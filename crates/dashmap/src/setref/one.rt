@@ -6,6 +6,7 @@ ghost use Rattle.dash_shard.specs.Shard.{IsShard};
 ghost use Rattle.dash_ref.specs.Ref.{Stands};
 
 use dash_ref::mapref;
+use dash_shard::hash::FixedState;
 use dash_shard::keyed::Keyed;
 use std::fmt;
 use std::hash::{BuildHasher, Hash};
@@ -16,7 +17,7 @@ use std::ops::Deref;
 /// the key stays.
 ///
 /// No call takes memory or waits. A contract sees it as a reference of a map to unit: the held shard, the position, and the key there.
-pub struct Ref<'a, K: Eq + Hash, S: BuildHasher> {
+pub struct Ref<'a, K: Eq + Hash, S: BuildHasher = FixedState> {
     inner: mapref::one::Ref<'a, K, (), S>,
 }
 

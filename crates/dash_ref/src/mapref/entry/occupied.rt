@@ -13,6 +13,7 @@ ghost use Rattle.dash_ref.specs.Entry.{MayModify, Modified, revalued};
 use crate::held::ShardMut;
 use crate::held::holds::{Holds, Writing};
 use crate::mapref::one::{HeldRef, RefMut};
+use dash_shard::hash::FixedState;
 use dash_shard::keyed::Lender;
 use dash_shard::lock::RwLock;
 use dash_shard::shard::Shard;
@@ -27,7 +28,7 @@ pub struct HeldEntry<K: Eq + Hash, V, S: BuildHasher, H: Holds<Key = K, Value = 
 }
 
 /// The original's `OccupiedEntry`.
-pub type OccupiedEntry<'a, K, V, S> = HeldEntry<K, V, S, Writing<'a, K, V, S>>;
+pub type OccupiedEntry<'a, K, V, S = FixedState> = HeldEntry<K, V, S, Writing<'a, K, V, S>>;
 
 impl<K: Eq + Hash, V, S: BuildHasher, H: Holds<Key = K, Value = V, State = S>> Model
     for HeldEntry<K, V, S, H> {

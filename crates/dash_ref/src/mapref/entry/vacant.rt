@@ -10,6 +10,7 @@ ghost use Rattle.dash_ref.specs.Entry.{Puts, PutsCopy};
 use super::{InsertEntryRefused, OccupiedEntry};
 use crate::held::ShardMut;
 use crate::mapref::one::RefMut;
+use dash_shard::hash::FixedState;
 use dash_shard::keyed::Keyed;
 use dash_shard::shard::Place;
 use dash_steps::kept::KeptKey;
@@ -17,7 +18,7 @@ use std::hash::{BuildHasher, Hash};
 use std::marker::Model;
 
 /// A key, and a hold of its shard for writing, which has no pair with an equal key, and room for one: the original's `VacantEntry`.
-pub struct VacantEntry<'a, K: Eq + Hash, V, S: BuildHasher> {
+pub struct VacantEntry<'a, K: Eq + Hash, V, S: BuildHasher = FixedState> {
     shard: ShardMut<'a, K, V, S>,
     key: K,
     // That of the key.

@@ -13,6 +13,7 @@ ghost use Rattle.dash_ref.specs.RefMut.{stored, rewritten, GetsMut};
 use super::Ref;
 use crate::held::holds::{Holds, Writing};
 use crate::held::{HeldShard, ShardMut};
+use dash_shard::hash::FixedState;
 use dash_shard::keyed::{Keyed, Lender};
 use dash_shard::lock::RwLock;
 use dash_shard::shard::Shard;
@@ -36,7 +37,7 @@ pub struct HeldRef<K: Eq + Hash, V, S: BuildHasher, H: Holds<Key = K, Value = V,
 }
 
 /// The original's `RefMut`.
-pub type RefMut<'a, K, V, S> = HeldRef<K, V, S, Writing<'a, K, V, S>>;
+pub type RefMut<'a, K, V, S = FixedState> = HeldRef<K, V, S, Writing<'a, K, V, S>>;
 
 impl<K: Eq + Hash, V, S: BuildHasher, H: Holds<Key = K, Value = V, State = S>> Model
     for HeldRef<K, V, S, H> {
