@@ -3,6 +3,7 @@ pub mod Held
 pub mod Refused
 pub mod Joined
 pub mod Part
+pub mod Words
 pub mod inner
 pub mod Merge
 pub mod Alone

@@ -1,25 +1,11 @@
 //! A recorded map of one owner, without locks.
 ghost use Rattle.std.specs.Prelude.{◌∷◌, [], ◌≡◌, ◌+◌, ◌<◌, max, ◌↔◌, Some, IsErrOf, IsSomeAnd, IfOk, IfErr, IsFalse, OnErr, ◌-◌, ◌^◌, length, slice_get, Err, IsTrue, flat_map, option_map};
-ghost use Rattle.dash_shard.specs.Errors.{IsOneOf};
-ghost use Rattle.dash_shard.specs.declared.error.ConstructError.TheVariants.{Callers, Memory, ShardAmount};
-ghost use Rattle.dash_shard.specs.Hashing.{IsAmount, HashAlike};
-ghost use Rattle.dash_history.specs.History.{LogState, NoShard, IsFresh};
-ghost use Rattle.dash_steps.specs.Takes.{shard_of, Known, known};
-ghost use Rattle.dash_history.specs.Alone.{RecAloneState, IsCallers, IsRecAlone, Applied, NoStampIn, fresh_logs, kinds_in, last_at};
+ghost use Rattle.dash_history.specs.Words.{Applied, AppliedWhole, Callers, ClonesAll, CopiesRecPairs, CountsAll, EachAt, Gathers, HandsBack, HashAlike, IsAmount, IsCallers, IsFresh, IsOneHistory, IsOneOf, IsPart, IsRecAlone, Known, LastStamp, Locked, LogState, NoShard, NoStampIn, NoSuchShard, RecAloneState, RefusesPart, Reply, ShardAmount, ShardStep, Whole, fresh_logs, histories, kinds_in, known, last_at, pairs, record_at, shard_of, top_of};
+ghost use Rattle.dash_shard.specs.declared.error.ConstructError.TheVariants.{Memory};
 ghost use Rattle.dash_history.specs.inner.Fresh.{FreshRow};
-ghost use Rattle.dash_shard.specs.Shard.{EachAt, pairs};
 ghost use Rattle.dash_steps.specs.inner.Copied.{alike_pairs};
-ghost use Rattle.dash_history.specs.OneHistory.{IsOneHistory, Gathers, CopiesRecPairs, histories};
-ghost use Rattle.dash_history.specs.Merge.{record_at};
-ghost use Rattle.dash_history.specs.Refused.{HandsBack, RefusesPart};
 ghost use Rattle.dash_history.specs.declared.record.RecordFault.TheVariants as fault;
-ghost use Rattle.dash_history.specs.declared.record.RecordFault.TheVariants.{LastStamp, NoSuchShard, Locked};
-ghost use Rattle.dash_history.specs.WholeSteps.{AppliedWhole, CountsAll, ClonesAll, top_of};
 ghost use Rattle.dash_history.specs.inner.Parts.{Planned};
-ghost use Rattle.dash_steps.specs.declared.step.Whole.{Whole};
-ghost use Rattle.dash_steps.specs.Steps.{IsPart};
-ghost use Rattle.dash_steps.specs.declared.step.ShardStep.{ShardStep};
-ghost use Rattle.dash_steps.specs.declared.step.Reply.{Reply};
 
 use crate::gather::GatherError;
 use crate::joined::{join_numbers, join_pairs};

@@ -1,7 +1,6 @@
 //! Steps of callers on a map that threads share.
 ghost use Rattle.std.specs.Prelude.{◌≡◌, ◌<◌};
-ghost use Rattle.dash_history.specs.Map.{Logs};
-ghost use Rattle.dash_history.specs.declared.record.RecordFault.TheVariants.{Locked};
+ghost use Rattle.dash_history.specs.Words.{Locked, Logs};
 
 use crate::record::map::RecordedMap;
 use crate::record::{CallerLog, RecordFault};

@@ -1,11 +1,6 @@
 //! One history of a recorded map: the histories of its shards merged, where the logs of its callers match them.
 ghost use Rattle.std.specs.Prelude.{◌≡◌, List};
-ghost use Rattle.dash_history.specs.Alone.{RecAloneState};
-ghost use Rattle.dash_history.specs.History.{LogState};
-ghost use Rattle.dash_history.specs.declared.place.At.{At};
-ghost use Rattle.dash_history.specs.OneHistory.{IsGathered, Gathers, StampsStandInOrder};
-ghost use Rattle.dash_history.specs.Map.{RelocksRecShards, shape};
-ghost use Rattle.dash_steps.specs.Takes.{Known};
+ghost use Rattle.dash_history.specs.Words.{At, Gathers, IsGathered, Known, LogState, RecAloneState, RelocksRecShards, StampsStandInOrder, shape};
 
 pub use crate::place::At;
 use crate::record::CallerLog;

@@ -1,9 +1,7 @@
 //! What the parts of a whole step reply, joined.
 ghost use Rattle.std.specs.Prelude.{◌≡◌, IsTrue, IfOk, OnOk};
 ghost use Rattle.std.specs.Cmp.Lexicographic.{pointwise};
-ghost use Rattle.dash_steps.specs.Kept.{alike_pair};
-ghost use Rattle.dash_history.specs.Joined.{joined_number, joined_pairs, number_in, pairs_in};
-ghost use Rattle.dash_steps.specs.Steps.{reply_of};
+ghost use Rattle.dash_history.specs.Words.{alike_pair, joined_number, joined_pairs, number_in, pairs_in, reply_of};
 ghost use Rattle.dash_steps.specs.inner.Sweep.{AddsAlike};
 
 use crate::record::Record;

@@ -1,10 +1,8 @@
 //! Whether the logs of callers match the histories.
 ghost use Rattle.std.specs.Prelude.{◌≡◌, ◌+◌, ◌^◌, ◌<◌, ◌↔◌, ◌⊎◌, IfOk, IsTrue, MatchOption, Some, length, map};
 ghost use Rattle.std.specs.List.{Contains};
-ghost use Rattle.dash_history.specs.History.{alike_record};
+ghost use Rattle.dash_history.specs.Words.{AreCallers, At, IsMerge, Names, alike_record, record_at};
 ghost use Rattle.dash_history.specs.inner.Gathering.{agrees, AllEnded, EachLog, Finds, KeepsCallers, SomeGoesOn};
-ghost use Rattle.dash_history.specs.Merge.{AreCallers, IsMerge, Names, record_at};
-ghost use Rattle.dash_history.specs.declared.place.At.{At};
 
 use crate::place::At;
 use crate::record::{CallerLog, RecShard, Record};

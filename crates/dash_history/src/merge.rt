@@ -1,7 +1,7 @@
 //! The merge of the histories of a row of shards.
 ghost use Rattle.std.specs.Prelude.{◌≡◌, ◌++◌, map, IfOk, OnOk};
 ghost use Rattle.dash_history.specs.inner.Gathering.{EachRecorded, places, places_from};
-ghost use Rattle.dash_history.specs.Merge.{IsMerge};
+ghost use Rattle.dash_history.specs.Words.{IsMerge};
 
 use crate::place::At;
 use crate::record::{RecShard, Record};

@@ -1,14 +1,9 @@
 //! Recorded shards and callers' logs, and the one call that lengthens both.
 ghost use Rattle.std.specs.Prelude.{◌≡◌, ◌<◌, [], IsTrue, IfOk, IfErr, vec_len, vec_capacity, max};
-ghost use Rattle.dash_shard.specs.Hashing.{IsAmount};
-ghost use Rattle.dash_shard.specs.Shard.{SameShard};
-ghost use Rattle.dash_steps.specs.Steps.{IsPart};
-ghost use Rattle.dash_steps.specs.Takes.{known, GoesTo};
-ghost use Rattle.dash_history.specs.History.{IsFresh, IsLog, IsRecorded, last_or};
+ghost use Rattle.dash_history.specs.Words.{GoesTo, IsAmount, IsFresh, IsLog, IsPart, IsRecorded, Records, SameShard, known, last_or};
 ghost use Rattle.dash_history.specs.inner.Tells.{Tells};
 ghost use Rattle.dash_history.specs.inner.Grows.{Adds};
 ghost use Rattle.dash_steps.specs.inner.Hashed.{HasHash};
-ghost use Rattle.dash_history.specs.Refused.{Records};
 
 use dash_shard::hash::FixedState;
 use dash_shard::shard::Shard;

@@ -1,16 +1,8 @@
 //! Whole steps on a map that threads share: a count or a copy of all shards at one place of its history.
 ghost use Rattle.std.specs.Prelude.{◌≡◌, ◌-◌, ◌^◌, [], ◌∷◌, ◌<◌, ◌↔◌, ◌⊎◌, IsFalse, IsTrue, IfErr, IfOk, IfSome, OnErr};
-ghost use Rattle.dash_shard.specs.Lock.{LeftBehind};
-ghost use Rattle.dash_shard.specs.Errors.{IsOneOf};
-ghost use Rattle.dash_shard.specs.Shard.{EachAt};
-ghost use Rattle.dash_steps.specs.declared.step.Whole.{Whole};
-ghost use Rattle.dash_history.specs.Alone.{IsRecAlone};
-ghost use Rattle.dash_history.specs.Map.{IsRecFound, LeavesRecShards};
-ghost use Rattle.dash_history.specs.SharedSteps.{CountsShared, ClonesShared, FaultsWhole, StepsWhole};
-ghost use Rattle.dash_history.specs.WholeSteps.{AppliedWhole, CountsAll, ClonesAll};
+ghost use Rattle.dash_history.specs.Words.{AppliedWhole, ClonesAll, ClonesShared, CountsAll, CountsShared, EachAt, FaultsWhole, IsOneOf, IsRecAlone, IsRecFound, LastStamp, LeavesRecShards, LeftBehind, Locked, Memory, StepsWhole, Whole};
 ghost use Rattle.dash_history.specs.inner.Locks.{of_holds};
 ghost use Rattle.dash_history.specs.inner.Parts.{Planned};
-ghost use Rattle.dash_history.specs.declared.record.RecordFault.TheVariants.{LastStamp, Locked, Memory};
 
 use crate::joined::{join_numbers, join_pairs};
 use crate::record::held::RecShardMut;

@@ -17,4 +17,5 @@ pub mod Walks
 pub mod Walking
 pub mod WalkingMut
 pub mod Parallel
+pub mod Words
 pub mod inner

@@ -1,23 +1,9 @@
 //! A map of one owner, without locks.
 ghost use Rattle.std.specs.Prelude.{◌≡◌, ◌∷◌, [], ◌+◌, ◌<◌, ◌≤◌, ◌↔◌, IsErrOf, IfOk, IfErr, length, OnErr, is_some, IfSome, map, ◌==◌};
 ghost use Rattle.crossbeam_utils.specs.Padded.{padded_value};
-ghost use Rattle.dash_shard.specs.Hashing.{by, IsAmount, HashAlike};
-ghost use Rattle.dash_shard.specs.Errors.{IsOneOf};
-ghost use Rattle.dash_shard.specs.Shard.{EachAt, IsTagged};
-ghost use Rattle.dash_shard.specs.declared.error.ConstructError.TheVariants.{ShardAmount, CapacityOverflow, Memory};
-ghost use Rattle.dash_shard.specs.Held.{FitsTag};
-ghost use Rattle.dash_shard.specs.Lock.{FoundBehind, LeftBehind, EndedWith};
-ghost use Rattle.dash_map.specs.Amounts.{IsFresh, Overflows, share};
-ghost use Rattle.dash_map.specs.Extend.{HasNoRoom};
+ghost use Rattle.dash_map.specs.Words.{Answered, AreBehind, AreEnded, CapacityOverflow, EachAt, EndedWith, FitsTag, FoundBehind, HasNoRoom, HashAlike, Insert, IsAlone, IsAmount, IsAt, IsFresh, IsOneOf, IsTagged, LeftBehind, MayAsk, Memory, Old, Overflows, Pair, Remove, RemoveIf, ReservesAlone, ShardAmount, TakesAlone, TakesAloneBy, Viewed, at, by, contents, keys_in, len_in, locked, made_of, room_in, share};
 ghost use Rattle.std.specs.Option.{option_map};
 ghost use Rattle.std.specs.Map.Iter.{deref_pair};
-ghost use Rattle.dash_shard.specs.Contents.{at};
-ghost use Rattle.dash_shard.specs.Steps.{Insert, Remove, Pair, Old, RemoveIf};
-ghost use Rattle.dash_shard.specs.Closures.{MayAsk, Viewed, Answered};
-ghost use Rattle.dash_map.specs.Alone.{IsAlone, ReservesAlone, TakesAlone, contents, keys_in, len_in, room_in, TakesAloneBy};
-ghost use Rattle.dash_map.specs.Locks.{IsAt, made_of};
-ghost use Rattle.dash_map.specs.Map.{locked};
-ghost use Rattle.dash_map.specs.Behind.{AreBehind, AreEnded};
 
 use crate::map::{DashMap, Locked};
 use crate::read_only::{Keys, ViewIter};

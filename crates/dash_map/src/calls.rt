@@ -3,18 +3,7 @@
 ghost use Rattle.std.specs.Prelude.{◌≡◌, ◌<◌, ◌==◌, length, Option, IsTrue, IfSome, is_some};
 ghost use Rattle.std.specs.Option.{option_map};
 ghost use Rattle.std.specs.Map.Iter.{deref_pair};
-ghost use Rattle.dash_shard.specs.Closures.{MayAsk, Viewed, MayChange, ChangesOn, MayGive, Answered, Given};
-ghost use Rattle.dash_shard.specs.Contents.{at};
-ghost use Rattle.dash_shard.specs.Lock.{FoundBehind};
-ghost use Rattle.dash_shard.specs.Shard.{ShardState, pairs, IsShard};
-ghost use Rattle.dash_map.specs.Map.{shape};
-ghost use Rattle.dash_map.specs.Behind.{SawShards, LeavesShard, SawAt, Relocks, IsShardOf, Removes, RemovesBy, AltersBy};
-ghost use Rattle.dash_map.specs.Gets.{IsGot, IsGotMut};
-ghost use Rattle.dash_shard.specs.Hashing.{route_by};
-ghost use Rattle.dash_map.specs.Alone.{contents, len_in, room_in, ReservesAlone};
-ghost use Rattle.dash_map.specs.Walking.{at_start};
-ghost use Rattle.dash_shard.specs.Held.{FitsTag, Inserts};
-ghost use Rattle.dash_shard.specs.Steps.{RemoveIf, RemoveIfMut};
+ghost use Rattle.dash_map.specs.Words.{AltersBy, Answered, ChangesOn, FitsTag, FoundBehind, Given, Inserts, IsGot, IsGotMut, IsShard, IsShardOf, LeavesShard, MayAsk, MayChange, MayGive, Relocks, RemoveIf, RemoveIfMut, Removes, RemovesBy, ReservesAlone, SawAt, SawShards, ShardState, Viewed, at, at_start, contents, len_in, pairs, room_in, route_by, shape};
 
 use crate::iter::Iter;
 use crate::map::DashMap;

@@ -1,9 +1,6 @@
 //! Copies of a map: of each shard, one allocation and what the copies of keys and values take.
 ghost use Rattle.std.specs.Prelude.{IfOk};
-ghost use Rattle.dash_shard.specs.Hashing.{by, HashAlike};
-ghost use Rattle.dash_map.specs.Alone.{IsAlone};
-ghost use Rattle.dash_map.specs.Behind.{MadeShards, SawShards};
-ghost use Rattle.dash_map.specs.Copies.{CopiesAlone};
+ghost use Rattle.dash_map.specs.Words.{CopiesAlone, HashAlike, IsAlone, MadeShards, SawShards, by};
 
 use crate::alone::Alone;
 use crate::map::DashMap;

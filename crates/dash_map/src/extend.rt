@@ -1,15 +1,8 @@
 //! Lists of pairs that are put into a map, or make one.
 ghost use Rattle.std.specs.Prelude.{◌≡◌, ◌↔◌, None, IfErr, IfOk, IsErrOf, length};
 ghost use Rattle.std.specs.Iterator.{IsFiniteIterable};
-ghost use Rattle.dash_shard.specs.Contents.{EachOnce};
-ghost use Rattle.dash_shard.specs.Hashing.{HashAlike};
-ghost use Rattle.dash_shard.specs.declared.error.ConstructError.TheVariants.{Parallelism};
-ghost use Rattle.dash_map.specs.Alone.{IsAlone, KeepsRoom, contents};
-ghost use Rattle.dash_map.specs.Amounts.{IsDefault, IsParallelism};
-ghost use Rattle.dash_map.specs.Behind.{MadeShards};
-ghost use Rattle.dash_map.specs.Map.{shape};
-ghost use Rattle.dash_map.specs.Extend.{Extends, ExtendsBehind, Gave, MadeOf, NotMade, IsRefusedAmong, IsRefusedOf};
-ghost use Rattle.dash_map.specs.declared.extend.FromRefused.TheVariants.{Construct, Pair};
+ghost use Rattle.dash_map.specs.Words.{Construct, EachOnce, Extends, ExtendsBehind, Gave, HashAlike, IsAlone, IsDefault, IsParallelism, IsRefusedAmong, IsRefusedOf, KeepsRoom, MadeOf, MadeShards, NotMade, Parallelism, contents, shape};
+ghost use Rattle.dash_map.specs.declared.extend.FromRefused.TheVariants.{Pair};
 
 use crate::alone::Alone;
 use crate::map::{DashMap, default_shard_amount};

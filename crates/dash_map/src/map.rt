@@ -1,11 +1,6 @@
 //! The map that threads share.
 ghost use Rattle.std.specs.Prelude.{ℕ, ◌≡◌, ◌<◌, ◌↔◌, ◌∷◌, [], length, map, IsErrOf, IfOk, IfErr, OnOk};
-ghost use Rattle.dash_shard.specs.Hashing.{by, IsAmount, HashAlike, hash_of, route_of_hash, route_by};
-ghost use Rattle.dash_shard.specs.declared.error.ConstructError.TheVariants.{CapacityOverflow, Memory, Parallelism, ShardAmount};
-ghost use Rattle.dash_map.specs.Amounts.{IsParallelism, IsDefault, Overflows, OverflowsDefault, share};
-ghost use Rattle.dash_shard.specs.Errors.{IsOneOf};
-ghost use Rattle.dash_map.specs.Locks.{IsMap, made_of};
-ghost use Rattle.dash_map.specs.Map.{IsNew, shape};
+ghost use Rattle.dash_map.specs.Words.{CapacityOverflow, HashAlike, IsAmount, IsDefault, IsMap, IsNew, IsOneOf, IsParallelism, Memory, Overflows, OverflowsDefault, Parallelism, ShardAmount, by, hash_of, made_of, route_by, route_of_hash, shape, share};
 
 use crate::alone::Alone;
 use crossbeam_utils::CachePadded;

@@ -1,10 +1,7 @@
 //! Lists of copies of a map's pairs, and what a closure makes of them.
 ghost use Rattle.std.specs.Prelude.{IfOk, map};
 ghost use Rattle.std.specs.List.{FoldsTo};
-ghost use Rattle.dash_steps.specs.Kept.{CopiesEach};
-ghost use Rattle.dash_map.specs.Alone.{IsAlone, contents};
-ghost use Rattle.dash_map.specs.Behind.{SawShards};
-ghost use Rattle.dash_map.specs.Folds.{Folds, MayFold, MayVisit, Visits, of_key, of_pair};
+ghost use Rattle.dash_map.specs.Words.{CopiesEach, Folds, IsAlone, MayFold, MayVisit, SawShards, Visits, contents, of_key, of_pair};
 
 use crate::alone::Alone;
 use crate::map::DashMap;

@@ -2,15 +2,7 @@
 ghost use Rattle.std.specs.Prelude.{◌≡◌, ◌≤◌, ◌==◌, IfOk, IfErr, is_some, length, map};
 ghost use Rattle.std.specs.Option.{option_map};
 ghost use Rattle.std.specs.Map.Iter.{deref_pair};
-ghost use Rattle.dash_shard.specs.Hashing.{by};
-ghost use Rattle.dash_shard.specs.Contents.{at};
-ghost use Rattle.dash_map.specs.Alone.{IsAlone, contents, len_in, room_in};
-ghost use Rattle.dash_shard.specs.Lock.{LeftBehind};
-ghost use Rattle.dash_map.specs.Behind.{AreBehind, AreEnded};
-ghost use Rattle.dash_map.specs.Map.{locked};
-ghost use Rattle.dash_map.specs.Copies.{CopiesAlone};
-ghost use Rattle.dash_map.specs.Folds.{FoldsEach, MayFold, MayVisit, VisitsEach, of_pair};
-ghost use Rattle.dash_shard.specs.Hashing.{HashAlike};
+ghost use Rattle.dash_map.specs.Words.{AreBehind, AreEnded, CopiesAlone, FoldsEach, HashAlike, IsAlone, LeftBehind, MayFold, MayVisit, VisitsEach, at, by, contents, len_in, locked, of_pair, room_in};
 
 use crate::alone::Alone;
 use crate::map::DashMap;

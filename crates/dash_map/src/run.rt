@@ -1,9 +1,6 @@
 //! Runs: lists of steps that one owner takes, with their replies.
 ghost use Rattle.std.specs.Prelude.{◌≡◌, ◌<◌, IfOk, IfErr, length};
-ghost use Rattle.dash_steps.specs.Steps.{step_of};
-ghost use Rattle.dash_steps.specs.Takes.{rules};
-ghost use Rattle.dash_map.specs.Alone.{IsAlone, keys_in, KeepsRoom};
-ghost use Rattle.dash_map.specs.Walks.{WalksGive};
+ghost use Rattle.dash_map.specs.Words.{IsAlone, KeepsRoom, WalksGive, keys_in, rules, step_of};
 ghost use Rattle.dash_map.specs.inner.Run.{TakesLike, IsMissing};
 
 use crate::alone::Alone;

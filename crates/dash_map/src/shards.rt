@@ -2,9 +2,7 @@
 ghost use Rattle.std.specs.Prelude.{◌≡◌, ◌<◌, ◌≤◌, length};
 ghost use Rattle.std.specs.Option.{option_map};
 ghost use Rattle.std.specs.Map.Iter.{deref_pair};
-ghost use Rattle.dash_shard.specs.Hashing.{by};
-ghost use Rattle.dash_shard.specs.Contents.{at};
-ghost use Rattle.dash_map.specs.Alone.{IsAlone, contents, keys_in, len_in, room_in};
+ghost use Rattle.dash_map.specs.Words.{IsAlone, at, by, contents, keys_in, len_in, room_in};
 
 use crate::read_only::ViewIter;
 use dash_shard::hash::determine_shard;

@@ -1,18 +1,7 @@
 //! The calls of a map that threads share, as a trait: code may be written for any such map.
 ghost use Rattle.std.specs.Prelude.{◌≡◌, ◌<◌, ◌==◌, length, IsTrue, IfOk, IfSome, is_some};
 ghost use Rattle.std.specs.Map.Calls.{CalledAtPair, TakesPair};
-ghost use Rattle.dash_shard.specs.Closures.{MayAsk, Viewed, MayChange, ChangesOn, MayGive, Answered, Given};
-ghost use Rattle.dash_shard.specs.Each.{CalledOnPair, TakesOnPair};
-ghost use Rattle.dash_shard.specs.Held.{Inserts};
-ghost use Rattle.dash_shard.specs.Lock.{FoundBehind};
-ghost use Rattle.dash_shard.specs.Steps.{RemoveIf, RemoveIfMut};
-ghost use Rattle.dash_map.specs.Alone.{contents, len_in, room_in};
-ghost use Rattle.dash_map.specs.AllPairs.{ClearsAlone, ShrinksAlone, RetainsAlone, AltersAllAlone};
-ghost use Rattle.dash_map.specs.Behind.{SawShards, LeavesShard, LeavesShards, CallableOnPairs, SawAt, IsShardOf, Removes, RemovesBy, AltersBy};
-ghost use Rattle.dash_map.specs.Gets.{IsGot, IsGotMut, IsGotEntry};
-ghost use Rattle.dash_map.specs.Map.{MapState};
-ghost use Rattle.dash_map.specs.Tries.{UnlessLocked, UnlessLockedOut};
-ghost use Rattle.dash_map.specs.Walking.{at_start};
+ghost use Rattle.dash_map.specs.Words.{AltersAllAlone, AltersBy, Answered, CallableOnPairs, CalledOnPair, ChangesOn, ClearsAlone, FoundBehind, Given, Inserts, IsGot, IsGotEntry, IsGotMut, IsShardOf, LeavesShard, LeavesShards, MapState, MayAsk, MayChange, MayGive, RemoveIf, RemoveIfMut, Removes, RemovesBy, RetainsAlone, SawAt, SawShards, ShrinksAlone, TakesOnPair, UnlessLocked, UnlessLockedOut, Viewed, at_start, contents, len_in, room_in};
 
 use crate::iter::{Iter, IterMut};
 use crate::map::DashMap;

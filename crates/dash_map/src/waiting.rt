@@ -1,10 +1,6 @@
 //! A map that threads share, with the right to wait: the operators of the original stand on it.
 ghost use Rattle.std.specs.Prelude.{◌≡◌, ⊤, is_some};
-ghost use Rattle.dash_shard.specs.Held.{Inserts};
-ghost use Rattle.dash_shard.specs.Hashing.{by};
-ghost use Rattle.dash_map.specs.Behind.{LeavesShard, Removes, SawAt};
-ghost use Rattle.dash_map.specs.Gets.{IsGot, IsGotMut};
-ghost use Rattle.dash_map.specs.Walking.{at_start};
+ghost use Rattle.dash_map.specs.Words.{Inserts, IsGot, IsGotMut, LeavesShard, Removes, SawAt, at_start, by};
 
 use crate::iter::Iter;
 use crate::map::DashMap;

@@ -1,3 +1,4 @@
+pub mod Words
 pub mod inner
 pub mod Part
 pub mod Multi

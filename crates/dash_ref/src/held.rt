@@ -2,17 +2,12 @@
 ghost use Rattle.std.specs.Prelude.{◌≡◌, ◌<◌, ◌≤◌, ◌↔◌, IsTrue, IsSome, IfSome};
 ghost use Rattle.std.specs.Option.{option_map};
 ghost use Rattle.std.specs.Map.Iter.{deref_pair};
-ghost use Rattle.dash_shard.specs.Hashing.{by};
-ghost use Rattle.dash_shard.specs.Contents.{at};
-ghost use Rattle.dash_shard.specs.Steps.{Get, Contains, Pair, Found, Remove, RemoveIf, RemoveIfMut, Alter, Done};
-ghost use Rattle.dash_shard.specs.Shard.{slot, with_value_in, pairs, shard_len, Routes, IsShard, RepliesOn, TakesInPlace, TakesBy};
-ghost use Rattle.dash_shard.specs.Closures.{MayAsk, Viewed, MayChange, ChangesOn, MayGive, Answered, Given};
-ghost use Rattle.dash_shard.specs.Held.{FitsTag, Inserts, Reserves, Loses};
-ghost use Rattle.dash_shard.specs.Lock.{LeftBehind};
+ghost use Rattle.dash_ref.specs.Words.{Alter, Answered, ChangesOn, Contains, Done, FitsTag, Found, Get, Given, Inserts, IsShard, LeftBehind, Loses, MayAsk, MayChange, MayGive, Pair, Remove, RemoveIf, RemoveIfMut, RepliesOn, Reserves, Routes, TakesBy, TakesInPlace, Viewed, at, by, pairs, shard_len, slot, with_value_in};
 
 use dash_shard::error::TryReserveError;
 use dash_shard::hash::FixedState;
 use dash_shard::keyed::Keyed;
+use dash_shard::lock::hold::Hold;
 use dash_shard::lock::{RwLockReadGuard, RwLockWriteGuard};
 use dash_shard::shard::{InsertRefused, Shard};
 use holds::{Holds, Wakes, Writing};
@@ -110,7 +105,7 @@ impl<'a, K: Eq + Hash, V, S: BuildHasher> IntoShard for RwLockWriteGuard<'a, Sha
         ensures value { result ≡ self.entry.value }
         ensures fits { FitsTag ⟦<Shard<K, V, S> as Keyed>⟧.by self.entry.tag result }
     {
-        let (hold, lock) = self.into_parts();
+        let (hold, lock) = Hold::of(self);
         HeldShard {
             hold,
             lock,
@@ -131,7 +126,7 @@ impl<'a, K: Eq + Hash, V, S: BuildHasher> ShardMut<'a, K, V, S> {
             lock,
             marker: _,
         } = self;
-        RwLockWriteGuard::of_parts(hold, lock).downgrade()
+        hold.guard(lock).downgrade()
     }
 }
 

@@ -1,6 +1,6 @@
 //! What a call that waits for nobody returns.
 ghost use Rattle.std.specs.Prelude.{◌≡◌, ◌↔◌, IsTrue, Some};
-ghost use Rattle.dash_ref.specs.declared.try_result.TryResult.TheVariants.{Present, Absent, Locked};
+ghost use Rattle.dash_ref.specs.Words.{Absent, Locked, Present};
 
 /// The answer of a look-up that waits for nobody, as the original's.
 #[derive(Clone, Copy, Debug, PartialEq, Eq, Drop)]

@@ -1,4 +1,5 @@
 pub mod Copies
 pub mod Parallel
+pub mod Words
 pub mod inner
 pub mod Apart

@@ -1,8 +1,6 @@
 //! Copies of shards.
 ghost use Rattle.std.specs.Prelude.{◌≡◌, ◌<◌, None, IfOk, OnOk};
-ghost use Rattle.dash_shard.specs.Hashing.{HashAlike};
-ghost use Rattle.dash_shard.specs.Contents.{at};
-ghost use Rattle.dash_shard.specs.Shard.{pairs, shard_len, Routes, IsShard};
+ghost use Rattle.dash_rows.specs.Words.{HashAlike, IsShard, Routes, at, pairs, shard_len};
 ghost use Rattle.dash_rows.specs.inner.Copies.{PutsCopy, IsCopied, AreCopied};
 
 use dash_shard::keyed::Keyed;

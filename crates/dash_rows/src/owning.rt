@@ -2,7 +2,7 @@
 ghost use Rattle.std.specs.Prelude.{◌≡◌, flat_map, length};
 ghost use Rattle.std.specs.Iterator.{at_most};
 ghost use Rattle.std.specs.Map.Iter.{TakesFirst};
-ghost use Rattle.dash_shard.specs.Shard.{pairs};
+ghost use Rattle.dash_rows.specs.Words.{pairs};
 
 use dash_shard::hash::FixedState;
 use dash_shard::shard::{IntoIter, Shard};

@@ -1,8 +1,7 @@
 //! Parallel work on the pairs of shards that nobody else has. A thread takes shard after shard.
 ghost use Rattle.std.specs.Prelude.{◌≡◌, List, Vec, Ok, ⊤, All, IfOk, flat_map, map};
 ghost use Rattle.std.specs.List.{AllZip};
-ghost use Rattle.dash_shard.specs.Shard.{pairs};
-ghost use Rattle.dash_rows.specs.Parallel.{MayMap, MapsEach};
+ghost use Rattle.dash_rows.specs.Words.{MapsEach, MayMap, pairs};
 
 use dash_shard::hash::FixedState;
 use dash_shard::shard::{self, Shard};

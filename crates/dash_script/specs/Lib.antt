@@ -3,6 +3,7 @@ pub mod Replay
 pub mod Script
 pub mod Status
 pub mod Threads
+pub mod Words
 pub mod inner
 pub mod Command
 pub mod Memo

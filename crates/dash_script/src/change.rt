@@ -1,6 +1,6 @@
 //! Changes of a value that a script writes.
 ghost use Rattle.std.specs.Prelude.{◌≡◌, Bool, true, IfOk, IsTrue};
-ghost use Rattle.dash_script.specs.Change.{acts};
+ghost use Rattle.dash_script.specs.Words.{acts};
 ghost use Rattle.dash_script.specs.inner.AlikeChange.{alike_change};
 
 use dash_steps::action::{Action, KeptAction};

@@ -1,13 +1,8 @@
 //! The command line.
 ghost use Rattle.std.specs.Prelude.{◌≡◌, ◌↔◌, ℕ, ◌*◌, ◌++◌, ◌∷◌, [], ◌⊎◌, IsTrue, IfSome, IfNone, IfOk, OnOk, OnErr, true, false};
 ghost use Rattle.std.specs.Io.KnownBytes.{Appends};
-ghost use Rattle.dash_script.specs.Status.{code_of};
-ghost use Rattle.dash_script.specs.Command.{ForMemo, ForThreads, IsScript, IsCommand, in_bytes, usage};
+ghost use Rattle.dash_script.specs.Words.{ForMemo, ForThreads, IsCommand, IsJudged, IsScript, IsSized, Refuses, SaysAllRight, SaysMemoRefusal, SaysRefusal, TakesAll, code_of, in_bytes, stop_text, usage, verdict_lines};
 ghost use Rattle.dash_script.specs.inner.Command.{Asks};
-ghost use Rattle.dash_script.specs.Memo.{SaysAllRight, SaysMemoRefusal};
-ghost use Rattle.dash_script.specs.Script.{TakesAll, Refuses, stop_text};
-ghost use Rattle.dash_script.specs.Threads.{IsJudged, SaysRefusal, verdict_lines};
-ghost use Rattle.dash_script.specs.CommandWords.{IsSized};
 
 use crate::script::{self, Stop};
 use crate::status::Status;

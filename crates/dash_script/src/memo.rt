@@ -1,8 +1,7 @@
 //! `dashcheck memo`: threads that ask one cache for the same values, and how many of these were computed.
 ghost use Rattle.std.specs.Prelude.{◌≡◌, ◌≢◌, ℕ, ◌*◌, ◌+◌, ◌%◌, ◌^◌, ◌<◌, ◌≤◌, ◌==◌, ◌∷◌, ◌++◌, [], IfOk, IfErr, OnOk, length, slice_index_or, if◌then◌else◌};
 ghost use Rattle.std.specs.Io.KnownBytes.{Appends};
-ghost use Rattle.dash_script.specs.Memo.{SaysAllRight, SaysMemoRefusal, memo_refusal, tally_lines, value_of};
-ghost use Rattle.dash_script.specs.Threads.{IsSize};
+ghost use Rattle.dash_script.specs.Words.{IsSize, SaysAllRight, SaysMemoRefusal, memo_refusal, tally_lines, value_of};
 ghost use Rattle.dash_script.specs.inner.Memo.{AreAllRight, EachAllRight};
 
 use crate::status::Status;

@@ -1,7 +1,7 @@
 //! `dashcheck script`: steps from the input, one a line, and their replies on the output.
 ghost use Rattle.std.specs.Prelude.{◌≡◌, ◌≢◌, ◌<◌, ◌++◌, ◌∷◌, [], Some, IfSome, IfNone, IfOk, IfErr, OnOk};
 ghost use Rattle.std.specs.Io.KnownBytes.{Appends};
-ghost use Rattle.dash_script.specs.Script.{text_of, fault_text, IsReplyTo, IsFaultOf, TakesAll, StopsAt, Refuses, written_line};
+ghost use Rattle.dash_script.specs.Words.{IsFaultOf, IsReplyTo, Refuses, StopsAt, TakesAll, fault_text, text_of, written_line};
 
 use crate::change::Change;
 use crate::lines::Lines;

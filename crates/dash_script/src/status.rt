@@ -1,6 +1,6 @@
 //! How a command ends.
 ghost use Rattle.std.specs.Prelude.{◌≡◌};
-ghost use Rattle.dash_script.specs.Status.{code_of};
+ghost use Rattle.dash_script.specs.Words.{code_of};
 
 /// How the program ended.
 #[derive(Clone, Copy, Debug, PartialEq, Eq)]

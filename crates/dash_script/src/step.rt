@@ -2,9 +2,7 @@
 ghost use Rattle.std.specs.Prelude.{◌≡◌, ◌↔◌, ℕ, ◌<◌, ◌^◌, ◌++◌, ◌∷◌, List, IsTrue, IfSome, IfNone};
 ghost use Rattle.std.specs.Fmt.{decimal};
 ghost use Rattle.std.specs.Str.{IsAscii};
-ghost use Rattle.dash_script.specs.declared.change.Change.{Change};
-ghost use Rattle.dash_script.specs.declared.step.Line.{Line};
-ghost use Rattle.dash_script.specs.Script.{IsInOrder, written, written_line};
+ghost use Rattle.dash_script.specs.Words.{Change, IsInOrder, Line, written, written_line};
 ghost use Rattle.dash_script.specs.inner.Words.{HasChange, ScriptStep, change_text, IsPlain, IsFirst};
 
 use crate::change::Change;

@@ -2,11 +2,7 @@
 //! is gathered of it is legal. But for `run` its functions are public for the tests alone.
 ghost use Rattle.std.specs.Prelude.{◌≡◌, ◌≢◌, ℕ, ◌+◌, ◌*◌, ◌%◌, ◌^◌, ◌<◌, ◌≤◌, ◌⊎◌, ◌↔◌, ◌∷◌, ◌++◌, [], All, Err, IfOk, IfErr, IfSome, IfNone, OnOk, OnErr, IsTrue, length, map, sum_by, slice_index_or, vec_len, if◌then◌else◌, true, false};
 ghost use Rattle.std.specs.Io.KnownBytes.{Appends};
-ghost use Rattle.dash_history.specs.Alone.{fresh_logs};
-ghost use Rattle.dash_history.specs.Map.{SawRecShards};
-ghost use Rattle.dash_history.specs.OneHistory.{Matches};
-ghost use Rattle.dash_script.specs.Replay.{IsThreadStep};
-ghost use Rattle.dash_script.specs.Threads.{IsSize, IsJudged, IsSo, thread_step, refusal_text, SaysRefusal, verdict_lines};
+ghost use Rattle.dash_script.specs.Words.{IsJudged, IsSize, IsSo, IsThreadStep, Matches, SawRecShards, SaysRefusal, fresh_logs, refusal_text, thread_step, verdict_lines};
 ghost use Rattle.dash_script.specs.inner.Threads.{LogsStep, IsIdle, IsFirstRefusal, MayRefuse, Works, AllDone, HasTaken, idle, IsJudgedOf, IsJudgedBy};
 
 pub mod replay;

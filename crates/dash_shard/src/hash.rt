@@ -1,7 +1,7 @@
 //! Hashers of fixed meaning, and the route from a hash to a shard.
 ghost use Rattle.std.specs.Prelude.{◌≡◌, ◌↔◌, ◌<◌, IsTrue};
 ghost use Rattle.std.specs.List.{fold};
-ghost use Rattle.dash_shard.specs.Hashing.{IsAmount, route_of_hash, fnv_start, fnv_step, placed};
+ghost use Rattle.dash_shard.specs.Words.{IsAmount, fnv_start, fnv_step, placed, route_of_hash};
 
 use std::hash::{BuildHasher, Hasher};
 

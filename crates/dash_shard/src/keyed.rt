@@ -1,5 +1,5 @@
 //! Names for contracts: of a type's keys, and of a type that lends. They have no counterpart in the original.
-ghost use Rattle.dash_shard.specs.Hashing.{KeyHash};
+ghost use Rattle.dash_shard.specs.Words.{KeyHash};
 
 /// Names, for contracts alone, which keys of a type are equal and the hash that each gets. It has no function and no code.
 pub trait Keyed {

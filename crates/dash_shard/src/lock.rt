@@ -4,8 +4,7 @@
 //! `LockEvent` alone, each one atomic step. Whoever can't have the lock spins, yields its processor, and then sets its mark and sleeps.
 ghost use Rattle.std.specs.Prelude.{◌≡◌, IfSome};
 ghost use Rattle.std.specs.Fn.{FnOnceReturnsAtMut, FnOnceTakesAtMut};
-ghost use Rattle.dash_shard.specs.KeepsFit.{KeepsFit};
-ghost use Rattle.dash_shard.specs.Lock.{FoundBehind, GivenBack, LeftBehind, EndedWith};
+ghost use Rattle.dash_shard.specs.Words.{EndedWith, FoundBehind, GivenBack, KeepsFit, LeftBehind};
 
 use cell::{Cell, Origin};
 use hold::Hold;
@@ -256,9 +255,9 @@ impl<T: Tagged> RwLockWriteGuard<'_, T> {
         self.change(|value: &mut T| -> T { mem::replace(value, ManuallyDrop::into_inner(new)) })
     }
 
-    /// Calls `f` on the value in place, so that nothing moves. What `f` leaves has to fit.
+    // Calls `f` on the value in place, so that nothing moves. What `f` leaves has to fit.
     #[inline]
-    pub fn change<R, F: FnOnce(&mut T) -> R>(&mut self, f: F) -> R
+    fn change<R, F: FnOnce(&mut T) -> R>(&mut self, f: F) -> R
         requires callable { FnOnceTakesAtMut F.FnOnce f self.old.value }
         requires keeps { KeepsFit (T.fits self.old.tag) F.FnOnce f self.old.value }
         ensures tag { self.new.tag ≡ self.old.tag }
@@ -286,26 +285,26 @@ impl<'a, T: Tagged> RwLockWriteGuard<'a, T> {
     }
 }
 
-impl<'a, T: Tagged> RwLockWriteGuard<'a, T> {
-    /// The guard's hold, and its lock. For the crates here alone.
+impl<'a, T: Tagged> Hold<'a, T> {
+    /// The hold of a guard, and its lock.
     #[inline]
-    pub fn into_parts(self) -> (Hold<'a, T>, &'a RwLock<T>)
+    pub fn of(guard: RwLockWriteGuard<'a, T>) -> (Hold<'a, T>, &'a RwLock<T>)
         ensures right { result.0.right ≡ 2 }
-        ensures same { (result.0.tag ≡ self.entry.tag) × (result.0.value ≡ self.entry.value) }
-        ensures fits { T.fits self.entry.tag self.entry.value }
+        ensures same { (result.0.tag ≡ guard.entry.tag) × (result.0.value ≡ guard.entry.value) }
+        ensures fits { T.fits guard.entry.tag guard.entry.value }
     {
-        let Self { hold, lock } = self;
+        let RwLockWriteGuard { hold, lock } = guard;
         (hold, lock)
     }
 
-    /// The guard of a hold and its lock. For the crates here alone.
+    /// The guard of a hold to write, and of its lock.
     #[inline]
-    pub fn of_parts(hold: Hold<'a, T>, lock: &'a RwLock<T>) -> RwLockWriteGuard<'a, T>
-        requires right { hold.right ≡ 2 }
-        requires fits { T.fits hold.tag hold.value }
-        ensures same { (result.tag ≡ hold.entry.tag) × (result.value ≡ hold.entry.value) }
+    pub fn guard(self, lock: &'a RwLock<T>) -> RwLockWriteGuard<'a, T>
+        requires right { self.right ≡ 2 }
+        requires fits { T.fits self.tag self.value }
+        ensures same { (result.tag ≡ self.entry.tag) × (result.value ≡ self.entry.value) }
     {
-        RwLockWriteGuard { hold, lock }
+        RwLockWriteGuard { hold: self, lock }
     }
 }
 

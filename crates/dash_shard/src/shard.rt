@@ -3,13 +3,7 @@ ghost use Rattle.std.specs.Prelude.{◌≡◌, ◌+◌, ◌<◌, ◌≤◌, ◌�
 ghost use Rattle.std.specs.Option.{option_map, option_copied_mut};
 ghost use Rattle.std.specs.Map.Iter.{deref_pair};
 ghost use Rattle.std.specs.Borrow.{LendsIf, sem};
-ghost use Rattle.dash_shard.specs.Hashing.{by, IsAmount};
-ghost use Rattle.dash_shard.specs.Contents.{at};
-ghost use Rattle.dash_shard.specs.Steps.{Get, Contains, Remove, Pair, Found, RemoveIf, RemoveIfMut, Alter, Done};
-ghost use Rattle.dash_shard.specs.Shard.{pairs, shard_len, Routes, IsShard, RepliesOn, TakesInPlace, TakesBy, with_value_of};
-ghost use Rattle.dash_shard.specs.Held.{Inserts, Reserves, Loses};
-ghost use Rattle.dash_shard.specs.Closures.{MayAsk, Viewed, MayChange, ChangesOn, MayGive, Answered, Given};
-ghost use Rattle.dash_shard.specs.declared.error.ConstructError.TheVariants.{Memory};
+ghost use Rattle.dash_shard.specs.Words.{Alter, Answered, ChangesOn, Contains, Done, Found, Get, Given, Inserts, IsAmount, IsShard, Loses, MayAsk, MayChange, MayGive, Memory, Pair, Remove, RemoveIf, RemoveIfMut, RepliesOn, Reserves, Routes, TakesBy, TakesInPlace, Viewed, at, by, pairs, shard_len, with_value_of};
 
 use crate::error::{ConstructError, TryReserveError};
 use crate::hash::determine_shard;

@@ -1,4 +1,5 @@
 pub mod Kept
+pub mod Words
 pub mod inner
 pub mod Alike
 pub mod Steps

@@ -3,11 +3,9 @@
 ghost use Rattle.std.specs.Prelude.{◌≡◌, IsTrue, IsSome, IfOk, OnErr};
 ghost use Rattle.std.specs.Option.{option_map};
 ghost use Rattle.std.specs.Map.Iter.{deref_pair};
-ghost use Rattle.dash_shard.specs.Shard.{SameShard};
-ghost use Rattle.dash_shard.specs.Steps.{line};
+ghost use Rattle.dash_steps.specs.Words.{SameShard, line, step_of};
 ghost use Rattle.dash_steps.specs.inner.Copied.{AlikeFound};
 ghost use Rattle.dash_steps.specs.inner.Plan.{Plans, IsTakenSlot, MakesAt, StaysLawful, pair_in};
-ghost use Rattle.dash_steps.specs.Steps.{step_of};
 ghost use Rattle.dash_steps.specs.inner.Hashed.{Asks};
 
 use crate::action::Action;

@@ -1,10 +1,8 @@
 //! What a step will do to a shard: it is made first, since it takes memory, and carried out once all copies are there.
 ghost use Rattle.std.specs.Prelude.{◌≡◌, IfOk, IfErr, OnOk};
-ghost use Rattle.dash_shard.specs.Shard.{Routes, SameShard};
-ghost use Rattle.dash_steps.specs.Takes.{GoesTo, known};
+ghost use Rattle.dash_steps.specs.Words.{Finds, GoesTo, Routes, SameShard, known};
 ghost use Rattle.dash_steps.specs.inner.Hashed.{HasHash};
 ghost use Rattle.dash_steps.specs.inner.Plan.{MayAnswer, Decides, Makes, StaysLawful, Leaves, IsFound, HasPlace};
-ghost use Rattle.dash_shard.specs.Held.{Finds};
 ghost use Rattle.dash_shard.specs.inner.Table.{MayTake};
 ghost use Rattle.std.specs.Result.{result_ok};
 

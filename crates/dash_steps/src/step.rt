@@ -1,6 +1,6 @@
 //! One step of one shard, its reply, and the record of both.
 ghost use Rattle.std.specs.Prelude.{◌≡◌, ◌<◌, ◌↔◌, IfOk, IsTrue};
-ghost use Rattle.dash_shard.specs.Hashing.{by};
+ghost use Rattle.dash_steps.specs.Words.{by};
 
 use crate::action::Action;
 use crate::kept::Kept;

@@ -1,10 +1,7 @@
 //! A step on one shard, which it changes in place: a shard is a part of its map. For the crates here alone.
 ghost use Rattle.std.specs.Prelude.{◌≡◌, true, IsTrue, IfOk, IfErr};
-ghost use Rattle.dash_shard.specs.Hashing.{by, key_hash};
-ghost use Rattle.dash_shard.specs.Shard.{IsShard};
-ghost use Rattle.dash_steps.specs.Steps.{step_of};
+ghost use Rattle.dash_steps.specs.Words.{IsShard, TakesOn, by, key_hash, step_of};
 ghost use Rattle.dash_steps.specs.inner.Hashed.{Asks};
-ghost use Rattle.dash_steps.specs.Takes.{TakesOn};
 ghost use Rattle.dash_steps.specs.inner.Take.{Goes, goes-after};
 
 use crate::action::Action;

@@ -1,9 +1,9 @@
--- The words of the contracts, for clauses of programs that use the maps.
+-- The words of the contracts, for clauses of programs that use the maps too.
 pub use Rattle.dash_steps.specs.Kept.{CopiesEach, alike_pair}
 pub use Rattle.dash_steps.specs.inner.AlikeLaws.{pair_equal, pair_equiv}
 pub use Rattle.dash_rows.specs.Apart.{EachPart, RanFront, RanShort, RanWhole, SomePart, TakenInTurn, steps_of}
 pub use Rattle.dash_shard.specs.Contents.{at}
-pub use Rattle.dash_shard.specs.Hashing.{IsAmount, HashAlike, route_by}
+pub use Rattle.dash_shard.specs.Hashing.{IsAmount, HashAlike, route_by, by, hash_of, route_of_hash}
 pub use Rattle.dash_shard.specs.Each.{Shrinks, close_room}
 pub use Rattle.dash_shard.specs.Held.{Inserts, Loses}
 pub use Rattle.dash_shard.specs.Memory.{NoMemory}
@@ -23,8 +23,8 @@ pub use Rattle.dash_ref.specs.EntryCases.{Entry, MatchEntry, IsEntryOf}
 pub use Rattle.dash_ref.specs.declared.mapref.entry.EntryCase.TheVariants.{Occupied, Vacant}
 pub use Rattle.dash_map.specs.Alone.{AloneState, contents, IsAlone, KeepsRoom, ReservesAlone, TakesAlone, TakesAloneBy, keys_in, len_in, room_in}
 pub use Rattle.dash_map.specs.AllPairs.{AltersAllAlone, ClearsAlone, RetainsAlone, ShrinksAlone}
-pub use Rattle.dash_map.specs.Amounts.{IsDefault, IsFresh, IsParallelism, share}
-pub use Rattle.dash_map.specs.Behind.{AreBehind, AreEnded, EndedShards, LeavesShard, LeavesShards, LeftShards, MadeShards, Relocks, SawAt, SawShard, SawShards, IsShardOf, StandsAt, Removes, RemovesBy, AltersBy}
+pub use Rattle.dash_map.specs.Amounts.{IsDefault, IsFresh, IsParallelism, share, OverflowsDefault}
+pub use Rattle.dash_map.specs.Behind.{AreBehind, AreEnded, EndedShards, LeavesShard, LeavesShards, LeftShards, MadeShards, Relocks, SawAt, SawShard, SawShards, IsShardOf, StandsAt, Removes, RemovesBy, AltersBy, CallableOnPairs}
 pub use Rattle.dash_map.specs.Folds.{Folds, FoldsEach, MayFold, MayVisit, Visits, VisitsEach, of_key, of_pair}
 pub use Rattle.dash_map.specs.Gets.{IsGot, IsGotMut, IsGotEntry}
 pub use Rattle.dash_map.specs.Lends.{with_value_at}
@@ -38,4 +38,7 @@ pub use Rattle.dash_map.specs.Copies.{CopiesAlone}
 pub use Rattle.dash_map.specs.Extend.{Extends, ExtendsBehind, Gains, Gave, HasNoRoom, IsRefusedAmong, IsRefusedOf, InsertsEach, MadeOf, NotMade, Overfills, ParExtends, ParExtendsBehind, PutsAll, PutsEachBehind, PutsFront, PutsShort, first_with_last}
 pub use Rattle.dash_rows.specs.Parallel.{MayMap, Maps, MapsEach}
 pub use Rattle.dash_map.specs.Parallel.{MayWrite, Writes}
-pub use Rattle.dashmap.specs.Set.{stood, member, inserted, keys_of, members, of_members, MayMapKey}
+pub use Rattle.dashmap.specs.Set.{stood, member, inserted, keys_of, members, of_members, MayMapKey, AnsweredKey, CalledAtKey, TakesKey}
+pub use Rattle.dash_shard.specs.Errors.{IsOneOf}
+pub use Rattle.dash_map.specs.declared.extend.FromRefused.TheVariants.{Construct}
+pub use Rattle.dash_map.specs.Locks.{IsMap, made_of}

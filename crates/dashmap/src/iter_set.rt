@@ -2,9 +2,7 @@
 ghost use Rattle.std.specs.Prelude.{◌≡◌, length, map, ⊤};
 ghost use Rattle.std.specs.Iterator.{at_most};
 ghost use Rattle.std.specs.Map.Iter.{TakesFirst};
-ghost use Rattle.dash_shard.specs.Hashing.{by};
-ghost use Rattle.dash_map.specs.Walking.{StepsOn, at_start, steps_left};
-ghost use Rattle.dashmap.specs.Set.{keys_of};
+ghost use Rattle.dashmap.specs.Words.{StepsOn, at_start, by, keys_of, steps_left};
 
 use crate::setref::multiple::RefMulti;
 use dash_map::iter;

@@ -1,13 +1,6 @@
 //! A cache of what a rule computes, over the map that threads share.
 ghost use Rattle.std.specs.Prelude.{◌≡◌, ◌↔◌, ◌∷◌, [], true, IfErr, IfOk, IfSome, IsErrOf, IsTrue, Option, is_some};
-ghost use Rattle.dash_shard.specs.Errors.{IsOneOf};
-ghost use Rattle.dash_shard.specs.Hashing.{by, HashAlike, IsAmount};
-ghost use Rattle.dash_shard.specs.declared.error.ConstructError.TheVariants.{Memory, Parallelism, ShardAmount};
-ghost use Rattle.dash_map.specs.Alone.{len_in, room_in};
-ghost use Rattle.dash_map.specs.AllPairs.{ClearsAlone};
-ghost use Rattle.dash_map.specs.Amounts.{IsDefault, IsParallelism};
-ghost use Rattle.dash_map.specs.Behind.{LeavesShards, Removes, SawShards};
-ghost use Rattle.dash_map.specs.Map.{IsNew, shape};
+ghost use Rattle.dashmap.specs.Words.{ClearsAlone, HashAlike, IsAmount, IsDefault, IsNew, IsOneOf, IsParallelism, LeavesShards, Memory, Parallelism, Removes, SawShards, ShardAmount, by, len_in, room_in, shape};
 
 use dash_map::map::DashMap;
 use dash_ref::mapref::entry::Entry;

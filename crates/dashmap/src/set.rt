@@ -1,22 +1,7 @@
 //! A set that threads share: a map to unit.
 ghost use Rattle.std.specs.Prelude.{ℕ, ◌≡◌, ◌<◌, ◌∷◌, [], ◌==◌, ◌↔◌, length, map, true, IsTrue, IfSome, IfOk, IfErr, IsErrOf, is_some};
 ghost use Rattle.std.specs.Fn.{FnOnceTakesAt};
-ghost use Rattle.dash_shard.specs.Hashing.{by, HashAlike, hash_of, route_of_hash, route_by};
-ghost use Rattle.dash_shard.specs.Errors.{IsOneOf};
-ghost use Rattle.dash_shard.specs.Held.{Inserts};
-ghost use Rattle.dash_shard.specs.Steps.{RemoveIf};
-ghost use Rattle.dash_shard.specs.declared.error.ConstructError.TheVariants.{CapacityOverflow, Memory, Parallelism};
-ghost use Rattle.dash_map.specs.Alone.{contents, len_in, room_in};
-ghost use Rattle.dash_map.specs.AllPairs.{ClearsAlone, RetainsAlone, ShrinksAlone};
-ghost use Rattle.dash_map.specs.Amounts.{IsDefault, IsParallelism, OverflowsDefault, share};
-ghost use Rattle.dash_map.specs.Copies.{CopiesAlone};
-ghost use Rattle.dash_map.specs.Behind.{CallableOnPairs, EndedShards, LeavesShard, LeavesShards, MadeShards, Removes, RemovesBy, SawAt, SawShards};
-ghost use Rattle.dash_map.specs.Folds.{FoldsEach, MayFold, MayVisit, VisitsEach, of_key};
-ghost use Rattle.dash_map.specs.Gets.{IsGot};
-ghost use Rattle.dash_map.specs.Locks.{IsMap, made_of};
-ghost use Rattle.dash_map.specs.Map.{IsNew, shape};
-ghost use Rattle.dash_map.specs.Walking.{at_start};
-ghost use Rattle.dashmap.specs.Set.{AnsweredKey, CalledAtKey, TakesKey, inserted, keys_of, member};
+ghost use Rattle.dashmap.specs.Words.{AnsweredKey, CallableOnPairs, CalledAtKey, CapacityOverflow, ClearsAlone, CopiesAlone, EndedShards, FoldsEach, HashAlike, Inserts, IsDefault, IsGot, IsMap, IsNew, IsOneOf, IsParallelism, LeavesShard, LeavesShards, MadeShards, MayFold, MayVisit, Memory, OverflowsDefault, Parallelism, RemoveIf, Removes, RemovesBy, RetainsAlone, SawAt, SawShards, ShrinksAlone, TakesKey, VisitsEach, at_start, by, contents, hash_of, inserted, keys_of, len_in, made_of, member, of_key, room_in, route_by, route_of_hash, shape, share};
 
 use crate::iter_set::{Iter, OwningIter};
 use crate::setref::one::Ref;

@@ -1,24 +1,15 @@
 //! A recorded shard that is held for writing, changed in place behind its lock.
 ghost use Rattle.std.specs.Prelude.{◌≡◌, [], ◌∷◌, ◌++◌, ◌-◌, ◌^◌, ◌<◌, ◌↔◌, IsErrOf, IsFalse, IsTrue, IfErr, IfOk};
-ghost use Rattle.dash_shard.specs.Errors.{IsOneOf};
-ghost use Rattle.dash_shard.specs.Shard.{EachAt, Routes};
-ghost use Rattle.dash_shard.specs.Lock.{LeftBehind};
-ghost use Rattle.dash_history.specs.History.{IsRecorded, RecState};
-ghost use Rattle.dash_steps.specs.Takes.{GoesTo, known};
-ghost use Rattle.dash_history.specs.Part.{and_record, greatest};
+ghost use Rattle.dash_history.specs.Words.{EachAt, FitsRecTag, GoesTo, IsOneOf, IsPart, IsRecorded, LastStamp, LeftBehind, Memory, RecState, Records, Routes, Whole, and_record, greatest, known};
 ghost use Rattle.dash_history.specs.inner.Parts.{AddedEach, HasOneMore, IsNext, Planned, SameEach};
-ghost use Rattle.dash_history.specs.declared.record.RecordFault.TheVariants.{LastStamp, Memory};
-ghost use Rattle.dash_steps.specs.declared.step.Whole.{Whole};
-ghost use Rattle.dash_steps.specs.Steps.{IsPart};
 ghost use Rattle.dash_steps.specs.inner.Hashed.{HasHash};
-ghost use Rattle.dash_history.specs.Held.{FitsRecTag};
-ghost use Rattle.dash_history.specs.Refused.{Records};
 
 pub use super::tag::RecTag;
 use super::whole::{self, Member, Parts};
 use super::{CallerLog, RecShard, Record, RecordFault};
 use dash_shard::hash::FixedState;
-use dash_shard::lock::RwLockWriteGuard;
+use dash_shard::lock::hold::Hold;
+use dash_shard::lock::{RwLock, RwLockWriteGuard};
 use dash_steps::action::KeptAction;
 use dash_steps::kept::{Kept, KeptKey};
 use dash_steps::known::Recorded;
@@ -37,16 +28,22 @@ pub struct RecShardMut<
     S: BuildHasher = FixedState,
     A: KeptAction<K, V> = (),
 > {
-    guard: RwLockWriteGuard<'a, RecShard<K, V, S, A>>,
+    hold: Hold<'a, RecShard<K, V, S, A>>,
+    lock: &'a RwLock<RecShard<K, V, S, A>>,
 }
 
 impl<'a, K: KeptKey, V: Kept, S: BuildHasher, A: KeptAction<K, V>> Model
     for RecShardMut<'a, K, V, S, A> {
+    ghost use Rattle.std.specs.Prelude.{◌≡◌};
+    ghost use Rattle.dash_shard.specs.Hashing.{key_hash};
+    ghost use Rattle.dash_history.specs.Held.{FitsRecTag};
     ghost use Rattle.dash_history.specs.History.{RecState};
 
     ghost Value = { RecState K V A S };
 
-    ghost view = { λ s. s.guard.value };
+    ghost view = { λ s. s.hold.value };
+
+    ghost invariant = { λ s. (s.hold.right ≡ 2) × FitsRecTag (key_hash K.eq K.hash_input S.BuildHasher S.Hasher.Hasher) s.hold.tag s.hold.value };
 }
 
 impl<K: KeptKey, V: Kept, S: BuildHasher, A: KeptAction<K, V>> Recorded
@@ -68,8 +65,8 @@ impl<K: KeptKey, V: Kept, S: BuildHasher, A: KeptAction<K, V>> Drop
     fn drop(self)
         ensures left { LeftBehind self.entry }
     {
-        let Self { guard } = self;
-        drop(guard);
+        let Self { hold, lock } = self;
+        drop(hold.guard(lock));
     }
 }
 
@@ -80,7 +77,8 @@ impl<'a, K: KeptKey, V: Kept, S: BuildHasher, A: KeptAction<K, V>> RecShardMut<'
         ensures value { result ≡ guard.entry.value }
         ensures fits { FitsRecTag ⟦<Self as Recorded>⟧.known.keys guard.entry.tag result }
     {
-        RecShardMut { guard }
+        let (hold, lock) = Hold::of(guard);
+        RecShardMut { hold, lock }
     }
 }
 
@@ -97,7 +95,7 @@ impl<K: KeptKey + Drop, V: Kept + Drop, S: BuildHasher, A: KeptAction<K, V> + Dr
         ensures number { result ≡ self.now.shard.number }
         ensures legal { IsRecorded ⟦<Self as Recorded>⟧.known self.now }
     {
-        self.guard.shard().number()
+        self.hold.get().shard().number()
     }
 
     /// How many shards the map has.
@@ -105,7 +103,7 @@ impl<K: KeptKey + Drop, V: Kept + Drop, S: BuildHasher, A: KeptAction<K, V> + Dr
     pub fn amount(&self) -> usize
         ensures { result ≡ self.now.shard.amount }
     {
-        self.guard.shard().amount()
+        self.hold.get().shard().amount()
     }
 
     /// How many callers the map has.
@@ -113,7 +111,7 @@ impl<K: KeptKey + Drop, V: Kept + Drop, S: BuildHasher, A: KeptAction<K, V> + Dr
     pub fn callers(&self) -> u32
         ensures { result ≡ self.now.callers }
     {
-        self.guard.callers()
+        self.hold.get().callers()
     }
 
     /// The stamp of the shard's last step, 0 for none.
@@ -121,7 +119,7 @@ impl<K: KeptKey + Drop, V: Kept + Drop, S: BuildHasher, A: KeptAction<K, V> + Dr
     pub fn last_stamp(&self) -> u64
         ensures { result ≡ self.now.last }
     {
-        self.guard.last_stamp()
+        self.hold.get().last_stamp()
     }
 
     /// Whether the key goes to this shard.
@@ -129,7 +127,7 @@ impl<K: KeptKey + Drop, V: Kept + Drop, S: BuildHasher, A: KeptAction<K, V> + Dr
     pub fn routes(&self, key: &K) -> bool
         ensures { IsTrue result ↔ Routes ⟦<Self as Recorded>⟧.known.keys self.now.shard key.now }
     {
-        self.guard.shard().routes(key)
+        self.hold.get().shard().routes(key)
     }
 
     /// Takes a step of this shard, and adds one same record of it at the end of its history and of the caller's log.
@@ -156,7 +154,7 @@ impl<K: KeptKey + Drop, V: Kept + Drop, S: BuildHasher, A: KeptAction<K, V> + Dr
     fn hash_of(&self, step: &ShardStep<K, V, A>) -> u64
         ensures { HasHash ⟦<Self as Recorded>⟧.known self.now.shard step.now result }
     {
-        let shard = self.guard.shard();
+        let shard = self.hold.get().shard();
         step.route(shard.hasher(), shard.amount()).0
     }
 
@@ -176,7 +174,7 @@ impl<K: KeptKey + Drop, V: Kept + Drop, S: BuildHasher, A: KeptAction<K, V> + Dr
         // The closure takes the log and gives it back, and a log with no entries stands in its place meanwhile.
         let blank = CallerLog::new(log.allocator(), log.caller());
         let mine = mem::replace(log, blank);
-        let (mine, answer) = self.guard.change(
+        let (mine, answer) = self.hold.change(
             |shard: &mut RecShard<K, V, S, A>| -> (
                 CallerLog<K, V, A>,
                 Result<Reply<K, V>, (ShardStep<K, V, A>, RecordFault)>,
@@ -244,7 +242,7 @@ impl<K: KeptKey + Drop, V: Kept + Drop, S: BuildHasher, A: KeptAction<K, V> + Dr
     ghost state = { λ s. s };
 
     fn last(&self) -> u64 {
-        self.guard.last_stamp()
+        self.hold.get().last_stamp()
     }
 
     fn tell(
@@ -254,7 +252,7 @@ impl<K: KeptKey + Drop, V: Kept + Drop, S: BuildHasher, A: KeptAction<K, V> + Dr
         stamp: u64,
         caller: u32,
     ) -> Result<(Record<K, V, A>, Record<K, V, A>), AllocError> {
-        self.guard.tell(alloc, kind, stamp, caller)
+        self.hold.get().tell(alloc, kind, stamp, caller)
     }
 
     fn add(&mut self, entry: Record<K, V, A>) -> bool
@@ -262,7 +260,7 @@ impl<K: KeptKey + Drop, V: Kept + Drop, S: BuildHasher, A: KeptAction<K, V> + Dr
         ensures added { IsTrue result → self.new ≡ and_record self.old entry }
         ensures refused { IsFalse result → self.new ≡ self.old }
     {
-        self.guard.change(
+        self.hold.change(
             |shard: &mut RecShard<K, V, S, A>| -> bool
                 requires { IsNext (known K.KeptKey V.alike A.KeptAction S.BuildHasher S.Hasher.Hasher) shard.old entry }
                 ensures added { IsTrue result → shard.new ≡ and_record shard.old entry }
@@ -276,7 +274,7 @@ impl<K: KeptKey + Drop, V: Kept + Drop, S: BuildHasher, A: KeptAction<K, V> + Dr
         requires { (s : RecState K V A S) × HasOneMore ⟦<Self as Recorded>⟧.known s self.old }
         ensures { (s : RecState K V A S) → HasOneMore ⟦<Self as Recorded>⟧.known s self.old → self.new ≡ s }
     {
-        self.guard.change(
+        self.hold.change(
             |shard: &mut RecShard<K, V, S, A>|
                 requires { (s : RecState K V A S)
                     × HasOneMore (known K.KeptKey V.alike A.KeptAction S.BuildHasher S.Hasher.Hasher) s shard.old }

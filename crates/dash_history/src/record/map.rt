@@ -2,20 +2,10 @@
 ghost use Rattle.std.specs.Prelude.{◌∷◌, [], ◌≡◌, ◌<◌, ◌↔◌, Some, IsErrOf, IfOk, IfErr, IfSome, length, option_map, slice_get};
 ghost use Rattle.crossbeam_utils.specs.Padded.{padded_value};
 ghost use Rattle.std.specs.Borrow.{sem};
-ghost use Rattle.dash_shard.specs.Lock.{FoundBehind, LeftBehind, EndedWith};
-ghost use Rattle.dash_shard.specs.Stays.{StaysAt};
-ghost use Rattle.dash_shard.specs.Shard.{EachAt};
-ghost use Rattle.dash_shard.specs.Errors.{IsOneOf};
-ghost use Rattle.dash_shard.specs.declared.error.ConstructError.TheVariants.{Callers, Memory, ShardAmount};
-ghost use Rattle.dash_shard.specs.Hashing.{by, IsAmount, HashAlike};
-ghost use Rattle.dash_history.specs.Alone.{IsCallers, EachRecShard, fresh_logs, last_at};
-ghost use Rattle.dash_history.specs.Held.{IsRecTagged};
-ghost use Rattle.dash_history.specs.History.{IsFresh, IsRecorded};
-ghost use Rattle.dash_history.specs.Map.{IsRecFound, IsRecShardOf, RelocksRecShards, SawRecShard, locked, made_for, rec_map, shape, shard_on};
-ghost use Rattle.dash_history.specs.OneHistory.{CopiesRecPairs};
+ghost use Rattle.dash_history.specs.Words.{Callers, CopiesRecPairs, EachAt, EachRecShard, EndedWith, FoundBehind, HashAlike, IsAmount, IsCallers, IsFresh, IsOneOf, IsRecFound, IsRecShardOf, IsRecTagged, IsRecorded, LeftBehind, RelocksRecShards, SawRecShard, ShardAmount, StaysAt, by, fresh_logs, known, last_at, locked, made_for, rec_map, shape, shard_on};
+ghost use Rattle.dash_shard.specs.declared.error.ConstructError.TheVariants.{Memory};
 ghost use Rattle.dash_history.specs.inner.Locks.{IsRecAt, LeavesLock, made_of};
 ghost use Rattle.dash_steps.specs.inner.Hashed.{IsHashBy};
-ghost use Rattle.dash_steps.specs.Takes.{known};
 
 use super::held::RecShardMut;
 use crate::alone::RecAlone;

@@ -1,6 +1,5 @@
 //! What the lock of a recorded shard is made for.
-ghost use Rattle.dash_shard.specs.Hashing.{by};
-ghost use Rattle.dash_history.specs.Held.{FitsRecTag};
+ghost use Rattle.dash_history.specs.Words.{FitsRecTag, by};
 
 use super::RecShard;
 use dash_shard::lock::Tagged;

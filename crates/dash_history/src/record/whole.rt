@@ -1,14 +1,7 @@
 //! Whole steps on a row of recorded shards: a part in each, all at one stamp.
 ghost use Rattle.std.specs.Prelude.{◌≡◌, ◌+◌, ◌-◌, ◌^◌, ◌<◌, ◌≤◌, [], ◌∷◌, ◌++◌, ◌↔◌, IsErrOf, IsFalse, IsTrue, IfErr, IfOk, Some, length, slice_get};
-ghost use Rattle.dash_shard.specs.Errors.{IsOneOf};
-ghost use Rattle.dash_shard.specs.Shard.{EachAt};
-ghost use Rattle.dash_steps.specs.Takes.{known};
-ghost use Rattle.dash_steps.specs.declared.step.Whole.{Whole};
-ghost use Rattle.dash_history.specs.declared.record.Record.{Record};
-ghost use Rattle.dash_history.specs.History.{RecState, IsRecorded, last_or};
-ghost use Rattle.dash_history.specs.Part.{and_record, greatest};
+ghost use Rattle.dash_history.specs.Words.{EachAt, IsOneOf, IsRecorded, LastStamp, Memory, RecState, Record, Whole, and_record, greatest, known, last_or};
 ghost use Rattle.dash_history.specs.inner.Parts.{AddedEach, HasOneMore, IsNext, Planned, SameEach, TakenBack, TellsTwice, ToldEach};
-ghost use Rattle.dash_history.specs.declared.record.RecordFault.TheVariants.{LastStamp, Memory};
 
 use super::{CallerLog, RecShard, Record, RecordFault, make_room};
 use dash_steps::action::KeptAction;

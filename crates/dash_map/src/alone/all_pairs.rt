@@ -1,8 +1,6 @@
 //! The calls on all pairs of a map of one owner: shard after shard, in rising order.
 ghost use Rattle.std.specs.Map.Calls.{CalledAtPair, TakesPair, CallableOnEachPair};
-ghost use Rattle.dash_shard.specs.Each.{CalledOnPair, TakesOnPair};
-ghost use Rattle.dash_map.specs.Alone.{contents, IsAlone};
-ghost use Rattle.dash_map.specs.AllPairs.{ClearsAlone, ShrinksAlone, RetainsAlone, AltersAllAlone};
+ghost use Rattle.dash_map.specs.Words.{AltersAllAlone, CalledOnPair, ClearsAlone, IsAlone, RetainsAlone, ShrinksAlone, TakesOnPair, contents};
 
 use super::Alone;
 use dash_shard::keyed::Keyed;

@@ -2,11 +2,7 @@
 ghost use Rattle.std.specs.Prelude.{◌≡◌, IfSome};
 ghost use Rattle.std.specs.Borrow.{LendsIf, sem};
 ghost use Rattle.std.specs.Option.{option_map, option_copied_mut};
-ghost use Rattle.dash_shard.specs.Contents.{at};
-ghost use Rattle.dash_shard.specs.Closures.{MayChange, ChangesOn, MayGive, Given};
-ghost use Rattle.dash_map.specs.Alone.{IsAlone, contents, TakesAloneBy};
-ghost use Rattle.dash_map.specs.Lends.{with_value_at};
-ghost use Rattle.dash_shard.specs.Steps.{RemoveIfMut, Alter, Done, Pair};
+ghost use Rattle.dash_map.specs.Words.{Alter, ChangesOn, Done, Given, IsAlone, MayChange, MayGive, Pair, RemoveIfMut, TakesAloneBy, at, contents, with_value_at};
 
 use super::Alone;
 use dash_shard::keyed::{Keyed, Lender};

@@ -1,11 +1,7 @@
 //! Calls of threads on all pairs of a map that they share: shard after shard, each in its turn held, by what changes pairs for writing.
 ghost use Rattle.std.specs.Prelude.{map};
 ghost use Rattle.std.specs.Map.Calls.{CalledAtPair, TakesPair};
-ghost use Rattle.dash_shard.specs.Each.{CalledOnPair, TakesOnPair};
-ghost use Rattle.dash_map.specs.Alone.{contents};
-ghost use Rattle.dash_map.specs.Behind.{CallableOnPairs, LeavesShards, SawShards};
-ghost use Rattle.dash_map.specs.Folds.{FoldsEach, MayFold, MayVisit, VisitsEach, of_key, of_pair};
-ghost use Rattle.dash_map.specs.AllPairs.{ClearsAlone, ShrinksAlone, RetainsAlone, AltersAllAlone};
+ghost use Rattle.dash_map.specs.Words.{AltersAllAlone, CallableOnPairs, CalledOnPair, ClearsAlone, FoldsEach, LeavesShards, MayFold, MayVisit, RetainsAlone, SawShards, ShrinksAlone, TakesOnPair, VisitsEach, contents, of_key, of_pair};
 
 use crate::map::DashMap;
 use crate::pairs::{fold_keys_of, fold_pairs, visit_keys_of, visit_pairs};

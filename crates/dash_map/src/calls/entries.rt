@@ -1,6 +1,5 @@
 //! Calls of threads on a map that they share, for a key and what stands there.
-ghost use Rattle.dash_map.specs.Gets.{IsGotEntry};
-ghost use Rattle.dash_map.specs.Tries.{UnlessLockedOut};
+ghost use Rattle.dash_map.specs.Words.{IsGotEntry, UnlessLockedOut};
 
 use crate::map::DashMap;
 use dash_ref::held::IntoShard;

@@ -1,9 +1,6 @@
 //! Calls of threads on a map that they share, for those who wait for nobody.
 ghost use Rattle.std.specs.Prelude.{◌<◌, IfSome};
-ghost use Rattle.dash_shard.specs.Lock.{FoundBehind};
-ghost use Rattle.dash_map.specs.Behind.{IsShardOf};
-ghost use Rattle.dash_map.specs.Gets.{IsGot, IsGotMut};
-ghost use Rattle.dash_map.specs.Tries.{UnlessLocked};
+ghost use Rattle.dash_map.specs.Words.{FoundBehind, IsGot, IsGotMut, IsShardOf, UnlessLocked};
 
 use crate::map::DashMap;
 use dash_ref::held::{IntoShard, ShardMut};

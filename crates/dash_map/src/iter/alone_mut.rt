@@ -4,9 +4,7 @@ ghost use Rattle.std.specs.Bool.{OnTrue, OnFalse};
 ghost use Rattle.std.specs.Option.{option_map, option_copied_mut};
 ghost use Rattle.std.specs.Map.Iter.{deref_pair, deref_pair_mut};
 ghost use Rattle.std.specs.Borrow.{Lends, sem};
-ghost use Rattle.dash_shard.specs.Hashing.{by};
-ghost use Rattle.dash_ref.specs.Multi.{lent_pair, lent_value};
-ghost use Rattle.dash_map.specs.Alone.{IsAlone, contents};
+ghost use Rattle.dash_map.specs.Words.{IsAlone, by, contents, lent_pair, lent_value};
 
 use crate::alone::Alone;
 use dash_ref::mapref::multiple::RefMutMulti;

@@ -1,10 +1,7 @@
 //! The walks over a map that threads share, which hold one shard after the other.
 ghost use Rattle.std.specs.Prelude.{◌≡◌, ◌+◌, ◌<◌, ◌↔◌, IsTrue, IsSome, None, OnOk, OnErr, IfOk, IfSome, IfNone, ⊤};
 ghost use Rattle.std.specs.Iterator.{size};
-ghost use Rattle.dash_shard.specs.Lock.{FoundBehind};
-ghost use Rattle.dash_shard.specs.Hashing.{by};
-ghost use Rattle.dash_shard.specs.Shard.{IsTagged};
-ghost use Rattle.dash_map.specs.Walking.{IterState, StepsOn, IsDone, IsOver, at_start, steps_left};
+ghost use Rattle.dash_map.specs.Words.{FoundBehind, IsDone, IsOver, IsTagged, IterState, StepsOn, at_start, by, steps_left};
 ghost use Rattle.dash_map.specs.inner.Walking.{IsWalk, GivesHere};
 
 use crate::map::DashMap;

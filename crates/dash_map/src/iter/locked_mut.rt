@@ -4,13 +4,8 @@ ghost use Rattle.std.specs.Bool.{OnTrue, OnFalse};
 ghost use Rattle.std.specs.Iterator.{size};
 ghost use Rattle.std.specs.Borrow.{Lends, sem};
 ghost use Rattle.std.specs.Map.Iter.{deref_pair_mut};
-ghost use Rattle.dash_shard.specs.Hashing.{by};
-ghost use Rattle.dash_shard.specs.Lock.{FoundBehind, LeftBehind};
-ghost use Rattle.dash_ref.specs.Multi.{lent_pair, lent_value};
-ghost use Rattle.dash_map.specs.Behind.{IsShardOf};
-ghost use Rattle.dash_map.specs.Walking.{IterState, IsDone, at_start, steps_left};
+ghost use Rattle.dash_map.specs.Words.{FoundBehind, IsDone, IsShardOf, IterState, LeftBehind, LendsItem, StepsLending, StepsTo, StepsToEnd, at_start, by, here, lent_pair, lent_value, pair_at, rewritten, steps_left, valued_at};
 ghost use Rattle.core.specs.contracts.option.Option.{the_row as option_row};
-ghost use Rattle.dash_map.specs.WalkingMut.{here, pair_at, valued_at, rewritten, LendsItem, StepsLending, StepsTo, StepsToEnd};
 ghost use Rattle.dash_map.specs.inner.Walking.{IsWalk};
 ghost use Rattle.dash_map.specs.inner.WalkingMut.{GoesHere};
 

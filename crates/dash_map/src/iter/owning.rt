@@ -1,8 +1,6 @@
 //! The walk over a map that ended.
 ghost use Rattle.std.specs.Prelude.{◌≡◌};
-ghost use Rattle.dash_shard.specs.Hashing.{by};
-ghost use Rattle.dash_map.specs.Alone.{contents};
-ghost use Rattle.dash_map.specs.Behind.{EndedShards};
+ghost use Rattle.dash_map.specs.Words.{EndedShards, by, contents};
 
 use crate::alone::Alone;
 use crate::map::DashMap;

@@ -1,6 +1,6 @@
 //! Where pairs and steps go: to the shard of their key, which is hashed once.
 ghost use Rattle.std.specs.Prelude.{◌≡◌};
-ghost use Rattle.dash_shard.specs.Hashing.{IsAmount, by, route_by};
+ghost use Rattle.dash_map.specs.Words.{IsAmount, by, route_by};
 ghost use Rattle.dash_steps.specs.inner.Hashed.{shard_by, IsHashBy};
 
 use dash_shard::hash::determine_shard;

@@ -2,14 +2,7 @@
 ghost use Rattle.std.specs.Prelude.{◌≡◌, ◌↔◌, ◌∷◌, [], IfOk, IfErr, IsErrOf, length};
 ghost use Rattle.std.specs.Thread.{IsSync};
 ghost use denote.Param.Send.{IsSend};
-ghost use Rattle.dash_shard.specs.Errors.{IsOneOf};
-ghost use Rattle.dash_shard.specs.Hashing.{HashAlike};
-ghost use Rattle.dash_shard.specs.declared.error.ConstructError.TheVariants.{Memory, Parallelism};
-ghost use Rattle.dash_map.specs.Alone.{IsAlone};
-ghost use Rattle.dash_map.specs.Amounts.{IsDefault, IsParallelism};
-ghost use Rattle.dash_map.specs.Behind.{MadeShards};
-ghost use Rattle.dash_map.specs.Map.{shape};
-ghost use Rattle.dash_map.specs.Extend.{MadeOf, ParExtends, ParExtendsBehind};
+ghost use Rattle.dash_map.specs.Words.{HashAlike, IsAlone, IsDefault, IsOneOf, IsParallelism, MadeOf, MadeShards, Memory, ParExtends, ParExtendsBehind, Parallelism, shape};
 
 use super::deal::ByRoute;
 use crate::alone::Alone;

@@ -1,11 +1,6 @@
 //! Parallel work on the pairs of a map. A thread takes shard after shard.
 ghost use Rattle.std.specs.Prelude.{◌≡◌, ◌<◌, IfOk, true};
-ghost use Rattle.dash_shard.specs.Hashing.{by};
-ghost use Rattle.dash_map.specs.Alone.{contents};
-ghost use Rattle.dash_map.specs.AllPairs.{AltersAllAlone};
-ghost use Rattle.dash_map.specs.Behind.{SawShards, LeavesShards, EndedShards};
-ghost use Rattle.dash_rows.specs.Parallel.{MapsEach, MayMap};
-ghost use Rattle.dash_map.specs.Parallel.{MayWrite, Writes};
+ghost use Rattle.dash_map.specs.Words.{AltersAllAlone, EndedShards, LeavesShards, MapsEach, MayMap, MayWrite, SawShards, Writes, by, contents};
 ghost use Rattle.dash_map.specs.inner.Parallel.{MapsNumber, WritesNumber};
 
 use crate::alone::Alone;

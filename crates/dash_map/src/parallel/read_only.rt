@@ -1,6 +1,6 @@
 //! Parallel work on the pairs of a view.
 ghost use Rattle.std.specs.Prelude.{◌≡◌};
-ghost use Rattle.dash_map.specs.Alone.{IsAlone, contents};
+ghost use Rattle.dash_map.specs.Words.{IsAlone, contents};
 
 use crate::parallel::map::OwningIter;
 use crate::read_only::ReadOnlyView;

@@ -3,10 +3,7 @@ ghost use Rattle.std.specs.Prelude.{◌≡◌, ◌<◌, ◌≤◌, ◌↔◌, []
 ghost use Rattle.std.specs.List.{Any};
 ghost use Rattle.std.specs.Thread.{IsSync};
 ghost use denote.Param.Send.{IsSend};
-ghost use Rattle.dash_rows.specs.Apart.{ParRan};
-ghost use Rattle.dash_map.specs.Alone.{IsAlone, KeepsRoom};
-ghost use Rattle.dash_map.specs.Map.{shape};
-ghost use Rattle.dash_map.specs.ParRun.{goes_to, TakesThere, ParRuns, ParRunsBehind};
+ghost use Rattle.dash_map.specs.Words.{IsAlone, KeepsRoom, ParRan, ParRuns, ParRunsBehind, TakesThere, goes_to, shape};
 
 use super::deal::ByRoute;
 use crate::alone::Alone;

@@ -1,7 +1,6 @@
 //! Work of several workers on a map that threads share: each holds one shard at a time.
 ghost use Rattle.std.specs.Prelude.{◌≡◌, ◌<◌, OnOk};
-ghost use Rattle.dash_shard.specs.Hashing.{by, route_by};
-ghost use Rattle.dash_map.specs.Extend.{PutsBehind, PutsEachBehind};
+ghost use Rattle.dash_map.specs.Words.{PutsBehind, PutsEachBehind, by, route_by};
 
 use super::deal::ByRoute;
 use crate::map::DashMap;

@@ -1,11 +1,8 @@
 //! The calls that change all pairs of a shard that is held.
 ghost use Rattle.std.specs.Prelude.{◌≡◌, ◌≤◌};
-ghost use Rattle.dash_shard.specs.Hashing.{by};
+ghost use Rattle.dash_ref.specs.Words.{AlterAll, CalledOnPair, Clears, IsShard, Retain, Shrinks, SweepsBy, TakesOnPair, by, pairs, shard_len};
 ghost use Rattle.std.specs.Map.Calls.{CalledAtPair, TakesPair, CallableOnEachPair};
-ghost use Rattle.dash_shard.specs.Shard.{pairs, IsShard, shard_len};
-ghost use Rattle.dash_shard.specs.Each.{CalledOnPair, TakesOnPair, Clears, Shrinks, SweepsBy};
 ghost use Rattle.dash_shard.specs.inner.Walks.{if_kept, altered, SweepsShard};
-ghost use Rattle.dash_shard.specs.Steps.{Retain, AlterAll};
 
 use super::ShardMut;
 use dash_shard::keyed::Keyed;

@@ -3,9 +3,7 @@
 ghost use Rattle.std.specs.Prelude.{◌≡◌, ℕ, IsSome, Some, refl};
 ghost use Rattle.std.specs.Borrow.{Lends, sem};
 ghost use Rattle.std.specs.Map.Iter.{deref_pair_mut};
-ghost use Rattle.dash_shard.specs.Hashing.{by};
-ghost use Rattle.dash_shard.specs.Lock.{LeftBehind};
-ghost use Rattle.dash_shard.specs.Shard.{slot, with_value_in};
+ghost use Rattle.dash_ref.specs.Words.{LeftBehind, by, slot, with_value_in};
 ghost use Rattle.dash_ref.specs.inner.Lending.{KeepsTag};
 
 use dash_shard::lock::hold::Hold;

@@ -3,8 +3,7 @@ ghost use Rattle.std.specs.Prelude.{◌≡◌, IsSome, Some};
 ghost use Rattle.std.specs.Borrow.{Lends, LendsIf, sem};
 ghost use Rattle.std.specs.Map.Iter.{deref_pair_mut};
 ghost use Rattle.std.specs.Option.{option_map, option_copied_mut};
-ghost use Rattle.dash_shard.specs.Contents.{at};
-ghost use Rattle.dash_shard.specs.Shard.{slot, pairs, IsShard, with_value_in, with_value_of};
+ghost use Rattle.dash_ref.specs.Words.{IsShard, at, pairs, slot, with_value_in, with_value_of};
 
 use super::HeldShard;
 use super::holds::Holds;

@@ -2,12 +2,8 @@
 ghost use Rattle.std.specs.Prelude.{◌≡◌, ◌+◌, ◌-◌, ◌^◌, ◌<◌, IsSome, IfSome, IfOk, IfErr, OnErr, Some, None};
 ghost use Rattle.std.specs.Map.Iter.{deref_pair};
 ghost use Rattle.core.specs.Result.{result_ok};
-ghost use Rattle.dash_shard.specs.Hashing.{by};
-ghost use Rattle.dash_shard.specs.Contents.{at};
-ghost use Rattle.dash_shard.specs.Shard.{slot, pairs, shard_len, HasKey, IsNextTaken, Routes, IsShard, SameShard, TakesInPlace, TakesAt};
-ghost use Rattle.dash_shard.specs.Held.{Finds, Replaces, Reserves};
+ghost use Rattle.dash_ref.specs.Words.{Finds, HasKey, Insert, IsNextTaken, IsShard, Old, Pair, Remove, Replaces, Reserves, Routes, SameShard, TakesAt, TakesInPlace, at, by, pairs, shard_len, slot};
 ghost use Rattle.dash_shard.specs.inner.Table.{IsPlaceFor, MayTake};
-ghost use Rattle.dash_shard.specs.Steps.{Insert, Remove, Old, Pair};
 
 use super::ShardMut;
 use dash_shard::error::TryReserveError;

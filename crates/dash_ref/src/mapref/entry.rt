@@ -2,12 +2,7 @@
 ghost use Rattle.std.specs.Prelude.{◌≡◌, IsOk, IfOk, IfErr, OnErr, MatchResult, Some, ⊤};
 ghost use Rattle.std.specs.Option.{option_map};
 ghost use Rattle.std.specs.Fn.{FnOnceReturnsAtMut};
-ghost use Rattle.dash_ref.specs.RefMut.{rewritten, stored};
-ghost use Rattle.dash_ref.specs.Entry.{MayModify, Modified, Puts, PutsCopy, revalued};
-ghost use Rattle.dash_ref.specs.EntryCases.{MatchEntry, entry_shard, IsEntryOf};
-ghost use Rattle.dash_shard.specs.Hashing.{by};
-ghost use Rattle.dash_shard.specs.Lock.{LeftBehind};
-ghost use Rattle.dash_shard.specs.Shard.{Routes, IsShard};
+ghost use Rattle.dash_ref.specs.Words.{IsEntryOf, IsShard, LeftBehind, MatchEntry, MayModify, Modified, Puts, PutsCopy, Routes, by, entry_shard, revalued, rewritten, stored};
 
 use crate::held::ShardMut;
 use crate::mapref::one::RefMut;

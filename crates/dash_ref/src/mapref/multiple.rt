@@ -2,10 +2,7 @@
 ghost use Rattle.std.specs.Prelude.{[], ◌≡◌, IsSome};
 ghost use Rattle.std.specs.Borrow.{Lends, sem};
 ghost use Rattle.std.specs.Map.Iter.{deref_pair, deref_pair_mut};
-ghost use Rattle.dash_shard.specs.Hashing.{by};
-ghost use Rattle.dash_shard.specs.Shard.{slot, IsShard};
-ghost use Rattle.dash_ref.specs.Multi.{lent_pair, lent_value, with_lent_value};
-ghost use Rattle.dash_ref.specs.Ref.{Stands, pair_of};
+ghost use Rattle.dash_ref.specs.Words.{IsShard, Stands, by, lent_pair, lent_value, pair_of, slot, with_lent_value};
 
 use dash_shard::hash::FixedState;
 use dash_shard::keyed::{Keyed, Lender};

@@ -2,12 +2,7 @@
 ghost use Rattle.std.specs.Prelude.{◌≡◌, ◌↔◌, IsTrue, IsSome, IfSome, IsNone, IfNone, None};
 ghost use Rattle.std.specs.Option.{option_map};
 ghost use Rattle.std.specs.Map.Iter.{deref_pair};
-ghost use Rattle.dash_shard.specs.Lock.{GivenBack};
-ghost use Rattle.dash_shard.specs.Hashing.{by};
-ghost use Rattle.dash_shard.specs.Contents.{at};
-ghost use Rattle.dash_shard.specs.Steps.{Get, Pair};
-ghost use Rattle.dash_shard.specs.Shard.{slot, pairs, IsShard, RepliesOn};
-ghost use Rattle.dash_ref.specs.Ref.{Stands, pair_of};
+ghost use Rattle.dash_ref.specs.Words.{Get, GivenBack, IsShard, Pair, RepliesOn, Stands, at, by, pair_of, pairs, slot};
 
 use dash_shard::hash::FixedState;
 use dash_shard::keyed::Keyed;

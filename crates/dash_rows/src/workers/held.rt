@@ -1,7 +1,7 @@
 //! Steps taken on parts that are held one at a time, as behind locks, by several workers.
 ghost use Rattle.std.specs.Prelude.{◌≡◌, ℕ, ◌<◌, List, All, OnOk, false, length, get_or};
 ghost use Rattle.std.specs.Thread.{IsSync};
-ghost use Rattle.dash_rows.specs.Apart.{steps_of};
+ghost use Rattle.dash_rows.specs.Words.{steps_of};
 ghost use Rattle.dash_rows.specs.inner.Lanes.{HasRoom, steps_in};
 ghost use Rattle.dash_rows.specs.inner.Held.{HasRunHeld, IsReadyToHold};
 

@@ -1,7 +1,7 @@
 //! Steps taken on a row of parts by several workers: each part's in their order, those of different parts at once.
 ghost use Rattle.std.specs.Prelude.{◌≡◌, ℕ, ◌≤◌, ◌<◌, ◌+◌, ◌++◌, [], All, OnOk, OnErr, IsSome, None, true, false, length, replicate, reverse, vec_len, vec_capacity};
 ghost use Rattle.std.specs.List.{Any};
-ghost use Rattle.dash_rows.specs.Apart.{EachPart, ParRan, RanFront, RanShort, RanWhole, SomePart};
+ghost use Rattle.dash_rows.specs.Words.{EachPart, ParRan, RanFront, RanShort, RanWhole, SomePart};
 ghost use Rattle.dash_rows.specs.inner.Halves.{AllBeside, EachBeside};
 ghost use Rattle.dash_rows.specs.inner.Lanes.{handed, queues, HasRun, IsReady, FitsAll};
 

@@ -2,11 +2,7 @@
 ghost use Rattle.std.specs.Prelude.{◌≡◌, ◌↔◌, [], IfOk, IsTrue, Some, nat_eq, option_map};
 ghost use Rattle.std.specs.HashMap.{IsUnique};
 ghost use Rattle.std.specs.List.{Contains};
-ghost use Rattle.dash_shard.specs.Contents.{EachOnce};
-ghost use Rattle.dash_history.specs.Merge.{Names, along, record_at};
-ghost use Rattle.dash_history.specs.OneHistory.{histories};
-ghost use Rattle.dash_history.specs.declared.place.At.{At};
-ghost use Rattle.dash_script.specs.Replay.{IsReplay};
+ghost use Rattle.dash_script.specs.Words.{At, EachOnce, IsReplay, Names, along, histories, record_at};
 ghost use Rattle.dash_script.specs.inner.Replay.{Fits, Makes};
 
 use dash_history::alone::RecAlone;

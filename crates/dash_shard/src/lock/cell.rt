@@ -1,9 +1,8 @@
 //! A value in place beside a lock's word, and the steps on the word that give or end no hold.
 ghost use Rattle.std.specs.Prelude.{◌≡◌};
 ghost use Rattle.std.specs.Borrow.{sem};
-ghost use Rattle.dash_shard.specs.Lock.{FoundBehind, LeftBehind};
+ghost use Rattle.dash_shard.specs.Words.{FoundBehind, LeftBehind, StaysAt};
 ghost use Rattle.dash_shard.specs.inner.Locks.Holding.{lock_owns, lock_shares, IsMark};
-ghost use Rattle.dash_shard.specs.Stays.{StaysAt};
 
 use crate::lock::Tagged;
 use std::marker::{Brand, Model, Move, Owns, PhantomData};

@@ -3,11 +3,8 @@ ghost use Rattle.std.specs.Prelude.{◌≡◌, ℕ, ◌<◌, ◌-◌, OnOk, OnEr
 ghost use Rattle.std.specs.Borrow.{Lends, sem};
 ghost use Rattle.std.specs.Fn.{FnOnceReturnsAtMut, FnOnceTakesAtMut};
 ghost use Rattle.std.specs.Map.Iter.{deref_pair_mut};
-ghost use Rattle.dash_shard.specs.KeepsFit.{KeepsFit};
-ghost use Rattle.dash_shard.specs.Lock.{FoundBehind, LeftBehind, GivenBack};
-ghost use Rattle.dash_shard.specs.LockState.{Steps};
+ghost use Rattle.dash_shard.specs.Words.{Downgrade, FoundBehind, GivenBack, KeepsFit, LeftBehind, ReleaseExclusive, ReleaseShared, Steps};
 ghost use Rattle.dash_shard.specs.inner.Locks.Holding.{hold_owns, hold_shares, IsTake, Gains};
-ghost use Rattle.dash_shard.specs.declared.lock.word.LockEvent.TheVariants.{ReleaseShared, ReleaseExclusive, Downgrade};
 
 use crate::lock::cell::Cell;
 use crate::lock::word::ONE_READER;

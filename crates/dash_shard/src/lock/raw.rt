@@ -1,6 +1,6 @@
 //! A lock's holds, taken and given back by name: the original's `RawRwLock`, over the word and its sleepers.
 ghost use Rattle.std.specs.Prelude.{◌≡◌, IfOk, IfSome};
-ghost use Rattle.dash_shard.specs.Lock.{LeftBehind, GivenBack};
+ghost use Rattle.dash_shard.specs.Words.{GivenBack, LeftBehind};
 ghost use Rattle.dash_shard.specs.inner.Locks.IsHold.{IsHold};
 
 use super::RwLock;
@@ -125,7 +125,7 @@ impl RawRwLock {
         ensures { result ≡ self.now }
     {
         ExclusiveHold {
-            hold: self.lock.write(rt).into_parts().0,
+            hold: Hold::of(self.lock.write(rt)).0,
         }
     }
 

@@ -1,7 +1,7 @@
 //! The pure core of a lock: its word, and the events that change it. It has no memory and waits for nobody.
 ghost use Rattle.std.specs.Prelude.{◌≡◌};
 ghost use Rattle.std.specs.Option.{option_map};
-ghost use Rattle.dash_shard.specs.LockState.{after, reach, free, state_of, word_of};
+ghost use Rattle.dash_shard.specs.Words.{after, free, reach, state_of, word_of};
 
 use std::marker::Model;
 

@@ -1,11 +1,9 @@
 //! The calls on all pairs of a shard.
 ghost use Rattle.std.specs.Prelude.{◌≡◌, ◌≤◌};
 ghost use Rattle.std.specs.Map.Calls.{CalledAtPair, TakesPair, CallableOnEachPair};
-ghost use Rattle.dash_shard.specs.Shard.{pairs, IsShard, shard_len};
-ghost use Rattle.dash_shard.specs.Each.{CalledOnPair, TakesOnPair, Clears, Shrinks, SweepsBy};
+ghost use Rattle.dash_shard.specs.Words.{AlterAll, CalledOnPair, Clears, IsShard, Retain, Shrinks, SweepsBy, TakesOnPair, pairs, shard_len};
 ghost use Rattle.dash_shard.specs.inner.Table.{IsTable, pairs_in};
 ghost use Rattle.dash_shard.specs.inner.Walks.{if_kept, altered, SweepsShard};
-ghost use Rattle.dash_shard.specs.Steps.{Retain, AlterAll};
 
 use super::Shard;
 use super::table::Table;

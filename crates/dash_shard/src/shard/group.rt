@@ -1,6 +1,6 @@
 //! A look at a group of sixteen tags.
 ghost use Rattle.std.specs.Prelude.{◌<◌, ◌^◌};
-ghost use Rattle.dash_shard.specs.Search.{IsMask};
+ghost use Rattle.dash_shard.specs.Words.{IsMask};
 
 use super::lanes::{Probe, lanes_with};
 

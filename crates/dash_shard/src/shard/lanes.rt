@@ -1,7 +1,7 @@
 //! Sixteen tags at once, or four times as many.
 ghost use Rattle.std.specs.Prelude.{◌≡◌, ℕ, ◌<◌, ◌≤◌, ◌↔◌, slice_index};
 ghost use Rattle.std.specs.Int.{bit_at};
-ghost use Rattle.dash_shard.specs.Search.{IsMask};
+ghost use Rattle.dash_shard.specs.Words.{IsMask};
 
 use std::simd::prelude::*;
 

@@ -1,7 +1,6 @@
 //! A shard as a part of a map, into which a list of pairs is put apart from the other shards.
 ghost use Rattle.std.specs.Prelude.{◌≡◌, IfOk, IfErr};
-ghost use Rattle.dash_shard.specs.Hashing.{by, key_hash};
-ghost use Rattle.dash_shard.specs.Puts.{PutsPair};
+ghost use Rattle.dash_shard.specs.Words.{PutsPair, by, key_hash};
 ghost use Rattle.dash_shard.specs.inner.Keys.{RoutesAs, routes-stay};
 
 use super::Shard;

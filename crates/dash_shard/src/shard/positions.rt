@@ -4,13 +4,9 @@ ghost use Rattle.std.specs.Option.{option_map};
 ghost use Rattle.core.specs.Result.{result_ok};
 ghost use Rattle.std.specs.Map.Iter.{deref_pair, deref_pair_mut};
 ghost use Rattle.std.specs.Borrow.{Lends, sem};
-ghost use Rattle.dash_shard.specs.Contents.{at};
-ghost use Rattle.dash_shard.specs.Shard.{slot, pairs, shard_len, HasKey, IsNextTaken, Routes, IsShard, TakesInPlace, with_value_in, SameShard, TakesAt};
-ghost use Rattle.dash_shard.specs.Held.{Finds, Inserts, Replaces, Reserves};
+ghost use Rattle.dash_shard.specs.Words.{Finds, HasKey, Insert, Inserts, IsNextTaken, IsShard, Old, Pair, Remove, Replaces, Reserves, Routes, SameShard, Searches, TakesAt, TakesInPlace, at, groups, pairs, shard_len, slot, with_value_in};
 ghost use Rattle.dash_shard.specs.inner.Table.{IsPlaceFor, MayTake};
 ghost use Rattle.dash_shard.specs.inner.Cursors.{IsSlotCursor, Advances};
-ghost use Rattle.dash_shard.specs.Search.{groups, Searches};
-ghost use Rattle.dash_shard.specs.Steps.{Insert, Remove, Old, Pair};
 
 use super::{Cursor, InsertRefused, Place, Search, Shard};
 use crate::error::TryReserveError;

@@ -3,7 +3,7 @@ ghost use Rattle.std.specs.Prelude.{ℕ, ◌≡◌, ◌+◌, ◌-◌, ◌*◌, �
 ghost use Rattle.dash_shard.specs.inner.Table.{IsTable, IsHashedBy, Holds, IsAbsent, AreTaken, MissesLanes, PassesFirst, MayEnd, limit, slots_in, groups_in, pairs_in, hashes_in};
 ghost use Rattle.dash_shard.specs.inner.Marks.{group_at};
 ghost use Rattle.dash_shard.specs.inner.Cursors.{IsSlotCursor, Advances};
-ghost use Rattle.dash_shard.specs.Shard.{slot, IsNextTaken};
+ghost use Rattle.dash_shard.specs.Words.{IsNextTaken, slot};
 ghost use Rattle.dash_shard.specs.inner.SlotRows.Slots.{IsBlank};
 ghost use Rattle.std.specs.Int.{bit_at};
 ghost use Rattle.std.specs.Option.{option_map};

@@ -1,8 +1,6 @@
 //! What a shard's lock knows of it: which shards fit the lock, and what a shard lends for writing.
 ghost use Rattle.std.specs.Prelude.{◌≡◌, IsSome};
-ghost use Rattle.dash_shard.specs.Hashing.{by};
-ghost use Rattle.dash_shard.specs.Held.{FitsTag};
-ghost use Rattle.dash_shard.specs.Shard.{slot, with_value_in};
+ghost use Rattle.dash_shard.specs.Words.{FitsTag, by, slot, with_value_in};
 
 use crate::keyed::Keyed;
 use crate::lock::{Lendable, Tagged};

@@ -2,7 +2,7 @@
 ghost use Rattle.std.specs.Prelude.{◌≡◌};
 ghost use Rattle.std.specs.Option.{option_eq};
 ghost use Rattle.std.specs.Cmp.Lexicographic.{lists_equiv, options_equiv, pointwise};
-ghost use Rattle.dash_steps.specs.Kept.{alike_pair};
+ghost use Rattle.dash_steps.specs.Words.{alike_pair};
 ghost use Rattle.dash_steps.specs.inner.AlikeLaws.{list_equal, option_equal, pair_equal, pair_equiv};
 
 use crate::kept::{Kept, KeptKey};

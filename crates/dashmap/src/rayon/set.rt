@@ -4,15 +4,7 @@ ghost use Rattle.std.specs.Fn.{FnReturnsAt};
 ghost use Rattle.std.specs.List.{AllZip};
 ghost use Rattle.std.specs.Thread.{IsSync};
 ghost use denote.Param.Send.{IsSend};
-ghost use Rattle.dash_shard.specs.Errors.{IsOneOf};
-ghost use Rattle.dash_shard.specs.Hashing.{by, HashAlike};
-ghost use Rattle.dash_shard.specs.declared.error.ConstructError.TheVariants.{Memory, Parallelism};
-ghost use Rattle.dash_map.specs.Amounts.{IsDefault, IsParallelism};
-ghost use Rattle.dash_map.specs.Alone.{IsAlone, contents};
-ghost use Rattle.dash_map.specs.Behind.{EndedShards, MadeShards, SawShards};
-ghost use Rattle.dash_map.specs.Map.{shape};
-ghost use Rattle.dash_map.specs.Extend.{MadeOf, ParExtends, ParExtendsBehind, PutsEachBehind};
-ghost use Rattle.dashmap.specs.Set.{MayMapKey, keys_of, members};
+ghost use Rattle.dashmap.specs.Words.{EndedShards, HashAlike, IsAlone, IsDefault, IsOneOf, IsParallelism, MadeOf, MadeShards, MayMapKey, Memory, ParExtends, ParExtendsBehind, Parallelism, PutsEachBehind, SawShards, by, contents, keys_of, members, shape};
 
 use crate::set::{AloneSet, DashSet};
 use core::mem::replace_with;

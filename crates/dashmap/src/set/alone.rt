@@ -3,16 +3,7 @@ ghost use Rattle.std.specs.Prelude.{◌≡◌, ◌≤◌, ◌==◌, length, is_s
 ghost use Rattle.std.specs.Option.{option_map};
 ghost use Rattle.std.specs.Fn.{FnOnceTakesAt};
 ghost use Rattle.std.specs.Map.Calls.{CallableOnEachPair};
-ghost use Rattle.dash_shard.specs.Hashing.{by};
-ghost use Rattle.dash_shard.specs.Contents.{at};
-ghost use Rattle.dash_shard.specs.Steps.{Insert, Old, Pair, Remove, RemoveIf};
-ghost use Rattle.dash_map.specs.Alone.{IsAlone, ReservesAlone, TakesAlone, TakesAloneBy, contents, len_in, room_in};
-ghost use Rattle.dash_map.specs.AllPairs.{ClearsAlone, RetainsAlone, ShrinksAlone};
-ghost use Rattle.dash_shard.specs.Lock.{LeftBehind};
-ghost use Rattle.dash_map.specs.Behind.{AreBehind, AreEnded};
-ghost use Rattle.dash_map.specs.Map.{locked};
-ghost use Rattle.dash_map.specs.Extend.{HasNoRoom};
-ghost use Rattle.dashmap.specs.Set.{AnsweredKey, CalledAtKey, TakesKey, keys_of, member, stood};
+ghost use Rattle.dashmap.specs.Words.{AnsweredKey, AreBehind, AreEnded, CalledAtKey, ClearsAlone, HasNoRoom, Insert, IsAlone, LeftBehind, Old, Pair, Remove, RemoveIf, ReservesAlone, RetainsAlone, ShrinksAlone, TakesAlone, TakesAloneBy, TakesKey, at, by, contents, keys_of, len_in, locked, member, room_in, stood};
 
 use super::DashSet;
 use crate::iter_set::OwningIter;

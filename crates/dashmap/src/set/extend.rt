@@ -1,15 +1,7 @@
 //! Lists of keys that are put into a set, or make one.
 ghost use Rattle.std.specs.Prelude.{◌≡◌, ◌↔◌, None, IfErr, IfOk, IsErrOf, length};
 ghost use Rattle.std.specs.Iterator.{IsFiniteIterable};
-ghost use Rattle.dash_shard.specs.Hashing.{HashAlike};
-ghost use Rattle.dash_shard.specs.declared.error.ConstructError.TheVariants.{Parallelism};
-ghost use Rattle.dash_map.specs.Alone.{IsAlone};
-ghost use Rattle.dash_map.specs.Amounts.{IsDefault, IsParallelism};
-ghost use Rattle.dash_map.specs.Behind.{MadeShards};
-ghost use Rattle.dash_map.specs.Map.{shape};
-ghost use Rattle.dash_map.specs.Extend.{Extends, ExtendsBehind, Gave, MadeOf, NotMade, IsRefusedOf};
-ghost use Rattle.dash_map.specs.declared.extend.FromRefused.TheVariants.{Construct};
-ghost use Rattle.dashmap.specs.Set.{of_members};
+ghost use Rattle.dashmap.specs.Words.{Construct, Extends, ExtendsBehind, Gave, HashAlike, IsAlone, IsDefault, IsParallelism, IsRefusedOf, MadeOf, MadeShards, NotMade, Parallelism, of_members, shape};
 
 use super::{AloneSet, DashSet};
 use dash_map::alone::Alone;

@@ -1,8 +1,6 @@
 //! References to the keys that a walk gives.
 ghost use Rattle.std.specs.Prelude.{◌≡◌};
-ghost use Rattle.dash_shard.specs.Hashing.{by};
-ghost use Rattle.dash_shard.specs.Shard.{IsShard};
-ghost use Rattle.dash_ref.specs.Ref.{Stands};
+ghost use Rattle.dashmap.specs.Words.{IsShard, Stands, by};
 
 use dash_ref::mapref;
 use dash_shard::hash::FixedState;

@@ -1,9 +1,6 @@
 //! A reference to one key.
 ghost use Rattle.std.specs.Prelude.{◌≡◌};
-ghost use Rattle.dash_shard.specs.Lock.{GivenBack};
-ghost use Rattle.dash_shard.specs.Hashing.{by};
-ghost use Rattle.dash_shard.specs.Shard.{IsShard};
-ghost use Rattle.dash_ref.specs.Ref.{Stands};
+ghost use Rattle.dashmap.specs.Words.{GivenBack, IsShard, Stands, by};
 
 use dash_ref::mapref;
 use dash_shard::hash::FixedState;

@@ -3,12 +3,7 @@ ghost use Rattle.std.specs.Prelude.{[], ◌≡◌, Some};
 ghost use Rattle.std.specs.Option.{option_map};
 ghost use Rattle.std.specs.Borrow.{Lends, sem};
 ghost use Rattle.std.specs.Fn.{FnOnceReturnsAtMut};
-ghost use Rattle.dash_shard.specs.Held.{Replaces};
-ghost use Rattle.dash_shard.specs.Lock.{LeftBehind, Leaves};
-ghost use Rattle.dash_shard.specs.Shard.{HasKey, TakesAt};
-ghost use Rattle.dash_shard.specs.Steps.{Remove, Pair};
-ghost use Rattle.dash_ref.specs.RefMut.{stored};
-ghost use Rattle.dash_ref.specs.Entry.{MayModify, Modified, revalued};
+ghost use Rattle.dash_ref.specs.Words.{HasKey, Leaves, LeftBehind, MayModify, Modified, Pair, Remove, Replaces, TakesAt, revalued, stored};
 
 use crate::held::ShardMut;
 use crate::held::holds::{Holds, Writing};

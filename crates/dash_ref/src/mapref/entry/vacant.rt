@@ -1,11 +1,7 @@
 //! A key that has no pair.
 ghost use Rattle.std.specs.Prelude.{◌≡◌, ◌<◌, None, IfOk, IfErr};
-ghost use Rattle.dash_shard.specs.Hashing.{by};
-ghost use Rattle.dash_shard.specs.Lock.{LeftBehind};
-ghost use Rattle.dash_shard.specs.Contents.{at};
-ghost use Rattle.dash_shard.specs.Shard.{pairs, shard_len, Routes};
+ghost use Rattle.dash_ref.specs.Words.{LeftBehind, Puts, PutsCopy, Routes, at, by, pairs, shard_len};
 ghost use Rattle.dash_shard.specs.inner.Table.{IsPlaceFor};
-ghost use Rattle.dash_ref.specs.Entry.{Puts, PutsCopy};
 
 use super::{InsertEntryRefused, OccupiedEntry};
 use crate::held::ShardMut;

@@ -1,6 +1,6 @@
 //! A reference to a part of a value.
 ghost use Rattle.std.specs.Prelude.{◌≡◌, ◌↔◌, IsSome, Some, IfOk, IfErr, IsOk, option_and_then};
-ghost use Rattle.dash_shard.specs.Lock.{GivenBack};
+ghost use Rattle.dash_ref.specs.Words.{GivenBack};
 
 use super::Ref;
 use super::projection::{Compose, Projection};

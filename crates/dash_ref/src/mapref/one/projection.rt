@@ -2,7 +2,7 @@
 ghost use Rattle.std.specs.Prelude.{◌≡◌, ◌↔◌, IsTrue, IsSome, Option, Some, option_and_then};
 ghost use Rattle.std.specs.Option.{option_map_or};
 ghost use Rattle.std.specs.Borrow.{Lends, sem};
-ghost use Rattle.dash_ref.specs.Part.{IsPart};
+ghost use Rattle.dash_ref.specs.Words.{IsPart};
 ghost use Rattle.dash_ref.specs.inner.Parts.{inner_is_part};
 
 /// A part of a value of `V`, where the original's `map` takes a closure: a mapped reference keeps it, and applies it at each access.

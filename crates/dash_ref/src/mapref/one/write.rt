@@ -3,12 +3,7 @@ ghost use Rattle.std.specs.Prelude.{[], ◌≡◌, ◌↔◌, IsSome, IfSome, Is
 ghost use Rattle.std.specs.Option.{option_map};
 ghost use Rattle.std.specs.Borrow.{Lends, sem};
 ghost use Rattle.std.specs.Map.Iter.{deref_pair, deref_pair_mut};
-ghost use Rattle.dash_shard.specs.Hashing.{by};
-ghost use Rattle.dash_shard.specs.Contents.{at};
-ghost use Rattle.dash_shard.specs.Lock.{LeftBehind};
-ghost use Rattle.dash_shard.specs.Shard.{slot, pairs, HasKey};
-ghost use Rattle.dash_ref.specs.Ref.{Stands};
-ghost use Rattle.dash_ref.specs.RefMut.{stored, rewritten, GetsMut};
+ghost use Rattle.dash_ref.specs.Words.{GetsMut, HasKey, LeftBehind, Stands, at, by, pairs, rewritten, slot, stored};
 
 use super::Ref;
 use crate::held::holds::{Holds, Writing};

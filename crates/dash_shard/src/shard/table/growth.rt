@@ -1,10 +1,8 @@
 //! A table that takes memory, and one that gives it back: the pairs move to other slots.
 ghost use Rattle.std.specs.Prelude.{ℕ, ◌≡◌, ◌⊎◌, ◌+◌, ◌*◌, ◌^◌, ◌<◌, ◌≤◌, [], None, IsOk, IfOk, OnOk, OnErr, length, replicate};
-ghost use Rattle.dash_shard.specs.Each.{close_room};
-ghost use Rattle.dash_shard.specs.Memory.{NoMemory};
+ghost use Rattle.dash_shard.specs.Words.{NoMemory, close_room, taken};
 ghost use Rattle.dash_shard.specs.inner.Table.{IsTable, IsHashedBy, CarriesOnce, IsCarried, IsEnough, IsMoved, NoMemoryFor, TellsTaken, limit, slots_in, groups_in, pairs_in, hashes_in};
 ghost use Rattle.dash_shard.specs.inner.Cursors.{ComesInGroups};
-ghost use Rattle.dash_shard.specs.Shard.{taken};
 ghost use Rattle.dash_shard.specs.inner.SlotRows.Slots.{IsBlank};
 
 use super::Table;

@@ -1,7 +1,7 @@
 //! The marks of a table: a tag for each slot, in groups of sixteen, and for each group how many pairs of each class stand past it on their ways.
 ghost use Rattle.std.specs.Prelude.{◌≡◌, ◌⊎◌, ℕ, ◌+◌, ◌*◌, ◌/◌, ◌%◌, ◌-◌, ◌^◌, ◌<◌, ◌≤◌, ◌↔◌, IsTrue, length, slice_index};
 ghost use Rattle.std.specs.Int.{bit_at};
-ghost use Rattle.dash_shard.specs.Search.{class_of};
+ghost use Rattle.dash_shard.specs.Words.{class_of};
 ghost use Rattle.dash_shard.specs.inner.Marks.{round, step_to, goes_past, tag_of, count_of, IsRaised, IsLowered, OthersStay, CountsPast, UncountsPast, IsClean, KeepsTags, IsSplit};
 
 use crate::shard::lanes::taken_lanes;

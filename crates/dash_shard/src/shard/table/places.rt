@@ -2,7 +2,7 @@
 ghost use Rattle.std.specs.Prelude.{ℕ, ◌≡◌, ◌+◌, ◌*◌, ◌/◌, ◌^◌, ◌<◌, ◌≤◌, Some, None, IfSome, IfNone, IfOk, IfErr, OnErr, IsSome, length, slice_set, slice_index};
 ghost use Rattle.dash_shard.specs.inner.Marks.{IsFull};
 ghost use Rattle.dash_shard.specs.inner.Table.{IsTable, IsSpot, IsOnWay, Holds, IsAbsent, PassesFirst, limit, slots_in, groups_in, pairs_in, hashes_in};
-ghost use Rattle.dash_shard.specs.Shard.{slot};
+ghost use Rattle.dash_shard.specs.Words.{slot};
 
 use super::marks::{
     EMPTY, REMOVED, class, count_at, count_way, group_of, home, lowest, next_group, own_lane,

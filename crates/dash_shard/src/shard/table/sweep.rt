@@ -2,8 +2,7 @@
 ghost use Rattle.std.specs.Prelude.{ℕ, ◌≡◌, ◌<◌, Option, Some, None, IsSome, IfSome, true, length, map, slice_set};
 ghost use Rattle.std.specs.Map.Calls.{CalledAtPair, TakesPair, CallableOnEachPair};
 ghost use Rattle.dash_shard.specs.inner.Table.{IsTable, IsHashedBy, TellsTaken, slots_in, pairs_in, hashes_in};
-ghost use Rattle.dash_shard.specs.Shard.{slot, taken};
-ghost use Rattle.dash_shard.specs.Each.{CalledOnPair, TakesOnPair};
+ghost use Rattle.dash_shard.specs.Words.{CalledOnPair, TakesOnPair, slot, taken};
 ghost use Rattle.dash_shard.specs.inner.Walks.{Asks, Visits, Sweeps, if_kept, altered};
 
 use super::Table;

@@ -2,8 +2,7 @@
 ghost use Rattle.std.specs.Prelude.{◌≡◌, Some, IsSome, IfSome};
 ghost use Rattle.std.specs.Borrow.{sem, follows};
 ghost use Rattle.dash_shard.specs.inner.Table.{IsTable, IsRewritten, with_value_at, pairs_in};
-ghost use Rattle.dash_shard.specs.Shard.{slot};
-ghost use Rattle.dash_shard.specs.Closures.{MayGive};
+ghost use Rattle.dash_shard.specs.Words.{MayGive, slot};
 ghost use Rattle.dash_shard.specs.inner.Gives.{GivesOn};
 
 use super::Table;

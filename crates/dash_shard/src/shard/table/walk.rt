@@ -3,7 +3,7 @@ ghost use Rattle.std.specs.Prelude.{◌≡◌, [], length, ⊤};
 ghost use Rattle.std.specs.Iterator.{at_most};
 ghost use Rattle.std.specs.Map.Iter.{TakesFirst, deref_pair};
 ghost use Rattle.dash_shard.specs.inner.Table.{IsTable, pairs_in};
-ghost use Rattle.dash_shard.specs.Shard.{taken};
+ghost use Rattle.dash_shard.specs.Words.{taken};
 
 use super::Table;
 use super::cursor::Cursor;

@@ -70,7 +70,7 @@ impl Drop for Goes<'_, '_> {
         let Self { lock, guard, word } = self;
         drop(guard);
         if let Some(guard) = lock.try_write() {
-            word.set(guard.into_parts().0.open());
+            word.set(Hold::of(guard).0.open());
         }
     }
 }
@@ -137,7 +137,7 @@ fn a_mark_stops_no_try_form(rt: HostRuntime) {
     for tries in [Tries::Reads, Tries::Writes] {
         let lock = locked(7);
         let got = Cell::new((false, false));
-        let (_, hold) = lock.write(&rt).into_parts().0.soften();
+        let (_, hold) = Hold::of(lock.write(&rt)).0.soften();
         let stays = Stays {
             lock: &lock,
             hold,

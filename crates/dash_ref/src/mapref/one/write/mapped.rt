@@ -2,8 +2,7 @@
 ghost use Rattle.std.specs.Prelude.{[], ◌≡◌, ◌↔◌, IsSome, Some, IfOk, IfErr, IsOk, option_and_then};
 ghost use Rattle.std.specs.Option.{option_map};
 ghost use Rattle.std.specs.Borrow.{Lends, sem};
-ghost use Rattle.dash_shard.specs.Lock.{LeftBehind};
-ghost use Rattle.dash_ref.specs.RefMut.{stored, part_in, with_part};
+ghost use Rattle.dash_ref.specs.Words.{LeftBehind, part_in, stored, with_part};
 
 use super::{HeldRef, RefMut};
 use crate::held::ShardMut;
