@@ -244,9 +244,9 @@ impl<K: Eq + Hash, V, S: BuildHasher> DashMap<K, V, S> {
         row.into_items()
     }
 
-    /// The number of the shards. For the crates here alone.
+    // The number of the shards.
     #[inline]
-    pub fn shard_count(&self) -> usize
+    pub(crate) fn shard_count(&self) -> usize
         ensures { result ≡ self.now.amount }
     {
         self.row.len()

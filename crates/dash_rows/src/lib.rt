@@ -1,6 +1,6 @@
 //! Rows of shards that nobody else has: walks over their pairs, work of several workers on them, and copies.
 //!
-//! The maps of `dash_map` hand these on. `workers` knows no shard: it takes steps on a row of parts, each apart from the others.
+//! For the crates here alone: the maps of `dash_map` hand these on. `workers` knows no shard: it takes steps on a row of parts, each apart from the others.
 #![tactic(auto)]
 
 pub mod copies;

@@ -1,5 +1,4 @@
 //! A row of items that can turn into a row of another kind, and back, without memory.
-//! For the crates here alone.
 ghost use Rattle.std.specs.Prelude.{◌≡◌, ℕ, ◌<◌, IfOk, IfErr, Some, slice_get, slice_set, slice_index_or, length};
 ghost use Rattle.std.specs.Borrow.{Lends, Array, sem};
 ghost use Rattle.dash_shard.specs.inner.Rows.{Moved, with_items};

@@ -1,5 +1,4 @@
 //! What a step with an action makes of the pair at its key: it is decided on a copy of the value, before anything changes.
-//! For the crates here alone.
 ghost use Rattle.std.specs.Prelude.{◌≡◌, IsTrue, IsSome, IfOk, OnErr};
 ghost use Rattle.std.specs.Option.{option_map};
 ghost use Rattle.std.specs.Map.Iter.{deref_pair};

@@ -1,5 +1,4 @@
 //! What a step makes of all pairs of a shard: copies of them, and what its action makes of copies of their values.
-//! For the crates here alone.
 ghost use Rattle.std.specs.Prelude.{IsTrue, IfOk, OnOk};
 ghost use Rattle.dash_steps.specs.Words.{SameShard, pairs};
 ghost use Rattle.dash_steps.specs.inner.Copied.{alike_pairs};

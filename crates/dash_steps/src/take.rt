@@ -1,4 +1,4 @@
-//! A step on one shard, which it changes in place: a shard is a part of its map. For the crates here alone.
+//! A step on one shard, which it changes in place: a shard is a part of its map.
 ghost use Rattle.std.specs.Prelude.{◌≡◌, true, IsTrue, IfOk, IfErr};
 ghost use Rattle.dash_steps.specs.Words.{IsShard, TakesOn, by, key_hash, step_of};
 ghost use Rattle.dash_steps.specs.inner.Hashed.{Asks};

@@ -1,5 +1,4 @@
 //! Holds of a shard as what lends from it sees them: by a trait, since a value is lent only from a field whose type names no lifetime.
-//! For the crates here alone.
 ghost use Rattle.std.specs.Prelude.{◌≡◌, ℕ, IsSome, Some, refl};
 ghost use Rattle.std.specs.Borrow.{Lends, sem};
 ghost use Rattle.std.specs.Map.Iter.{deref_pair_mut};

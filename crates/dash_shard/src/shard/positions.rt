@@ -33,7 +33,7 @@ impl<K: Eq + Hash, V, S: BuildHasher> Shard<K, V, S> {
         self.table.find(hash, key)
     }
 
-    /// As `position_of_hashed`, or else the place for a pair of this key, where there is room. For the crates here alone.
+    /// As `position_of_hashed`, or else the place for a pair of this key, where there is room.
     #[inline(always)]
     pub fn find_or_place(&self, hash: u64, key: &K) -> Result<usize, Place>
         requires { hash ≡ ⟦<Self as Keyed>⟧.by.hash self.now.hasher key.now }
@@ -103,7 +103,7 @@ impl<K: Eq + Hash, V, S: BuildHasher> Shard<K, V, S> {
         place.slot
     }
 
-    /// The place that a search found for a new key, or another in room that is made, where there was none. For the crates here alone.
+    /// The place that a search found for a new key, or another in room that is made, where there was none.
     ///
     /// Takes memory where the shard is full, and is refused (11) only then.
     #[inline]
@@ -123,7 +123,7 @@ impl<K: Eq + Hash, V, S: BuildHasher> Shard<K, V, S> {
         Ok(self.table.place_for(hash))
     }
 
-    /// As `insert_new`, for a caller who has the key's hash and a place for it. For the crates here alone.
+    /// As `insert_new`, for a caller who has the key's hash and a place for it.
     #[inline]
     pub fn insert_new_at(&mut self, place: Place, hash: u64, key: K, value: V)
     where
@@ -142,7 +142,7 @@ impl<K: Eq + Hash, V, S: BuildHasher> Shard<K, V, S> {
         self.table.put(place, hash, key, value);
     }
 
-    /// As `Shard::insert_hashed`, for a caller who has what a search found. For the crates here alone.
+    /// As `Shard::insert_hashed`, for a caller who has what a search found.
     #[inline(always)]
     pub fn insert_found(
         &mut self,
@@ -235,7 +235,7 @@ impl<K: Eq + Hash, V, S: BuildHasher> Shard<K, V, S> {
     {
         self.table.next_taken(position)
     }
-    /// A cursor before the first slot. For the crates here alone.
+    /// A cursor before the first slot.
     #[inline]
     pub fn cursor(&self) -> Cursor
         ensures first { result.position ≡ 0 }
@@ -244,7 +244,7 @@ impl<K: Eq + Hash, V, S: BuildHasher> Shard<K, V, S> {
         self.table.cursor()
     }
 
-    /// As `next_taken`, by a cursor, which looks at the tags of four groups at once. For the crates here alone.
+    /// As `next_taken`, by a cursor, which looks at the tags of four groups at once.
     #[inline(always)]
     pub fn advance(&self, cursor: &mut Cursor) -> Option<usize>
         requires { IsSlotCursor self.now.slots cursor.old }
