@@ -6,7 +6,7 @@ ghost use Rattle.std.specs.Borrow.{LendsIf, sem};
 ghost use Rattle.dash_shard.specs.Words.{Alter, Answered, ChangesOn, Contains, Done, Found, Get, Given, Inserts, IsAmount, IsShard, Loses, MayAsk, MayChange, MayGive, Memory, Pair, Remove, RemoveIf, RemoveIfMut, RepliesOn, Reserves, Routes, TakesBy, TakesInPlace, Viewed, at, by, pairs, shard_len, with_value_of};
 
 use crate::error::{ConstructError, TryReserveError};
-use crate::hash::determine_shard;
+use crate::hash::{FixedState, determine_shard};
 use crate::keyed::{Keyed, Lender};
 pub use group::probe;
 use std::alloc::{AllocError, Global};
@@ -30,7 +30,7 @@ pub mod tag;
 /// One shard of a map, as the original's table behind a lock: pairs with distinct keys that all go to the shard's number.
 ///
 /// Calls take amortised constant time where the hasher spreads the keys. A new shard of capacity 0 takes no memory.
-pub struct Shard<K: Eq + Hash, V, S: BuildHasher> {
+pub struct Shard<K: Eq + Hash, V, S: BuildHasher = FixedState> {
     hasher: S,
     number: usize,
     amount: usize,
