@@ -285,6 +285,19 @@ impl<'a, T: Tagged> RwLockWriteGuard<'a, T> {
     }
 }
 
+impl<'a, T: Tagged> RwLockWriteGuard<'a, T> {
+    // The guard's hold, and its lock.
+    #[inline]
+    fn into_parts(self) -> (Hold<'a, T>, &'a RwLock<T>)
+        ensures right { result.0.right ≡ 2 }
+        ensures same { (result.0.tag ≡ self.entry.tag) × (result.0.value ≡ self.entry.value) }
+        ensures fits { T.fits self.entry.tag self.entry.value }
+    {
+        let Self { hold, lock } = self;
+        (hold, lock)
+    }
+}
+
 impl<'a, T: Tagged> Hold<'a, T> {
     /// The hold of a guard, and its lock.
     #[inline]
@@ -293,8 +306,7 @@ impl<'a, T: Tagged> Hold<'a, T> {
         ensures same { (result.0.tag ≡ guard.entry.tag) × (result.0.value ≡ guard.entry.value) }
         ensures fits { T.fits guard.entry.tag guard.entry.value }
     {
-        let RwLockWriteGuard { hold, lock } = guard;
-        (hold, lock)
+        guard.into_parts()
     }
 
     /// The guard of a hold to write, and of its lock.

@@ -51,7 +51,7 @@ impl<K: Eq + Hash + Send + Drop, S: BuildHasher + Send> AloneSet<K, S> {
         ensures { ParExtends ⟦<Self as Keyed>⟧.by (members list.items) self.old self.new result }
     {
         // Only a look at the map tells the prover its invariant, which a list that finds no memory needs too.
-        let _ = self.inner.shards();
+        let _ = self.inner.shard_count();
         let pairs = with_units(list)?;
         self.inner.par_extend(rt, pairs, workers)
     }
