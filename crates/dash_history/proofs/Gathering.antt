@@ -12,7 +12,7 @@ use Rattle.dash_history.specs.OneHistory.{Matches, IsGathered, histories}
 use Rattle.dash_steps.specs.Takes.{Known, rules}
 use Rattle.dash_history.specs.declared.place.At.{At}
 use Rattle.dash_steps.proofs.Copies.{Lawful}
-use Rattle.dash_history.proofs.Matching.{order-from-match, shards-from-order, match-from-order}
+use Rattle.dash_history.proofs.Agreeing.{order-from-match, shards-from-order, match-from-order}
 use Rattle.dash_history.proofs.Ordered.{contains-has}
 use Rattle.dash_history.proofs.Whole.{tidy, one-history, caller-below, all-has, has-all}
 

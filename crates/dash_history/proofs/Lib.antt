@@ -19,7 +19,7 @@ mod Refusals
 mod Members
 mod Alongs
 mod Whole
-mod Matching
+mod Agreeing
 mod Gathering
 mod WholeAlone
 mod Joining

@@ -16,8 +16,8 @@ use Rattle.dash_history.specs.Alone.{RecAloneState, IsRecAlone, kinds_in}
 use Rattle.dash_history.specs.Merge.{Earlier, along, of_caller, record_at}
 use Rattle.dash_history.specs.OneHistory.{HasWhole, IsGathered, IsWhole, StandsWhole, WholesStand, histories, of_shard}
 use Rattle.dash_history.specs.declared.place.At.{At}
-use Rattle.dash_history.proofs.Matching.{like-has, zipped}
-use Rattle.dash_history.proofs.Matching as matching
+use Rattle.dash_history.proofs.Agreeing.{like-has, zipped}
+use Rattle.dash_history.proofs.Agreeing as matching
 use Rattle.dash_history.proofs.Ordered.{Has, contains-has, get-has, has-contains, has-get}
 use Rattle.dash_history.proofs.Members.{has-kept, kept-has}
 use Rattle.dash_history.proofs.Lists.{get-within}
