@@ -49,11 +49,11 @@ module _ {K V A : Type 0} (m : Kinds K V A) where
 
   -- the map has no such shard
   abbrev pub NoShard : ShardStep K V A → Type 0
-  NoShard step = m.rules.keys.shards ≤ shard_of step
+  NoShard step = m.rules.keys.shards ≤ shard_of m step
 
   -- shard history: the callers' records of shard s, of steps that go to s, from no pairs to the pairs P
   pub record IsHistory (callers s : ℕ) (h : List (Record K V A)) (P : List (K × V)) : Type 0 where
-    pub of : All (λ r. (r.shard ≡ s) × (shard_of r.step ≡ s) × (r.caller < callers)) h
+    pub of : All (λ r. (r.shard ≡ s) × (shard_of m r.step ≡ s) × (r.caller < callers)) h
     pub rises : Rises 0 h
     pub runs : Runs m.rules [] (map (done m.acts) h) P
 

@@ -1,6 +1,6 @@
 //! Recorded shards and callers' logs, and the one call that lengthens both.
 ghost use Rattle.std.specs.Prelude.{◌≡◌, ◌<◌, [], IsTrue, IfOk, IfErr, vec_len, vec_capacity, max};
-ghost use Rattle.dash_history.specs.Words.{GoesTo, IsAmount, IsFresh, IsLog, IsPart, IsRecorded, Records, SameShard, known, last_or};
+ghost use Rattle.dash_history.specs.Words.{GoesTo, IsAmount, IsFresh, IsLog, IsPart, IsRecorded, Records, SameShard, alike_record, known, last_or};
 ghost use Rattle.dash_history.specs.inner.Tells.{Tells};
 ghost use Rattle.dash_history.specs.inner.Grows.{Adds};
 ghost use Rattle.dash_steps.specs.inner.Hashed.{HasHash};
