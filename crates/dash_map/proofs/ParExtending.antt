@@ -94,9 +94,9 @@ module _ {K V S : Type 0} (h : KeyHash K S) where
           let i = route_by h base n p.0 in
           let s = get_or row i step.after in
           let put = step.taken step.after in
-          let spot : Spot h (of row) p.0 i s = record { law = law; base = base; row = row; view = refl; lawful = lawful; computed = ap (λ m. route_by h base m p.0) (sym long); within = step.below; read = get_or_default row i step.after s step.below } in
+          let spot : Spot h (of row) i s = record { law = law; base = base; row = row; view = refl; lawful = lawful; within = step.below; read = get_or_default row i step.after s step.below } in
           let took = grows-inserted h.eq s step.after p.0 p.1 (Ok put.value) put.inserts in
-          (put.value, subst (λ x. TakesAlone h (of row) (of x) (Insert p.0 p.1) (Old put.value)) (sym step.others) (spot-takes spot step.after put.lawful (Insert p.0 p.1) (Old put.value) (_, _, refl) took.0 took.1))
+          (put.value, subst (λ x. TakesAlone h (of row) (of x) (Insert p.0 p.1) (Old put.value)) (sym step.others) (spot-takes spot p.0 (ap (λ m. route_by h base m p.0) (sym long)) step.after put.lawful (Insert p.0 p.1) (Old put.value) (_, _, refl) took.0 took.1))
 
       put-each : (ps : List (K × V)) (row row' : List (ShardState K V S)) (n : ℕ) → length row ≡ n → IsAlone h (of row) → TakenInTurn (TakesInRow PutsIn (λ q. route_by h base n q.0)) row (map silent ps) row'
           → InsertsEach h (of row) ps (of row')

@@ -9,14 +9,14 @@ use Rattle.std.specs.Option.{option_map}
 use Rattle.std.specs.Map.Iter.{deref_pair}
 use Rattle.dash_shard.proofs.Rows.{each-more as put-more}
 use Rattle.dash_shard.specs.Hashing.{KeyHash, IsAmount, route_by}
-use Rattle.dash_shard.specs.Contents.{at}
+use Rattle.dash_shard.specs.Contents.{at_named}
 use Rattle.dash_shard.specs.Lock.{FoundBehind, WasRead, LeftBehind}
 use Rattle.dash_shard.specs.Shard.{ShardState, SameShard, Routes, IsShard, IsTagged, pairs, shard_len}
 use Rattle.dash_map.specs.Alone.{AloneState, KeepsRoom}
-use Rattle.dash_map.specs.Behind.{AreBehind, AreEnded, SawShard, SawShards, StandsAt, LeavesShard, Relocks}
+use Rattle.dash_map.specs.Behind.{AreBehind, AreEnded, SawShard, SawShards, StandsAt, Serves, LeavesShard, LeavesServing, Relocks}
 use Rattle.dash_map.specs.Map.{MapState, made_for, locked, shape}
 use Rattle.dash_map.proofs.Lifting.{keys-same, tagged-moved}
-use Rattle.dash_map.proofs.Found.{at-key}
+use Rattle.dash_map.proofs.Found.{at-named}
 
 -- what stands in a list with one item more: what stood there, or the item, at its end
 pub append-cases : {A : Type 0} (xs : List A) (y : A) (i : ℕ) (x : A) → slice_get (xs ++ y ∷ []) i ≡ Some x → (slice_get xs i ≡ Some x) ⊎ ((i ≡ length xs) × (y ≡ x))
@@ -42,6 +42,20 @@ module _ {K V S : Type 0} (h : KeyHash K S) where
   pub stands-at : (m : MapState K V S) (k : K) (i : ℕ) → i ≡ route_by h m.hasher m.amount k → (s : ShardState K V S) → IsTagged h m.hasher m.amount i s → StandsAt h m k s
   stands-at m k i route s tagged = subst (λ n. IsTagged h m.hasher m.amount n s) route tagged
 
+  -- the shard of the number that each key goes to which is named
+  pub serves : (m : MapState K V S) (names : K → Bool) (i : ℕ) → ((k : K) → IsTrue (names k) → i ≡ route_by h m.hasher m.amount k) → (s : ShardState K V S) → IsTagged h m.hasher m.amount i s → Serves h m names s
+  serves m names i route s tagged = record {
+    own = subst (λ n. IsTagged h m.hasher m.amount n s) (sym tagged.number) tagged;
+    each = λ k named. stands-at m k i (route k named) s tagged;
+  }
+
+  -- and what a change leaves of it
+  pub serves-moved : (m : MapState K V S) (names : K → Bool) (s t : ShardState K V S) → Serves h m names s → SameShard s t → IsShard h t → Serves h m names t
+  serves-moved m names s t here stays new = record {
+    own = subst (λ n. IsTagged h m.hasher m.amount n t) (sym stays.number) (tagged-moved h m.hasher m.amount _ s t here.own stays new);
+    each = λ k named. tagged-moved h m.hasher m.amount _ s t (here.each k named) stays new;
+  }
+
   -- what is so of it was seen
   pub saw-shard : (m : MapState K V S) (k : K) (i : ℕ) → i ≡ route_by h m.hasher m.amount k → (s : ShardState K V S) → IsTagged h m.hasher m.amount i s → FoundBehind s → (P : ShardState K V S → Type 0) → P s → SawShard h m k P
   saw-shard m k i route s tagged found P is = (s, stands-at m k i route s tagged, found, is)
@@ -56,6 +70,13 @@ module _ {K V S : Type 0} (h : KeyHash K S) where
   left-behind m k i route s t tagged found stays new left R did =
       let here = stands-at m k i route s tagged in
       (s, here, found, (t, tagged-moved h m.hasher m.amount _ s t here stays new, left, did))
+
+  -- what a hold of the shard of the named keys found there and left
+  pub left-serving : (m : MapState K V S) (names : K → Bool) (i : ℕ) → ((k : K) → IsTrue (names k) → i ≡ route_by h m.hasher m.amount k) → (s t : ShardState K V S) → IsTagged h m.hasher m.amount i s → FoundBehind s
+      → SameShard s t → IsShard h t → LeftBehind t → (R : ShardState K V S → ShardState K V S → Type 0) → R s t → LeavesServing h m names R
+  left-serving m names i route s t tagged found stays new left R did =
+      let here = serves m names i route s tagged in
+      (s, here, found, (t, serves-moved m names s t here stays new, left, did))
 
   -- the shards in front of n, each as it stood when it was held, or as it was left, which P says
   pub record SoFar (m : MapState K V S) (P : ShardState K V S → Type 0) (n : ℕ) (row : List (ShardState K V S)) : Type 0 where
@@ -114,13 +135,13 @@ pub same-shape : {K V S : Type 0} (h : KeyHash K S) (m n : MapState K V S) (a b 
 same-shape h m n a b ended stays is =
     ap shape is ∙ ap (λ x. record { hasher = x; amount = length b.row }) (stays.hasher ∙ ended.found.hasher) ∙ ap (λ x. record { hasher = m.hasher; amount = x }) (stays.amount ∙ ended.found.amount)
 
--- what holds of each pair with an equal key holds of the one that stands at it
-pub at-each : {K V : Type 0} (eq : K → K → Bool) (ps : List (K × V)) (k : K) (P : K × V → Type 0) → ((p : K × V) → IsTrue (eq p.0 k) → P p) → IfSome (at eq ps k) P
-at-each {K} {V} eq ps k P each = from (at eq ps k) refl
+-- what holds of each pair whose key is named holds of the one that is found
+pub at-each : {K V : Type 0} (names : K → Bool) (ps : List (K × V)) (P : K × V → Type 0) → ((p : K × V) → IsTrue (names p.0) → P p) → IfSome (at_named names ps) P
+at-each {K} {V} names ps P each = from (at_named names ps) refl
   where
-    from : (o : Option (K × V)) → at eq ps k ≡ o → IfSome o P
+    from : (o : Option (K × V)) → at_named names ps ≡ o → IfSome o P
     from None e = tt
-    from (Some p) e = each p (at-key eq ps k p e)
+    from (Some p) e = each p (at-named names ps p e)
 
 pub shown : {K V : Type 0} (o : Option (Bor K × Bor V)) → is_some o ≡ is_some (option_map deref_pair o)
 shown None = refl

@@ -1,8 +1,8 @@
 -- A map of one owner: a row of shards.
-use Rattle.std.specs.Prelude.{ℕ, ◌≡◌, ◌+◌, ◌-◌, ◌^◌, ◌<◌, ◌≤◌, min, sum_by, Bool, List, length, flat_map, Some, Result, OnOk, OnErr, IsSomeAnd, slice_get}
+use Rattle.std.specs.Prelude.{ℕ, ◌≡◌, ◌+◌, ◌-◌, ◌^◌, ◌<◌, ◌≤◌, min, sum_by, Bool, IsTrue, List, length, flat_map, Option, Some, None, IfSome, Result, OnOk, OnErr, IsSomeAnd, slice_get}
 use Rattle.dash_shard.specs.Hashing.{KeyHash, IsAmount, route_by}
-use Rattle.dash_shard.specs.Contents.{Keys, keys, at, EachOnce}
-use Rattle.dash_shard.specs.Steps.{Act, Step, Reply, IsTaken, BySome}
+use Rattle.dash_shard.specs.Contents.{Keys, keys, at_named, EachOnce}
+use Rattle.dash_shard.specs.Steps.{Act, Step, Remove, Reply, Pair, IsTaken, BySome}
 use Rattle.dash_shard.specs.Shard.{ShardState, EachAt, IsTagged, pairs, shard_len}
 use Rattle.dash_steps.specs.Takes.{GrowsBy}
 
@@ -65,6 +65,23 @@ module _ {K V S : Type 0} where
       pub stays : SameMap old new
       pub lawful : IsAlone new
 
-    -- the same by some action, which may do on the pair with an equal key what it does
-    abbrev pub TakesAloneBy : AloneState K V S → AloneState K V S → (K → Act K V → Step K V) → K → Reply K V → (K × V → V × Bool → Type 0) → Type 0
-    TakesAloneBy old new step key reply may = BySome may (at h.eq (contents old) key) (λ act. TakesAlone old new (step key act) reply)
+    -- the same at each key that is named; where no pair's key is, all stays as it is
+    pub record TakesAloneNamed (names : K → Bool) (old new : AloneState K V S) (step : K → Step K V) (reply : Reply K V) : Type 0 where
+      pub each : (key : K) → IsTrue (names key) → TakesAlone old new (step key) reply
+      pub none : at_named names (contents old) ≡ None → new ≡ old
+      pub stays : SameMap old new
+      pub lawful : IsAlone new
+
+    -- the same by some action, which may do on the pair whose key is named what it does
+    abbrev pub TakesAloneBy : AloneState K V S → AloneState K V S → (K → Act K V → Step K V) → (K → Bool) → Reply K V → (K × V → V × Bool → Type 0) → Type 0
+    TakesAloneBy old new step names reply may = BySome may (at_named names (contents old)) (λ act. TakesAloneNamed names old new (λ k. step k act) reply)
+
+    -- the pair whose key is named is taken out, and returned
+    pub record RemovesAlone (names : K → Bool) (old new : AloneState K V S) (result : Option (K × V)) : Type 0 where
+      pub pair : result ≡ at_named names (contents old)
+      pub takes : TakesAloneNamed names old new Remove (Pair result)
+
+    -- the same by some action: what is returned, if anything is, is the pair whose key is named
+    pub record RemovesAloneBy (names : K → Bool) (old new : AloneState K V S) (step : K → Act K V → Step K V) (result : Option (K × V)) (may : K × V → V × Bool → Type 0) : Type 0 where
+      pub takes : TakesAloneBy old new step names (Pair result) may
+      pub equal : IfSome result (λ p. IsTrue (names p.0))

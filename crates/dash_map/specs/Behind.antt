@@ -1,12 +1,12 @@
 -- What calls of a map promise where others may change it: of shards that were found behind its locks, and of what they left there.
-use Rattle.std.specs.Prelude.{ℕ, ◌≡◌, Bool, List, Option, length}
+use Rattle.std.specs.Prelude.{ℕ, ◌≡◌, Bool, IsTrue, List, Option, length}
 use Rattle.std.specs.Map.Calls.{CallableOnEachPair}
 use Rattle.dash_shard.specs.Hashing.{KeyHash, route_by}
-use Rattle.dash_shard.specs.Contents.{at}
-use Rattle.dash_shard.specs.Held.{Loses}
+use Rattle.dash_shard.specs.Contents.{at_named}
+use Rattle.dash_shard.specs.Held.{RemovesNamed, RemovesNamedBy}
 use Rattle.dash_shard.specs.Lock.{FoundBehind, GivenBack, WasRead, LeftBehind, EndedWith}
-use Rattle.dash_shard.specs.Steps.{Act, Step, Remove, Alter, Pair, Done}
-use Rattle.dash_shard.specs.Shard.{ShardState, EachAt, IsTagged, TakesInPlace, TakesBy, pairs, shard_len}
+use Rattle.dash_shard.specs.Steps.{Act, Step, Alter, Done}
+use Rattle.dash_shard.specs.Shard.{ShardState, EachAt, IsTagged, TakesBy, pairs, shard_len}
 use Rattle.dash_map.specs.Alone.{AloneState, IsAlone, EachShard}
 use Rattle.dash_map.specs.Map.{MapState, made_for}
 
@@ -27,25 +27,38 @@ module _ {K V S : Type 0} (h : KeyHash K S) where
   abbrev pub SawShard : MapState K V S → K → (ShardState K V S → Type 0) → Type 0
   SawShard m key P = (s : ShardState K V S) × StandsAt m key s × FoundBehind s × P s
 
-  -- P is so of what was found at the key, a pair or none, by a hold that is over
-  abbrev pub SawAt : MapState K V S → K → (Option (K × V) → Type 0) → Type 0
-  SawAt m key P = SawShard m key (λ s. GivenBack s × P (at h.eq (pairs s) key))
+  -- the shard is one of the map's, and the one where each key goes that is named
+  pub record Serves (m : MapState K V S) (names : K → Bool) (s : ShardState K V S) : Type 0 where
+    pub own : IsShardOf m s.number s
+    pub each : (key : K) → IsTrue (names key) → StandsAt m key s
+
+  -- P is so of a shard that was found where the named keys go
+  abbrev pub SawServing : MapState K V S → (K → Bool) → (ShardState K V S → Type 0) → Type 0
+  SawServing m names P = (s : ShardState K V S) × Serves m names s × FoundBehind s × P s
+
+  -- P is so of what was found at the named keys, a pair or none, by a hold that is over
+  abbrev pub SawAt : MapState K V S → (K → Bool) → (Option (K × V) → Type 0) → Type 0
+  SawAt m names P = SawServing m names (λ s. GivenBack s × P (at_named names (pairs s)))
 
   -- R of a shard that was found where the key goes, and of the one that was left there
   abbrev pub LeavesShard : MapState K V S → K → (ShardState K V S → ShardState K V S → Type 0) → Type 0
   LeavesShard m key R = SawShard m key (λ s. (t : ShardState K V S) × StandsAt m key t × LeftBehind t × R s t)
 
+  -- R of a shard that was found where the named keys go, and of the one that was left there
+  abbrev pub LeavesServing : MapState K V S → (K → Bool) → (ShardState K V S → ShardState K V S → Type 0) → Type 0
+  LeavesServing m names R = SawServing m names (λ s. (t : ShardState K V S) × Serves m names t × LeftBehind t × R s t)
+
   -- the pair that is returned, if one is, was taken out in place
-  abbrev pub Removes : MapState K V S → K → Option (K × V) → Type 0
-  Removes m key result = LeavesShard m key (λ s t. TakesInPlace h.eq s t (Remove key) (Pair result) × Loses s t result)
+  abbrev pub Removes : MapState K V S → (K → Bool) → Option (K × V) → Type 0
+  Removes m names result = LeavesServing m names (λ s t. RemovesNamed h.eq names s t result)
 
-  -- the same of a step by some action, which may do on the pair with an equal key what it does
-  abbrev pub RemovesBy : MapState K V S → (K → Act K V → Step K V) → K → Option (K × V) → (K × V → V × Bool → Type 0) → Type 0
-  RemovesBy m step key result may = LeavesShard m key (λ s t. TakesBy h.eq s t step key (Pair result) may × Loses s t result)
+  -- the same of a step by some action, which may do on the pair whose key is named what it does
+  abbrev pub RemovesBy : MapState K V S → (K → Act K V → Step K V) → (K → Bool) → Option (K × V) → (K × V → V × Bool → Type 0) → Type 0
+  RemovesBy m step names result may = LeavesServing m names (λ s t. RemovesNamedBy h.eq names s t step result may)
 
-  -- the value of the pair with an equal key was changed in place by such an action
-  abbrev pub AltersBy : MapState K V S → K → (K × V → V × Bool → Type 0) → Type 0
-  AltersBy m key may = LeavesShard m key (λ s t. TakesBy h.eq s t Alter key Done may × (shard_len t ≡ shard_len s))
+  -- the value of the pair whose key is named was changed in place by such an action
+  abbrev pub AltersBy : MapState K V S → (K → Bool) → (K × V → V × Bool → Type 0) → Type 0
+  AltersBy m names may = LeavesServing m names (λ s t. TakesBy h.eq s t Alter names Done may × (shard_len t ≡ shard_len s))
 
   -- shards that may stand behind the locks of this map, of each of which P is so: that it was found there, or left
   pub record AreBehind (P : ShardState K V S → Type 0) (m : MapState K V S) (a : AloneState K V S) : Type 0 where

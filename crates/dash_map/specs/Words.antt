@@ -1,9 +1,9 @@
 -- The words of the contracts of this crate, each from where it is defined.
 pub use Rattle.dash_shard.specs.Closures.{Answered, ChangesOn, Given, MayAsk, MayChange, MayGive, Viewed}
-pub use Rattle.dash_shard.specs.Contents.{EachOnce, at}
+pub use Rattle.dash_shard.specs.Contents.{EachOnce, at, at_named}
 pub use Rattle.dash_shard.specs.Each.{CalledOnPair, TakesOnPair}
 pub use Rattle.dash_shard.specs.Errors.{IsOneOf}
-pub use Rattle.dash_shard.specs.Hashing.{HashAlike, IsAmount, by, hash_of, route_by, route_of_hash}
+pub use Rattle.dash_shard.specs.Hashing.{HashAlike, IsAmount, IsHashOf, by, hash_of, route_by, route_of_hash}
 pub use Rattle.dash_shard.specs.Held.{FitsTag, Inserts}
 pub use Rattle.dash_shard.specs.Lock.{EndedWith, FoundBehind, LeftBehind}
 pub use Rattle.dash_shard.specs.Shard.{EachAt, IsShard, IsTagged, ShardState, pairs}
@@ -16,7 +16,7 @@ pub use Rattle.dash_rows.specs.Apart.{ParRan}
 pub use Rattle.dash_rows.specs.Parallel.{MapsEach, MayMap}
 pub use Rattle.dash_ref.specs.Multi.{lent_pair, lent_value}
 pub use Rattle.dash_map.specs.AllPairs.{AltersAllAlone, ClearsAlone, RetainsAlone, ShrinksAlone}
-pub use Rattle.dash_map.specs.Alone.{IsAlone, KeepsRoom, ReservesAlone, TakesAlone, TakesAloneBy, contents, keys_in, len_in, room_in}
+pub use Rattle.dash_map.specs.Alone.{IsAlone, KeepsRoom, RemovesAlone, RemovesAloneBy, ReservesAlone, TakesAlone, TakesAloneBy, contents, keys_in, len_in, room_in}
 pub use Rattle.dash_map.specs.Amounts.{IsDefault, IsFresh, IsParallelism, Overflows, OverflowsDefault, share}
 pub use Rattle.dash_map.specs.Behind.{AltersBy, AreBehind, AreEnded, CallableOnPairs, EndedShards, IsShardOf, LeavesShard, LeavesShards, MadeShards, Relocks, Removes, RemovesBy, SawAt, SawShards}
 pub use Rattle.dash_map.specs.Copies.{CopiesAlone}

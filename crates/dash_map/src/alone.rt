@@ -1,7 +1,7 @@
 //! A map of one owner, without locks.
-ghost use Rattle.std.specs.Prelude.{◌≡◌, ◌∷◌, [], ◌+◌, ◌<◌, ◌≤◌, ◌↔◌, IsErrOf, IfOk, IfErr, length, OnErr, is_some, IfSome, map, ◌==◌};
+ghost use Rattle.std.specs.Prelude.{◌≡◌, ◌∷◌, [], ◌+◌, ◌<◌, ◌≤◌, ◌↔◌, IsErrOf, IsTrue, IfOk, IfErr, length, OnErr, is_some, IfSome, map, ◌==◌};
 ghost use Rattle.crossbeam_utils.specs.Padded.{padded_value};
-ghost use Rattle.dash_map.specs.Words.{Answered, AreBehind, AreEnded, CapacityOverflow, EachAt, EndedWith, FitsTag, FoundBehind, HasNoRoom, HashAlike, Insert, IsAlone, IsAmount, IsAt, IsFresh, IsOneOf, IsTagged, LeftBehind, MayAsk, Memory, Old, Overflows, Pair, Remove, RemoveIf, ReservesAlone, ShardAmount, TakesAlone, TakesAloneBy, Viewed, at, by, contents, keys_in, len_in, locked, made_of, room_in, share};
+ghost use Rattle.dash_map.specs.Words.{Answered, AreBehind, AreEnded, CapacityOverflow, EachAt, EndedWith, FitsTag, FoundBehind, HasNoRoom, HashAlike, Insert, IsAlone, IsAmount, IsAt, IsFresh, IsHashOf, IsOneOf, IsTagged, LeftBehind, MayAsk, Memory, Old, Overflows, RemoveIf, RemovesAlone, RemovesAloneBy, ReservesAlone, ShardAmount, TakesAlone, Viewed, at_named, by, contents, keys_in, len_in, locked, made_of, room_in, share};
 ghost use Rattle.std.specs.Option.{option_map};
 ghost use Rattle.std.specs.Map.Iter.{deref_pair};
 
@@ -13,6 +13,7 @@ use dash_shard::error::{ConstructError, TryReserveError};
 use dash_shard::hash::{FixedState, is_shard_amount};
 use dash_shard::keyed::Keyed;
 use dash_shard::lock::RwLock;
+use dash_shard::query::Query;
 use dash_shard::row::Row;
 use dash_shard::shard::tag::ShardTag;
 use dash_shard::shard::{InsertRefused, Shard};
@@ -145,9 +146,9 @@ impl<K: Eq + Hash + Drop, V: Drop, S: BuildHasher> Alone<K, V, S> {
 
     // The key's hash, and the number of the shard that it goes to.
     #[inline]
-    fn route_of(&self, key: &K) -> (u64, usize)
-        ensures hash { result.0 ≡ ⟦<Self as Keyed>⟧.by.hash self.now.hasher key.now }
-        ensures idx { result.1 ≡ (keys_in ⟦<Self as Keyed>⟧.by self.now).route key.now }
+    fn route_of<Q: Query<K>>(&self, key: Q) -> (u64, usize)
+        ensures hashed { IsHashOf ⟦<Self as Keyed>⟧.by self.now.hasher (Q.names key) result.0 }
+        ensures routed { (k : K) → IsTrue (Q.names key k) → result.1 ≡ (keys_in ⟦<Self as Keyed>⟧.by self.now).route k }
         ensures below { result.1 < length self.now.row }
     {
         self.lent().route_of(key)
@@ -168,29 +169,22 @@ impl<K: Eq + Hash + Drop, V: Drop, S: BuildHasher> Alone<K, V, S> {
 
     /// Takes the pair whose key equals `key` out, and returns it. It takes no memory, and can't be refused.
     #[inline]
-    pub fn remove(&mut self, key: &K) -> Option<(K, V)>
-        ensures { TakesAlone ⟦<Self as Keyed>⟧.by self.old self.new (Remove key.now) (Pair result) }
+    pub fn remove<Q: Query<K>>(&mut self, key: Q) -> Option<(K, V)>
+        ensures { RemovesAlone ⟦<Self as Keyed>⟧.by (Q.names key) self.old self.new result }
     {
         let (hash, idx) = self.route_of(key);
-        self.remove_hashed(hash, idx, key)
-    }
-
-    // As `remove`, by the key's hash and shard.
-    #[inline]
-    fn remove_hashed(&mut self, hash: u64, idx: usize, key: &K) -> Option<(K, V)>
-        requires hash { hash ≡ ⟦<Self as Keyed>⟧.by.hash self.old.hasher key.now }
-        requires idx { idx ≡ (keys_in ⟦<Self as Keyed>⟧.by self.old).route key.now }
-        requires below { idx < length self.old.row }
-        ensures { TakesAlone ⟦<Self as Keyed>⟧.by self.old self.new (Remove key.now) (Pair result) }
-    {
         self.row[idx].remove_hashed(hash, key)
     }
 
     /// Takes the pair whose key equals `key` out if `f` returns true on it, and returns it. It takes no memory, and can't be refused.
     #[inline]
-    pub fn remove_if<F: FnOnce(&K, &V) -> bool>(&mut self, key: &K, f: F) -> Option<(K, V)>
-        requires { IfSome (at K.eq (contents self.old) key.now) (MayAsk F.FnOnce f) }
-        ensures { TakesAloneBy ⟦<Self as Keyed>⟧.by self.old self.new RemoveIf key.now (Pair result) (Answered F.FnOnce f) }
+    pub fn remove_if<Q: Query<K>, F: FnOnce(&K, &V) -> bool>(
+        &mut self,
+        key: Q,
+        f: F,
+    ) -> Option<(K, V)>
+        requires { IfSome (at_named (Q.names key) (contents self.old)) (MayAsk F.FnOnce f) }
+        ensures { RemovesAloneBy ⟦<Self as Keyed>⟧.by (Q.names key) self.old self.new RemoveIf result (Answered F.FnOnce f) }
     {
         let (hash, idx) = self.route_of(key);
         self.row[idx].remove_if_hashed(hash, key, f)
@@ -198,8 +192,8 @@ impl<K: Eq + Hash + Drop, V: Drop, S: BuildHasher> Alone<K, V, S> {
 
     /// The pair whose key equals `key`.
     #[inline]
-    pub fn get(&self, key: &K) -> Option<(&K, &V)>
-        ensures pair { option_map deref_pair result ≡ at K.eq (contents self.now) key.now }
+    pub fn get<Q: Query<K>>(&self, key: Q) -> Option<(&K, &V)>
+        ensures pair { option_map deref_pair result ≡ at_named (Q.names key) (contents self.now) }
         ensures lawful { IsAlone ⟦<Self as Keyed>⟧.by self.now }
     {
         self.lent().get(key)
@@ -207,8 +201,8 @@ impl<K: Eq + Hash + Drop, V: Drop, S: BuildHasher> Alone<K, V, S> {
 
     /// Whether there is a pair whose key equals `key`.
     #[inline]
-    pub fn contains_key(&self, key: &K) -> bool
-        ensures found { result ≡ is_some (at K.eq (contents self.now) key.now) }
+    pub fn contains_key<Q: Query<K>>(&self, key: Q) -> bool
+        ensures found { result ≡ is_some (at_named (Q.names key) (contents self.now)) }
         ensures lawful { IsAlone ⟦<Self as Keyed>⟧.by self.now }
     {
         self.get(key).is_some()
@@ -216,9 +210,9 @@ impl<K: Eq + Hash + Drop, V: Drop, S: BuildHasher> Alone<K, V, S> {
 
     /// What `f` returns on the pair whose key equals `key`.
     #[inline]
-    pub fn view<R, F: FnOnce(&K, &V) -> R>(&self, key: &K, f: F) -> Option<R>
-        requires { IfSome (at K.eq (contents self.now) key.now) (MayAsk F.FnOnce f) }
-        ensures viewed { Viewed F.FnOnce f (at K.eq (contents self.now) key.now) result }
+    pub fn view<Q: Query<K>, R, F: FnOnce(&K, &V) -> R>(&self, key: Q, f: F) -> Option<R>
+        requires { IfSome (at_named (Q.names key) (contents self.now)) (MayAsk F.FnOnce f) }
+        ensures viewed { Viewed F.FnOnce f (at_named (Q.names key) (contents self.now)) result }
         ensures lawful { IsAlone ⟦<Self as Keyed>⟧.by self.now }
     {
         let (key, value) = self.get(key)?;

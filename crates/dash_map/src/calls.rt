@@ -3,7 +3,7 @@
 ghost use Rattle.std.specs.Prelude.{◌≡◌, ◌<◌, ◌==◌, length, Option, IsTrue, IfSome, is_some};
 ghost use Rattle.std.specs.Option.{option_map};
 ghost use Rattle.std.specs.Map.Iter.{deref_pair};
-ghost use Rattle.dash_map.specs.Words.{AltersBy, Answered, ChangesOn, FitsTag, FoundBehind, Given, Inserts, IsGot, IsGotMut, IsShard, IsShardOf, LeavesShard, MayAsk, MayChange, MayGive, Relocks, RemoveIf, RemoveIfMut, Removes, RemovesBy, ReservesAlone, SawAt, SawShards, ShardState, Viewed, at, at_start, contents, len_in, pairs, room_in, route_by, shape};
+ghost use Rattle.dash_map.specs.Words.{AltersBy, Answered, ChangesOn, FitsTag, FoundBehind, Given, Inserts, IsGot, IsGotMut, IsHashOf, IsShard, IsShardOf, LeavesShard, MayAsk, MayChange, MayGive, Relocks, RemoveIf, RemoveIfMut, Removes, RemovesBy, ReservesAlone, SawAt, SawShards, ShardState, Viewed, at, at_named, at_start, contents, hash_of, len_in, pairs, room_in, route_by, route_of_hash, shape};
 
 use crate::iter::Iter;
 use crate::map::DashMap;
@@ -13,6 +13,7 @@ use dash_ref::mapref::one::{Ref, RefMut};
 use dash_shard::error::TryReserveError;
 use dash_shard::keyed::Keyed;
 use dash_shard::lock::{RwLock, RwLockReadGuard};
+use dash_shard::query::Query;
 use dash_shard::shard::{InsertRefused, Shard};
 use std::hash::{BuildHasher, Hash};
 use std::rt::Clock;
@@ -24,14 +25,14 @@ mod tries;
 
 // The pair of a held shard whose key equals `key`, by the key's hash.
 #[inline]
-fn find<'s, K: Eq + Hash, V, S: BuildHasher>(
+fn find<'s, K: Eq + Hash, V, S: BuildHasher, Q: Query<K>>(
     shard: &'s Shard<K, V, S>,
     hash: u64,
-    key: &K,
+    key: Q,
 ) -> Option<(&'s K, &'s V)>
-    requires { hash ≡ ⟦<DashMap<K, V, S> as Keyed>⟧.by.hash shard.now.hasher key.now }
-    ensures pair { option_map deref_pair result ≡ at K.eq (pairs shard.now) key.now }
-    ensures equal { IfSome result (λ p. IsTrue (K.eq p.0.now key.now)) }
+    requires { IsHashOf ⟦<DashMap<K, V, S> as Keyed>⟧.by shard.now.hasher (Q.names key) hash }
+    ensures pair { option_map deref_pair result ≡ at_named (Q.names key) (pairs shard.now) }
+    ensures equal { IfSome result (λ p. IsTrue (Q.names key p.0.now)) }
     ensures lawful { IsShard ⟦<DashMap<K, V, S> as Keyed>⟧.by shard.now }
 {
     let position = shard.position_of_hashed(hash, key)?;
@@ -41,12 +42,14 @@ fn find<'s, K: Eq + Hash, V, S: BuildHasher>(
 impl<K: Eq + Hash, V, S: BuildHasher> DashMap<K, V, S> {
     // The key's hash, and the number of the shard that it goes to.
     #[inline]
-    fn route_of(&self, key: &K) -> (u64, usize)
-        ensures hash { result.0 ≡ ⟦<Self as Keyed>⟧.by.hash self.now.hasher key.now }
-        ensures route { result.1 ≡ route_by ⟦<Self as Keyed>⟧.by self.now.hasher self.now.amount key.now }
+    fn route_of<Q: Query<K>>(&self, key: Q) -> (u64, usize)
+        ensures hash { result.0 ≡ hash_of S.BuildHasher S.Hasher.Hasher self.now.hasher (Q.hash_input key) }
+        ensures route { result.1 ≡ route_of_hash self.now.amount (hash_of S.BuildHasher S.Hasher.Hasher self.now.hasher (Q.hash_input key)) }
+        ensures hashed { IsHashOf ⟦<Self as Keyed>⟧.by self.now.hasher (Q.names key) result.0 }
+        ensures routed { (k : K) → IsTrue (Q.names key k) → result.1 ≡ route_by ⟦<Self as Keyed>⟧.by self.now.hasher self.now.amount k }
         ensures below { result.1 < self.now.amount }
     {
-        let hash = self.hash_usize(key);
+        let hash = self.hash_usize(&key);
         (hash as u64, self.determine_shard(hash))
     }
 
@@ -107,9 +110,9 @@ impl<K: Eq + Hash, V, S: BuildHasher> DashMap<K, V, S> {
 
     /// Takes the pair whose key equals `key` out, and returns it. Waits for the key's shard. It takes no memory.
     #[inline]
-    pub fn remove<R: Wait + Clock>(&self, rt: &R, key: &K) -> Option<(K, V)>
-        ensures equal { IfSome result (λ pair. IsTrue (K.eq pair.0 key.now)) }
-        ensures leaves { Removes ⟦<Self as Keyed>⟧.by self.now key.now result }
+    pub fn remove<R: Wait + Clock, Q: Query<K>>(&self, rt: &R, key: Q) -> Option<(K, V)>
+        ensures equal { IfSome result (λ pair. IsTrue (Q.names key pair.0)) }
+        ensures leaves { Removes ⟦<Self as Keyed>⟧.by self.now (Q.names key) result }
     {
         let (hash, idx) = self.route_of(key);
         let mut shard = self.lock_of(idx).write(rt).shard();
@@ -128,8 +131,8 @@ impl<K: Eq + Hash, V, S: BuildHasher> DashMap<K, V, S> {
     ///
     /// Till the reference is dropped, whoever wants to write the shard waits; in the same thread that is a deadlock. It takes no memory.
     #[inline(always)]
-    pub fn get<R: Wait + Clock>(&self, rt: &R, key: &K) -> Option<Ref<'_, K, V, S>>
-        ensures { IsGot ⟦<Self as Keyed>⟧.by self.now key.now result }
+    pub fn get<R: Wait + Clock, Q: Query<K>>(&self, rt: &R, key: Q) -> Option<Ref<'_, K, V, S>>
+        ensures { IsGot ⟦<Self as Keyed>⟧.by self.now (Q.names key) result }
     {
         let (hash, idx) = self.route_of(key);
         Ref::find(self.lock_of(idx).read(rt), hash, key)
@@ -139,8 +142,12 @@ impl<K: Eq + Hash, V, S: BuildHasher> DashMap<K, V, S> {
     ///
     /// Till the reference is dropped, whoever wants the shard waits; in the same thread that is a deadlock. It takes no memory.
     #[inline(always)]
-    pub fn get_mut<R: Wait + Clock>(&self, rt: &R, key: &K) -> Option<RefMut<'_, K, V, S>>
-        ensures { IsGotMut ⟦<Self as Keyed>⟧.by self.now key.now result }
+    pub fn get_mut<R: Wait + Clock, Q: Query<K>>(
+        &self,
+        rt: &R,
+        key: Q,
+    ) -> Option<RefMut<'_, K, V, S>>
+        ensures { IsGotMut ⟦<Self as Keyed>⟧.by self.now (Q.names key) result }
     {
         let (hash, idx) = self.route_of(key);
         RefMut::find(self.lock_of(idx).write(rt).shard(), hash, key)
@@ -150,14 +157,14 @@ impl<K: Eq + Hash, V, S: BuildHasher> DashMap<K, V, S> {
     ///
     /// The shard is held while `f` runs.
     #[inline]
-    pub fn remove_if<R: Wait + Clock, F: FnOnce(&K, &V) -> bool>(
+    pub fn remove_if<R: Wait + Clock, Q: Query<K>, F: FnOnce(&K, &V) -> bool>(
         &self,
         rt: &R,
-        key: &K,
+        key: Q,
         f: F,
     ) -> Option<(K, V)>
-        requires { (p : K × V) → IsTrue (K.eq p.0 key.now) → MayAsk F.FnOnce f p }
-        ensures { RemovesBy ⟦<Self as Keyed>⟧.by self.now RemoveIf key.now result (Answered F.FnOnce f) }
+        requires { (p : K × V) → IsTrue (Q.names key p.0) → MayAsk F.FnOnce f p }
+        ensures { RemovesBy ⟦<Self as Keyed>⟧.by self.now RemoveIf (Q.names key) result (Answered F.FnOnce f) }
     {
         let (hash, idx) = self.route_of(key);
         let mut shard = self.lock_of(idx).write(rt).shard();
@@ -169,14 +176,14 @@ impl<K: Eq + Hash, V, S: BuildHasher> DashMap<K, V, S> {
     ///
     /// The shard is held while `f` runs: a call of this map from `f` on a key of that shard deadlocks.
     #[inline]
-    pub fn remove_if_mut<R: Wait + Clock, F: FnOnce(&K, &mut V) -> bool>(
+    pub fn remove_if_mut<R: Wait + Clock, Q: Query<K>, F: FnOnce(&K, &mut V) -> bool>(
         &self,
         rt: &R,
-        key: &K,
+        key: Q,
         f: F,
     ) -> Option<(K, V)>
-        requires { (p : K × V) → IsTrue (K.eq p.0 key.now) → MayChange F.FnOnce f p }
-        ensures { RemovesBy ⟦<Self as Keyed>⟧.by self.now RemoveIfMut key.now result (ChangesOn F.FnOnce f) }
+        requires { (p : K × V) → IsTrue (Q.names key p.0) → MayChange F.FnOnce f p }
+        ensures { RemovesBy ⟦<Self as Keyed>⟧.by self.now RemoveIfMut (Q.names key) result (ChangesOn F.FnOnce f) }
     {
         let (hash, idx) = self.route_of(key);
         let mut shard = self.lock_of(idx).write(rt).shard();
@@ -187,14 +194,14 @@ impl<K: Eq + Hash, V, S: BuildHasher> DashMap<K, V, S> {
     ///
     /// The shard is held for reading while `f` runs.
     #[inline]
-    pub fn view<R: Wait + Clock, T, F: FnOnce(&K, &V) -> T>(
+    pub fn view<R: Wait + Clock, Q: Query<K>, T, F: FnOnce(&K, &V) -> T>(
         &self,
         rt: &R,
-        key: &K,
+        key: Q,
         f: F,
     ) -> Option<T>
-        requires { (p : K × V) → IsTrue (K.eq p.0 key.now) → MayAsk F.FnOnce f p }
-        ensures { SawAt ⟦<Self as Keyed>⟧.by self.now key.now (λ p. Viewed F.FnOnce f p result) }
+        requires { (p : K × V) → IsTrue (Q.names key p.0) → MayAsk F.FnOnce f p }
+        ensures { SawAt ⟦<Self as Keyed>⟧.by self.now (Q.names key) (λ p. Viewed F.FnOnce f p result) }
     {
         let (hash, idx) = self.route_of(key);
         let guard = self.lock_of(idx).read(rt);
@@ -207,9 +214,9 @@ impl<K: Eq + Hash, V, S: BuildHasher> DashMap<K, V, S> {
     ///
     /// The shard is held while `f` runs: a call of this map from `f` on a key of that shard deadlocks.
     #[inline]
-    pub fn alter<R: Wait + Clock, F: FnOnce(&K, V) -> V>(&self, rt: &R, key: &K, f: F)
-        requires { (p : K × V) → IsTrue (K.eq p.0 key.now) → MayGive F.FnOnce f p }
-        ensures { AltersBy ⟦<Self as Keyed>⟧.by self.now key.now (Given F.FnOnce f) }
+    pub fn alter<R: Wait + Clock, Q: Query<K>, F: FnOnce(&K, V) -> V>(&self, rt: &R, key: Q, f: F)
+        requires { (p : K × V) → IsTrue (Q.names key p.0) → MayGive F.FnOnce f p }
+        ensures { AltersBy ⟦<Self as Keyed>⟧.by self.now (Q.names key) (Given F.FnOnce f) }
     {
         let (hash, idx) = self.route_of(key);
         let mut shard = self.lock_of(idx).write(rt).shard();
@@ -218,8 +225,8 @@ impl<K: Eq + Hash, V, S: BuildHasher> DashMap<K, V, S> {
 
     /// Whether there is a pair whose key equals `key`. Waits until no writer has the key's shard. It takes no memory.
     #[inline(always)]
-    pub fn contains_key<R: Wait + Clock>(&self, rt: &R, key: &K) -> bool
-        ensures { SawAt {V = V} ⟦<Self as Keyed>⟧.by self.now key.now (λ p. result ≡ is_some p) }
+    pub fn contains_key<R: Wait + Clock, Q: Query<K>>(&self, rt: &R, key: Q) -> bool
+        ensures { SawAt {V = V} ⟦<Self as Keyed>⟧.by self.now (Q.names key) (λ p. result ≡ is_some p) }
     {
         let (hash, idx) = self.route_of(key);
         let guard = self.lock_of(idx).read(rt);

@@ -1,6 +1,6 @@
 //! The map that threads share.
 ghost use Rattle.std.specs.Prelude.{ℕ, ◌≡◌, ◌<◌, ◌↔◌, ◌∷◌, [], length, map, IsErrOf, IfOk, IfErr, OnOk};
-ghost use Rattle.dash_map.specs.Words.{CapacityOverflow, HashAlike, IsAmount, IsDefault, IsMap, IsNew, IsOneOf, IsParallelism, Memory, Overflows, OverflowsDefault, Parallelism, ShardAmount, by, hash_of, made_of, route_by, route_of_hash, shape, share};
+ghost use Rattle.dash_map.specs.Words.{CapacityOverflow, HashAlike, IsAmount, IsDefault, IsMap, IsNew, IsOneOf, IsParallelism, Memory, Overflows, OverflowsDefault, Parallelism, ShardAmount, by, hash_of, made_of, route_of_hash, shape, share};
 
 use crate::alone::Alone;
 use crossbeam_utils::CachePadded;
@@ -8,6 +8,7 @@ use dash_shard::error::ConstructError;
 use dash_shard::hash::{FixedState, determine_shard};
 use dash_shard::keyed::Keyed;
 use dash_shard::lock::RwLock;
+use dash_shard::query::Query;
 use dash_shard::row::Row;
 use dash_shard::shard::Shard;
 use std::alloc::Global;
@@ -254,11 +255,11 @@ impl<K: Eq + Hash, V, S: BuildHasher> DashMap<K, V, S> {
 
     /// The number of the shard that a key goes to.
     #[inline]
-    pub fn determine_map(&self, key: &K) -> usize
-        ensures route { result ≡ route_by ⟦<Self as Keyed>⟧.by self.now.hasher self.now.amount key.now }
+    pub fn determine_map<Q: Query<K>>(&self, key: Q) -> usize
+        ensures route { result ≡ route_of_hash self.now.amount (hash_of S.BuildHasher S.Hasher.Hasher self.now.hasher (Q.hash_input key)) }
         ensures below { result < self.now.amount }
     {
-        self.determine_shard(self.hash_usize(key))
+        self.determine_shard(self.hash_usize(&key))
     }
 
     /// The number of the shard that a hash goes to. Its top seven bits don't matter.

@@ -2,7 +2,7 @@
 ghost use Rattle.std.specs.Prelude.{◌≡◌, ◌≤◌, ◌==◌, IfOk, IfErr, is_some, length, map};
 ghost use Rattle.std.specs.Option.{option_map};
 ghost use Rattle.std.specs.Map.Iter.{deref_pair};
-ghost use Rattle.dash_map.specs.Words.{AreBehind, AreEnded, CopiesAlone, FoldsEach, HashAlike, IsAlone, LeftBehind, MayFold, MayVisit, VisitsEach, at, by, contents, len_in, locked, of_pair, room_in};
+ghost use Rattle.dash_map.specs.Words.{AreBehind, AreEnded, CopiesAlone, FoldsEach, HashAlike, IsAlone, LeftBehind, MayFold, MayVisit, VisitsEach, at_named, by, contents, len_in, locked, of_pair, room_in};
 
 use crate::alone::Alone;
 use crate::map::DashMap;
@@ -11,6 +11,7 @@ use dash_rows::copies::copy_shards;
 pub use dash_rows::view::{Keys, Values, ViewIter};
 use dash_shard::hash::FixedState;
 use dash_shard::keyed::Keyed;
+use dash_shard::query::Query;
 use dash_shard::row::Row;
 use dash_shard::shard::Shard;
 use dash_steps::kept::{Kept, KeptKey};
@@ -106,8 +107,8 @@ impl<K: Eq + Hash, V, S: BuildHasher> ReadOnlyView<K, V, S> {
 
     /// Whether there is a pair whose key equals `key`.
     #[inline]
-    pub fn contains_key(&self, key: &K) -> bool
-        ensures found { result ≡ is_some (at K.eq (contents self.now) key.now) }
+    pub fn contains_key<Q: Query<K>>(&self, key: Q) -> bool
+        ensures found { result ≡ is_some (at_named (Q.names key) (contents self.now)) }
         ensures lawful { IsAlone ⟦<Self as Keyed>⟧.by self.now }
     {
         self.get_key_value(key).is_some()
@@ -115,8 +116,8 @@ impl<K: Eq + Hash, V, S: BuildHasher> ReadOnlyView<K, V, S> {
 
     /// The value of the pair whose key equals `key`.
     #[inline]
-    pub fn get(&self, key: &K) -> Option<&V>
-        ensures value { option_map (λ v. v.now) result ≡ option_map (λ p. p.1) (at K.eq (contents self.now) key.now) }
+    pub fn get<Q: Query<K>>(&self, key: Q) -> Option<&V>
+        ensures value { option_map (λ v. v.now) result ≡ option_map (λ p. p.1) (at_named (Q.names key) (contents self.now)) }
         ensures lawful { IsAlone ⟦<Self as Keyed>⟧.by self.now }
     {
         let (_, value) = self.get_key_value(key)?;
@@ -125,8 +126,8 @@ impl<K: Eq + Hash, V, S: BuildHasher> ReadOnlyView<K, V, S> {
 
     /// The pair whose key equals `key`.
     #[inline]
-    pub fn get_key_value(&self, key: &K) -> Option<(&K, &V)>
-        ensures pair { option_map deref_pair result ≡ at K.eq (contents self.now) key.now }
+    pub fn get_key_value<Q: Query<K>>(&self, key: Q) -> Option<(&K, &V)>
+        ensures pair { option_map deref_pair result ≡ at_named (Q.names key) (contents self.now) }
         ensures lawful { IsAlone ⟦<Self as Keyed>⟧.by self.now }
     {
         self.lent().get(key)

@@ -1,12 +1,13 @@
 //! The shards of a map without locks, lent to be read.
-ghost use Rattle.std.specs.Prelude.{◌≡◌, ◌<◌, ◌≤◌, length};
+ghost use Rattle.std.specs.Prelude.{◌≡◌, ◌<◌, ◌≤◌, IsTrue, length};
 ghost use Rattle.std.specs.Option.{option_map};
 ghost use Rattle.std.specs.Map.Iter.{deref_pair};
-ghost use Rattle.dash_map.specs.Words.{IsAlone, at, by, contents, keys_in, len_in, room_in};
+ghost use Rattle.dash_map.specs.Words.{IsAlone, IsHashOf, at_named, by, contents, keys_in, len_in, room_in};
 
 use crate::read_only::ViewIter;
 use dash_shard::hash::determine_shard;
 use dash_shard::keyed::Keyed;
+use dash_shard::query::Query;
 use dash_shard::shard::Shard;
 use std::hash::{BuildHasher, Hash};
 use std::marker::Model;
@@ -48,19 +49,19 @@ impl<'a, K: Eq + Hash, V, S: BuildHasher> Shards<'a, K, V, S> {
 
     // The key's hash, and the number of the shard that it goes to.
     #[inline]
-    pub(crate) fn route_of(&self, key: &K) -> (u64, usize)
-        ensures hash { result.0 ≡ ⟦<Self as Keyed>⟧.by.hash self.now.hasher key.now }
-        ensures idx { result.1 ≡ (keys_in ⟦<Self as Keyed>⟧.by self.now).route key.now }
+    pub(crate) fn route_of<Q: Query<K>>(&self, key: Q) -> (u64, usize)
+        ensures hashed { IsHashOf ⟦<Self as Keyed>⟧.by self.now.hasher (Q.names key) result.0 }
+        ensures routed { (k : K) → IsTrue (Q.names key k) → result.1 ≡ (keys_in ⟦<Self as Keyed>⟧.by self.now).route k }
         ensures below { result.1 < length self.now.row }
     {
         let hash = self.hasher.hash_one(key);
         (hash, determine_shard(hash, self.shards.len()))
     }
 
-    // The pair whose key equals `key`, by one hash and one search.
+    // The pair whose key `key` names, by one hash and one search.
     #[inline]
-    pub(crate) fn get(&self, key: &K) -> Option<(&'a K, &'a V)>
-        ensures { option_map deref_pair result ≡ at K.eq (contents self.now) key.now }
+    pub(crate) fn get<Q: Query<K>>(&self, key: Q) -> Option<(&'a K, &'a V)>
+        ensures { option_map deref_pair result ≡ at_named (Q.names key) (contents self.now) }
     {
         let (hash, idx) = self.route_of(key);
         self.get_hashed(hash, idx, key)
@@ -68,11 +69,11 @@ impl<'a, K: Eq + Hash, V, S: BuildHasher> Shards<'a, K, V, S> {
 
     // As `get`, by the key's hash and shard.
     #[inline]
-    fn get_hashed(&self, hash: u64, idx: usize, key: &K) -> Option<(&'a K, &'a V)>
-        requires hash { hash ≡ ⟦<Self as Keyed>⟧.by.hash self.now.hasher key.now }
-        requires idx { idx ≡ (keys_in ⟦<Self as Keyed>⟧.by self.now).route key.now }
+    fn get_hashed<Q: Query<K>>(&self, hash: u64, idx: usize, key: Q) -> Option<(&'a K, &'a V)>
+        requires hashed { IsHashOf ⟦<Self as Keyed>⟧.by self.now.hasher (Q.names key) hash }
+        requires routed { (k : K) → IsTrue (Q.names key k) → idx ≡ (keys_in ⟦<Self as Keyed>⟧.by self.now).route k }
         requires below { idx < length self.now.row }
-        ensures { option_map deref_pair result ≡ at K.eq (contents self.now) key.now }
+        ensures { option_map deref_pair result ≡ at_named (Q.names key) (contents self.now) }
     {
         prove!(idx < self.shards.len());
         let shard = &self.shards[idx];

@@ -11,6 +11,7 @@ use dash_ref::mapref::one::{Ref, RefMut};
 use dash_ref::try_result::TryResult;
 use dash_shard::keyed::Keyed;
 use dash_shard::lock::RwLockReadGuard;
+use dash_shard::query::Query;
 use dash_shard::shard::{InsertRefused, Shard};
 use std::alloc::AllocError;
 use std::hash::{BuildHasher, Hash};
@@ -69,29 +70,29 @@ pub trait Map<K: Eq + Hash, V, S: BuildHasher> {
         ensures { LeavesShard ⟦<DashMap<K, V, S> as Keyed>⟧.by (state self.now) key (λ s t. Inserts K.eq s t key value result) };
 
     /// As `DashMap::remove`.
-    fn _remove<R: Wait + Clock>(&self, rt: &R, key: &K) -> Option<(K, V)>
-        ensures equal { IfSome result (λ pair. IsTrue (K.eq pair.0 key.now)) }
-        ensures leaves { Removes ⟦<DashMap<K, V, S> as Keyed>⟧.by (state self.now) key.now result };
+    fn _remove<R: Wait + Clock, Q: Query<K>>(&self, rt: &R, key: Q) -> Option<(K, V)>
+        ensures equal { IfSome result (λ pair. IsTrue (Q.names key pair.0)) }
+        ensures leaves { Removes ⟦<DashMap<K, V, S> as Keyed>⟧.by (state self.now) (Q.names key) result };
 
     /// As `DashMap::remove_if`.
-    fn _remove_if<R: Wait + Clock, F: FnOnce(&K, &V) -> bool>(
+    fn _remove_if<R: Wait + Clock, Q: Query<K>, F: FnOnce(&K, &V) -> bool>(
         &self,
         rt: &R,
-        key: &K,
+        key: Q,
         f: F,
     ) -> Option<(K, V)>
-        requires { (p : K × V) → IsTrue (K.eq p.0 key.now) → MayAsk F.FnOnce f p }
-        ensures { RemovesBy ⟦<DashMap<K, V, S> as Keyed>⟧.by (state self.now) RemoveIf key.now result (Answered F.FnOnce f) };
+        requires { (p : K × V) → IsTrue (Q.names key p.0) → MayAsk F.FnOnce f p }
+        ensures { RemovesBy ⟦<DashMap<K, V, S> as Keyed>⟧.by (state self.now) RemoveIf (Q.names key) result (Answered F.FnOnce f) };
 
     /// As `DashMap::remove_if_mut`.
-    fn _remove_if_mut<R: Wait + Clock, F: FnOnce(&K, &mut V) -> bool>(
+    fn _remove_if_mut<R: Wait + Clock, Q: Query<K>, F: FnOnce(&K, &mut V) -> bool>(
         &self,
         rt: &R,
-        key: &K,
+        key: Q,
         f: F,
     ) -> Option<(K, V)>
-        requires { (p : K × V) → IsTrue (K.eq p.0 key.now) → MayChange F.FnOnce f p }
-        ensures { RemovesBy ⟦<DashMap<K, V, S> as Keyed>⟧.by (state self.now) RemoveIfMut key.now result (ChangesOn F.FnOnce f) };
+        requires { (p : K × V) → IsTrue (Q.names key p.0) → MayChange F.FnOnce f p }
+        ensures { RemovesBy ⟦<DashMap<K, V, S> as Keyed>⟧.by (state self.now) RemoveIfMut (Q.names key) result (ChangesOn F.FnOnce f) };
 
     /// As `DashMap::iter`.
     fn _iter<'a, R>(&'a self, rt: &'a R) -> Iter<'a, K, V, S, R>
@@ -102,20 +103,20 @@ pub trait Map<K: Eq + Hash, V, S: BuildHasher> {
         ensures { result ≡ at_start (state self.now) };
 
     /// As `DashMap::get`.
-    fn _get<R: Wait + Clock>(&self, rt: &R, key: &K) -> Option<Ref<'_, K, V, S>>
-        ensures { IsGot ⟦<DashMap<K, V, S> as Keyed>⟧.by (state self.now) key.now result };
+    fn _get<R: Wait + Clock, Q: Query<K>>(&self, rt: &R, key: Q) -> Option<Ref<'_, K, V, S>>
+        ensures { IsGot ⟦<DashMap<K, V, S> as Keyed>⟧.by (state self.now) (Q.names key) result };
 
     /// As `DashMap::get_mut`.
-    fn _get_mut<R: Wait + Clock>(&self, rt: &R, key: &K) -> Option<RefMut<'_, K, V, S>>
-        ensures { IsGotMut ⟦<DashMap<K, V, S> as Keyed>⟧.by (state self.now) key.now result };
+    fn _get_mut<R: Wait + Clock, Q: Query<K>>(&self, rt: &R, key: Q) -> Option<RefMut<'_, K, V, S>>
+        ensures { IsGotMut ⟦<DashMap<K, V, S> as Keyed>⟧.by (state self.now) (Q.names key) result };
 
     /// As `DashMap::try_get`.
-    fn _try_get(&self, key: &K) -> TryResult<Ref<'_, K, V, S>>
-        ensures { UnlessLocked result (IsGot ⟦<DashMap<K, V, S> as Keyed>⟧.by (state self.now) key.now) };
+    fn _try_get<Q: Query<K>>(&self, key: Q) -> TryResult<Ref<'_, K, V, S>>
+        ensures { UnlessLocked result (IsGot ⟦<DashMap<K, V, S> as Keyed>⟧.by (state self.now) (Q.names key)) };
 
     /// As `DashMap::try_get_mut`.
-    fn _try_get_mut(&self, key: &K) -> TryResult<RefMut<'_, K, V, S>>
-        ensures { UnlessLocked result (IsGotMut ⟦<DashMap<K, V, S> as Keyed>⟧.by (state self.now) key.now) };
+    fn _try_get_mut<Q: Query<K>>(&self, key: Q) -> TryResult<RefMut<'_, K, V, S>>
+        ensures { UnlessLocked result (IsGotMut ⟦<DashMap<K, V, S> as Keyed>⟧.by (state self.now) (Q.names key)) };
 
     /// As `DashMap::entry`.
     fn _entry<R: Wait + Clock>(&self, rt: &R, key: K) -> Result<Entry<'_, K, V, S>, EntryRefused<K>>
@@ -155,9 +156,9 @@ pub trait Map<K: Eq + Hash, V, S: BuildHasher> {
         ensures { SawShards {V = V} ⟦<DashMap<K, V, S> as Keyed>⟧.by (state self.now) (λ a. result ≡ room_in a) };
 
     /// As `DashMap::alter`.
-    fn _alter<R: Wait + Clock, F: FnOnce(&K, V) -> V>(&self, rt: &R, key: &K, f: F)
-        requires { (p : K × V) → IsTrue (K.eq p.0 key.now) → MayGive F.FnOnce f p }
-        ensures { AltersBy ⟦<DashMap<K, V, S> as Keyed>⟧.by (state self.now) key.now (Given F.FnOnce f) };
+    fn _alter<R: Wait + Clock, Q: Query<K>, F: FnOnce(&K, V) -> V>(&self, rt: &R, key: Q, f: F)
+        requires { (p : K × V) → IsTrue (Q.names key p.0) → MayGive F.FnOnce f p }
+        ensures { AltersBy ⟦<DashMap<K, V, S> as Keyed>⟧.by (state self.now) (Q.names key) (Given F.FnOnce f) };
 
     /// As `DashMap::alter_all`.
     fn _alter_all<R: Wait + Clock, F: FnMut(&K, V) -> V>(&self, rt: &R, f: F)
@@ -165,9 +166,14 @@ pub trait Map<K: Eq + Hash, V, S: BuildHasher> {
         ensures { LeavesShards ⟦<DashMap<K, V, S> as Keyed>⟧.by (state self.now) (AltersAllAlone K.eq (CalledOnPair F.FnMut) f) };
 
     /// As `DashMap::view`.
-    fn _view<R: Wait + Clock, T, F: FnOnce(&K, &V) -> T>(&self, rt: &R, key: &K, f: F) -> Option<T>
-        requires { (p : K × V) → IsTrue (K.eq p.0 key.now) → MayAsk F.FnOnce f p }
-        ensures { SawAt ⟦<DashMap<K, V, S> as Keyed>⟧.by (state self.now) key.now (λ p. Viewed F.FnOnce f p result) };
+    fn _view<R: Wait + Clock, Q: Query<K>, T, F: FnOnce(&K, &V) -> T>(
+        &self,
+        rt: &R,
+        key: Q,
+        f: F,
+    ) -> Option<T>
+        requires { (p : K × V) → IsTrue (Q.names key p.0) → MayAsk F.FnOnce f p }
+        ensures { SawAt ⟦<DashMap<K, V, S> as Keyed>⟧.by (state self.now) (Q.names key) (λ p. Viewed F.FnOnce f p result) };
 
     /// A copy of `DashMap::hasher`, refused where it finds no memory.
     fn _hasher(&self) -> Result<S, AllocError>
@@ -183,8 +189,8 @@ pub trait Map<K: Eq + Hash, V, S: BuildHasher> {
         ensures { LeavesShards {V = V} ⟦<DashMap<K, V, S> as Keyed>⟧.by (state self.now) ClearsAlone };
 
     /// As `DashMap::contains_key`.
-    fn _contains_key<R: Wait + Clock>(&self, rt: &R, key: &K) -> bool
-        ensures { SawAt {V = V} ⟦<DashMap<K, V, S> as Keyed>⟧.by (state self.now) key.now (λ p. result ≡ is_some p) };
+    fn _contains_key<R: Wait + Clock, Q: Query<K>>(&self, rt: &R, key: Q) -> bool
+        ensures { SawAt {V = V} ⟦<DashMap<K, V, S> as Keyed>⟧.by (state self.now) (Q.names key) (λ p. result ≡ is_some p) };
 
     /// As `DashMap::is_empty`.
     fn _is_empty<R: Wait + Clock>(&self, rt: &R) -> bool
@@ -238,25 +244,25 @@ impl<K: Eq + Hash, V, S: BuildHasher> Map<K, V, S> for DashMap<K, V, S> {
     }
 
     #[inline]
-    fn _remove<R: Wait + Clock>(&self, rt: &R, key: &K) -> Option<(K, V)> {
+    fn _remove<R: Wait + Clock, Q: Query<K>>(&self, rt: &R, key: Q) -> Option<(K, V)> {
         self.remove(rt, key)
     }
 
     #[inline]
-    fn _remove_if<R: Wait + Clock, F: FnOnce(&K, &V) -> bool>(
+    fn _remove_if<R: Wait + Clock, Q: Query<K>, F: FnOnce(&K, &V) -> bool>(
         &self,
         rt: &R,
-        key: &K,
+        key: Q,
         f: F,
     ) -> Option<(K, V)> {
         self.remove_if(rt, key, f)
     }
 
     #[inline]
-    fn _remove_if_mut<R: Wait + Clock, F: FnOnce(&K, &mut V) -> bool>(
+    fn _remove_if_mut<R: Wait + Clock, Q: Query<K>, F: FnOnce(&K, &mut V) -> bool>(
         &self,
         rt: &R,
-        key: &K,
+        key: Q,
         f: F,
     ) -> Option<(K, V)> {
         self.remove_if_mut(rt, key, f)
@@ -273,22 +279,26 @@ impl<K: Eq + Hash, V, S: BuildHasher> Map<K, V, S> for DashMap<K, V, S> {
     }
 
     #[inline]
-    fn _get<R: Wait + Clock>(&self, rt: &R, key: &K) -> Option<Ref<'_, K, V, S>> {
+    fn _get<R: Wait + Clock, Q: Query<K>>(&self, rt: &R, key: Q) -> Option<Ref<'_, K, V, S>> {
         self.get(rt, key)
     }
 
     #[inline]
-    fn _get_mut<R: Wait + Clock>(&self, rt: &R, key: &K) -> Option<RefMut<'_, K, V, S>> {
+    fn _get_mut<R: Wait + Clock, Q: Query<K>>(
+        &self,
+        rt: &R,
+        key: Q,
+    ) -> Option<RefMut<'_, K, V, S>> {
         self.get_mut(rt, key)
     }
 
     #[inline]
-    fn _try_get(&self, key: &K) -> TryResult<Ref<'_, K, V, S>> {
+    fn _try_get<Q: Query<K>>(&self, key: Q) -> TryResult<Ref<'_, K, V, S>> {
         self.try_get(key)
     }
 
     #[inline]
-    fn _try_get_mut(&self, key: &K) -> TryResult<RefMut<'_, K, V, S>> {
+    fn _try_get_mut<Q: Query<K>>(&self, key: Q) -> TryResult<RefMut<'_, K, V, S>> {
         self.try_get_mut(key)
     }
 
@@ -339,7 +349,7 @@ impl<K: Eq + Hash, V, S: BuildHasher> Map<K, V, S> for DashMap<K, V, S> {
     }
 
     #[inline]
-    fn _alter<R: Wait + Clock, F: FnOnce(&K, V) -> V>(&self, rt: &R, key: &K, f: F) {
+    fn _alter<R: Wait + Clock, Q: Query<K>, F: FnOnce(&K, V) -> V>(&self, rt: &R, key: Q, f: F) {
         self.alter(rt, key, f)
     }
 
@@ -349,10 +359,10 @@ impl<K: Eq + Hash, V, S: BuildHasher> Map<K, V, S> for DashMap<K, V, S> {
     }
 
     #[inline]
-    fn _view<R: Wait + Clock, T, F: FnOnce(&K, &V) -> T>(
+    fn _view<R: Wait + Clock, Q: Query<K>, T, F: FnOnce(&K, &V) -> T>(
         &self,
         rt: &R,
-        key: &K,
+        key: Q,
         f: F,
     ) -> Option<T> {
         self.view(rt, key, f)
@@ -376,7 +386,7 @@ impl<K: Eq + Hash, V, S: BuildHasher> Map<K, V, S> for DashMap<K, V, S> {
     }
 
     #[inline]
-    fn _contains_key<R: Wait + Clock>(&self, rt: &R, key: &K) -> bool {
+    fn _contains_key<R: Wait + Clock, Q: Query<K>>(&self, rt: &R, key: Q) -> bool {
         self.contains_key(rt, key)
     }
 

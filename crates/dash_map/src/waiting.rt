@@ -7,6 +7,7 @@ use crate::map::DashMap;
 use dash_ref::mapref::multiple::RefMulti;
 use dash_ref::mapref::one::{Ref, RefMut};
 use dash_shard::keyed::Keyed;
+use dash_shard::query::Query;
 use dash_shard::shard::InsertRefused;
 use std::alloc::AllocError;
 use std::fmt;
@@ -61,49 +62,53 @@ impl<K: Eq + Hash + Drop, V: Drop, S: BuildHasher, R: Wait + Clock> Shl<(K, V)>
 }
 
 /// `map >> &key`: as `DashMap::get`. Where there is no such pair the original panics.
-impl<'a, K: Eq + Hash, V, S: BuildHasher, R: Wait + Clock> Shr<&K> for Waiting<'a, K, V, S, R> {
+impl<'a, K: Eq + Hash, V, S: BuildHasher, R: Wait + Clock, Q: Query<K>> Shr<Q>
+    for Waiting<'a, K, V, S, R> {
     type Output = Option<Ref<'a, K, V, S>>;
 
-    ghost shr_gives = { λ w key result. IsGot (by K.Hash S.BuildHasher S.Hasher.Hasher) w.map.now key.now result };
+    ghost shr_gives = { λ w key result. IsGot (by K.Hash S.BuildHasher S.Hasher.Hasher) w.map.now (Q.names key) result };
 
     #[inline]
-    fn shr(self, key: &K) -> Option<Ref<'a, K, V, S>> {
+    fn shr(self, key: Q) -> Option<Ref<'a, K, V, S>> {
         self.map.get(self.rt, key)
     }
 }
 
 /// `map | &key`: as `DashMap::get_mut`. Where there is no such pair the original panics.
-impl<'a, K: Eq + Hash, V, S: BuildHasher, R: Wait + Clock> BitOr<&K> for Waiting<'a, K, V, S, R> {
+impl<'a, K: Eq + Hash, V, S: BuildHasher, R: Wait + Clock, Q: Query<K>> BitOr<Q>
+    for Waiting<'a, K, V, S, R> {
     type Output = Option<RefMut<'a, K, V, S>>;
 
-    ghost bitor_gives = { λ w key result. IsGotMut (by K.Hash S.BuildHasher S.Hasher.Hasher) w.map.now key.now result };
+    ghost bitor_gives = { λ w key result. IsGotMut (by K.Hash S.BuildHasher S.Hasher.Hasher) w.map.now (Q.names key) result };
 
     #[inline]
-    fn bitor(self, key: &K) -> Option<RefMut<'a, K, V, S>> {
+    fn bitor(self, key: Q) -> Option<RefMut<'a, K, V, S>> {
         self.map.get_mut(self.rt, key)
     }
 }
 
 /// `map - &key`: as `DashMap::remove`.
-impl<K: Eq + Hash, V, S: BuildHasher, R: Wait + Clock> Sub<&K> for Waiting<'_, K, V, S, R> {
+impl<K: Eq + Hash, V, S: BuildHasher, R: Wait + Clock, Q: Query<K>> Sub<Q>
+    for Waiting<'_, K, V, S, R> {
     type Output = Option<(K, V)>;
 
-    ghost sub_gives = { λ w key result. Removes (by K.Hash S.BuildHasher S.Hasher.Hasher) w.map.now key.now result };
+    ghost sub_gives = { λ w key result. Removes (by K.Hash S.BuildHasher S.Hasher.Hasher) w.map.now (Q.names key) result };
 
     #[inline]
-    fn sub(self, key: &K) -> Option<(K, V)> {
+    fn sub(self, key: Q) -> Option<(K, V)> {
         self.map.remove(self.rt, key)
     }
 }
 
 /// `map & &key`: as `DashMap::contains_key`.
-impl<K: Eq + Hash, V, S: BuildHasher, R: Wait + Clock> BitAnd<&K> for Waiting<'_, K, V, S, R> {
+impl<K: Eq + Hash, V, S: BuildHasher, R: Wait + Clock, Q: Query<K>> BitAnd<Q>
+    for Waiting<'_, K, V, S, R> {
     type Output = bool;
 
-    ghost bitand_gives = { λ w key result. SawAt {V = V} (by K.Hash S.BuildHasher S.Hasher.Hasher) w.map.now key.now (λ p. result ≡ is_some p) };
+    ghost bitand_gives = { λ w key result. SawAt {V = V} (by K.Hash S.BuildHasher S.Hasher.Hasher) w.map.now (Q.names key) (λ p. result ≡ is_some p) };
 
     #[inline]
-    fn bitand(self, key: &K) -> bool {
+    fn bitand(self, key: Q) -> bool {
         self.map.contains_key(self.rt, key)
     }
 }

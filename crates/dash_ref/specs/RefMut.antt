@@ -2,8 +2,8 @@
 use Rattle.std.specs.Prelude.{ℕ, ◌≡◌, Bool, Option, IfSome, IfNone, option_and_then}
 use Rattle.std.specs.Option.{option_map_or}
 use Rattle.dash_shard.specs.Lock.{LeftBehind}
-use Rattle.dash_shard.specs.Shard.{ShardState, RepliesOn, slot, with_value_in}
-use Rattle.dash_shard.specs.Steps.{Get, Pair}
+use Rattle.dash_shard.specs.Shard.{ShardState, pairs, slot, with_value_in}
+use Rattle.dash_shard.specs.Contents.{at_named}
 
 pub record RefMutState (K V S : Type 0) : Type 0 where
   pub shard : ShardState K V S
@@ -14,9 +14,9 @@ module _ {K V S : Type 0} where
   abbrev pub stored : RefMutState K V S → Option (K × V)
   stored r = slot r.shard.slots r.position
 
-  -- the reference is to the pair of the key in the shard, which it holds as it was, or there is none, and the shard was left so
-  pub record GetsMut (eq : K → K → Bool) (s : ShardState K V S) (key : K) (result : Option (RefMutState K V S)) : Type 0 where
-    pub replies : RepliesOn eq s (Get key) (Pair (option_and_then stored result))
+  -- the reference is to the pair that is named in the shard, which it holds as it was, or there is none, and the shard was left so
+  pub record GetsMut (names : K → Bool) (s : ShardState K V S) (result : Option (RefMutState K V S)) : Type 0 where
+    pub pair : option_and_then stored result ≡ at_named names (pairs s)
     pub shard : IfSome result (λ r. r.shard ≡ s)
     pub left : IfNone result (LeftBehind s)
 

@@ -2,13 +2,14 @@
 ghost use Rattle.std.specs.Prelude.{◌≡◌, ◌<◌, ◌≤◌, ◌↔◌, IsTrue, IsSome, IfSome};
 ghost use Rattle.std.specs.Option.{option_map};
 ghost use Rattle.std.specs.Map.Iter.{deref_pair};
-ghost use Rattle.dash_ref.specs.Words.{Alter, Answered, ChangesOn, Contains, Done, FitsTag, Found, Get, Given, Inserts, IsShard, LeftBehind, Loses, MayAsk, MayChange, MayGive, Pair, Remove, RemoveIf, RemoveIfMut, RepliesOn, Reserves, Routes, TakesBy, TakesInPlace, Viewed, at, by, pairs, shard_len, slot, with_value_in};
+ghost use Rattle.dash_ref.specs.Words.{Alter, Answered, ChangesOn, Done, FitsTag, Given, Inserts, IsHashOf, IsShard, LeftBehind, MayAsk, MayChange, MayGive, RemoveIf, RemoveIfMut, RemovesNamed, RemovesNamedBy, Reserves, Routes, TakesBy, at_named, by, pairs, shard_len, slot};
 
 use dash_shard::error::TryReserveError;
 use dash_shard::hash::FixedState;
 use dash_shard::keyed::Keyed;
 use dash_shard::lock::hold::Hold;
 use dash_shard::lock::{RwLockReadGuard, RwLockWriteGuard};
+use dash_shard::query::Query;
 use dash_shard::shard::{InsertRefused, Shard};
 use holds::{Holds, Wakes, Writing};
 use std::hash::{BuildHasher, Hash};
@@ -182,10 +183,8 @@ impl<K: Eq + Hash, V, S: BuildHasher> ShardMut<'_, K, V, S> {
     ///
     /// The room stays, for pairs that come later.
     #[inline]
-    pub fn remove(&mut self, key: &K) -> Option<(K, V)>
-        requires { Routes ⟦<Self as Keyed>⟧.by self.old key.now }
-        ensures removes { TakesInPlace K.eq self.old self.new (Remove key.now) (Pair result) }
-        ensures len { Loses self.old self.new result }
+    pub fn remove<Q: Query<K>>(&mut self, key: Q) -> Option<(K, V)>
+        ensures removes { RemovesNamed K.eq (Q.names key) self.old self.new result }
         ensures lawful { IsShard ⟦<Self as Keyed>⟧.by self.new }
     {
         let hash = self.hash_one(key);
@@ -194,11 +193,9 @@ impl<K: Eq + Hash, V, S: BuildHasher> ShardMut<'_, K, V, S> {
 
     /// As `remove`, for a caller who has the key's hash.
     #[inline(always)]
-    pub fn remove_hashed(&mut self, hash: u64, key: &K) -> Option<(K, V)>
-        requires hash { hash ≡ ⟦<Self as Keyed>⟧.by.hash self.old.hasher key.now }
-        requires route { Routes ⟦<Self as Keyed>⟧.by self.old key.now }
-        ensures removes { TakesInPlace K.eq self.old self.new (Remove key.now) (Pair result) }
-        ensures len { Loses self.old self.new result }
+    pub fn remove_hashed<Q: Query<K>>(&mut self, hash: u64, key: Q) -> Option<(K, V)>
+        requires { IsHashOf ⟦<Self as Keyed>⟧.by self.old.hasher (Q.names key) hash }
+        ensures removes { RemovesNamed K.eq (Q.names key) self.old self.new result }
         ensures lawful { IsShard ⟦<Self as Keyed>⟧.by self.new }
     {
         self.hold.change(|shard| shard.remove_hashed(hash, key))
@@ -206,11 +203,13 @@ impl<K: Eq + Hash, V, S: BuildHasher> ShardMut<'_, K, V, S> {
 
     /// Takes the pair whose key equals `key` out if `f` returns true on it, and returns it. It takes no memory, and can't be refused.
     #[inline]
-    pub fn remove_if<F: FnOnce(&K, &V) -> bool>(&mut self, key: &K, f: F) -> Option<(K, V)>
-        requires route { Routes ⟦<Self as Keyed>⟧.by self.old key.now }
-        requires callable { IfSome (at K.eq (pairs self.old) key.now) (MayAsk F.FnOnce f) }
-        ensures removes { TakesBy K.eq self.old self.new RemoveIf key.now (Pair result) (Answered F.FnOnce f) }
-        ensures len { Loses self.old self.new result }
+    pub fn remove_if<Q: Query<K>, F: FnOnce(&K, &V) -> bool>(
+        &mut self,
+        key: Q,
+        f: F,
+    ) -> Option<(K, V)>
+        requires callable { IfSome (at_named (Q.names key) (pairs self.old)) (MayAsk F.FnOnce f) }
+        ensures removes { RemovesNamedBy K.eq (Q.names key) self.old self.new RemoveIf result (Answered F.FnOnce f) }
         ensures lawful { IsShard ⟦<Self as Keyed>⟧.by self.new }
     {
         let hash = self.hash_one(key);
@@ -219,26 +218,22 @@ impl<K: Eq + Hash, V, S: BuildHasher> ShardMut<'_, K, V, S> {
 
     /// As `remove_if`, for a caller who has the key's hash.
     #[inline]
-    pub fn remove_if_hashed<F: FnOnce(&K, &V) -> bool>(
+    pub fn remove_if_hashed<Q: Query<K>, F: FnOnce(&K, &V) -> bool>(
         &mut self,
         hash: u64,
-        key: &K,
+        key: Q,
         f: F,
     ) -> Option<(K, V)>
-        requires hash { hash ≡ ⟦<Self as Keyed>⟧.by.hash self.old.hasher key.now }
-        requires route { Routes ⟦<Self as Keyed>⟧.by self.old key.now }
-        requires callable { IfSome (at K.eq (pairs self.old) key.now) (MayAsk F.FnOnce f) }
-        ensures removes { TakesBy K.eq self.old self.new RemoveIf key.now (Pair result) (Answered F.FnOnce f) }
-        ensures len { Loses self.old self.new result }
+        requires hash { IsHashOf ⟦<Self as Keyed>⟧.by self.old.hasher (Q.names key) hash }
+        requires callable { IfSome (at_named (Q.names key) (pairs self.old)) (MayAsk F.FnOnce f) }
+        ensures removes { RemovesNamedBy K.eq (Q.names key) self.old self.new RemoveIf result (Answered F.FnOnce f) }
         ensures lawful { IsShard ⟦<Self as Keyed>⟧.by self.new }
     {
         self.hold.change(
             |shard: &mut Shard<K, V, S>| -> Option<(K, V)>
-                requires hash { hash ≡ (by K.Hash S.BuildHasher S.Hasher.Hasher).hash shard.old.hasher key.now }
-                requires route { Routes (by K.Hash S.BuildHasher S.Hasher.Hasher) shard.old key.now }
-                requires callable { IfSome (at K.eq (pairs shard.old) key.now) (MayAsk F.FnOnce f) }
-                ensures removes { TakesBy K.eq shard.old shard.new RemoveIf key.entry.now (Pair result) (Answered F.FnOnce f) }
-                ensures len { Loses shard.old shard.new result }
+                requires hash { IsHashOf (by K.Hash S.BuildHasher S.Hasher.Hasher) shard.old.hasher (Q.names key) hash }
+                requires callable { IfSome (at_named (Q.names key) (pairs shard.old)) (MayAsk F.FnOnce f) }
+                ensures removes { RemovesNamedBy K.eq (Q.names key) shard.old shard.new RemoveIf result (Answered F.FnOnce f) }
                 ensures lawful { IsShard (by K.Hash S.BuildHasher S.Hasher.Hasher) shard.new }
             { shard.remove_if_hashed(hash, key, f) },
         )
@@ -246,11 +241,13 @@ impl<K: Eq + Hash, V, S: BuildHasher> ShardMut<'_, K, V, S> {
 
     /// As `remove_if`, where `f` may write the value. On `true` the pair is returned as `f` left it, and on `false` it stays so.
     #[inline]
-    pub fn remove_if_mut<F: FnOnce(&K, &mut V) -> bool>(&mut self, key: &K, f: F) -> Option<(K, V)>
-        requires route { Routes ⟦<Self as Keyed>⟧.by self.old key.now }
-        requires callable { IfSome (at K.eq (pairs self.old) key.now) (MayChange F.FnOnce f) }
-        ensures removes { TakesBy K.eq self.old self.new RemoveIfMut key.now (Pair result) (ChangesOn F.FnOnce f) }
-        ensures len { Loses self.old self.new result }
+    pub fn remove_if_mut<Q: Query<K>, F: FnOnce(&K, &mut V) -> bool>(
+        &mut self,
+        key: Q,
+        f: F,
+    ) -> Option<(K, V)>
+        requires callable { IfSome (at_named (Q.names key) (pairs self.old)) (MayChange F.FnOnce f) }
+        ensures removes { RemovesNamedBy K.eq (Q.names key) self.old self.new RemoveIfMut result (ChangesOn F.FnOnce f) }
         ensures lawful { IsShard ⟦<Self as Keyed>⟧.by self.new }
     {
         let hash = self.hash_one(key);
@@ -259,26 +256,22 @@ impl<K: Eq + Hash, V, S: BuildHasher> ShardMut<'_, K, V, S> {
 
     /// As `remove_if_mut`, for a caller who has the key's hash.
     #[inline]
-    pub fn remove_if_mut_hashed<F: FnOnce(&K, &mut V) -> bool>(
+    pub fn remove_if_mut_hashed<Q: Query<K>, F: FnOnce(&K, &mut V) -> bool>(
         &mut self,
         hash: u64,
-        key: &K,
+        key: Q,
         f: F,
     ) -> Option<(K, V)>
-        requires hash { hash ≡ ⟦<Self as Keyed>⟧.by.hash self.old.hasher key.now }
-        requires route { Routes ⟦<Self as Keyed>⟧.by self.old key.now }
-        requires callable { IfSome (at K.eq (pairs self.old) key.now) (MayChange F.FnOnce f) }
-        ensures removes { TakesBy K.eq self.old self.new RemoveIfMut key.now (Pair result) (ChangesOn F.FnOnce f) }
-        ensures len { Loses self.old self.new result }
+        requires hash { IsHashOf ⟦<Self as Keyed>⟧.by self.old.hasher (Q.names key) hash }
+        requires callable { IfSome (at_named (Q.names key) (pairs self.old)) (MayChange F.FnOnce f) }
+        ensures removes { RemovesNamedBy K.eq (Q.names key) self.old self.new RemoveIfMut result (ChangesOn F.FnOnce f) }
         ensures lawful { IsShard ⟦<Self as Keyed>⟧.by self.new }
     {
         self.hold.change(
             |shard: &mut Shard<K, V, S>| -> Option<(K, V)>
-                requires hash { hash ≡ (by K.Hash S.BuildHasher S.Hasher.Hasher).hash shard.old.hasher key.now }
-                requires route { Routes (by K.Hash S.BuildHasher S.Hasher.Hasher) shard.old key.now }
-                requires callable { IfSome (at K.eq (pairs shard.old) key.now) (MayChange F.FnOnce f) }
-                ensures removes { TakesBy K.eq shard.old shard.new RemoveIfMut key.entry.now (Pair result) (ChangesOn F.FnOnce f) }
-                ensures len { Loses shard.old shard.new result }
+                requires hash { IsHashOf (by K.Hash S.BuildHasher S.Hasher.Hasher) shard.old.hasher (Q.names key) hash }
+                requires callable { IfSome (at_named (Q.names key) (pairs shard.old)) (MayChange F.FnOnce f) }
+                ensures removes { RemovesNamedBy K.eq (Q.names key) shard.old shard.new RemoveIfMut result (ChangesOn F.FnOnce f) }
                 ensures lawful { IsShard (by K.Hash S.BuildHasher S.Hasher.Hasher) shard.new }
             { shard.remove_if_mut_hashed(hash, key, f) },
         )
@@ -287,10 +280,9 @@ impl<K: Eq + Hash, V, S: BuildHasher> ShardMut<'_, K, V, S> {
     /// Gives the pair whose key equals `key` the value that `f` makes of its own, in its place; without such a pair it does nothing. It takes
     /// no memory, and can't be refused.
     #[inline]
-    pub fn alter<F: FnOnce(&K, V) -> V>(&mut self, key: &K, f: F)
-        requires route { Routes ⟦<Self as Keyed>⟧.by self.old key.now }
-        requires callable { IfSome (at K.eq (pairs self.old) key.now) (MayGive F.FnOnce f) }
-        ensures alters { TakesBy K.eq self.old self.new Alter key.now Done (Given F.FnOnce f) }
+    pub fn alter<Q: Query<K>, F: FnOnce(&K, V) -> V>(&mut self, key: Q, f: F)
+        requires callable { IfSome (at_named (Q.names key) (pairs self.old)) (MayGive F.FnOnce f) }
+        ensures alters { TakesBy K.eq self.old self.new Alter (Q.names key) Done (Given F.FnOnce f) }
         ensures len { shard_len self.new ≡ shard_len self.old }
         ensures lawful { IsShard ⟦<Self as Keyed>⟧.by self.new }
     {
@@ -300,20 +292,18 @@ impl<K: Eq + Hash, V, S: BuildHasher> ShardMut<'_, K, V, S> {
 
     /// As `alter`, for a caller who has the key's hash.
     #[inline]
-    pub fn alter_hashed<F: FnOnce(&K, V) -> V>(&mut self, hash: u64, key: &K, f: F)
-        requires hash { hash ≡ ⟦<Self as Keyed>⟧.by.hash self.old.hasher key.now }
-        requires route { Routes ⟦<Self as Keyed>⟧.by self.old key.now }
-        requires callable { IfSome (at K.eq (pairs self.old) key.now) (MayGive F.FnOnce f) }
-        ensures alters { TakesBy K.eq self.old self.new Alter key.now Done (Given F.FnOnce f) }
+    pub fn alter_hashed<Q: Query<K>, F: FnOnce(&K, V) -> V>(&mut self, hash: u64, key: Q, f: F)
+        requires hash { IsHashOf ⟦<Self as Keyed>⟧.by self.old.hasher (Q.names key) hash }
+        requires callable { IfSome (at_named (Q.names key) (pairs self.old)) (MayGive F.FnOnce f) }
+        ensures alters { TakesBy K.eq self.old self.new Alter (Q.names key) Done (Given F.FnOnce f) }
         ensures len { shard_len self.new ≡ shard_len self.old }
         ensures lawful { IsShard ⟦<Self as Keyed>⟧.by self.new }
     {
         self.hold.change(
             |shard: &mut Shard<K, V, S>|
-                requires hash { hash ≡ (by K.Hash S.BuildHasher S.Hasher.Hasher).hash shard.old.hasher key.now }
-                requires route { Routes (by K.Hash S.BuildHasher S.Hasher.Hasher) shard.old key.now }
-                requires callable { IfSome (at K.eq (pairs shard.old) key.now) (MayGive F.FnOnce f) }
-                ensures alters { TakesBy K.eq shard.old shard.new Alter key.entry.now Done (Given F.FnOnce f) }
+                requires hash { IsHashOf (by K.Hash S.BuildHasher S.Hasher.Hasher) shard.old.hasher (Q.names key) hash }
+                requires callable { IfSome (at_named (Q.names key) (pairs shard.old)) (MayGive F.FnOnce f) }
+                ensures alters { TakesBy K.eq shard.old shard.new Alter (Q.names key) Done (Given F.FnOnce f) }
                 ensures len { shard_len shard.new ≡ shard_len shard.old }
                 ensures lawful { IsShard (by K.Hash S.BuildHasher S.Hasher.Hasher) shard.new }
             { shard.alter_hashed(hash, key, f) },

@@ -7,7 +7,7 @@ use Rattle.std.proofs.Math.Seq.{set-set}
 use Rattle.dash_shard.specs.declared.shard.table.Table.{Table}
 use Rattle.dash_shard.specs.Contents.{Keys, at}
 use Rattle.dash_shard.specs.Steps.{Act, Remove, RemoveIfMut, Alter, Pair, Done, changed, if_no, if_yes}
-use Rattle.dash_shard.specs.Shard.{ShardState, slot, pairs, own_keys, Routes, TakesInPlace, TakesBy}
+use Rattle.dash_shard.specs.Shard.{ShardState, slot, pairs, own_keys, Routes, TakesInPlace}
 use Rattle.dash_shard.specs.Held.{Loses, Replaces}
 use Rattle.dash_shard.specs.inner.Table.{Holds, IsTable, IsRewritten, limit, pairs_in, hashes_in, slots_in}
 use Rattle.dash_shard.proofs.Shards.{state, Inside, at-found, removed, removes, lost}
@@ -147,14 +147,6 @@ module _ {K V S : Type 0} (h : KeyHash K S) where
             slots = rewritten-stays h law s number amount t new inside k i found (valued v) found.equal r f refl;
           })
 
-    -- what is found at the key
-    pub stood : (P : K × V → Type 0) → P found.pair → IfSome (at h.eq (pairs z) k) P
-    stood P holds = subst (λ x. IfSome (at h.eq (pairs x) k) P) view (rw (at-found h law s number amount t inside k i found) holds)
-
-    -- it stays with the value v, by a call that returns false
-    pub stays-by : (v : V) → IsRewritten i (valued v) t new → (P : K × V → V × Bool → Type 0) → P found.pair (v, false) → TakesBy h.eq z now RemoveIfMut k (Pair None) P
-    stays-by v r P holds = (to v false, stays-changed v r, stood (λ p. P p (v, false)) holds)
-
     -- where a call gave the pair a value, of which G says what the call says
     module _ (G : K × V → V → Type 0) (gave : IfSome (slot (pairs_in t) i) (λ p. (v : V) × IsRewritten i (p.0, v) t new × G p v)) where
       given : (v : V) × IsRewritten i (valued v) t new × G found.pair v
@@ -162,9 +154,6 @@ module _ {K V S : Type 0} (h : KeyHash K S) where
 
       pub given-inside : Inside h law s number amount new
       given-inside = altered-inside given.0 given.1
-
-      pub given-alters : TakesBy h.eq z now Alter k Done (λ p d. G p d.0)
-      given-alters = (to given.0 true, alters given.0 given.1 true, stood (λ p. G p given.0) given.2)
 
       pub given-len : length (pairs now) ≡ length (pairs z)
       given-len = as-many given.0 given.1
@@ -181,9 +170,6 @@ module _ {K V S : Type 0} (h : KeyHash K S) where
       pub gone-changed : TakesInPlace h.eq z now (RemoveIfMut k (to v true)) (Pair (Some (valued v)))
       gone-changed = removed-changed h.eq z now k found.pair v (subst (λ x. at h.eq (pairs x) k ≡ Some found.pair) view (at-found h law s number amount t inside k i found))
           (removes h law s number amount t inside k z view here new i found (written-gone t mid new i (valued v) r slots) (hashes ∙ r.hashes) (len ∙ r.len) table)
-
-      pub gone-by : (P : K × V → V × Bool → Type 0) → P found.pair (v, true) → TakesBy h.eq z now RemoveIfMut k (Pair (Some (valued v))) P
-      gone-by P holds = (to v true, gone-changed, stood (λ p. P p (v, true)) holds)
 
     -- a new pair with an equal key stands there
     pub replaces : (q : K × V) (equal : h.eq q.0 k ≡ true) → IsRewritten i q t new → (old : K × V) → slot (pairs_in t) i ≡ Some old → k ≡ q.0 → Replaces h.eq z now i q.0 q.1 old

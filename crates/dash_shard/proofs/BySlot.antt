@@ -12,7 +12,7 @@ use Rattle.dash_shard.specs.Shard.{ShardState, slot, pairs, own_keys, HasKey, Ro
 use Rattle.dash_shard.specs.inner.Table.{Holds, IsTable, limit, pairs_in, hashes_in, slots_in}
 use Rattle.dash_shard.proofs.Equals.{at-equal}
 use Rattle.dash_shard.proofs.Written.{spot-within}
-use Rattle.dash_shard.proofs.Shards.{state, Inside, Inserted, Removed, holds-key, at-found, replaced, removed, removes}
+use Rattle.dash_shard.proofs.Shards.{state, Inside, Inserted, Removed, holds-named, at-found, replaced, removed, removes}
 use Rattle.dash_shard.proofs.Slots.{absent-at}
 use Rattle.dash_shard.specs.inner.Steps.{after}
 
@@ -53,7 +53,7 @@ module _ {K V S : Type 0} (h : KeyHash K S) (law : IsLawful h) where
         from (Some p) e _ = (p.0, record { within = spot-within (pairs_in t) i (ap is_some e); pair = p; is = e; equal = law.laws.refl p.0 })
 
     pub held : (k : K) → HasKey h.eq z k i → Holds h.eq (pairs_in t) k i
-    held k has = holds-key h.eq (pairs_in t) k i (subst (λ x. HasKey h.eq x k i) (sym view) has)
+    held k has = holds-named (λ j. h.eq j k) (pairs_in t) i (subst (λ x. HasKey h.eq x k i) (sym view) has)
 
     -- a key that is there goes there
     pub route : (k : K) → Holds h.eq (pairs_in t) k i → Routes h z k

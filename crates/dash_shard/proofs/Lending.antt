@@ -6,7 +6,7 @@ use Rattle.std.proofs.lemmas.Bool.{cases_Bool}
 use Rattle.std.proofs.lemmas.Option.{same_Some}
 use Rattle.std.proofs.Math.ListN.{length-set}
 use Rattle.dash_shard.specs.declared.shard.table.Table.{Table}
-use Rattle.dash_shard.specs.Shard.{ShardState, slot, HasKey, with_value_in, with_value_of}
+use Rattle.dash_shard.specs.Shard.{ShardState, slot, HasNamed, with_value_in, with_value_of}
 use Rattle.dash_shard.specs.inner.Table.{limit, pairs_in, with_value_at}
 use Rattle.dash_shard.proofs.Rewriting.{holds-pair, valued-rewritten, rewritten-inside}
 use Rattle.dash_shard.proofs.Shards.{state, Inside}
@@ -18,7 +18,7 @@ module _ {K V S : Type 0} (h : KeyHash K S)
     (t : Table K V) (inside : Inside h law s number amount t) (i : ℕ) where
   pub lent-inside : (p : K × V) → slot (pairs_in t) i ≡ Some p → (v : V) → Inside h law s number amount (with_value_at t i v)
   lent-inside p there v =
-      rewritten-inside h law s number amount t (with_value_at t i v) inside p.0 i (holds-pair h.eq (pairs_in t) p.0 i p there (rw there (law.laws.refl p.0))) (p.0, v) (law.laws.refl p.0)
+      rewritten-inside h law s number amount t (with_value_at t i v) inside p.0 i (holds-pair (λ k. h.eq k p.0) (pairs_in t) i p there (rw there (law.laws.refl p.0))) (p.0, v) (law.laws.refl p.0)
       (valued-rewritten t i p v inside.table there)
 
   pub lent-state : (v : V) → state h law s number amount (with_value_at t i v) ≡ with_value_in (state h law s number amount t) i v
@@ -26,13 +26,13 @@ module _ {K V S : Type 0} (h : KeyHash K S)
       let of : List (Option (K × V)) → ℕ → ShardState K V S = λ ps n. record { slots = ps; number = number; amount = amount; hasher = s; capacity = n } in
       ap (of (pairs_in (with_value_at t i v))) (ap limit (length-set (pairs_in t) i (option_map (λ p. (p.0, v)) (slot (pairs_in t) i))))
 
--- the one slot with a key equal to k has another value just where each such pair has
-module _ {K V : Type 0} (eq : K → K → Bool) (k : K) (v : V) where
+-- the one slot with a key that is named has another value just where each such pair has
+module _ {K V : Type 0} (names : K → Bool) (v : V) where
   abbrev revalue : Option (K × V) → Option (K × V)
-  revalue = option_map (λ p. (p.0, if eq p.0 k then v else p.1))
+  revalue = option_map (λ p. (p.0, if names p.0 then v else p.1))
 
   abbrev Equals : Option (K × V) → Bool → Type 0
-  Equals o b = (p : K × V) → o ≡ Some p → eq p.0 k ≡ b
+  Equals o b = (p : K × V) → o ≡ Some p → names p.0 ≡ b
 
   revalue-other : (o : Option (K × V)) → Equals o false → o ≡ revalue o
   revalue-other None fails = refl
@@ -54,11 +54,11 @@ module _ {K V : Type 0} (eq : K → K → Bool) (k : K) (v : V) where
       ap (λ p. p ∷ set xs i (option_map (λ q. (q.0, v)) (slot xs i))) (revalue-other o (others 0 (λ z. omega arith)))
       ∙ ap (λ ys. revalue o ∷ ys) (revalue-one xs i holds (λ j other. others (suc j) (λ z. other (omega arith))))
 
-  pub lent-found : {S : Type 0} (s : ShardState K V S) (r : Option ℕ) → ((j : ℕ) → (r ≡ Some j) ↔ HasKey eq s k j) → (i : ℕ) → r ≡ Some i → with_value_in s i v ≡ with_value_of eq s k v
-  lent-found s r finds i is = ap (λ ps. record s { slots = ps }) (revalue-one s.slots i (λ p e. subst (λ o. IsSomeAnd o (λ q. IsTrue (eq q.0 k))) e ((finds i).0 is)) others)
+  pub lent-found : {S : Type 0} (s : ShardState K V S) (r : Option ℕ) → ((j : ℕ) → (r ≡ Some j) ↔ HasNamed names s j) → (i : ℕ) → r ≡ Some i → with_value_in s i v ≡ with_value_of names s v
+  lent-found s r finds i is = ap (λ ps. record s { slots = ps }) (revalue-one s.slots i (λ p e. subst (λ o. IsSomeAnd o (λ q. IsTrue (names q.0))) e ((finds i).0 is)) others)
     where
       others : (j : ℕ) → j ≢ i → Equals (slot s.slots j) false
-      others j other p e = elim (cases_Bool (eq p.0 k)) as (λ _. eq p.0 k ≡ false) [
-        | inl holds ↦ absurd (other (same_Some j i (sym ((finds j).1 (subst (λ o. IsSomeAnd o (λ q. IsTrue (eq q.0 k))) (sym e) holds)) ∙ is)))
+      others j other p e = elim (cases_Bool (names p.0)) as (λ _. names p.0 ≡ false) [
+        | inl holds ↦ absurd (other (same_Some j i (sym ((finds j).1 (subst (λ o. IsSomeAnd o (λ q. IsTrue (names q.0))) (sym e) holds)) ∙ is)))
         | inr fails ↦ fails
       ]

@@ -17,6 +17,8 @@ pub mod Lending
 mod Lowest
 mod Marked
 pub mod Moving
+pub mod Naming
+pub mod Querying
 mod Odds
 mod Slots
 mod Placing

@@ -10,7 +10,7 @@ use Rattle.dash_shard.specs.inner.Keys.{IsLawful}
 use Rattle.dash_shard.specs.Shard.{ShardState, slot, HasKey}
 use Rattle.dash_shard.specs.Held.{Finds}
 use Rattle.dash_shard.specs.declared.shard.table.Table.{Table}
-use Rattle.dash_shard.specs.Search.{groups, way, class_of, NonePast, Searches}
+use Rattle.dash_shard.specs.Search.{groups, way, class_of, NonePast}
 use Rattle.dash_shard.specs.declared.shard.table.Search.{Search}
 use Rattle.dash_shard.specs.inner.Marks.{group_at, step_to}
 use Rattle.dash_shard.specs.inner.Table.{Holds, IsAbsent, IsTable, EndsWays, MayEnd, groups_in, pairs_in, hashes_in}
@@ -18,7 +18,7 @@ use Rattle.dash_shard.proofs.Ways.{round_mod, mod_below, step_round}
 use Rattle.dash_shard.proofs.Shards.{state, Inside, at-found, at-missing, others-found, missing}
 
 -- what stands at a slot that holds something
-held : {A : Type 0} {P : A → Type 0} (o : Option A) → IsSomeAnd o P → (p : A) × (o ≡ Some p) × P p
+pub held : {A : Type 0} {P : A → Type 0} (o : Option A) → IsSomeAnd o P → (p : A) × (o ≡ Some p) × P p
 held None h = absurd h
 held (Some p) h = (p, refl, h)
 
@@ -64,55 +64,25 @@ module _ {K V S : Type 0} (h : KeyHash K S) where
     located-or z view (Ok m) some none = located z view (Some m) some tt
     located-or z view (Err free) some none = located z view None tt none
 
-    -- no pair of the class stands past a group that ends the ways
-    none-past : (visits : ℕ) → visits ≤ groups_in t → groups (state h law s number amount t) ≡ groups_in t → EndsWays t hash (group_at (groups_in t) hash (visits - 1))
-        → NonePast h (state h law s number amount t) k (visits - 1)
-    none-past visits most whole ends i p e alike past =
-        let n = groups_in t in
-        let its = slice_index (hashes_in t) i in
-        let hashed : its ≡ h.hash s p.0 = inside.hashed i p e in
-        let within : past.own < n = omega (arith, past.within, whole) in
-        let last : visits - 1 < n = omega (arith, within, most) in
-        let on : (step g : ℕ) → way (state h law s number amount t) (h.hash s p.0) step ≡ g → (its + step) % n ≡ g =
-        λ step g at. ap (λ x. (x + step) % n) hashed ∙ ap (λ m. (h.hash s p.0 + step) % m) (sym whole) ∙ at in
-        let here : way (state h law s number amount t) (h.hash s k) (visits - 1) ≡ group_at n hash (visits - 1) =
-        ap (λ m. (h.hash s k + (visits - 1)) % m) whole ∙ ap (λ x. (x + (visits - 1)) % n) (sym is) ∙ sym (round_mod n hash (visits - 1) (omega (arith, last)) last) in
-        let own = step-of n its past.own (i / 16) within (on past.own (i / 16) past.stands) in
-        let step = step-of n its past.step (group_at n hash (visits - 1)) (omega (arith, within, past.past)) (on past.step _ past.comes ∙ here) in
-        let le = ends i p e (ap class_of hashed ∙ alike ∙ ap class_of (sym is)) in
-        omega (arith, own, step, le, past.past)
+  -- no pair of the class stands past a group that ends the ways
+  pub none-past : (law : IsLawful h) (s : S) (number amount : ℕ) (t : Table K V) (inside : Inside h law s number amount t) (hash visits : ℕ) → visits ≤ groups_in t
+      → groups (state h law s number amount t) ≡ groups_in t → EndsWays t hash (group_at (groups_in t) hash (visits - 1))
+      → NonePast h (state h law s number amount t) hash (visits - 1)
+  none-past law s number amount t inside hash visits most whole ends i p e alike past =
+      let n = groups_in t in
+      let its = slice_index (hashes_in t) i in
+      let hashed : its ≡ h.hash s p.0 = inside.hashed i p e in
+      let within : past.own < n = omega (arith, past.within, whole) in
+      let last : visits - 1 < n = omega (arith, within, most) in
+      let on : (step g : ℕ) → way (state h law s number amount t) (h.hash s p.0) step ≡ g → (its + step) % n ≡ g =
+      λ step g at. ap (λ x. (x + step) % n) hashed ∙ ap (λ m. (h.hash s p.0 + step) % m) (sym whole) ∙ at in
+      let here : way (state h law s number amount t) hash (visits - 1) ≡ group_at n hash (visits - 1) =
+      ap (λ m. (hash + (visits - 1)) % m) whole ∙ sym (round_mod n hash (visits - 1) (omega (arith, last)) last) in
+      let own = step-of n its past.own (i / 16) within (on past.own (i / 16) past.stands) in
+      let step = step-of n its past.step (group_at n hash (visits - 1)) (omega (arith, within, past.past)) (on past.step _ past.comes ∙ here) in
+      let le = ends i p e (ap class_of hashed ∙ alike) in
+      omega (arith, own, step, le, past.past)
 
   -- the groups of a shard are those of its table
   pub groups-of : (s : S) (number amount : ℕ) (law : IsLawful h) (t : Table K V) → IsTable t → groups (state h law s number amount t) ≡ groups_in t
   groups-of s number amount law t table = let slots = table.marked.slots_len in omega (arith, slots)
-
-  -- what a search says, by the shard's slots
-  pub searched : (law : IsLawful h) (s : S) (number amount : ℕ) (t : Table K V) (inside : Inside h law s number amount t) (k : K) (hash : ℕ) (is : hash ≡ h.hash s k) (z : ShardState K V S)
-      → state h law s number amount t ≡ z → (r : Search) → IfSome r.position (Holds h.eq (pairs_in t) k) → IfNone r.position (IsAbsent h.eq t hash k) → (r.visits ≤ groups_in t) × (0 < groups_in t → 0 < r.visits)
-      → IfSome r.position (λ i. i / 16 ≡ group_at (groups_in t) hash (r.visits - 1)) → IfNone r.position (MayEnd t hash r.visits) → Searches h z k r
-  searched law s number amount t inside k hash is z view r some none visits last ended = subst (λ x. Searches h x k r) view (record {
-    finds = located law s number amount t inside k hash is (state h law s number amount t) refl r.position some none;
-    some = λ pos. visits.1 (omega (arith, pos, whole));
-    most = let most = visits.0 in omega (arith, most, whole);
-    last = from r.position some last;
-    missed = ends r.position ended;
-  })
-    where
-      whole : groups (state h law s number amount t) ≡ groups_in t
-      whole = groups-of s number amount law t inside.table
-
-      from : (o : Option ℕ) → IfSome o (Holds h.eq (pairs_in t) k) → IfSome o (λ i. i / 16 ≡ group_at (groups_in t) hash (r.visits - 1)) → IfSome o (λ i. i / 16 ≡ (h.hash s k + (r.visits - 1)) % groups (state h law s number amount t))
-      from None found e = tt
-      from (Some i) found e = e ∙ round_mod (groups_in t) hash (r.visits - 1) pos within ∙ ap (λ x. (x + (r.visits - 1)) % groups_in t) is ∙ ap (λ n. (h.hash s k + (r.visits - 1)) % n) (sym whole)
-        where
-          pos : 0 < groups_in t
-          pos = let slots = inside.table.marked.slots_len in let lt = found.within in omega (arith, slots, lt)
-
-          within : r.visits - 1 < groups_in t
-          within = let most = visits.0 in let some = visits.1 pos in omega (arith, most, some, pos)
-
-      ends : (o : Option ℕ) → IfNone o (MayEnd t hash r.visits) → IsNone o
-          → (r.visits ≡ groups (state h law s number amount t)) ⊎ NonePast h (state h law s number amount t) k (r.visits - 1)
-      ends (Some i) e none = absurd (true≢false none)
-      ends None (inl all) none = inl (all ∙ sym whole)
-      ends None (inr past) none = inr (none-past law s number amount t inside k hash is r.visits visits.0 whole past)

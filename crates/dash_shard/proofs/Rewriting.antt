@@ -10,7 +10,7 @@ use Rattle.dash_shard.specs.Hashing.{KeyHash}
 use Rattle.dash_shard.specs.inner.Keys.{IsLawful, keys_of}
 use Rattle.dash_shard.specs.Contents.{Keys, at, IsOnShard}
 use Rattle.dash_shard.specs.Shard.{ShardState, slot, taken, pairs, Routes, IsShard}
-use Rattle.dash_shard.specs.inner.Table.{Holds, IsTable, IsRewritten, IsHashed, pairs_in, hashes_in, with_value_at}
+use Rattle.dash_shard.specs.inner.Table.{Holds, HoldsNamed, IsTable, IsRewritten, IsHashed, pairs_in, hashes_in, with_value_at}
 use Rattle.dash_shard.proofs.Equals.{at-equal}
 use Rattle.dash_shard.proofs.Written.{spot-within, table-rewritten}
 use Rattle.dash_shard.proofs.Slots.{NoOther, Equal, at-written, on_shard-written, length-taken-replace, stays-written}
@@ -28,12 +28,12 @@ rewritten t new i p q table there pairs hashes tags counts len = record {
 }
 
 -- what a slot has, if its key is equal
-abbrev pub holds-pair : {K V : Type 0} (eq : K → K → Bool) (slots : List (Option (K × V))) (k : K) (i : ℕ) (p : K × V) → slot slots i ≡ Some p → IsSomeAnd (slot slots i) (λ q. IsTrue (eq q.0 k)) → Holds eq slots k i
-holds-pair eq slots k i p there has = record {
+abbrev pub holds-pair : {K V : Type 0} (names : K → Bool) (slots : List (Option (K × V))) (i : ℕ) (p : K × V) → slot slots i ≡ Some p → IsSomeAnd (slot slots i) (λ q. IsTrue (names q.0)) → HoldsNamed names slots i
+holds-pair names slots i p there has = record {
   within = spot-within slots i (ap is_some there);
   pair = p;
   is = there;
-  equal = subst (λ o. IsSomeAnd o (λ q. IsTrue (eq q.0 k))) there has;
+  equal = subst (λ o. IsSomeAnd o (λ q. IsTrue (names q.0))) there has;
 }
 
 -- a value that was lent, and written

@@ -10,7 +10,7 @@ use Rattle.dash_shard.specs.Search.{class_of, IsMask}
 use Rattle.dash_shard.specs.Shard.{slot, taken}
 use Rattle.dash_shard.specs.declared.shard.table.Table.{Table}
 use Rattle.dash_shard.specs.inner.Marks.{round, tag_of, count_of, group_at, step_to, lane, IsFull, IsAllTaken}
-use Rattle.dash_shard.specs.inner.Table.{IsTable, IsSpot, IsAbsent, Holds, MissesLanes, PassesFirst, EndsWays, MayEnd, limit, slots_in, groups_in, pairs_in, hashes_in}
+use Rattle.dash_shard.specs.inner.Table.{IsTable, IsSpot, LacksNamed, HoldsNamed, MissesLanes, PassesFirst, EndsWays, MayEnd, limit, slots_in, groups_in, pairs_in, hashes_in}
 use Rattle.dash_shard.proofs.Marked.{marked-passed, marked-reached, marked-empty, low-taken}
 use Rattle.dash_shard.proofs.Written.{spot-within}
 use Rattle.dash_shard.proofs.Ways.{mod_below, step-low, round-low, round_below, round_step, step_round, step_below}
@@ -22,9 +22,9 @@ some-bit m pos fits = let h = bit_at-trailing_zeros w16 m pos fits in (_, h.0, h
 no-bit : (m j : ℕ) → m ≡ 0 → bit_at m j ≡ 1 → ⊥
 no-bit m j none one = let z : bit_at m j ≡ 0 = ap (λ k. bit_at k j) none ∙ bit_at-zero j in omega (arith, z, one)
 
--- the pair of a slot whose key is equal
-pub holds : {K V : Type 0} (eq : K → K → Bool) (slots : List (Option (K × V))) (k : K) (i : ℕ) (p : K × V) → slot slots i ≡ Some p → eq p.0 k ≡ true → Holds eq slots k i
-holds eq slots k i p is equal = record { within = spot-within slots i (ap is_some is); pair = p; is = is; equal = equal }
+-- the pair of a slot whose key is named
+pub holds : {K V : Type 0} (names : K → Bool) (slots : List (Option (K × V))) (i : ℕ) (p : K × V) → slot slots i ≡ Some p → names p.0 ≡ true → HoldsNamed names slots i
+holds names slots i p is equal = record { within = spot-within slots i (ap is_some is); pair = p; is = is; equal = equal }
 
 -- a row is the tags of the group g
 abbrev pub IsRow : List ℕ → ℕ → List ℕ → Type 0
@@ -39,9 +39,9 @@ empty-seen tags g row m same bits some fits =
     (b.0, b.1, sym (same b.0 b.1) ∙ ((bits b.0).0 b.2).1)
 
 module _ {K V : Type 0} where
-  -- no pair of the hash in a group has an equal key
-  abbrev pub MissesGroup : (K → K → Bool) → Table K V → ℕ → K → ℕ → Type 0
-  MissesGroup eq t hash k g = (j : ℕ) (p : K × V) → j < 16 → slot (pairs_in t) (16 * g + j) ≡ Some p → slice_index (hashes_in t) (16 * g + j) ≡ hash → eq p.0 k ≡ false
+  -- no pair of the hash in a group has a key that is named
+  abbrev pub MissesGroup : (K → Bool) → Table K V → ℕ → ℕ → Type 0
+  MissesGroup names t hash g = (j : ℕ) (p : K × V) → j < 16 → slot (pairs_in t) (16 * g + j) ≡ Some p → slice_index (hashes_in t) (16 * g + j) ≡ hash → names p.0 ≡ false
 
   -- a group is the one at a step of the hash's way
   pub record IsAt (t : Table K V) (hash step group : ℕ) : Type 0 where
@@ -49,9 +49,9 @@ module _ {K V : Type 0} where
     pub here : group ≡ group_at (groups_in t) hash step
 
   -- after some steps of a search: the groups of these steps have no empty slot, and no such pair
-  pub record Searching (eq : K → K → Bool) (t : Table K V) (hash : ℕ) (k : K) (step : ℕ) : Type 0 where
+  pub record Searching (names : K → Bool) (t : Table K V) (hash : ℕ) (step : ℕ) : Type 0 where
     pub full : (u : ℕ) → u < step → IsFull t.tags.items (group_at (groups_in t) hash u)
-    pub missed : (u : ℕ) → u < step → MissesGroup eq t hash k (group_at (groups_in t) hash u)
+    pub missed : (u : ℕ) → u < step → MissesGroup names t hash (group_at (groups_in t) hash u)
 
   -- after some steps of a search for a place: one is found, or the slots of these groups are all taken
   pub record Placing (t : Table K V) (hash : ℕ) (free : Option ℕ) (step : ℕ) : Type 0 where
@@ -126,30 +126,30 @@ module _ {K V : Type 0} where
         let none : count_of (slice_index t.counts.items group) (class_of hash) ≡ 0 = ap (λ w. count_of w (class_of hash)) (sym is) ∙ ap (count_of word) (sym of-hash) ∙ sym of-class ∙ is-0 in
         inr (subst (EndsWays t hash) at.here (ends-unless table group below (λ i p e alike full stands. omega (arith, stands, none))))
 
-  module _ (eq : K → K → Bool) (t : Table K V) (hash : ℕ) (k : K) where
-    pub searching-first : Searching eq t hash k 0
+  module _ (names : K → Bool) (t : Table K V) (hash : ℕ) where
+    pub searching-first : Searching names t hash 0
     searching-first = record { full = λ u less. absurd (omega (arith, less)); missed = λ u less. absurd (omega (arith, less)) }
 
-    pub searching-more : (step group : ℕ) → Searching eq t hash k step → IsAt t hash step group → IsFull t.tags.items group → MissesGroup eq t hash k group → Searching eq t hash k (step + 1)
+    pub searching-more : (step group : ℕ) → Searching names t hash step → IsAt t hash step group → IsFull t.tags.items group → MissesGroup names t hash group → Searching names t hash (step + 1)
     searching-more step group s at full missing = record {
       full = up-to t hash (IsFull t.tags.items) step group at full s.full;
-      missed = up-to t hash (MissesGroup eq t hash k) step group at missing s.missed;
+      missed = up-to t hash (MissesGroup names t hash) step group at missing s.missed;
     }
 
     -- the first group was passed
-    pub searching-past : (group : ℕ) → PassesFirst eq t hash k group → IsAt t hash 0 group × Searching eq t hash k 1
+    pub searching-past : (group : ℕ) → PassesFirst names t hash group → IsAt t hash 0 group × Searching names t hash 1
     searching-past group p =
         let w = p.within in
         let at = at-first t hash group (omega (arith, w)) p.first in
         (at, searching-more 0 group searching-first at p.full p.missed)
 
     -- what a look at the tags of a group tells
-    pub misses-seen : IsTable t → (g tag : ℕ) (row : List ℕ) (m : ℕ) → IsRow t.tags.items g row → tag ≡ tag_of hash → IsMask row tag m → MissesLanes eq (pairs_in t) k (16 * g) m → MissesGroup eq t hash k g
+    pub misses-seen : IsTable t → (g tag : ℕ) (row : List ℕ) (m : ℕ) → IsRow t.tags.items g row → tag ≡ tag_of hash → IsMask row tag m → MissesLanes names (pairs_in t) (16 * g) m → MissesGroup names t hash g
     misses-seen table g tag row m same is bits none j p lt e whose =
         none j p lt ((bits j).1 (lt, same j lt ∙ table.marked.tagged (16 * g + j) p e ∙ ap tag_of whose ∙ sym is)) e
 
     pub passes-first : IsTable t → (count g tag : ℕ) (tags row : List ℕ) (m e : ℕ) → count ≡ groups_in t → g < count → g ≡ hash % count → tags ≡ t.tags.items → IsRow tags g row
-        → tag ≡ tag_of hash → IsMask row tag m → MissesLanes eq (pairs_in t) k (16 * g) m → IsMask row 128 e → e ≡ 0 → PassesFirst eq t hash k g
+        → tag ≡ tag_of hash → IsMask row tag m → MissesLanes names (pairs_in t) (16 * g) m → IsMask row 128 e → e ≡ 0 → PassesFirst names t hash g
     passes-first table count g tag tags row m e long below is whose shown of-hash bits none empty full =
         let same = subst (λ l. IsRow l g row) whose shown in
         record {
@@ -159,7 +159,7 @@ module _ {K V : Type 0} where
           missed = misses-seen table g tag row m same of-hash bits none;
         }
 
-    module _ (step : ℕ) (s : Searching eq t hash k step) (table : IsTable t) where
+    module _ (step : ℕ) (s : Searching names t hash step) (table : IsTable t) where
       -- a pair of the hash, and the step of its group
       module _ (i : ℕ) (p : K × V) (e : slot (pairs_in t) i ≡ Some p) (whose : slice_index (hashes_in t) i ≡ hash) where
         inside : i < slots_in t
@@ -173,7 +173,7 @@ module _ {K V : Type 0} where
             past (x ∷ xs) zero le = absurd (omega (arith, le))
             past (x ∷ xs) (suc i) le = past xs i (omega (arith, le))
 
-        in-group : (g : ℕ) → g ≡ i / 16 → MissesGroup eq t hash k g → eq p.0 k ≡ false
+        in-group : (g : ℕ) → g ≡ i / 16 → MissesGroup names t hash g → names p.0 ≡ false
         in-group g is missing =
             let at : 16 * g + i % 16 ≡ i = omega (arith, is) in
             missing (i % 16) p (omega arith) (ap (slot (pairs_in t)) at ∙ e) (ap (slice_index (hashes_in t)) at ∙ whose)
@@ -190,41 +190,41 @@ module _ {K V : Type 0} where
         its-group : group_at (groups_in t) hash its ≡ i / 16
         its-group = round_step (groups_in t) (hash % groups_in t) (i / 16) home-of group-of
 
-        absent-before : its < step → eq p.0 k ≡ false
+        absent-before : its < step → names p.0 ≡ false
         absent-before lt = in-group _ its-group (s.missed _ lt)
 
         -- its way goes past a group at an earlier step
-        absent-unless : (u group : ℕ) → IsAt t hash u group → (its < u → eq p.0 k ≡ false) → MissesGroup eq t hash k group
-            → (u < step_to (groups_in t) (slice_index (hashes_in t) i % groups_in t) (i / 16) → ⊥) → eq p.0 k ≡ false
-        absent-unless u group at before missing not-past = elim (cases_lt its u) as (λ _. eq p.0 k ≡ false) [
+        absent-unless : (u group : ℕ) → IsAt t hash u group → (its < u → names p.0 ≡ false) → MissesGroup names t hash group
+            → (u < step_to (groups_in t) (slice_index (hashes_in t) i % groups_in t) (i / 16) → ⊥) → names p.0 ≡ false
+        absent-unless u group at before missing not-past = elim (cases_lt its u) as (λ _. names p.0 ≡ false) [
           | inl lt ↦ before lt
-          | inr not ↦ elim (cases_eq its u) as (λ _. eq p.0 k ≡ false) [
+          | inr not ↦ elim (cases_eq its u) as (λ _. names p.0 ≡ false) [
             | inl same ↦ in-group group (at.here ∙ ap (λ v. group_at (groups_in t) hash v) (sym same) ∙ its-group) missing
             | inr later ↦ absurd (not-past (subst (λ h. u < step_to (groups_in t) (h % groups_in t) (i / 16)) (sym whose) (omega (arith, not, later))))
           ]
         ]
 
       -- a group with an empty slot: the key is nowhere
-      pub absent-here : (group : ℕ) → IsAt t hash step group → MissesGroup eq t hash k group → (e : (j : ℕ) × (j < 16) × (lane t.tags.items group j ≡ 128)) → IsAbsent eq t hash k
+      pub absent-here : (group : ℕ) → IsAt t hash step group → MissesGroup names t hash group → (e : (j : ℕ) × (j < 16) × (lane t.tags.items group j ≡ 128)) → LacksNamed names t hash
       absent-here group at missing empty i p e whose = absent-unless i p e whose step group at (absent-before i p e whose) missing
           (λ past. let full = marked-reached table.marked i p e step past in
           subst (IsFull t.tags.items) (ap (λ h. group_at (groups_in t) h step) whose ∙ sym at.here) full empty.0 empty.1 empty.2)
 
       -- all groups were looked at
-      pub absent-round : groups_in t ≤ step → IsAbsent eq t hash k
+      pub absent-round : groups_in t ≤ step → LacksNamed names t hash
       absent-round all i p e whose = absent-before i p e whose
           (let b = step_below (groups_in t) (hash % groups_in t) (i / 16) (home-of i p e whose) (group-of i p e whose) in omega (arith, b, all))
 
     -- no pair of the hash's class stands past the last group that was looked at: the key is nowhere
-    pub absent-passed : (visits group word class count : ℕ) → Searching eq t hash k visits → IsTable t → 1 ≤ visits → IsAt t hash (visits - 1) group
-        → word ≡ slice_index_or t.counts.items group word → class ≡ class_of hash → count ≡ count_of word class → count ≡ 0 → IsAbsent eq t hash k
+    pub absent-passed : (visits group word class count : ℕ) → Searching names t hash visits → IsTable t → 1 ≤ visits → IsAt t hash (visits - 1) group
+        → word ≡ slice_index_or t.counts.items group word → class ≡ class_of hash → count ≡ count_of word class → count ≡ 0 → LacksNamed names t hash
     absent-passed visits group word class count s table some at read of-hash of-class is-0 i p e whose =
         let u = visits - 1 in
         let below = at.below in
         let counts-len = table.marked.counts_len in
         let is = read ∙ get_or_default_zero t.counts.items group word (omega (arith, below, counts-len)) in
         let none : count_of (slice_index t.counts.items group) (class_of hash) ≡ 0 = ap (λ w. count_of w (class_of hash)) (sym is) ∙ ap (count_of word) (sym of-hash) ∙ sym of-class ∙ is-0 in
-        let missing = subst (MissesGroup eq t hash k) (sym at.here) (s.missed u (omega (arith, some))) in
+        let missing = subst (MissesGroup names t hash) (sym at.here) (s.missed u (omega (arith, some))) in
         absent-unless visits s table i p e whose u group at (λ lt. absent-before visits s table i p e whose (omega (arith, lt))) missing
         (λ past. let stands = subst (λ h. 0 < count_of (slice_index t.counts.items (group_at (groups_in t) h u)) (class_of h)) whose (marked-passed table.marked i p e u past) in
         let here = ap (λ g. count_of (slice_index t.counts.items g) (class_of hash)) at.here in

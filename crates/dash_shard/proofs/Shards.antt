@@ -13,7 +13,7 @@ use Rattle.dash_shard.specs.inner.Steps.{key_or, after}
 use Rattle.dash_shard.specs.Shard.{ShardState, slot, taken, pairs, shard_len, own_keys, Routes, IsShard, TakesStep, TakesInPlace, StaysPut}
 use Rattle.dash_shard.specs.Held.{Inserts, Loses}
 use Rattle.dash_shard.specs.declared.shard.table.Table.{Table}
-use Rattle.dash_shard.specs.inner.Table.{pairs_in, hashes_in, limit, Holds, IsAbsent, IsHashed, IsTable, IsInside, slots_in}
+use Rattle.dash_shard.specs.inner.Table.{pairs_in, hashes_in, limit, Holds, HoldsNamed, IsAbsent, IsHashed, IsTable, IsInside, slots_in}
 use Rattle.dash_shard.proofs.Equals.{at-equal}
 use Rattle.dash_shard.proofs.Slots.{NoOther, Equal, at-absent, absent-at, at-sole, at-written, others-fail, on_shard-written, length-taken-fill, length-taken-replace, length-taken-clear, stays-written}
 
@@ -52,11 +52,11 @@ module _ {K V : Type 0} (hash : K → ℕ) where
     | inr other ↦ h j p (sym (get_or-set_other xs i j None None other) ∙ e)
   ]
 
--- the pair that stands at a slot with an equal key
-pub holds-key : {K V : Type 0} (eq : K → K → Bool) (slots : List (Option (K × V))) (k : K) (i : ℕ) → IsSomeAnd (slot slots i) (λ p. IsTrue (eq p.0 k)) → Holds eq slots k i
-holds-key {K} {V} eq slots k i has = from (slot slots i) refl has
+-- the pair that stands at a slot with a key that is named
+pub holds-named : {K V : Type 0} (names : K → Bool) (slots : List (Option (K × V))) (i : ℕ) → IsSomeAnd (slot slots i) (λ p. IsTrue (names p.0)) → HoldsNamed names slots i
+holds-named {K} {V} names slots i has = from (slot slots i) refl has
   where
-    from : (o : Option (K × V)) → slot slots i ≡ o → IsSomeAnd o (λ p. IsTrue (eq p.0 k)) → Holds eq slots k i
+    from : (o : Option (K × V)) → slot slots i ≡ o → IsSomeAnd o (λ p. IsTrue (names p.0)) → HoldsNamed names slots i
     from None e h = absurd h
     from (Some p) e h = record { within = slot-within slots i p e; pair = p; is = e; equal = h }
 

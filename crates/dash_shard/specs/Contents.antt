@@ -12,11 +12,15 @@ pub record Keys (K : Type 0) : Type 0 where
 abbrev pub keys : {K : Type 0} → (K → K → Bool) → (K → ℕ) → ℕ → Keys K
 keys eq route shards = record { eq = eq; route = route; shards = shards }
 
+-- the pair whose key is one of those that are named, or none
+abbrev pub at_named : {K V : Type 0} → (K → Bool) → List (K × V) → Option (K × V)
+at_named names [] = None
+at_named names (p ∷ ps) = if names p.0 then Some p else at_named names ps
+
 module _ {K V : Type 0} (eq : K → K → Bool) where
   -- 'P at k': the pair whose key equals k, or none
   abbrev pub at : List (K × V) → K → Option (K × V)
-  at [] k = None
-  at (p ∷ ps) k = if eq p.0 k then Some p else at ps k
+  at ps k = at_named (λ j. eq j k) ps
 
   -- no two keys are equal
   abbrev pub Distinct : List (K × V) → Type 0

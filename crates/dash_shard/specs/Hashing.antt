@@ -1,5 +1,5 @@
 -- The hash of a key, and the shard that it goes to.
-use Rattle.std.specs.Prelude.{◌≡◌, ℕ, ◌*◌, ◌/◌, ◌%◌, ◌^◌, ◌<◌, ◌==◌, Bool, List, length, bit_xor, if◌then◌else◌}
+use Rattle.std.specs.Prelude.{◌≡◌, ℕ, ◌*◌, ◌/◌, ◌%◌, ◌^◌, ◌<◌, ◌==◌, Bool, IsTrue, List, length, bit_xor, if◌then◌else◌}
 use Rattle.std.specs.List.{fold}
 use Rattle.std.specs.Int.{w64, from_le_bytes, IsPowerOfTwo}
 use Rattle.std.specs.Hash.{HashWrites}
@@ -44,6 +44,10 @@ key_hash eq input b h = record { eq = eq; hash = λ s k. hash_of b h s (input k)
 
 abbrev pub by : {K S H : Type 0} → HashMembers K → builder.Ghosts S H → hasher.Ghosts H → KeyHash K S
 by key b h = key_hash key.eq key.hash_input b h
+
+-- the hash is that of each key that is named
+abbrev pub IsHashOf : {K S : Type 0} → KeyHash K S → S → (K → Bool) → ℕ → Type 0
+IsHashOf {K = K} h s names hash = (k : K) → IsTrue (names k) → hash ≡ h.hash s k
 
 -- two hashers give each key one hash
 abbrev pub HashAlike : {K S : Type 0} → KeyHash K S → S → S → Type 0

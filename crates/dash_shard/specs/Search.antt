@@ -1,9 +1,9 @@
 -- How a shard searches its slots: sixteen tags at a time.
-use Rattle.std.specs.Prelude.{◌≡◌, ◌⊎◌, ℕ, ◌+◌, ◌-◌, ◌/◌, ◌%◌, ◌^◌, ◌<◌, ◌≤◌, ◌↔◌, List, length, slice_index, Some, IfSome, IsNone}
+use Rattle.std.specs.Prelude.{◌≡◌, ◌⊎◌, ℕ, ◌+◌, ◌-◌, ◌/◌, ◌%◌, ◌^◌, ◌<◌, ◌≤◌, ◌↔◌, Bool, List, length, slice_index, Some, IfSome, IsNone}
 use Rattle.std.specs.Int.{bit_at}
 use Rattle.dash_shard.specs.Hashing.{KeyHash}
 use Rattle.dash_shard.specs.Shard.{ShardState, slot}
-use Rattle.dash_shard.specs.Held.{Finds}
+use Rattle.dash_shard.specs.Held.{FindsNamed}
 use Rattle.dash_shard.specs.declared.shard.table.Search.{Search}
 
 -- the bits of the mask are the lanes of the group that have the tag
@@ -32,17 +32,17 @@ module _ {K V S : Type 0} where
     pub comes : way s hash step ≡ g
     pub stands : way s hash own ≡ i / 16
 
-  -- no pair of the class of the key's hash stands, on its own way, past the group at a step of the key's
-  abbrev pub NonePast : KeyHash K S → ShardState K V S → K → ℕ → Type 0
-  NonePast h s key step = (i : ℕ) (p : K × V) → slot s.slots i ≡ Some p
-      → class_of (h.hash s.hasher p.0) ≡ class_of (h.hash s.hasher key)
-      → StandsPast s (h.hash s.hasher p.0) i (way s (h.hash s.hasher key) step) → ⊥
+  -- no pair of the hash's class stands, on its own way, past the group at a step of the hash's
+  abbrev pub NonePast : KeyHash K S → ShardState K V S → ℕ → ℕ → Type 0
+  NonePast h s hash step = (i : ℕ) (p : K × V) → slot s.slots i ≡ Some p → class_of (h.hash s.hasher p.0) ≡ class_of hash
+      → StandsPast s (h.hash s.hasher p.0) i (way s hash step) → ⊥
 
-  -- all that a search promises: it finds the key's slot, and looks at the groups of the way of the key's hash, at one at least, at each at
-  -- most once, and last at the slot's own. Where there is none it looks at all, or last at one that no pair of the class stands past
-  pub record Searches (h : KeyHash K S) (s : ShardState K V S) (key : K) (r : Search) : Type 0 where
-    pub finds : Finds h.eq s key r.position
+  -- all that a search by a hash promises: it finds the slot of the key that is named, and looks at the groups of the hash's way, at one at
+  -- least, at each at most once, and last at the slot's own. Where there is none it looks at all, or last at one that no pair of the class
+  -- stands past
+  pub record Searches (h : KeyHash K S) (names : K → Bool) (s : ShardState K V S) (hash : ℕ) (r : Search) : Type 0 where
+    pub finds : FindsNamed names s r.position
     pub some : 0 < groups s → 0 < r.visits
     pub most : r.visits ≤ groups s
-    pub last : IfSome r.position (λ i. i / 16 ≡ way s (h.hash s.hasher key) (r.visits - 1))
-    pub missed : IsNone r.position → (r.visits ≡ groups s) ⊎ NonePast h s key (r.visits - 1)
+    pub last : IfSome r.position (λ i. i / 16 ≡ way s hash (r.visits - 1))
+    pub missed : IsNone r.position → (r.visits ≡ groups s) ⊎ NonePast h s hash (r.visits - 1)

@@ -3,7 +3,7 @@ use Rattle.std.specs.Prelude.{◌≡◌, ℕ, ◌<◌, ◌≤◌, Bool, IsTrue, 
 use Rattle.std.specs.List.{filter_map}
 use Rattle.std.specs.Option.{option_map}
 use Rattle.dash_shard.specs.Hashing.{KeyHash, IsAmount, HashAlike, route_by}
-use Rattle.dash_shard.specs.Contents.{Keys, keys, at, IsOnShard}
+use Rattle.dash_shard.specs.Contents.{Keys, keys, at, at_named, IsOnShard}
 use Rattle.dash_shard.specs.Steps.{Act, Step, Reply, line, line_after, LineReplies, IsTaken, BySome}
 
 pub record ShardState (K V S : Type 0) : Type 0 where
@@ -39,9 +39,13 @@ module _ {K V S : Type 0} where
   abbrev pub shard_len : ShardState K V S → ℕ
   shard_len s = length (pairs s)
 
-  -- the slot i has a pair whose key is equal to k
+  -- the slot i has a pair whose key is named
+  abbrev pub HasNamed : (K → Bool) → ShardState K V S → ℕ → Type 0
+  HasNamed names s i = IsSomeAnd (slot s.slots i) (λ p. IsTrue (names p.0))
+
+  -- one whose key is equal to k
   abbrev pub HasKey : (K → K → Bool) → ShardState K V S → K → ℕ → Type 0
-  HasKey eq s k i = IsSomeAnd (slot s.slots i) (λ p. IsTrue (eq p.0 k))
+  HasKey eq s k i = HasNamed (λ j. eq j k) s i
 
   -- number, amount and hasher stay
   pub record SameShard (old new : ShardState K V S) : Type 0 where
@@ -53,9 +57,9 @@ module _ {K V S : Type 0} where
   abbrev pub with_value_in : ShardState K V S → ℕ → V → ShardState K V S
   with_value_in s i v = record s { slots = slice_set s.slots i (option_map (λ p. (p.0, v)) (slot s.slots i)) }
 
-  -- the shard with another value in the pair whose key is equal to k
-  abbrev pub with_value_of : (K → K → Bool) → ShardState K V S → K → V → ShardState K V S
-  with_value_of eq s k v = record s { slots = map (option_map (λ p. (p.0, if eq p.0 k then v else p.1))) s.slots }
+  -- the shard with another value in the pair whose key is named
+  abbrev pub with_value_of : (K → Bool) → ShardState K V S → V → ShardState K V S
+  with_value_of names s v = record s { slots = map (option_map (λ p. (p.0, if names p.0 then v else p.1))) s.slots }
 
   module _ (h : KeyHash K S) where
     -- a key goes to this shard
@@ -103,6 +107,12 @@ module _ {K V S : Type 0} where
     abbrev pub TakesAt : ShardState K V S → ShardState K V S → ℕ → (K → Step K V) → Reply K V → Type 0
     TakesAt old new position step reply = (key : K) → HasKey eq old key position → TakesInPlace old new (step key) reply
 
-    -- the same by some action, which may do on the pair with an equal key what it does
-    abbrev pub TakesBy : ShardState K V S → ShardState K V S → (K → Act K V → Step K V) → K → Reply K V → (K × V → V × Bool → Type 0) → Type 0
-    TakesBy old new step key reply may = BySome may (at eq (pairs old) key) (λ act. TakesInPlace old new (step key act) reply)
+    -- the same at each key that is named; where no pair's key is, all stays as it is
+    pub record TakesNamed (names : K → Bool) (old new : ShardState K V S) (step : K → Step K V) (reply : Reply K V) : Type 0 where
+      pub each : (key : K) → IsTrue (names key) → TakesInPlace old new (step key) reply
+      pub none : at_named names (pairs old) ≡ None → new ≡ old
+      pub stays : SameShard old new
+
+    -- the same by some action, which may do on the pair whose key is named what it does
+    abbrev pub TakesBy : ShardState K V S → ShardState K V S → (K → Act K V → Step K V) → (K → Bool) → Reply K V → (K × V → V × Bool → Type 0) → Type 0
+    TakesBy old new step names reply may = BySome may (at_named names (pairs old)) (λ act. TakesNamed names old new (λ k. step k act) reply)

@@ -1,9 +1,9 @@
 -- The words of the contracts of this crate, each from where it is defined.
 pub use Rattle.dash_shard.specs.Closures.{Answered, ChangesOn, Given, MayAsk, MayChange, MayGive, Viewed}
-pub use Rattle.dash_shard.specs.Contents.{at}
+pub use Rattle.dash_shard.specs.Contents.{at, at_named}
 pub use Rattle.dash_shard.specs.Each.{CalledOnPair, Clears, Shrinks, SweepsBy, TakesOnPair, close_room}
-pub use Rattle.dash_shard.specs.Hashing.{IsAmount, KeyHash, by, fnv_start, fnv_step, key_hash, placed, route_of_hash}
-pub use Rattle.dash_shard.specs.Held.{Finds, FitsTag, Inserts, Loses, Replaces, Reserves}
+pub use Rattle.dash_shard.specs.Hashing.{IsAmount, IsHashOf, KeyHash, by, fnv_start, fnv_step, hash_of, key_hash, placed, route_of_hash}
+pub use Rattle.dash_shard.specs.Held.{Finds, FindsNamed, FitsTag, Inserts, Loses, RemovesNamed, Replaces, Reserves, RemovesNamedBy}
 pub use Rattle.dash_shard.specs.KeepsFit.{KeepsFit}
 pub use Rattle.dash_shard.specs.Lock.{EndedWith, FoundBehind, GivenBack, LeftBehind}
 pub use Rattle.dash_shard.specs.LockState.{Steps, after, free, reach, state_of, word_of}

@@ -10,5 +10,6 @@ pub mod hash;
 pub mod keyed;
 pub mod lock;
 pub mod part;
+pub mod query;
 pub mod row;
 pub mod shard;

@@ -3,11 +3,12 @@ ghost use Rattle.std.specs.Prelude.{◌≡◌, ◌+◌, ◌<◌, ◌≤◌, ◌�
 ghost use Rattle.std.specs.Option.{option_map, option_copied_mut};
 ghost use Rattle.std.specs.Map.Iter.{deref_pair};
 ghost use Rattle.std.specs.Borrow.{LendsIf, sem};
-ghost use Rattle.dash_shard.specs.Words.{Alter, Answered, ChangesOn, Contains, Done, Found, Get, Given, Inserts, IsAmount, IsShard, Loses, MayAsk, MayChange, MayGive, Memory, Pair, Remove, RemoveIf, RemoveIfMut, RepliesOn, Reserves, Routes, TakesBy, TakesInPlace, Viewed, at, by, pairs, shard_len, with_value_of};
+ghost use Rattle.dash_shard.specs.Words.{Alter, Answered, ChangesOn, Done, Given, Inserts, IsAmount, IsHashOf, IsShard, MayAsk, MayChange, MayGive, Memory, RemoveIf, RemoveIfMut, RemovesNamed, RemovesNamedBy, Reserves, Routes, TakesBy, Viewed, at, at_named, by, hash_of, pairs, route_of_hash, shard_len, with_value_of};
 
 use crate::error::{ConstructError, TryReserveError};
 use crate::hash::{FixedState, determine_shard};
 use crate::keyed::{Keyed, Lender};
+use crate::query::Query;
 pub use group::probe;
 use std::alloc::{AllocError, Global};
 use std::fmt::Debug;
@@ -147,10 +148,10 @@ impl<K: Eq + Hash, V, S: BuildHasher> Shard<K, V, S> {
 
     /// Whether the key goes to this shard, which the keyed calls ask.
     #[inline]
-    pub fn routes(&self, key: &K) -> bool
-        ensures { IsTrue result ↔ Routes ⟦<Self as Keyed>⟧.by self.now key.now }
+    pub fn routes<Q: Query<K>>(&self, key: Q) -> bool
+        ensures { IsTrue result ↔ (route_of_hash self.now.amount (hash_of S.BuildHasher S.Hasher.Hasher self.now.hasher (Q.hash_input key)) ≡ self.now.number) }
     {
-        determine_shard(self.hasher.hash_one(key), self.amount) == self.number
+        determine_shard(self.hash_one(key), self.amount) == self.number
     }
 
     /// The hasher, for calls that take the key's hash.
@@ -169,8 +170,8 @@ impl<K: Eq + Hash, V, S: BuildHasher> Shard<K, V, S> {
 
     /// The hash of a key, by the shard's hasher, for the calls that take one.
     #[inline(always)]
-    pub fn hash_one(&self, key: &K) -> u64
-        ensures { result ≡ ⟦<Self as Keyed>⟧.by.hash self.now.hasher key.now }
+    pub fn hash_one<Q: Query<K>>(&self, key: Q) -> u64
+        ensures { result ≡ hash_of S.BuildHasher S.Hasher.Hasher self.now.hasher (Q.hash_input key) }
     {
         self.hasher.hash_one(key)
     }
@@ -215,10 +216,8 @@ impl<K: Eq + Hash, V, S: BuildHasher> Shard<K, V, S> {
     ///
     /// The room stays, for pairs that come later.
     #[inline]
-    pub fn remove(&mut self, key: &K) -> Option<(K, V)>
-        requires { Routes ⟦<Self as Keyed>⟧.by self.old key.now }
-        ensures removes { TakesInPlace K.eq self.old self.new (Remove key.now) (Pair result) }
-        ensures len { Loses self.old self.new result }
+    pub fn remove<Q: Query<K>>(&mut self, key: Q) -> Option<(K, V)>
+        ensures removes { RemovesNamed K.eq (Q.names key) self.old self.new result }
         ensures lawful { IsShard ⟦<Self as Keyed>⟧.by self.new }
     {
         let hash = self.hash_one(key);
@@ -227,11 +226,9 @@ impl<K: Eq + Hash, V, S: BuildHasher> Shard<K, V, S> {
 
     /// As `remove`, for a caller who has the key's hash.
     #[inline(always)]
-    pub fn remove_hashed(&mut self, hash: u64, key: &K) -> Option<(K, V)>
-        requires hash { hash ≡ ⟦<Self as Keyed>⟧.by.hash self.old.hasher key.now }
-        requires route { Routes ⟦<Self as Keyed>⟧.by self.old key.now }
-        ensures removes { TakesInPlace K.eq self.old self.new (Remove key.now) (Pair result) }
-        ensures len { Loses self.old self.new result }
+    pub fn remove_hashed<Q: Query<K>>(&mut self, hash: u64, key: Q) -> Option<(K, V)>
+        requires { IsHashOf ⟦<Self as Keyed>⟧.by self.old.hasher (Q.names key) hash }
+        ensures removes { RemovesNamed K.eq (Q.names key) self.old self.new result }
         ensures lawful { IsShard ⟦<Self as Keyed>⟧.by self.new }
     {
         let position = self.position_of_hashed(hash, key)?;
@@ -240,11 +237,13 @@ impl<K: Eq + Hash, V, S: BuildHasher> Shard<K, V, S> {
 
     /// Takes the pair whose key equals `key` out if `f` returns true on it, and returns it. It takes no memory, and can't be refused.
     #[inline]
-    pub fn remove_if<F: FnOnce(&K, &V) -> bool>(&mut self, key: &K, f: F) -> Option<(K, V)>
-        requires route { Routes ⟦<Self as Keyed>⟧.by self.old key.now }
-        requires callable { IfSome (at K.eq (pairs self.old) key.now) (MayAsk F.FnOnce f) }
-        ensures removes { TakesBy K.eq self.old self.new RemoveIf key.now (Pair result) (Answered F.FnOnce f) }
-        ensures len { Loses self.old self.new result }
+    pub fn remove_if<Q: Query<K>, F: FnOnce(&K, &V) -> bool>(
+        &mut self,
+        key: Q,
+        f: F,
+    ) -> Option<(K, V)>
+        requires callable { IfSome (at_named (Q.names key) (pairs self.old)) (MayAsk F.FnOnce f) }
+        ensures removes { RemovesNamedBy K.eq (Q.names key) self.old self.new RemoveIf result (Answered F.FnOnce f) }
         ensures lawful { IsShard ⟦<Self as Keyed>⟧.by self.new }
     {
         let hash = self.hash_one(key);
@@ -253,17 +252,15 @@ impl<K: Eq + Hash, V, S: BuildHasher> Shard<K, V, S> {
 
     /// As `remove_if`, for a caller who has the key's hash.
     #[inline]
-    pub fn remove_if_hashed<F: FnOnce(&K, &V) -> bool>(
+    pub fn remove_if_hashed<Q: Query<K>, F: FnOnce(&K, &V) -> bool>(
         &mut self,
         hash: u64,
-        key: &K,
+        key: Q,
         f: F,
     ) -> Option<(K, V)>
-        requires hash { hash ≡ ⟦<Self as Keyed>⟧.by.hash self.old.hasher key.now }
-        requires route { Routes ⟦<Self as Keyed>⟧.by self.old key.now }
-        requires callable { IfSome (at K.eq (pairs self.old) key.now) (MayAsk F.FnOnce f) }
-        ensures removes { TakesBy K.eq self.old self.new RemoveIf key.now (Pair result) (Answered F.FnOnce f) }
-        ensures len { Loses self.old self.new result }
+        requires hash { IsHashOf ⟦<Self as Keyed>⟧.by self.old.hasher (Q.names key) hash }
+        requires callable { IfSome (at_named (Q.names key) (pairs self.old)) (MayAsk F.FnOnce f) }
+        ensures removes { RemovesNamedBy K.eq (Q.names key) self.old self.new RemoveIf result (Answered F.FnOnce f) }
         ensures lawful { IsShard ⟦<Self as Keyed>⟧.by self.new }
     {
         let slot = self.position_of_hashed(hash, key)?;
@@ -276,11 +273,13 @@ impl<K: Eq + Hash, V, S: BuildHasher> Shard<K, V, S> {
 
     /// As `remove_if`, where `f` may write the value. On `true` the pair is returned as `f` left it, and on `false` it stays so.
     #[inline]
-    pub fn remove_if_mut<F: FnOnce(&K, &mut V) -> bool>(&mut self, key: &K, f: F) -> Option<(K, V)>
-        requires route { Routes ⟦<Self as Keyed>⟧.by self.old key.now }
-        requires callable { IfSome (at K.eq (pairs self.old) key.now) (MayChange F.FnOnce f) }
-        ensures removes { TakesBy K.eq self.old self.new RemoveIfMut key.now (Pair result) (ChangesOn F.FnOnce f) }
-        ensures len { Loses self.old self.new result }
+    pub fn remove_if_mut<Q: Query<K>, F: FnOnce(&K, &mut V) -> bool>(
+        &mut self,
+        key: Q,
+        f: F,
+    ) -> Option<(K, V)>
+        requires callable { IfSome (at_named (Q.names key) (pairs self.old)) (MayChange F.FnOnce f) }
+        ensures removes { RemovesNamedBy K.eq (Q.names key) self.old self.new RemoveIfMut result (ChangesOn F.FnOnce f) }
         ensures lawful { IsShard ⟦<Self as Keyed>⟧.by self.new }
     {
         let hash = self.hash_one(key);
@@ -289,17 +288,15 @@ impl<K: Eq + Hash, V, S: BuildHasher> Shard<K, V, S> {
 
     /// As `remove_if_mut`, for a caller who has the key's hash.
     #[inline]
-    pub fn remove_if_mut_hashed<F: FnOnce(&K, &mut V) -> bool>(
+    pub fn remove_if_mut_hashed<Q: Query<K>, F: FnOnce(&K, &mut V) -> bool>(
         &mut self,
         hash: u64,
-        key: &K,
+        key: Q,
         f: F,
     ) -> Option<(K, V)>
-        requires hash { hash ≡ ⟦<Self as Keyed>⟧.by.hash self.old.hasher key.now }
-        requires route { Routes ⟦<Self as Keyed>⟧.by self.old key.now }
-        requires callable { IfSome (at K.eq (pairs self.old) key.now) (MayChange F.FnOnce f) }
-        ensures removes { TakesBy K.eq self.old self.new RemoveIfMut key.now (Pair result) (ChangesOn F.FnOnce f) }
-        ensures len { Loses self.old self.new result }
+        requires hash { IsHashOf ⟦<Self as Keyed>⟧.by self.old.hasher (Q.names key) hash }
+        requires callable { IfSome (at_named (Q.names key) (pairs self.old)) (MayChange F.FnOnce f) }
+        ensures removes { RemovesNamedBy K.eq (Q.names key) self.old self.new RemoveIfMut result (ChangesOn F.FnOnce f) }
         ensures lawful { IsShard ⟦<Self as Keyed>⟧.by self.new }
     {
         let slot = self.position_of_hashed(hash, key)?;
@@ -313,10 +310,9 @@ impl<K: Eq + Hash, V, S: BuildHasher> Shard<K, V, S> {
     /// Gives the pair whose key equals `key` the value that `f` makes of its own, in its place; without such a pair it does nothing. It takes
     /// no memory, and can't be refused.
     #[inline]
-    pub fn alter<F: FnOnce(&K, V) -> V>(&mut self, key: &K, f: F)
-        requires route { Routes ⟦<Self as Keyed>⟧.by self.old key.now }
-        requires callable { IfSome (at K.eq (pairs self.old) key.now) (MayGive F.FnOnce f) }
-        ensures alters { TakesBy K.eq self.old self.new Alter key.now Done (Given F.FnOnce f) }
+    pub fn alter<Q: Query<K>, F: FnOnce(&K, V) -> V>(&mut self, key: Q, f: F)
+        requires callable { IfSome (at_named (Q.names key) (pairs self.old)) (MayGive F.FnOnce f) }
+        ensures alters { TakesBy K.eq self.old self.new Alter (Q.names key) Done (Given F.FnOnce f) }
         ensures len { shard_len self.new ≡ shard_len self.old }
         ensures lawful { IsShard ⟦<Self as Keyed>⟧.by self.new }
     {
@@ -326,11 +322,10 @@ impl<K: Eq + Hash, V, S: BuildHasher> Shard<K, V, S> {
 
     /// As `alter`, for a caller who has the key's hash.
     #[inline]
-    pub fn alter_hashed<F: FnOnce(&K, V) -> V>(&mut self, hash: u64, key: &K, f: F)
-        requires hash { hash ≡ ⟦<Self as Keyed>⟧.by.hash self.old.hasher key.now }
-        requires route { Routes ⟦<Self as Keyed>⟧.by self.old key.now }
-        requires callable { IfSome (at K.eq (pairs self.old) key.now) (MayGive F.FnOnce f) }
-        ensures alters { TakesBy K.eq self.old self.new Alter key.now Done (Given F.FnOnce f) }
+    pub fn alter_hashed<Q: Query<K>, F: FnOnce(&K, V) -> V>(&mut self, hash: u64, key: Q, f: F)
+        requires hash { IsHashOf ⟦<Self as Keyed>⟧.by self.old.hasher (Q.names key) hash }
+        requires callable { IfSome (at_named (Q.names key) (pairs self.old)) (MayGive F.FnOnce f) }
+        ensures alters { TakesBy K.eq self.old self.new Alter (Q.names key) Done (Given F.FnOnce f) }
         ensures len { shard_len self.new ≡ shard_len self.old }
         ensures lawful { IsShard ⟦<Self as Keyed>⟧.by self.new }
     {
@@ -341,8 +336,8 @@ impl<K: Eq + Hash, V, S: BuildHasher> Shard<K, V, S> {
 
     /// The pair whose key equals `key`.
     #[inline]
-    pub fn get(&self, key: &K) -> Option<(&K, &V)>
-        ensures pair { RepliesOn K.eq self.now (Get key.now) (Pair (option_map deref_pair result)) }
+    pub fn get<Q: Query<K>>(&self, key: Q) -> Option<(&K, &V)>
+        ensures pair { option_map deref_pair result ≡ at_named (Q.names key) (pairs self.now) }
         ensures lawful { IsShard ⟦<Self as Keyed>⟧.by self.now }
     {
         let hash = self.hash_one(key);
@@ -351,9 +346,9 @@ impl<K: Eq + Hash, V, S: BuildHasher> Shard<K, V, S> {
 
     /// As `get`, for a caller who has the key's hash.
     #[inline(always)]
-    pub fn get_hashed(&self, hash: u64, key: &K) -> Option<(&K, &V)>
-        requires { hash ≡ ⟦<Self as Keyed>⟧.by.hash self.now.hasher key.now }
-        ensures pair { RepliesOn K.eq self.now (Get key.now) (Pair (option_map deref_pair result)) }
+    pub fn get_hashed<Q: Query<K>>(&self, hash: u64, key: Q) -> Option<(&K, &V)>
+        requires { IsHashOf ⟦<Self as Keyed>⟧.by self.now.hasher (Q.names key) hash }
+        ensures pair { option_map deref_pair result ≡ at_named (Q.names key) (pairs self.now) }
         ensures lawful { IsShard ⟦<Self as Keyed>⟧.by self.now }
     {
         let position = self.position_of_hashed(hash, key)?;
@@ -362,9 +357,9 @@ impl<K: Eq + Hash, V, S: BuildHasher> Shard<K, V, S> {
 
     /// The value of the pair whose key equals `key`, to be written. For the stored key beside it there are `position_of` and `at_mut`.
     #[inline]
-    pub fn get_mut(&mut self, key: &K) -> Option<&mut V>
-        ensures* writes_back { sem 𝓛 (LendsIf ⟦<Self as Lender>⟧.row V.row self.entry result (with_value_of K.eq self.old key.now) self.old) }
-        ensures value { option_copied_mut result ≡ option_map (λ p. p.1) (at K.eq (pairs self.old) key.now) }
+    pub fn get_mut<Q: Query<K>>(&mut self, key: Q) -> Option<&mut V>
+        ensures* writes_back { sem 𝓛 (LendsIf ⟦<Self as Lender>⟧.row V.row self.entry result (with_value_of (Q.names key) self.old) self.old) }
+        ensures value { option_copied_mut result ≡ option_map (λ p. p.1) (at_named (Q.names key) (pairs self.old)) }
         ensures lawful { IsShard ⟦<Self as Keyed>⟧.by self.old }
     {
         let hash = self.hash_one(key);
@@ -373,10 +368,10 @@ impl<K: Eq + Hash, V, S: BuildHasher> Shard<K, V, S> {
 
     /// As `get_mut`, for a caller who has the key's hash.
     #[inline]
-    pub fn get_mut_hashed(&mut self, hash: u64, key: &K) -> Option<&mut V>
-        requires { hash ≡ ⟦<Self as Keyed>⟧.by.hash self.old.hasher key.now }
-        ensures* writes_back { sem 𝓛 (LendsIf ⟦<Self as Lender>⟧.row V.row self.entry result (with_value_of K.eq self.old key.now) self.old) }
-        ensures value { option_copied_mut result ≡ option_map (λ p. p.1) (at K.eq (pairs self.old) key.now) }
+    pub fn get_mut_hashed<Q: Query<K>>(&mut self, hash: u64, key: Q) -> Option<&mut V>
+        requires { IsHashOf ⟦<Self as Keyed>⟧.by self.old.hasher (Q.names key) hash }
+        ensures* writes_back { sem 𝓛 (LendsIf ⟦<Self as Lender>⟧.row V.row self.entry result (with_value_of (Q.names key) self.old) self.old) }
+        ensures value { option_copied_mut result ≡ option_map (λ p. p.1) (at_named (Q.names key) (pairs self.old)) }
         ensures lawful { IsShard ⟦<Self as Keyed>⟧.by self.old }
     {
         match self.position_of_hashed(hash, key) {
@@ -387,8 +382,8 @@ impl<K: Eq + Hash, V, S: BuildHasher> Shard<K, V, S> {
 
     /// Whether there is a pair whose key equals `key`.
     #[inline]
-    pub fn contains_key(&self, key: &K) -> bool
-        ensures found { RepliesOn K.eq self.now (Contains key.now) (Found result) }
+    pub fn contains_key<Q: Query<K>>(&self, key: Q) -> bool
+        ensures found { result ≡ is_some (at_named (Q.names key) (pairs self.now)) }
         ensures lawful { IsShard ⟦<Self as Keyed>⟧.by self.now }
     {
         self.get(key).is_some()
@@ -396,9 +391,9 @@ impl<K: Eq + Hash, V, S: BuildHasher> Shard<K, V, S> {
 
     /// What `f` returns on the pair whose key equals `key`.
     #[inline]
-    pub fn view<R, F: FnOnce(&K, &V) -> R>(&self, key: &K, f: F) -> Option<R>
-        requires { IfSome (at K.eq (pairs self.now) key.now) (MayAsk F.FnOnce f) }
-        ensures viewed { Viewed F.FnOnce f (at K.eq (pairs self.now) key.now) result }
+    pub fn view<Q: Query<K>, R, F: FnOnce(&K, &V) -> R>(&self, key: Q, f: F) -> Option<R>
+        requires { IfSome (at_named (Q.names key) (pairs self.now)) (MayAsk F.FnOnce f) }
+        ensures viewed { Viewed F.FnOnce f (at_named (Q.names key) (pairs self.now)) result }
         ensures lawful { IsShard ⟦<Self as Keyed>⟧.by self.now }
     {
         let slot = self.position_of(key)?;

@@ -1,6 +1,7 @@
 -- What a look-up of a step's key found, and the change that is made there.
-use Rattle.std.proofs.Common.{◌≡◌, ℕ, cond, Bool, Option, Some, None, is_some, IsSome, IsTrue, refl, sym, ap, subst, ◌∙◌}
+use Rattle.std.proofs.Common.{Bor, ◌≡◌, ℕ, cond, Bool, Option, Some, None, Ok, is_some, IsSome, IsTrue, refl, sym, ap, subst, ◌∙◌}
 use Rattle.std.specs.Cmp.{IsEquivalence}
+use Rattle.std.specs.Prelude.{⊤}
 use Rattle.std.specs.Option.{IsSomeAnd}
 use Rattle.std.proofs.lemmas.Bool.{true≢false}
 use Rattle.std.proofs.lemmas.Option.{none-some}
@@ -16,7 +17,7 @@ use Rattle.dash_steps.specs.declared.change.Change.TheVariants as change
 use Rattle.dash_steps.specs.declared.step.Reply as program
 use Rattle.dash_steps.specs.Alike.{alike_reply}
 use Rattle.dash_steps.specs.Steps.{reply_of}
-use Rattle.dash_steps.specs.inner.Hashed.{OfKey}
+use Rattle.dash_steps.specs.inner.Hashed.{OfKey, IsAbout}
 use Rattle.dash_steps.specs.Takes.{rules, Answers}
 use Rattle.dash_steps.specs.inner.Copied.{AlikeAt}
 use Rattle.dash_steps.specs.inner.Plan.{Fits, Plans, IsTakenSlot, pair_in, MakesAt}
@@ -62,6 +63,21 @@ module _ {K V S : Type 0} (h : KeyHash K S) (s : ShardState K V S) where
       → Fits x y k b (at h.eq (pairs s) k) d → Finds h.eq s k found → MakesAt h s t found d
       → (j : K) → AlikeAt (rules x y (keys_of h s)) (cond (h.eq k j) (b (at h.eq (pairs s) j)) (at h.eq (pairs s) j)) (at h.eq (pairs t) j)
   decided-at t x y laws k b found d fits finds makes = decided (rules x y (keys_of h s)) laws (pairs s) (pairs t) k b d fits (makes k finds fits.there)
+
+-- the hash of a step's key is that of the key which the step gives out
+pub asked-hash : {K V : Type 0} (f : K → ℕ) (l : Line K V) (hash : ℕ) (key : K) → OfKey l (λ k. hash ≡ f k) ⊤ → OfKey l (λ k. key ≡ k) ⊥ → hash ≡ f key
+asked-hash f (at_key k b r) hash key is same = is ∙ ap f (sym same)
+asked-hash f (on_shard i b r) hash key is same = absurd same
+
+-- the same of the key that the step is about
+pub about-hash : {K V : Type 0} (f : K → ℕ) (l : Line K V) (hash : ℕ) (key : Bor K) → OfKey l (λ k. hash ≡ f k) ⊤ → IsAbout l (Ok key) → hash ≡ f key.now
+about-hash f (at_key k b r) hash key is same = is ∙ ap f (sym same)
+about-hash f (on_shard i b r) hash key is same = absurd same
+
+-- what is so of the key that the step is about is so of the step's key
+pub about-found : {K V : Type 0} (P : K → Type 0) (Q : Type 0) (l : Line K V) (key : Bor K) → IsAbout l (Ok key) → P key.now → OfKey l P Q
+about-found P Q (at_key k b r) key same holds = subst P same holds
+about-found P Q (on_shard i b r) key same holds = absurd same
 
 -- what was done to the pair of a slot left the room
 pub same-room : {K V S : Type 0} (eq : K → K → Bool) → IsEquivalence eq → (s t : ShardState K V S) (i : ℕ) (p : K × V) (step : K → Step K V) (reply : Reply K V) → slot s.slots i ≡ Some p → TakesAt eq s t i step reply → t.capacity ≡ s.capacity

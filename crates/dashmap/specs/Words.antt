@@ -2,14 +2,14 @@
 pub use Rattle.dash_steps.specs.Kept.{CopiesEach, alike_pair}
 pub use Rattle.dash_steps.specs.inner.AlikeLaws.{pair_equal, pair_equiv}
 pub use Rattle.dash_rows.specs.Apart.{EachPart, RanFront, RanShort, RanWhole, SomePart, TakenInTurn, steps_of}
-pub use Rattle.dash_shard.specs.Contents.{at}
+pub use Rattle.dash_shard.specs.Contents.{at, at_named}
 pub use Rattle.dash_shard.specs.Hashing.{IsAmount, HashAlike, route_by, by, hash_of, route_of_hash}
 pub use Rattle.dash_shard.specs.Each.{Shrinks, close_room}
-pub use Rattle.dash_shard.specs.Held.{Inserts, Loses}
+pub use Rattle.dash_shard.specs.Held.{Inserts, Loses, RemovesNamed, RemovesNamedBy}
 pub use Rattle.dash_shard.specs.Memory.{NoMemory}
 pub use Rattle.dash_shard.specs.Lock.{FoundBehind, GivenBack, WasRead, LeftBehind, EndedWith, Leaves}
 pub use Rattle.dash_shard.specs.Puts.{PutsPair}
-pub use Rattle.dash_shard.specs.Shard.{ShardState, slot, pairs, shard_len, HasKey, IsShard, IsTagged, RepliesOn, TakesInPlace}
+pub use Rattle.dash_shard.specs.Shard.{ShardState, slot, pairs, shard_len, HasKey, HasNamed, IsShard, IsTagged, RepliesOn, TakesInPlace, TakesNamed, TakesBy}
 pub use Rattle.dash_shard.specs.Steps.{Step, Reply, Get, Contains, Insert, Remove, RemoveIf, RemoveIfMut, Alter, Read, Count, AlterAll, Retain, Pair, Found, Old, Number, Pairs, Done}
 pub use Rattle.dash_shard.specs.declared.error.ConstructError.{ConstructError}
 pub use Rattle.dash_shard.specs.declared.error.ConstructError.TheVariants.{CapacityOverflow, Memory, Parallelism, ShardAmount}
@@ -21,10 +21,10 @@ pub use Rattle.dash_ref.specs.RefMut.{RefMutState, GetsMut, stored, rewritten}
 pub use Rattle.dash_ref.specs.Entry.{OccupiedOf, VacantOf, Puts}
 pub use Rattle.dash_ref.specs.EntryCases.{Entry, MatchEntry, IsEntryOf}
 pub use Rattle.dash_ref.specs.declared.mapref.entry.EntryCase.TheVariants.{Occupied, Vacant}
-pub use Rattle.dash_map.specs.Alone.{AloneState, contents, IsAlone, KeepsRoom, ReservesAlone, TakesAlone, TakesAloneBy, keys_in, len_in, room_in}
+pub use Rattle.dash_map.specs.Alone.{AloneState, contents, IsAlone, KeepsRoom, RemovesAlone, RemovesAloneBy, ReservesAlone, TakesAlone, TakesAloneNamed, TakesAloneBy, keys_in, len_in, room_in}
 pub use Rattle.dash_map.specs.AllPairs.{AltersAllAlone, ClearsAlone, RetainsAlone, ShrinksAlone}
 pub use Rattle.dash_map.specs.Amounts.{IsDefault, IsFresh, IsParallelism, share, OverflowsDefault}
-pub use Rattle.dash_map.specs.Behind.{AreBehind, AreEnded, EndedShards, LeavesShard, LeavesShards, LeftShards, MadeShards, Relocks, SawAt, SawShard, SawShards, IsShardOf, StandsAt, Removes, RemovesBy, AltersBy, CallableOnPairs}
+pub use Rattle.dash_map.specs.Behind.{AreBehind, AreEnded, EndedShards, LeavesServing, LeavesShard, LeavesShards, LeftShards, MadeShards, Relocks, SawAt, SawServing, SawShard, SawShards, Serves, IsShardOf, StandsAt, Removes, RemovesBy, AltersBy, CallableOnPairs}
 pub use Rattle.dash_map.specs.Folds.{Folds, FoldsEach, MayFold, MayVisit, Visits, VisitsEach, of_key, of_pair}
 pub use Rattle.dash_map.specs.Gets.{IsGot, IsGotMut, IsGotEntry}
 pub use Rattle.dash_map.specs.Lends.{with_value_at}

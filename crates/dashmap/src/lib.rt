@@ -22,6 +22,7 @@ pub use dash_ref::util::SharedValue;
 pub use dash_shard::error::TryReserveError;
 pub use dash_shard::lock::raw::RawRwLock;
 pub use dash_shard::lock::{RwLock, RwLockReadGuard, RwLockWriteGuard};
+pub use dash_shard::query::Query;
 pub use dash_steps::kept::{Kept, KeptKey};
 pub use memo::Memo;
 pub use set::DashSet;
@@ -98,6 +99,11 @@ pub mod mapref {
             Compose, First, MappedRef, MappedRefMut, Payload, Projection, Ref, RefMut, Second,
         };
     }
+}
+
+/// What a look-up takes in the place of a key.
+pub mod query {
+    pub use dash_shard::query::Query;
 }
 
 /// A view of a map that nobody writes any more.

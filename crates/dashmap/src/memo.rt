@@ -208,7 +208,7 @@ impl<K: KeptKey + Drop, V: Kept + Drop, R: Rule<K, V> + Drop, S: BuildHasher> Me
 
     /// Lets the value go that is kept for the key. Waits for the key's shard. It takes no memory, and can't be refused.
     pub fn forget<W: Wait + Clock>(&self, rt: &W, key: &K)
-        ensures { (found : Option (K × (K × V))) × Removes ⟦<Self as Keyed>⟧.by self.now key.now found }
+        ensures { (found : Option (K × (K × V))) × Removes ⟦<Self as Keyed>⟧.by self.now (λ k. K.eq k key.now) found }
     {
         drop(self.map.remove(rt, key));
     }

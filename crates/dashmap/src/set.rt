@@ -1,7 +1,7 @@
 //! A set that threads share: a map to unit.
 ghost use Rattle.std.specs.Prelude.{ℕ, ◌≡◌, ◌<◌, ◌∷◌, [], ◌==◌, ◌↔◌, length, map, true, IsTrue, IfSome, IfOk, IfErr, IsErrOf, is_some};
 ghost use Rattle.std.specs.Fn.{FnOnceTakesAt};
-ghost use Rattle.dashmap.specs.Words.{AnsweredKey, CallableOnPairs, CalledAtKey, CapacityOverflow, ClearsAlone, CopiesAlone, EndedShards, FoldsEach, HashAlike, Inserts, IsDefault, IsGot, IsMap, IsNew, IsOneOf, IsParallelism, LeavesShard, LeavesShards, MadeShards, MayFold, MayVisit, Memory, OverflowsDefault, Parallelism, RemoveIf, Removes, RemovesBy, RetainsAlone, SawAt, SawShards, ShrinksAlone, TakesKey, VisitsEach, at_start, by, contents, hash_of, inserted, keys_of, len_in, made_of, member, of_key, room_in, route_by, route_of_hash, shape, share};
+ghost use Rattle.dashmap.specs.Words.{AnsweredKey, CallableOnPairs, CalledAtKey, CapacityOverflow, ClearsAlone, CopiesAlone, EndedShards, FoldsEach, HashAlike, Inserts, IsDefault, IsGot, IsMap, IsNew, IsOneOf, IsParallelism, LeavesShard, LeavesShards, MadeShards, MayFold, MayVisit, Memory, OverflowsDefault, Parallelism, RemoveIf, Removes, RemovesBy, RetainsAlone, SawAt, SawShards, ShrinksAlone, TakesKey, VisitsEach, at_start, by, contents, hash_of, inserted, keys_of, len_in, made_of, member, of_key, room_in, route_of_hash, shape, share};
 
 use crate::iter_set::{Iter, OwningIter};
 use crate::setref::one::Ref;
@@ -13,6 +13,7 @@ use dash_shard::error::ConstructError;
 use dash_shard::hash::FixedState;
 use dash_shard::keyed::Keyed;
 use dash_shard::lock::RwLock;
+use dash_shard::query::Query;
 use dash_shard::shard::Shard;
 use dash_steps::kept::KeptKey;
 use std::alloc::{AllocError, Global};
@@ -156,8 +157,8 @@ impl<K: Eq + Hash, S: BuildHasher> DashSet<K, S> {
 
     /// The number of the shard that a key goes to.
     #[inline]
-    pub fn determine_map(&self, key: &K) -> usize
-        ensures route { result ≡ route_by ⟦<Self as Keyed>⟧.by self.now.hasher self.now.amount key.now }
+    pub fn determine_map<Q: Query<K>>(&self, key: Q) -> usize
+        ensures route { result ≡ route_of_hash self.now.amount (hash_of S.BuildHasher S.Hasher.Hasher self.now.hasher (Q.hash_input key)) }
         ensures below { result < self.now.amount }
     {
         self.inner.determine_map(key)
@@ -189,9 +190,9 @@ impl<K: Eq + Hash, S: BuildHasher> DashSet<K, S> {
 
     /// Takes the key that equals `key` out, and returns it. Waits for the key's shard. It takes no memory.
     #[inline]
-    pub fn remove<R: Wait + Clock>(&self, rt: &R, key: &K) -> Option<K>
-        ensures equal { IfSome result (λ found. IsTrue (K.eq found key.now)) }
-        ensures leaves { Removes ⟦<Self as Keyed>⟧.by self.now key.now (member result) }
+    pub fn remove<R: Wait + Clock, Q: Query<K>>(&self, rt: &R, key: Q) -> Option<K>
+        ensures equal { IfSome result (λ found. IsTrue (Q.names key found)) }
+        ensures leaves { Removes ⟦<Self as Keyed>⟧.by self.now (Q.names key) (member result) }
     {
         let (key, _) = self.inner.remove(rt, key)?;
         Some(key)
@@ -201,14 +202,14 @@ impl<K: Eq + Hash, S: BuildHasher> DashSet<K, S> {
     ///
     /// The shard is held while `f` runs.
     #[inline]
-    pub fn remove_if<R: Wait + Clock, F: FnOnce(&K) -> bool>(
+    pub fn remove_if<R: Wait + Clock, Q: Query<K>, F: FnOnce(&K) -> bool>(
         &self,
         rt: &R,
-        key: &K,
+        key: Q,
         f: F,
     ) -> Option<K>
-        requires { (k : K) → IsTrue (K.eq k key.now) → FnOnceTakesAt F.FnOnce f k }
-        ensures { RemovesBy ⟦<Self as Keyed>⟧.by self.now RemoveIf key.now (member result) (AnsweredKey F.FnOnce f) }
+        requires { (k : K) → IsTrue (Q.names key k) → FnOnceTakesAt F.FnOnce f k }
+        ensures { RemovesBy ⟦<Self as Keyed>⟧.by self.now RemoveIf (Q.names key) (member result) (AnsweredKey F.FnOnce f) }
     {
         let (key, _) = self.inner.remove_if(
             rt,
@@ -233,8 +234,8 @@ impl<K: Eq + Hash, S: BuildHasher> DashSet<K, S> {
     ///
     /// Till the reference is dropped, whoever wants to write the shard waits; in the same thread that is a deadlock. It takes no memory.
     #[inline]
-    pub fn get<R: Wait + Clock>(&self, rt: &R, key: &K) -> Option<Ref<'_, K, S>>
-        ensures { IsGot ⟦<Self as Keyed>⟧.by self.now key.now result }
+    pub fn get<R: Wait + Clock, Q: Query<K>>(&self, rt: &R, key: Q) -> Option<Ref<'_, K, S>>
+        ensures { IsGot ⟦<Self as Keyed>⟧.by self.now (Q.names key) result }
     {
         let found = self.inner.get(rt, key)?;
         Some(Ref::new(found))
@@ -324,8 +325,8 @@ impl<K: Eq + Hash, S: BuildHasher> DashSet<K, S> {
 
     /// Whether there is a key that equals `key`. Waits until no writer has the key's shard. It takes no memory.
     #[inline]
-    pub fn contains<R: Wait + Clock>(&self, rt: &R, key: &K) -> bool
-        ensures { SawAt {V = Unit {0}} ⟦<Self as Keyed>⟧.by self.now key.now (λ p. result ≡ is_some p) }
+    pub fn contains<R: Wait + Clock, Q: Query<K>>(&self, rt: &R, key: Q) -> bool
+        ensures { SawAt {V = Unit {0}} ⟦<Self as Keyed>⟧.by self.now (Q.names key) (λ p. result ≡ is_some p) }
     {
         self.inner.contains_key(rt, key)
     }

@@ -8,6 +8,7 @@ use dash_ref::mapref::one::{Ref, RefMut};
 use dash_ref::try_result::TryResult;
 use dash_shard::keyed::Keyed;
 use dash_shard::lock::RwLockReadGuard;
+use dash_shard::query::Query;
 use dash_shard::shard::Shard;
 use std::hash::{BuildHasher, Hash};
 
@@ -25,8 +26,8 @@ impl<K: Eq + Hash, V, S: BuildHasher> DashMap<K, V, S> {
     /// As `get`, for a caller who waits for nobody: the answer is `Locked` where `RwLock::try_read` doesn't get the key's shard, which
     /// says nothing of who has it. It takes no memory.
     #[inline]
-    pub fn try_get(&self, key: &K) -> TryResult<Ref<'_, K, V, S>>
-        ensures { UnlessLocked result (IsGot ⟦<Self as Keyed>⟧.by self.now key.now) }
+    pub fn try_get<Q: Query<K>>(&self, key: Q) -> TryResult<Ref<'_, K, V, S>>
+        ensures { UnlessLocked result (IsGot ⟦<Self as Keyed>⟧.by self.now (Q.names key)) }
     {
         let (hash, idx) = self.route_of(key);
         let Some(guard) = self.try_shard(idx) else {
@@ -54,8 +55,8 @@ impl<K: Eq + Hash, V, S: BuildHasher> DashMap<K, V, S> {
     /// As `get_mut`, for a caller who waits for nobody: the answer is `Locked` where `RwLock::try_write` doesn't get the key's shard,
     /// which says nothing of who has it. It takes no memory.
     #[inline]
-    pub fn try_get_mut(&self, key: &K) -> TryResult<RefMut<'_, K, V, S>>
-        ensures { UnlessLocked result (IsGotMut ⟦<Self as Keyed>⟧.by self.now key.now) }
+    pub fn try_get_mut<Q: Query<K>>(&self, key: Q) -> TryResult<RefMut<'_, K, V, S>>
+        ensures { UnlessLocked result (IsGotMut ⟦<Self as Keyed>⟧.by self.now (Q.names key)) }
     {
         let (hash, idx) = self.route_of(key);
         let Some(shard) = self.try_shards_mut(idx) else {

@@ -3,11 +3,12 @@ ghost use Rattle.std.specs.Prelude.{◌≡◌, IsSome, Some};
 ghost use Rattle.std.specs.Borrow.{Lends, LendsIf, sem};
 ghost use Rattle.std.specs.Map.Iter.{deref_pair_mut};
 ghost use Rattle.std.specs.Option.{option_map, option_copied_mut};
-ghost use Rattle.dash_ref.specs.Words.{IsShard, at, pairs, slot, with_value_in, with_value_of};
+ghost use Rattle.dash_ref.specs.Words.{IsHashOf, IsShard, at_named, pairs, slot, with_value_in, with_value_of};
 
 use super::HeldShard;
 use super::holds::Holds;
 use dash_shard::keyed::{Keyed, Lender};
+use dash_shard::query::Query;
 use dash_shard::shard::Shard;
 use std::hash::{BuildHasher, Hash};
 
@@ -26,9 +27,9 @@ impl<K: Eq + Hash, V, S: BuildHasher, H: Holds<Key = K, Value = V, State = S>> H
 > {
     /// The value of the pair whose key equals `key`, to be written. For the stored key beside it there are `position_of` and `at_mut`.
     #[inline]
-    pub fn get_mut(&mut self, key: &K) -> Option<&mut V>
-        ensures* writes_back { sem 𝓛 (LendsIf ⟦<Self as Lender>⟧.row V.row self.entry result (with_value_of K.eq self.old key.now) self.old) }
-        ensures value { option_copied_mut result ≡ option_map (λ p. p.1) (at K.eq (pairs self.old) key.now) }
+    pub fn get_mut<Q: Query<K>>(&mut self, key: Q) -> Option<&mut V>
+        ensures* writes_back { sem 𝓛 (LendsIf ⟦<Self as Lender>⟧.row V.row self.entry result (with_value_of (Q.names key) self.old) self.old) }
+        ensures value { option_copied_mut result ≡ option_map (λ p. p.1) (at_named (Q.names key) (pairs self.old)) }
         ensures lawful { IsShard ⟦<Self as Keyed>⟧.by self.old }
     {
         let hash = self.hash_one(key);
@@ -37,10 +38,10 @@ impl<K: Eq + Hash, V, S: BuildHasher, H: Holds<Key = K, Value = V, State = S>> H
 
     /// As `get_mut`, for a caller who has the key's hash.
     #[inline]
-    pub fn get_mut_hashed(&mut self, hash: u64, key: &K) -> Option<&mut V>
-        requires { hash ≡ ⟦<Self as Keyed>⟧.by.hash self.old.hasher key.now }
-        ensures* writes_back { sem 𝓛 (LendsIf ⟦<Self as Lender>⟧.row V.row self.entry result (with_value_of K.eq self.old key.now) self.old) }
-        ensures value { option_copied_mut result ≡ option_map (λ p. p.1) (at K.eq (pairs self.old) key.now) }
+    pub fn get_mut_hashed<Q: Query<K>>(&mut self, hash: u64, key: Q) -> Option<&mut V>
+        requires { IsHashOf ⟦<Self as Keyed>⟧.by self.old.hasher (Q.names key) hash }
+        ensures* writes_back { sem 𝓛 (LendsIf ⟦<Self as Lender>⟧.row V.row self.entry result (with_value_of (Q.names key) self.old) self.old) }
+        ensures value { option_copied_mut result ≡ option_map (λ p. p.1) (at_named (Q.names key) (pairs self.old)) }
         ensures lawful { IsShard ⟦<Self as Keyed>⟧.by self.old }
     {
         match self.position_of_hashed(hash, key) {

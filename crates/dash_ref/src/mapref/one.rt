@@ -2,11 +2,12 @@
 ghost use Rattle.std.specs.Prelude.{◌≡◌, ◌↔◌, IsTrue, IsSome, IfSome, IsNone, IfNone, None};
 ghost use Rattle.std.specs.Option.{option_map};
 ghost use Rattle.std.specs.Map.Iter.{deref_pair};
-ghost use Rattle.dash_ref.specs.Words.{Get, GivenBack, IsShard, Pair, RepliesOn, Stands, at, by, pair_of, pairs, slot};
+ghost use Rattle.dash_ref.specs.Words.{Get, GivenBack, IsHashOf, IsShard, Pair, RepliesOn, Stands, at, at_named, by, pair_of, pairs, slot};
 
 use dash_shard::hash::FixedState;
 use dash_shard::keyed::Keyed;
 use dash_shard::lock::RwLockReadGuard;
+use dash_shard::query::Query;
 use dash_shard::shard::Shard;
 pub use mapped::MappedRef;
 pub use parts::{First, Payload, Second};
@@ -101,15 +102,15 @@ impl<'a, K: Eq + Hash, V, S: BuildHasher> Ref<'a, K, V, S> {
     /// The pair whose key equals `key`, in the shard that the guard holds, for a caller who has the key's hash. Where there is no such
     /// pair, the hold ends. For the crates here alone.
     #[inline]
-    pub fn find(
+    pub fn find<Q: Query<K>>(
         guard: RwLockReadGuard<'a, Shard<K, V, S>>,
         hash: u64,
-        key: &K,
+        key: Q,
     ) -> Option<Ref<'a, K, V, S>>
-        requires { hash ≡ ⟦<Self as Keyed>⟧.by.hash guard.value.hasher key.now }
-        ensures pair { RepliesOn K.eq guard.entry.value (Get key.now) (Pair (option_map pair_of result)) }
-        ensures absent { IsNone result ↔ (at K.eq (pairs guard.entry.value) key.now ≡ None) }
-        ensures equal { IfSome result (λ found. IsTrue (K.eq found.key key.now)) }
+        requires { IsHashOf ⟦<Self as Keyed>⟧.by guard.value.hasher (Q.names key) hash }
+        ensures pair { option_map pair_of result ≡ at_named (Q.names key) (pairs guard.entry.value) }
+        ensures absent { IsNone result ↔ (at_named (Q.names key) (pairs guard.entry.value) ≡ None) }
+        ensures equal { IfSome result (λ found. IsTrue (Q.names key found.key)) }
         ensures shard { IfSome result (λ found. found.shard ≡ guard.entry.value) }
         ensures back { IfNone result (GivenBack guard.entry.value) }
         ensures stands { IfSome result Stands }

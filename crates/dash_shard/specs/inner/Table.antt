@@ -86,24 +86,32 @@ module _ {K V : Type 0} where
   abbrev pub with_value_at : Table K V → ℕ → V → Table K V
   with_value_at t i w = record t { slots = record t.slots { values = slice_set (pairs_in t) i (option_map (λ p. (p.0, w)) (slot (pairs_in t) i)) } }
 
-  -- the slot i has a pair whose key is equal
-  pub record Holds (eq : K → K → Bool) (slots : List (Option (K × V))) (k : K) (i : ℕ) : Type 0 where
+  -- the slot i has a pair whose key is named
+  pub record HoldsNamed (names : K → Bool) (slots : List (Option (K × V))) (i : ℕ) : Type 0 where
     pub within : i < length slots
     pub pair : K × V
     pub is : slot slots i ≡ Some pair
-    pub equal : eq pair.0 k ≡ true
+    pub equal : names pair.0 ≡ true
 
-  -- no pair of this hash has an equal key
+  -- one whose key is equal
+  abbrev pub Holds : (K → K → Bool) → List (Option (K × V)) → K → ℕ → Type 0
+  Holds eq slots k = HoldsNamed (λ j. eq j k) slots
+
+  -- no pair of this hash has a key that is named
+  abbrev pub LacksNamed : (K → Bool) → Table K V → ℕ → Type 0
+  LacksNamed names t hash = (i : ℕ) (p : K × V) → slot (pairs_in t) i ≡ Some p → slice_index (hashes_in t) i ≡ hash → names p.0 ≡ false
+
+  -- or an equal one
   abbrev pub IsAbsent : (K → K → Bool) → Table K V → ℕ → K → Type 0
-  IsAbsent eq t hash k = (i : ℕ) (p : K × V) → slot (pairs_in t) i ≡ Some p → slice_index (hashes_in t) i ≡ hash → eq p.0 k ≡ false
+  IsAbsent eq t hash k = LacksNamed (λ j. eq j k) t hash
 
   -- the lanes that the mask names are taken
   abbrev pub AreTaken : List (Option (K × V)) → ℕ → ℕ → Type 0
   AreTaken slots start mask = (j : ℕ) → j < 16 → bit_at mask j ≡ 1 → IsSome (slot slots (start + j))
 
-  -- none of their pairs has an equal key
-  abbrev pub MissesLanes : (K → K → Bool) → List (Option (K × V)) → K → ℕ → ℕ → Type 0
-  MissesLanes eq slots k start mask = (j : ℕ) (p : K × V) → j < 16 → bit_at mask j ≡ 1 → slot slots (start + j) ≡ Some p → eq p.0 k ≡ false
+  -- none of their pairs has a key that is named
+  abbrev pub MissesLanes : (K → Bool) → List (Option (K × V)) → ℕ → ℕ → Type 0
+  MissesLanes names slots start mask = (j : ℕ) (p : K × V) → j < 16 → bit_at mask j ≡ 1 → slot slots (start + j) ≡ Some p → names p.0 ≡ false
 
   -- each pair of the hash's class stands on its way before it goes past the group g
   abbrev pub EndsWays : Table K V → ℕ → ℕ → Type 0
@@ -114,12 +122,12 @@ module _ {K V : Type 0} where
   abbrev pub MayEnd : Table K V → ℕ → ℕ → Type 0
   MayEnd t hash visits = (visits ≡ groups_in t) ⊎ EndsWays t hash (group_at (groups_in t) hash (visits - 1))
 
-  -- the group g is the first on the way of this hash: it has no empty slot, and no pair of the hash whose key is equal
-  pub record PassesFirst (eq : K → K → Bool) (t : Table K V) (hash : ℕ) (k : K) (g : ℕ) : Type 0 where
+  -- the group g is the first on the way of this hash: it has no empty slot, and no pair of the hash whose key is named
+  pub record PassesFirst (names : K → Bool) (t : Table K V) (hash : ℕ) (g : ℕ) : Type 0 where
     pub within : g < groups_in t
     pub first : g ≡ hash % groups_in t
     pub full : IsFull t.tags.items g
-    pub missed : (j : ℕ) (p : K × V) → j < 16 → slot (pairs_in t) (16 * g + j) ≡ Some p → slice_index (hashes_in t) (16 * g + j) ≡ hash → eq p.0 k ≡ false
+    pub missed : (j : ℕ) (p : K × V) → j < 16 → slot (pairs_in t) (16 * g + j) ≡ Some p → slice_index (hashes_in t) (16 * g + j) ≡ hash → names p.0 ≡ false
 
   -- the taken slot i has the pair q, whose key has the same hash
   pub record IsRewritten (i : ℕ) (q : K × V) (old new : Table K V) : Type 0 where

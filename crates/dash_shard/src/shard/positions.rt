@@ -4,20 +4,21 @@ ghost use Rattle.std.specs.Option.{option_map};
 ghost use Rattle.core.specs.Result.{result_ok};
 ghost use Rattle.std.specs.Map.Iter.{deref_pair, deref_pair_mut};
 ghost use Rattle.std.specs.Borrow.{Lends, sem};
-ghost use Rattle.dash_shard.specs.Words.{Finds, HasKey, Insert, Inserts, IsNextTaken, IsShard, Old, Pair, Remove, Replaces, Reserves, Routes, SameShard, Searches, TakesAt, TakesInPlace, at, groups, pairs, shard_len, slot, with_value_in};
+ghost use Rattle.dash_shard.specs.Words.{Finds, FindsNamed, HasKey, hash_of, Insert, Inserts, IsHashOf, IsNextTaken, IsShard, Old, Pair, Remove, Replaces, Reserves, Routes, SameShard, Searches, TakesAt, TakesInPlace, at, groups, pairs, shard_len, slot, with_value_in};
 ghost use Rattle.dash_shard.specs.inner.Table.{IsPlaceFor, MayTake};
 ghost use Rattle.dash_shard.specs.inner.Cursors.{IsSlotCursor, Advances};
 
 use super::{Cursor, InsertRefused, Place, Search, Shard};
 use crate::error::TryReserveError;
 use crate::keyed::{Keyed, Lender};
+use crate::query::Query;
 use std::hash::{BuildHasher, Hash};
 
 impl<K: Eq + Hash, V, S: BuildHasher> Shard<K, V, S> {
     /// The slot of the pair whose key equals `key`, for `at`. It is good while the shard isn't changed.
     #[inline(always)]
-    pub fn position_of(&self, key: &K) -> Option<usize>
-        ensures finds { Finds K.eq self.now key.now result }
+    pub fn position_of<Q: Query<K>>(&self, key: Q) -> Option<usize>
+        ensures finds { FindsNamed (Q.names key) self.now result }
         ensures lawful { IsShard ⟦<Self as Keyed>⟧.by self.now }
     {
         self.position_of_hashed(self.hash_one(key), key)
@@ -25,9 +26,9 @@ impl<K: Eq + Hash, V, S: BuildHasher> Shard<K, V, S> {
 
     /// As `position_of`, for a caller who has the key's hash.
     #[inline(always)]
-    pub fn position_of_hashed(&self, hash: u64, key: &K) -> Option<usize>
-        requires { hash ≡ ⟦<Self as Keyed>⟧.by.hash self.now.hasher key.now }
-        ensures finds { Finds K.eq self.now key.now result }
+    pub fn position_of_hashed<Q: Query<K>>(&self, hash: u64, key: Q) -> Option<usize>
+        requires { IsHashOf ⟦<Self as Keyed>⟧.by self.now.hasher (Q.names key) hash }
+        ensures finds { FindsNamed (Q.names key) self.now result }
         ensures lawful { IsShard ⟦<Self as Keyed>⟧.by self.now }
     {
         self.table.find(hash, key)
@@ -55,8 +56,8 @@ impl<K: Eq + Hash, V, S: BuildHasher> Shard<K, V, S> {
     /// As `position_of`, with how many groups of slots were looked at: those from the key's hash modulo `groups()` on, rising, round. With no
     /// such slot it looks at all of them, or up to one that no pair of the hash's class stands past.
     #[inline]
-    pub fn search(&self, key: &K) -> Search
-        ensures searches { Searches ⟦<Self as Keyed>⟧.by self.now key.now result }
+    pub fn search<Q: Query<K>>(&self, key: Q) -> Search
+        ensures searches { Searches ⟦<Self as Keyed>⟧.by (Q.names key) self.now (hash_of S.BuildHasher S.Hasher.Hasher self.now.hasher (Q.hash_input key)) result }
         ensures lawful { IsShard ⟦<Self as Keyed>⟧.by self.now }
     {
         self.table.search(self.hash_one(key), key)

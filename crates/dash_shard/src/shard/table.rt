@@ -1,6 +1,6 @@
 //! A table of pairs, found by the tags of their hashes, sixteen at a time.
 ghost use Rattle.std.specs.Prelude.{ℕ, ◌≡◌, ◌+◌, ◌-◌, ◌*◌, ◌/◌, ◌^◌, ◌<◌, ◌≤◌, ◌++◌, IfSome, IfNone, IsOk, IfOk, IfErr, OnOk, OnErr, IsSome, length, [], vec_len, vec_capacity, slice_set, slice_index, replicate};
-ghost use Rattle.dash_shard.specs.inner.Table.{IsTable, IsHashedBy, Holds, IsAbsent, AreTaken, MissesLanes, PassesFirst, MayEnd, limit, slots_in, groups_in, pairs_in, hashes_in};
+ghost use Rattle.dash_shard.specs.inner.Table.{IsTable, IsHashedBy, HoldsNamed, LacksNamed, AreTaken, MissesLanes, PassesFirst, MayEnd, limit, slots_in, groups_in, pairs_in, hashes_in};
 ghost use Rattle.dash_shard.specs.inner.Marks.{group_at};
 ghost use Rattle.dash_shard.specs.inner.Cursors.{IsSlotCursor, Advances};
 ghost use Rattle.dash_shard.specs.Words.{IsNextTaken, slot};
@@ -9,6 +9,7 @@ ghost use Rattle.std.specs.Int.{bit_at};
 ghost use Rattle.std.specs.Option.{option_map};
 ghost use Rattle.std.specs.Map.Iter.{deref_pair};
 
+use crate::query::Query;
 use crate::shard::group::probe;
 use cursor::Cursor;
 use marks::{
@@ -57,14 +58,19 @@ pub struct Place {
     pub steps: usize,
 }
 
-// Of the slots of a group that the mask names, the lowest whose key is equal.
+// Of the slots of a group that the mask names, the lowest whose key the query names.
 #[inline(always)]
-fn find_in<K: Eq, V>(slots: &Slots<(K, V)>, start: usize, mask: u16, key: &K) -> Option<usize>
+fn find_in<K: Eq + Hash, V, Q: Query<K>>(
+    slots: &Slots<(K, V)>,
+    start: usize,
+    mask: u16,
+    key: Q,
+) -> Option<usize>
     requires fits { start + 16 < 2 ^ 64 }
     requires taken { AreTaken slots.now.values start mask }
-    ensures found { IfSome result (Holds K.eq slots.now.values key.now) }
+    ensures found { IfSome result (HoldsNamed (Q.names key) slots.now.values) }
     ensures lies { IfSome result (λ i. (start ≤ i) × (i < start + 16)) }
-    ensures absent { IfNone result (MissesLanes K.eq slots.now.values key.now start mask) }
+    ensures absent { IfNone result (MissesLanes (Q.names key) slots.now.values start mask) }
 {
     if mask == 0 {
         return None;
@@ -72,7 +78,7 @@ fn find_in<K: Eq, V>(slots: &Slots<(K, V)>, start: usize, mask: u16, key: &K) ->
     let mut left = mask;
     loop {
         let (lane, rest) = split_lowest(left);
-        if &slots.get(start + lane).0 == key {
+        if key.names(&slots.get(start + lane).0) {
             return Some(start + lane);
         }
         if rest == 0 {
@@ -85,24 +91,24 @@ fn find_in<K: Eq, V>(slots: &Slots<(K, V)>, start: usize, mask: u16, key: &K) ->
 // The same of a way's first group. It looks at the own lane of the key's hash first, where many pairs stand: a processor that expects that
 // fetches the slot while it waits for the tags.
 #[inline(always)]
-fn find_at_home<K: Eq, V>(
+fn find_at_home<K: Eq + Hash, V, Q: Query<K>>(
     slots: &Slots<(K, V)>,
     start: usize,
     own: usize,
     mask: u16,
-    key: &K,
+    key: Q,
 ) -> Option<usize>
     requires fits { start + 16 < 2 ^ 64 }
     requires own { own < 16 }
     requires taken { AreTaken slots.now.values start mask }
-    ensures found { IfSome result (Holds K.eq slots.now.values key.now) }
+    ensures found { IfSome result (HoldsNamed (Q.names key) slots.now.values) }
     ensures lies { IfSome result (λ i. (start ≤ i) × (i < start + 16)) }
-    ensures absent { IfNone result (MissesLanes K.eq slots.now.values key.now start mask) }
+    ensures absent { IfNone result (MissesLanes (Q.names key) slots.now.values start mask) }
 {
     if mask == 0 {
         return None;
     }
-    if has_lane(mask, own) && &slots.get(start + own).0 == key {
+    if has_lane(mask, own) && key.names(&slots.get(start + own).0) {
         return Some(start + own);
     }
     find_in(slots, start, mask, key)
@@ -171,14 +177,14 @@ impl<K, V> Table<K, V> {
         self.counts.len()
     }
 
-    /// Looks for the pair of this hash whose key is equal, group by group along the hash's way.
+    /// Looks for the pair of this hash whose key the query names, group by group along the hash's way.
     #[inline(always)]
-    pub fn search(&self, hash: u64, key: &K) -> Search
+    pub fn search<Q: Query<K>>(&self, hash: u64, key: Q) -> Search
     where
-        K: Eq,
+        K: Eq + Hash,
         requires { IsTable self.now }
-        ensures found { IfSome result.position (Holds K.eq (pairs_in self.now) key.now) }
-        ensures absent { IfNone result.position (IsAbsent K.eq self.now hash key.now) }
+        ensures found { IfSome result.position (HoldsNamed (Q.names key) (pairs_in self.now)) }
+        ensures absent { IfNone result.position (LacksNamed (Q.names key) self.now hash) }
         ensures visits { (result.visits ≤ groups_in self.now) × (0 < groups_in self.now → 0 < result.visits) }
         ensures last { IfSome result.position (λ i. i / 16 ≡ group_at (groups_in self.now) hash (result.visits - 1)) }
         ensures ended { IfNone result.position (MayEnd self.now hash result.visits) }
@@ -221,13 +227,13 @@ impl<K, V> Table<K, V> {
     // full, so it is seldom called. What it returns fits registers, and costs no caller anything that doesn't call it.
     #[cold]
     #[inline(never)]
-    fn search_past(&self, hash: u64, key: &K, first: usize) -> Result<usize, usize>
+    fn search_past<Q: Query<K>>(&self, hash: u64, key: Q, first: usize) -> Result<usize, usize>
     where
-        K: Eq,
+        K: Eq + Hash,
         requires table { IsTable self.now }
-        requires passes { PassesFirst K.eq self.now hash key.now first }
-        ensures found { IfOk result (Holds K.eq (pairs_in self.now) key.now) }
-        ensures absent { OnErr result (IsAbsent K.eq self.now hash key.now) }
+        requires passes { PassesFirst (Q.names key) self.now hash first }
+        ensures found { IfOk result (HoldsNamed (Q.names key) (pairs_in self.now)) }
+        ensures absent { OnErr result (LacksNamed (Q.names key) self.now hash) }
         ensures visits { IfErr result (λ visits. (visits ≤ groups_in self.now) × (0 < visits)) }
         ensures ended { IfErr result (MayEnd self.now hash) }
     {
@@ -250,14 +256,14 @@ impl<K, V> Table<K, V> {
         Err(count)
     }
 
-    /// The slot of the pair of this hash whose key is equal.
+    /// The slot of the pair of this hash whose key the query names.
     #[inline(always)]
-    pub fn find(&self, hash: u64, key: &K) -> Option<usize>
+    pub fn find<Q: Query<K>>(&self, hash: u64, key: Q) -> Option<usize>
     where
-        K: Eq,
+        K: Eq + Hash,
         requires { IsTable self.now }
-        ensures found { IfSome result (Holds K.eq (pairs_in self.now) key.now) }
-        ensures absent { IfNone result (IsAbsent K.eq self.now hash key.now) }
+        ensures found { IfSome result (HoldsNamed (Q.names key) (pairs_in self.now)) }
+        ensures absent { IfNone result (LacksNamed (Q.names key) self.now hash) }
     {
         self.search(hash, key).position
     }

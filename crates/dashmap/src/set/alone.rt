@@ -3,7 +3,7 @@ ghost use Rattle.std.specs.Prelude.{◌≡◌, ◌≤◌, ◌==◌, length, is_s
 ghost use Rattle.std.specs.Option.{option_map};
 ghost use Rattle.std.specs.Fn.{FnOnceTakesAt};
 ghost use Rattle.std.specs.Map.Calls.{CallableOnEachPair};
-ghost use Rattle.dashmap.specs.Words.{AnsweredKey, AreBehind, AreEnded, CalledAtKey, ClearsAlone, HasNoRoom, Insert, IsAlone, LeftBehind, Old, Pair, Remove, RemoveIf, ReservesAlone, RetainsAlone, ShrinksAlone, TakesAlone, TakesAloneBy, TakesKey, at, by, contents, keys_of, len_in, locked, member, room_in, stood};
+ghost use Rattle.dashmap.specs.Words.{AnsweredKey, AreBehind, AreEnded, CalledAtKey, ClearsAlone, HasNoRoom, Insert, IsAlone, LeftBehind, Old, RemoveIf, RemovesAlone, RemovesAloneBy, ReservesAlone, RetainsAlone, ShrinksAlone, TakesAlone, TakesKey, at_named, by, contents, keys_of, len_in, locked, member, room_in, stood};
 
 use super::DashSet;
 use crate::iter_set::OwningIter;
@@ -12,6 +12,7 @@ use dash_map::read_only::Keys;
 use dash_shard::error::TryReserveError;
 use dash_shard::hash::FixedState;
 use dash_shard::keyed::Keyed;
+use dash_shard::query::Query;
 use std::hash::{BuildHasher, Hash};
 use std::marker::Model;
 
@@ -57,8 +58,8 @@ impl<K: Eq + Hash + Drop, S: BuildHasher> AloneSet<K, S> {
 
     /// Takes the key that equals `key` out, and returns it. It takes no memory, and can't be refused.
     #[inline]
-    pub fn remove(&mut self, key: &K) -> Option<K>
-        ensures { TakesAlone ⟦<Self as Keyed>⟧.by self.old self.new (Remove key.now) (Pair (member result)) }
+    pub fn remove<Q: Query<K>>(&mut self, key: Q) -> Option<K>
+        ensures { RemovesAlone ⟦<Self as Keyed>⟧.by (Q.names key) self.old self.new (member result) }
     {
         let (key, _) = self.inner.remove(key)?;
         Some(key)
@@ -66,9 +67,9 @@ impl<K: Eq + Hash + Drop, S: BuildHasher> AloneSet<K, S> {
 
     /// Takes the key that equals `key` out if `f` returns true on it, and returns it. It takes no memory, and can't be refused.
     #[inline]
-    pub fn remove_if<F: FnOnce(&K) -> bool>(&mut self, key: &K, f: F) -> Option<K>
-        requires { IfSome (at K.eq (contents self.old) key.now) (λ p. FnOnceTakesAt F.FnOnce f p.0) }
-        ensures { TakesAloneBy ⟦<Self as Keyed>⟧.by self.old self.new RemoveIf key.now (Pair (member result)) (AnsweredKey F.FnOnce f) }
+    pub fn remove_if<Q: Query<K>, F: FnOnce(&K) -> bool>(&mut self, key: Q, f: F) -> Option<K>
+        requires { IfSome (at_named (Q.names key) (contents self.old)) (λ p. FnOnceTakesAt F.FnOnce f p.0) }
+        ensures { RemovesAloneBy ⟦<Self as Keyed>⟧.by (Q.names key) self.old self.new RemoveIf (member result) (AnsweredKey F.FnOnce f) }
     {
         let (key, _) = self.inner.remove_if(
             key,
@@ -82,8 +83,8 @@ impl<K: Eq + Hash + Drop, S: BuildHasher> AloneSet<K, S> {
 
     /// The key that equals `key`.
     #[inline]
-    pub fn get(&self, key: &K) -> Option<&K>
-        ensures key { member (option_map (λ k. k.now) result) ≡ at K.eq (contents self.now) key.now }
+    pub fn get<Q: Query<K>>(&self, key: Q) -> Option<&K>
+        ensures key { member (option_map (λ k. k.now) result) ≡ at_named (Q.names key) (contents self.now) }
         ensures lawful { IsAlone ⟦<Self as Keyed>⟧.by self.now }
     {
         let (key, _) = self.inner.get(key)?;
@@ -92,8 +93,8 @@ impl<K: Eq + Hash + Drop, S: BuildHasher> AloneSet<K, S> {
 
     /// Whether there is a key that equals `key`.
     #[inline]
-    pub fn contains(&self, key: &K) -> bool
-        ensures found { result ≡ is_some (at K.eq (contents self.now) key.now) }
+    pub fn contains<Q: Query<K>>(&self, key: Q) -> bool
+        ensures found { result ≡ is_some (at_named (Q.names key) (contents self.now)) }
         ensures lawful { IsAlone ⟦<Self as Keyed>⟧.by self.now }
     {
         self.inner.contains_key(key)

@@ -3,7 +3,7 @@ ghost use Rattle.std.specs.Prelude.{[], ◌≡◌, ◌↔◌, IsSome, IfSome, Is
 ghost use Rattle.std.specs.Option.{option_map};
 ghost use Rattle.std.specs.Borrow.{Lends, sem};
 ghost use Rattle.std.specs.Map.Iter.{deref_pair, deref_pair_mut};
-ghost use Rattle.dash_ref.specs.Words.{GetsMut, HasKey, LeftBehind, Stands, at, by, pairs, rewritten, slot, stored};
+ghost use Rattle.dash_ref.specs.Words.{GetsMut, HasNamed, IsHashOf, LeftBehind, Stands, at, at_named, by, pairs, rewritten, slot, stored};
 
 use super::Ref;
 use crate::held::holds::{Holds, Writing};
@@ -11,6 +11,7 @@ use crate::held::{HeldShard, ShardMut};
 use dash_shard::hash::FixedState;
 use dash_shard::keyed::{Keyed, Lender};
 use dash_shard::lock::RwLock;
+use dash_shard::query::Query;
 use dash_shard::shard::Shard;
 pub use mapped::MappedRefMut;
 use std::fmt;
@@ -90,11 +91,15 @@ impl<'a, K: Eq + Hash, V, S: BuildHasher> RefMut<'a, K, V, S> {
     /// The pair whose key equals `key`, in the held shard, for a caller who has the key's hash. Where there is no such pair, the hold ends.
     /// For the crates here alone.
     #[inline]
-    pub fn find(shard: ShardMut<'a, K, V, S>, hash: u64, key: &K) -> Option<RefMut<'a, K, V, S>>
-        requires { hash ≡ ⟦<Self as Keyed>⟧.by.hash shard.hasher key.now }
-        ensures gets { GetsMut K.eq shard.entry key.now result }
-        ensures absent { IsNone result ↔ (at K.eq (pairs shard.entry) key.now ≡ None) }
-        ensures equal { IfSome result (λ r. HasKey K.eq r.shard key.now r.position) }
+    pub fn find<Q: Query<K>>(
+        shard: ShardMut<'a, K, V, S>,
+        hash: u64,
+        key: Q,
+    ) -> Option<RefMut<'a, K, V, S>>
+        requires { IsHashOf ⟦<Self as Keyed>⟧.by shard.hasher (Q.names key) hash }
+        ensures gets { GetsMut (Q.names key) shard.entry result }
+        ensures absent { IsNone result ↔ (at_named (Q.names key) (pairs shard.entry) ≡ None) }
+        ensures equal { IfSome result (λ r. HasNamed (Q.names key) r.shard r.position) }
         ensures shard { IfSome result (λ r. r.shard ≡ shard.entry) }
     {
         let position = shard.position_of_hashed(hash, key)?;

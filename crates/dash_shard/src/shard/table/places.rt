@@ -11,6 +11,7 @@ use super::marks::{
 use super::{Place, Table, find_at_home, find_in};
 use crate::shard::group::probe;
 use crate::shard::lanes::free_lanes;
+use std::hash::Hash;
 
 // The place that was found before, or else the first free lane of a group.
 #[inline(always)]
@@ -51,7 +52,7 @@ impl<K, V> Table<K, V> {
     #[inline(always)]
     pub fn find_or_place(&self, hash: u64, key: &K) -> Result<usize, Place>
     where
-        K: Eq,
+        K: Eq + Hash,
         requires { IsTable self.now }
         ensures found { IfOk result (Holds K.eq (pairs_in self.now) key.now) }
         ensures absent { OnErr result (IsAbsent K.eq self.now hash key.now) }
@@ -87,9 +88,9 @@ impl<K, V> Table<K, V> {
     #[inline(never)]
     fn place_past(&self, hash: u64, key: &K, first: usize) -> Result<usize, usize>
     where
-        K: Eq,
+        K: Eq + Hash,
         requires table { IsTable self.now }
-        requires passes { PassesFirst K.eq self.now hash key.now first }
+        requires passes { PassesFirst (λ k. K.eq k key.now) self.now hash first }
         ensures found { IfOk result (Holds K.eq (pairs_in self.now) key.now) }
         ensures absent { OnErr result (IsAbsent K.eq self.now hash key.now) }
         ensures within { IfErr result (λ free. free / 16 < groups_in self.now) }

@@ -10,12 +10,22 @@ use Rattle.dash_steps.specs.Kept.{alike_pair}
 use Rattle.dash_steps.specs.declared.step.Reply.TheVariants.{Pair, Found, Old, Pairs, Number}
 use Rattle.dash_steps.specs.inner.Sweep.{keeping}
 use Rattle.dash_steps.proofs.AlikeLaws.{reply_equiv}
-use Rattle.dash_steps.proofs.Planning.{answers-found, looked, same_found}
+use Rattle.dash_steps.proofs.Planning.{answers-found, looked}
 use Rattle.dash_steps.proofs.Preparing.{answers-all, mapped}
 use Rattle.dash_steps.proofs.Rooms.{grows-inserted}
 use Rattle.dash_steps.proofs.Sweeping.{called-alike}
 use Rattle.dash_steps.proofs.Taking.{exactly, looks, reads, counts, retains, alters, routed, laws-on}
+use Rattle.dash_shard.proofs.Naming.{hash-equals}
 use Rattle.dash_steps.proofs.take.take.Goals as goal
+
+pub get_hashed-requires : goal.get_hashed-requires
+get_hashed-requires g c = hash-equals _ (lawful-of g.S.BuildHasher g.S.Hasher.Hasher g.met.K.Eq.laws g.met.K.Hash.respects_eq) c.args.shard.now.hasher c.in-Get.key c.args.hash (rw c.in-Get.is at c.requires.goes.hashed)
+
+pub get_hashed-requires-in-Contains : goal.get_hashed-requires-in-Contains
+get_hashed-requires-in-Contains g c = hash-equals _ (lawful-of g.S.BuildHasher g.S.Hasher.Hasher g.met.K.Eq.laws g.met.K.Hash.respects_eq) c.args.shard.now.hasher c.in-Contains.key c.args.hash (rw c.in-Contains.is at c.requires.goes.hashed)
+
+pub remove_hashed-requires : goal.remove_hashed-requires
+remove_hashed-requires g c = hash-equals _ (lawful-of g.S.BuildHasher g.S.Hasher.Hasher g.met.K.Eq.laws g.met.K.Hash.respects_eq) c.args.shard.now.hasher c.in-Remove.key c.args.hash (rw c.in-Remove.is at c.requires.goes.hashed)
 
 pub returns-in-Ok-clause-taken : goal.returns-in-Ok-clause-taken
 returns-in-Ok-clause-taken g c =
@@ -24,14 +34,14 @@ returns-in-Ok-clause-taken g c =
     let law = lawful-of g.S.BuildHasher g.S.Hasher.Hasher g.met.K.Eq.laws g.met.K.Hash.respects_eq in
     rw c.in-Get.is (looks h law _ _ g.met.K.Kept.alike_laws g.met.V.Kept.alike_laws g.met.K.KeptKey.alike_equal s c.requires.lawful (table.Get c.in-Get.key) (Pair c.in-Ok.pair)
     (routed h law _ _ g.met.K.Kept.alike_laws g.met.V.Kept.alike_laws g.met.K.KeptKey.alike_equal s c.requires.lawful c.in-Get.key)
-    (answers-found _ (pairs s) c.in-Get.key _ _ _ _ _ c.get_hashed.ensures.pair refl c.in-Ok.ensures.copy) (looked (keys_of h s) c.in-Get.key (pairs s)))
+    (answers-found _ (pairs s) c.in-Get.key _ _ _ _ _ (ap table.Pair c.get_hashed.ensures.pair) refl c.in-Ok.ensures.copy) (looked (keys_of h s) c.in-Get.key (pairs s)))
 
 pub returns-in-Contains-clause-taken : goal.returns-in-Contains-clause-taken
 returns-in-Contains-clause-taken g c =
     let s = c.args.shard.now in
     let h = key_hash g.K.PartialEq.eq g.K.Hash.hash_input g.S.BuildHasher g.S.Hasher.Hasher in
     let law = lawful-of g.S.BuildHasher g.S.Hasher.Hasher g.met.K.Eq.laws g.met.K.Hash.respects_eq in
-    let found = c.is_some.ensures ∙ mapped deref_pair c.get_hashed-in-Contains.result ∙ ap is_some (same_found _ _ c.get_hashed-in-Contains.ensures.pair) in
+    let found = c.is_some.ensures ∙ mapped deref_pair c.get_hashed-in-Contains.result ∙ ap is_some c.get_hashed-in-Contains.ensures.pair in
     rw c.in-Contains.is (looks h law _ _ g.met.K.Kept.alike_laws g.met.V.Kept.alike_laws g.met.K.KeptKey.alike_equal s c.requires.lawful (table.Contains c.in-Contains.key) (Found c.is_some.result)
     (routed h law _ _ g.met.K.Kept.alike_laws g.met.V.Kept.alike_laws g.met.K.KeptKey.alike_equal s c.requires.lawful c.in-Contains.key)
     (record { told = table.Found c.is_some.result; replies = ap table.Found found; alike = (reply_equiv g.met.K.Kept.alike_laws g.met.V.Kept.alike_laws).refl (table.Found c.is_some.result) }) (looked (keys_of h s) c.in-Contains.key (pairs s)))
@@ -52,7 +62,7 @@ returns-in-Remove-clause-taken g c =
     let s = c.args.shard.now in
     let h = key_hash g.K.PartialEq.eq g.K.Hash.hash_input g.S.BuildHasher g.S.Hasher.Hasher in
     let law = lawful-of g.S.BuildHasher g.S.Hasher.Hasher g.met.K.Eq.laws g.met.K.Hash.respects_eq in
-    let r = c.remove_hashed.ensures.removes in
+    let r = c.remove_hashed.ensures.removes.takes.each c.in-Remove.key (g.met.K.Eq.laws.refl c.in-Remove.key) in
     rw c.in-Remove.is (exactly h law _ _ g.met.K.Kept.alike_laws g.met.V.Kept.alike_laws g.met.K.KeptKey.alike_equal s c.requires.lawful c.remove_hashed.new.self (table.Remove c.in-Remove.key) (Pair c.remove_hashed.result)
     (routed h law _ _ g.met.K.Kept.alike_laws g.met.V.Kept.alike_laws g.met.K.KeptKey.alike_equal s c.requires.lawful c.in-Remove.key)
     (record { told = table.Pair c.remove_hashed.result; replies = r.taken.table.replies; alike = (reply_equiv g.met.K.Kept.alike_laws g.met.V.Kept.alike_laws).refl (table.Pair c.remove_hashed.result) })

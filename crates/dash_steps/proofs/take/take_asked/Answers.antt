@@ -4,11 +4,18 @@ use Rattle.dash_shard.specs.Steps.{line}
 use Rattle.dash_shard.proofs.Lawful.{lawful-of}
 use Rattle.dash_steps.specs.Steps.{step_of}
 use Rattle.dash_steps.specs.inner.Plan.{HasPair}
-use Rattle.dash_steps.proofs.Finding.{found-pair}
+use Rattle.dash_steps.proofs.Finding.{found-pair, asked-hash}
 use Rattle.dash_steps.proofs.Planning.{planned-there, takes-asked}
 use Rattle.dash_steps.proofs.Rooms.{grows-same}
 use Rattle.dash_steps.proofs.Taking.{laws-on, routed}
+use Rattle.dash_shard.proofs.Naming.{hash-equals}
 use Rattle.dash_steps.proofs.take.take_asked.Goals as goal
+
+pub position_of_hashed-found-requires : goal.position_of_hashed-found-requires
+position_of_hashed-found-requires g c =
+    let h = key_hash g.K.PartialEq.eq g.K.Hash.hash_input g.S.BuildHasher g.S.Hasher.Hasher in
+    hash-equals h (lawful-of g.S.BuildHasher g.S.Hasher.Hasher g.met.K.Eq.laws g.met.K.Hash.respects_eq) c.args.shard.now.hasher c.asked_key.result.now c.args.hash
+    (asked-hash (h.hash c.args.shard.now.hasher) (line (step_of g.A.Action.acts c.args.step)) c.args.hash c.asked_key.result.now c.requires.goes.hashed c.asked_key.ensures)
 
 pub returns-in-Ok-clause-taken : goal.returns-in-Ok-clause-taken
 returns-in-Ok-clause-taken g c =

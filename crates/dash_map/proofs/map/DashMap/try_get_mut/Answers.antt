@@ -1,17 +1,17 @@
 use Rattle.std.proofs.Common.{◌∙◌, sym}
 use Rattle.dash_shard.specs.Hashing.{key_hash}
-use Rattle.dash_map.specs.Behind.{StandsAt}
-use Rattle.dash_map.proofs.Seeing.{stands-at}
+use Rattle.dash_map.specs.Behind.{Serves}
+use Rattle.dash_map.proofs.Seeing.{serves}
 use Rattle.dash_map.proofs.map.DashMap.try_get_mut.Given.{Over}
 use Rattle.dash_map.proofs.map.DashMap.try_get_mut.Goals.{In-Some}
 use Rattle.dash_map.proofs.map.DashMap.try_get_mut.Goals as goal
 
--- the shard that is held is the one of the key
-abbrev here : (g : Over) (c : In-Some g) → StandsAt (key_hash g.K.PartialEq.eq g.K.Hash.hash_input g.S.BuildHasher g.S.Hasher.Hasher) c.args.self.now c.args.key.now c.in-Some.shard
-here g c = stands-at (key_hash g.K.PartialEq.eq g.K.Hash.hash_input g.S.BuildHasher g.S.Hasher.Hasher) c.args.self.now c.args.key.now _ c.route_of-hash.ensures.route c.in-Some.shard c.in-Some.ensures.tagged
+-- the shard that is held is the one of the keys that are named
+abbrev here : (g : Over) (c : In-Some g) → Serves (key_hash g.K.PartialEq.eq g.K.Hash.hash_input g.S.BuildHasher g.S.Hasher.Hasher) c.args.self.now (g.Q.Query.names c.args.key) c.in-Some.shard
+here g c = serves (key_hash g.K.PartialEq.eq g.K.Hash.hash_input g.S.BuildHasher g.S.Hasher.Hasher) c.args.self.now (g.Q.Query.names c.args.key) _ c.route_of-hash.ensures.routed c.in-Some.shard c.in-Some.ensures.tagged
 
 pub find-requires : goal.find-requires
-find-requires g c = c.route_of-hash.ensures.hash ∙ sym (c.in-Some.ensures.tagged.hashes c.args.key.now)
+find-requires g c k named = c.route_of-hash.ensures.hashed k named ∙ sym (c.in-Some.ensures.tagged.hashes k)
 
 pub returns-in-Some-find : goal.returns-in-Some-find
 returns-in-Some-find g c =

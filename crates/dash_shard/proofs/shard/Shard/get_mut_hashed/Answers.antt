@@ -7,6 +7,6 @@ pub returns-in-Some : goal.returns-in-Some
 returns-in-Some g c =
     let found = c.in-Some.ensures in
     let i = c.in-Some.position in (
-      (λ j. inl (c.at_mut.result.1.ghost_name, λ w. (lent-found g.K.PartialEq.eq c.args.key.now w c.args.self.now (Some i) found.finds.position i refl) j)),
+      (λ j. inl (c.at_mut.result.1.ghost_name, λ w. (lent-found (g.Q.Query.names c.args.key) w c.args.self.now (Some i) found.finds.position i refl) j)),
       record { writes_back = tt; value = ap (λ o. option_map (λ p. p.1) o) (sym c.at_mut.ensures.pair ∙ found.finds.pair); lawful = found.lawful },
     )

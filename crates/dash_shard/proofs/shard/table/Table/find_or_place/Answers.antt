@@ -9,8 +9,8 @@ returns-then-seen-ne0-clause-absent g c =
     let long : c.len-count.result ≡ groups_in t = omega (arith, c.len-count.ensures, t.counts.ok.0) in
     let at = at-first t c.args.hash c.home-first.result (omega (arith, c.home-first.ensures.below, long)) (c.home-first.ensures.is ∙ ap (λ n. c.args.hash % n) long) in
     let row = subst (λ (l : List ℕ). IsRow l c.home-first.result c.group_of.result.now) c.deref.ensures.value c.group_of.ensures in
-    let missing = misses-seen g.K.PartialEq.eq t c.args.hash c.args.key.now c.requires c.home-first.result _ _ _ row c.tag.ensures.is c.probe-seen.ensures.matches c.in_default.ensures.absent in
-    absent-here g.K.PartialEq.eq t c.args.hash c.args.key.now 0 (searching-first _ _ _ _) c.requires c.home-first.result at missing (empty-seen _ _ _ _ row c.probe-seen.ensures.empty c.if-seen-ne0.true c.probe-seen.ensures.fits.1)
+    let missing = misses-seen (λ k. g.K.PartialEq.eq k c.args.key.now) t c.args.hash c.requires c.home-first.result _ _ _ row c.tag.ensures.is c.probe-seen.ensures.matches c.in_default.ensures.absent in
+    absent-here (λ k. g.K.PartialEq.eq k c.args.key.now) t c.args.hash 0 (searching-first _ _ _) c.requires c.home-first.result at missing (empty-seen _ _ _ _ row c.probe-seen.ensures.empty c.if-seen-ne0.true c.probe-seen.ensures.fits.1)
 
 pub returns-then-seen-ne0-clause-place : goal.returns-then-seen-ne0-clause-place
 returns-then-seen-ne0-clause-place g c room =
@@ -26,5 +26,5 @@ returns-then-seen-ne0-clause-place g c room =
 
 pub place_past-requires-clause-passes : goal.place_past-requires-clause-passes
 place_past-requires-clause-passes g c =
-    passes-first g.K.PartialEq.eq c.args.self.now c.args.hash c.args.key.now c.requires c.len-count.result c.home-first.result _ _ c.group_of.result.now _ _ (omega (arith, c.len-count.ensures, c.args.self.now.counts.ok.0)) c.home-first.ensures.below c.home-first.ensures.is
+    passes-first (λ k. g.K.PartialEq.eq k c.args.key.now) c.args.self.now c.args.hash c.requires c.len-count.result c.home-first.result _ _ c.group_of.result.now _ _ (omega (arith, c.len-count.ensures, c.args.self.now.counts.ok.0)) c.home-first.ensures.below c.home-first.ensures.is
     c.deref.ensures.value c.group_of.ensures c.tag.ensures.is c.probe-seen.ensures.matches c.in_default.ensures.absent c.probe-seen.ensures.empty c.if-seen-ne0.false

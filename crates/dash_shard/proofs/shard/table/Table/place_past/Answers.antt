@@ -10,7 +10,7 @@ use Rattle.dash_shard.proofs.shard.table.Table.place_past.Goals as goal
 pub loop-visits-init : goal.loop-visits-init
 loop-visits-init g c =
     let t = c.args.self.now in
-    let past = searching-past g.K.PartialEq.eq t c.args.hash c.args.key.now c.args.first c.requires.passes in
+    let past = searching-past (λ k. g.K.PartialEq.eq k c.args.key.now) t c.args.hash c.args.first c.requires.passes in
     let row = subst (λ (l : List ℕ). IsRow l c.args.first c.group_of.result.now) c.deref.ensures.value c.group_of.ensures in
     let some : 0 < groups_in t = omega (arith, c.requires.passes.within) in
     record {
@@ -24,13 +24,13 @@ loop-visits-preserved g c =
     let t = c.args.self.now in
     let long : c.len-count.result ≡ groups_in t = omega (arith, c.len-count.ensures, t.counts.ok.0) in
     let row = subst (λ (l : List ℕ). IsRow l c.next_group-group.result c.group_of-row.result.now) c.deref-in-loop-visits.ensures.value c.group_of-row.ensures in
-    let missing = misses-seen g.K.PartialEq.eq t c.args.hash c.args.key.now c.requires.table c.next_group-group.result _ _ _ row c.tag-tag.ensures.is c.probe-seen.ensures.matches c.in_default.ensures.absent in
+    let missing = misses-seen (λ k. g.K.PartialEq.eq k c.args.key.now) t c.args.hash c.requires.table c.next_group-group.result _ _ _ row c.tag-tag.ensures.is c.probe-seen.ensures.matches c.in_default.ensures.absent in
     let at : (more : ℕ) → more ≡ c.loop-visits._visits - 1 + 1 → IsAt t c.args.hash more c.next_group-group.result = λ more is.
     at-next t c.args.hash c.len-count.result (c.loop-visits._visits - 1) more c.loop-visits.group c.next_group-group.result long (omega (arith, c.loop-visits-test.true)) is c.loop-visits.invariant.at c.next_group-group.ensures.below c.next_group-group.ensures.next in
     let here = at c.loop-visits._visits (omega (arith, c.loop-visits.auto._visits)) in
     record {
       at = at (c.loop-visits._visits + 1 - 1) (omega (arith, c.loop-visits.auto._visits));
-      searching = searching-more _ _ _ _ c.loop-visits._visits c.next_group-group.result c.loop-visits.invariant.searching here (full-seen _ _ _ _ row c.probe-seen.ensures.empty c.if-seen-ne0.false) missing;
+      searching = searching-more _ _ _ c.loop-visits._visits c.next_group-group.result c.loop-visits.invariant.searching here (full-seen _ _ _ _ row c.probe-seen.ensures.empty c.if-seen-ne0.false) missing;
       placing = placing-more t c.args.hash c.loop-visits._visits c.next_group-group.result _ here row c.requires.table (omega (arith, c.loop-visits-test.true, long)) c.loop-visits.free c.first_free-free-in-loop-visits.result c.first_free-free-in-loop-visits.ensures c.loop-visits.invariant.placing;
     }
 
@@ -39,14 +39,14 @@ returns-clause-absent g c =
     let t = c.args.self.now in
     let long : c.len-count.result ≡ groups_in t = omega (arith, c.len-count.ensures, t.counts.ok.0) in
     elim c.loop-visits-test.branch as (λ _. IsAbsent g.K.PartialEq.eq t c.args.hash c.args.key.now) [
-      | else-loop-visits-test w ↦ absent-round _ _ _ _ c.loop-visits._visits c.loop-visits.invariant.searching c.requires.table (omega (arith, w.loop-visits-test.false, long))
+      | else-loop-visits-test w ↦ absent-round _ _ _ c.loop-visits._visits c.loop-visits.invariant.searching c.requires.table (omega (arith, w.loop-visits-test.false, long))
       | then-loop-visits-test+else-is_some+in_default+then-seen-ne0 w ↦
           let row = subst (λ (l : List ℕ). IsRow l w.next_group-group.result w.group_of-row.result.now) w.deref-in-loop-visits.ensures.value w.group_of-row.ensures in
-          let missing = misses-seen g.K.PartialEq.eq t c.args.hash c.args.key.now c.requires.table w.next_group-group.result _ _ _ row c.tag-tag.ensures.is w.probe-seen.ensures.matches w.in_default.ensures.absent in
+          let missing = misses-seen (λ k. g.K.PartialEq.eq k c.args.key.now) t c.args.hash c.requires.table w.next_group-group.result _ _ _ row c.tag-tag.ensures.is w.probe-seen.ensures.matches w.in_default.ensures.absent in
           let here = at-next t c.args.hash c.len-count.result (c.loop-visits._visits - 1) c.loop-visits._visits c.loop-visits.group w.next_group-group.result long (omega (arith, w.loop-visits-test.true)) (omega (arith, c.loop-visits.auto._visits)) c.loop-visits.invariant.at w.next_group-group.ensures.below w.next_group-group.ensures.next in
-          absent-here _ _ _ _ c.loop-visits._visits c.loop-visits.invariant.searching c.requires.table w.next_group-group.result here missing (empty-seen _ _ _ _ row w.probe-seen.ensures.empty w.if-seen-ne0.true w.probe-seen.ensures.fits.1)
+          absent-here _ _ _ c.loop-visits._visits c.loop-visits.invariant.searching c.requires.table w.next_group-group.result here missing (empty-seen _ _ _ _ row w.probe-seen.ensures.empty w.if-seen-ne0.true w.probe-seen.ensures.fits.1)
       | then-loop-visits-test+then-is_some+then-count_at-eq0 w ↦
-          absent-passed _ _ _ _ c.loop-visits._visits c.loop-visits.group _ _ _ c.loop-visits.invariant.searching c.requires.table c.loop-visits.auto._visits c.loop-visits.invariant.at w.index.ensures c.class-class.ensures.is w.count_at.ensures w.if-count_at-eq0.true
+          absent-passed _ _ _ c.loop-visits._visits c.loop-visits.group _ _ _ c.loop-visits.invariant.searching c.requires.table c.loop-visits.auto._visits c.loop-visits.invariant.at w.index.ensures c.class-class.ensures.is w.count_at.ensures w.if-count_at-eq0.true
     ]
 
 -- the free place, or 0

@@ -31,11 +31,11 @@ returns-then-seen-ne0 g c =
     let long : c.len-count.result ≡ groups_in t = omega (arith, c.len-count.ensures, t.counts.ok.0) in
     let at = at-first t c.args.hash c.home-first.result (omega (arith, c.home-first.ensures.below, long)) (c.home-first.ensures.is ∙ ap (λ n. c.args.hash % n) long) in
     let row = subst (λ (l : List ℕ). IsRow l c.home-first.result c.group_of.result.now) c.deref.ensures.value c.group_of.ensures in
-    let missing = misses-seen g.K.PartialEq.eq t c.args.hash c.args.key.now c.requires c.home-first.result _ _ _ row c.tag.ensures.is c.probe-seen.ensures.matches c.in_default.ensures.absent in
+    let missing = misses-seen (g.Q.Query.names c.args.key) t c.args.hash c.requires c.home-first.result _ _ _ row c.tag.ensures.is c.probe-seen.ensures.matches c.in_default.ensures.absent in
     let empty = empty-seen _ _ _ _ row c.probe-seen.ensures.empty c.if-seen-ne0.true c.probe-seen.ensures.fits.1 in
     record {
       found = search rules;
-      absent = absent-here g.K.PartialEq.eq t c.args.hash c.args.key.now 0 (searching-first _ _ _ _) c.requires c.home-first.result at missing empty;
+      absent = absent-here (g.Q.Query.names c.args.key) t c.args.hash 0 (searching-first _ _ _) c.requires c.home-first.result at missing empty;
       visits = (omega (arith, c.home-first.ensures.below, long), λ _. omega arith);
       last = search rules;
       ended = ends-empty t c.args.hash c.requires 1 c.home-first.result at empty;
@@ -43,5 +43,5 @@ returns-then-seen-ne0 g c =
 
 pub search_past-requires-clause-passes : goal.search_past-requires-clause-passes
 search_past-requires-clause-passes g c =
-    passes-first g.K.PartialEq.eq c.args.self.now c.args.hash c.args.key.now c.requires c.len-count.result c.home-first.result _ _ c.group_of.result.now _ _ (omega (arith, c.len-count.ensures, c.args.self.now.counts.ok.0)) c.home-first.ensures.below c.home-first.ensures.is
+    passes-first (g.Q.Query.names c.args.key) c.args.self.now c.args.hash c.requires c.len-count.result c.home-first.result _ _ c.group_of.result.now _ _ (omega (arith, c.len-count.ensures, c.args.self.now.counts.ok.0)) c.home-first.ensures.below c.home-first.ensures.is
     c.deref.ensures.value c.group_of.ensures c.tag.ensures.is c.probe-seen.ensures.matches c.in_default.ensures.absent c.probe-seen.ensures.empty c.if-seen-ne0.false
