@@ -3,7 +3,7 @@ use Rattle.std.specs.Prelude.{◌≡◌, ℕ, Bool, Option, Some, None}
 use Rattle.std.specs.Option.{option_map, option_map_or}
 use Rattle.std.proofs.Common.{ap, sym, ◌∙◌}
 use Rattle.std.proofs.lemmas.Option.{none-some, same_Some}
-use Rattle.dashmap.specs.Words.{at, ShardState, pairs, Reply, Pair, OccupiedOf, VacantOf, Puts, MatchEntry, RefMutState, stored, Entry, Occupied, Vacant}
+use Rattle.dashmap.specs.Words.{at, ShardState, pairs, OccupiedOf, VacantOf, Puts, MatchEntry, RefMutState, stored, Entry, Occupied, Vacant}
 
 module _ {K : Type 0} where
   -- the number that a pair has, and d where there is none
@@ -22,10 +22,6 @@ module _ {K : Type 0} where
       numbered d (at eq (pairs s) key) n (ap (option_map (λ p. p.1)) (sym of.pair) ∙ (ap (λ q. option_map (λ p. p.1) (stored q)) (sym same) ∙ e))
   number-before eq s key d (Vacant v) of r puts n e = ap (number_in d) of.absent ∙ (numbered d (Some (v.key, d)) n (ap (option_map (λ p. p.1)) (sym puts.pair) ∙ e))
 
-  abbrev found : Reply K ℕ → Option (K × ℕ)
-  found (Pair o) = o
-  found _ = None
-
   -- a look-up found the number
-  pub number-found : (o there : Option (K × ℕ)) → Pair o ≡ Pair there → (n : Option ℕ) → option_map (λ p. p.1) o ≡ n → n ≡ option_map (λ p. p.1) there
-  number-found o there same n e = sym e ∙ ap (λ r. option_map (λ p. p.1) (found r)) same
+  pub number-found : (o there : Option (K × ℕ)) → o ≡ there → (n : Option ℕ) → option_map (λ p. p.1) o ≡ n → n ≡ option_map (λ p. p.1) there
+  number-found o there same n e = sym e ∙ ap (option_map (λ p. p.1)) same

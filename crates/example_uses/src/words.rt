@@ -1,11 +1,11 @@
 //! The words of a page, counted on a map that threads share.
 ghost use Rattle.std.specs.Prelude.{◌≡◌, ◌+◌, ◌-◌, ◌^◌, min, IfOk, IfErr};
 ghost use Rattle.std.specs.Option.{option_map, option_map_or};
-ghost use Rattle.dashmap.specs.Words.{at, pairs, SawShard};
+ghost use Rattle.dashmap.specs.Words.{at, at_named, pairs, SawServing, SawShard};
 
-use dashmap::DashMap;
 use dashmap::error::EntryRefused;
 use dashmap::keyed::Keyed;
+use dashmap::{DashMap, Query};
 use std::hash::{BuildHasher, Hash};
 use std::mem;
 use std::rt::Clock;
@@ -40,13 +40,13 @@ pub fn count_words<'p, R: Wait + Clock>(
 }
 
 /// Starts the key's count anew, and says what it was. Waits for the key's shard.
-pub fn start_anew<K: Eq + Hash, S: BuildHasher, R: Wait + Clock>(
+pub fn start_anew<K: Eq + Hash, S: BuildHasher, R: Wait + Clock, Q: Query<K>>(
     rt: &R,
     counts: &DashMap<K, u64, S>,
-    key: &K,
+    key: Q,
 ) -> Option<u64>
-    ensures was { SawShard ⟦<DashMap<K, u64, S> as Keyed>⟧.by counts.now key.now
-        (λ s. result ≡ option_map (λ p. p.1) (at K.eq (pairs s) key.now)) }
+    ensures was { SawServing ⟦<DashMap<K, u64, S> as Keyed>⟧.by counts.now (Q.names key)
+        (λ s. result ≡ option_map (λ p. p.1) (at_named (Q.names key) (pairs s))) }
 {
     let mut count = counts.get_mut(rt, key)?;
     Some(mem::take(&mut *count))

@@ -1,6 +1,7 @@
 //! The operators of a map, its shards, and what it prints.
 use crate::tests::checks::is;
 use crate::tests::maps::{Names, map_of, text};
+use dash_map::map::DashMap;
 use std::alloc::Global;
 use std::fmt;
 use std::process::Abort;
@@ -18,6 +19,19 @@ fn operators(rt: HostRuntime) {
     is(&rt, map - &1, Some((1, 11)));
     is(&rt, map & &1, false);
     is(&rt, (map | &1).is_none(), true);
+}
+
+#[test]
+fn operators_ask_by_text(rt: HostRuntime) {
+    let map = DashMap::with_shard_amount(rt.alloc(), 4).expect(&rt, "refused");
+    let map = map.waiting(&rt);
+    let ada = text(&rt, rt.alloc(), "ada");
+    is(&rt, (map << (ada, 36)).expect(&rt, "refused"), None);
+    is(&rt, (map >> "ada").map(|found| *found), Some(36));
+    is(&rt, (map | "ad").is_none(), true);
+    is(&rt, map & "ada", true);
+    is(&rt, (map - "ada").is_some(), true);
+    is(&rt, map & "ada", false);
 }
 
 // Ends the test where three pairs, two of them in one shard, print as another text.
