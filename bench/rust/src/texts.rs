@@ -70,7 +70,7 @@ fn look_up(map: &Map, keys: &[String]) -> Tally {
     let mut tally = Tally::default();
     for _ in 0..ROUNDS {
         for key in keys {
-            tally.count(map.get(key).map(|found| sum_of(found.value())));
+            tally.count(map.get(key.as_str()).map(|found| sum_of(found.value())));
         }
     }
     tally

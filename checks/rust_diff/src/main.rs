@@ -1,4 +1,5 @@
-//! `rust_diff HASHER CALLS [FAULT]`: the calls of `tool_diff`, taken by the Rust crate `dashmap`, and a line for each.
+//! `rust_diff HASHER CALLS [FAULT]`: the calls of `tool_diff`, taken by the Rust crate `dashmap`, and a line for each. Where HASHER is `text`,
+//! the keys are texts, and FAULT says nothing.
 //!
 //! FAULT plants one: `insert` keeps the old value of one key in a thousand, `remove_entry` answers the key that was handed in, `walk` ends
 //! one shard early.
@@ -6,6 +7,7 @@
 mod answer;
 mod calls;
 mod hashers;
+mod texts;
 
 use answer::{mixed, Noted};
 use calls::{take, Fault, Maps};
@@ -68,6 +70,7 @@ fn main() -> io::Result<()> {
         Some(other) => panic!("no such fault: {other}"),
     };
     match words[0].as_str() {
+        "text" => texts::run(calls),
         "place" => run(PlaceState, calls, fault),
         "zero" => run(ZeroState, calls, fault),
         _ => run(FixedState, calls, fault),

@@ -87,7 +87,7 @@ fn look_up<R: Wait + Clock>(rt: &R, map: &Map, keys: &[String]) -> Tally {
     let mut tally = Tally::new();
     for _ in 0..ROUNDS {
         for key in keys {
-            tally.count(map.get(rt, key).map(|found| sum_of(found.value())));
+            tally.count(map.get(rt, key.as_str()).map(|found| sum_of(found.value())));
         }
     }
     tally

@@ -1,5 +1,5 @@
 //! `tool_diff HASHER CALLS` takes random calls on a map and a set of four shards, and prints a line for each: its number, the call, its name
-//! and the answer. `diff/run.sh` compares the lines with those of the Rust crate.
+//! and the answer. `tool_diff text CALLS` does so on keys that are texts. `checks/diff` compares the lines with those of the Rust crate.
 #![tactic(auto)]
 
 mod answer;
@@ -10,6 +10,7 @@ mod lists;
 mod noted;
 mod run;
 mod sets;
+mod texts;
 mod walks;
 
 use dashmap::hash::{FixedState, PlaceState, ZeroState};
@@ -22,7 +23,7 @@ use std::rt::Clock;
 use std::sync::Wait;
 use std::{env, io};
 
-const USAGE: &str = "usage: tool_diff fixed|place|zero CALLS";
+const USAGE: &str = "usage: tool_diff fixed|place|zero|text CALLS";
 
 fn main(rt: HostRuntime) -> io::Result<ExitCode> {
     let words: Vec<String> = env::args(&rt)?.collect(rt.alloc())?;
@@ -44,6 +45,7 @@ fn take_by<R: Wait + Clock, W: Write>(
     calls: u64,
 ) -> io::Result<()> {
     match hasher {
+        "text" => texts::run(rt, alloc, out, calls),
         "place" => {
             let map = DashMap::with_hasher_and_shard_amount(alloc, PlaceState, SHARDS);
             run(
@@ -86,7 +88,7 @@ fn asked(words: &[String]) -> Option<(&str, u64)> {
         return None;
     }
     let hasher = words[1].as_str();
-    if !matches!(hasher, "fixed" | "place" | "zero") {
+    if !matches!(hasher, "fixed" | "place" | "zero" | "text") {
         return None;
     }
     Some((hasher, words[2].as_str().parse::<u64>().ok()?))

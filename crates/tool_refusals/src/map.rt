@@ -10,6 +10,7 @@ mod making;
 mod maps;
 mod sets;
 mod steps;
+mod texts;
 
 use crate::trial::Outcome;
 use crate::words::word;

@@ -3,6 +3,7 @@
 use crate::keys::{FULL, Key};
 use crate::map::caches::{Echo, Echoed};
 use crate::map::maps::{Map, has};
+use crate::map::texts;
 use crate::trial::Ended;
 use dashmap::error::ConstructError;
 use dashmap::{DashMap, DashSet, Memo};
@@ -41,6 +42,7 @@ where
         "memo_new" => {
             Memo::new(alloc, Echo, 1).map(|cache: Memo<Key, Echoed, Echo>| cache.len(rt) == 0)
         }
+        "text_look_ups" => return texts::look_up(rt, alloc),
         _ => return Ok(Ended::unknown(FULL)),
     };
     Ok(ended(is_empty))
