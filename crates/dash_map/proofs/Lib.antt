@@ -9,7 +9,7 @@ mod Folding
 mod Found
 mod Leaving
 mod Lending
-mod Lifting
+pub mod Lifting
 mod Moves
 pub mod NonePut
 mod ParExtending

@@ -2,6 +2,7 @@
 #![tactic(auto)]
 
 pub mod alone;
+pub mod caller;
 mod calls;
 mod copies;
 pub mod extend;

@@ -1,5 +1,6 @@
 //! The tests, in modules that are named as those that they test.
 mod alone;
+mod caller;
 mod calls;
 mod checks;
 mod entry;
