@@ -8,6 +8,7 @@ pub mod inner
 pub mod Merge
 pub mod Alone
 pub mod Map
+pub mod Caller
 pub mod OneHistory
 pub mod WholeSteps
 pub mod SharedSteps

@@ -3,6 +3,7 @@
 
 pub mod alone;
 mod apply;
+pub mod caller;
 pub mod gather;
 mod joined;
 mod matching;

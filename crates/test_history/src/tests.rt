@@ -1,6 +1,7 @@
 //! The tests of recorded maps: of one owner, behind locks, and what is gathered of them. `maps` has the maps and steps that they share,
 //! and `script` the tests of `dash_script`.
 mod alone;
+mod caller;
 mod checks;
 mod gather;
 mod held;
