@@ -3,13 +3,13 @@ pub use Rattle.dash_steps.specs.Kept.{CopiesEach, alike_pair}
 pub use Rattle.dash_steps.specs.inner.AlikeLaws.{pair_equal, pair_equiv}
 pub use Rattle.dash_rows.specs.Apart.{EachPart, RanFront, RanShort, RanWhole, SomePart, TakenInTurn, steps_of}
 pub use Rattle.dash_shard.specs.Contents.{at, at_named}
-pub use Rattle.dash_shard.specs.Hashing.{IsAmount, HashAlike, route_by, by, hash_of, route_of_hash}
+pub use Rattle.dash_shard.specs.Hashing.{IsAmount, IsHashOf, HashAlike, route_by, by, hash_of, route_of_hash}
 pub use Rattle.dash_shard.specs.Each.{Shrinks, close_room}
 pub use Rattle.dash_shard.specs.Held.{Inserts, Loses, RemovesNamed, RemovesNamedBy}
 pub use Rattle.dash_shard.specs.Memory.{NoMemory}
 pub use Rattle.dash_shard.specs.Lock.{FoundBehind, GivenBack, WasRead, LeftBehind, EndedWith, Leaves}
 pub use Rattle.dash_shard.specs.Puts.{PutsPair}
-pub use Rattle.dash_shard.specs.Shard.{ShardState, slot, pairs, shard_len, HasKey, HasNamed, IsShard, IsTagged, RepliesOn, TakesInPlace, TakesNamed, TakesBy}
+pub use Rattle.dash_shard.specs.Shard.{ShardState, slot, pairs, shard_len, HasKey, HasNamed, IsShard, IsTagged, RepliesOn, Routes, SameShard, TakesInPlace, TakesNamed, TakesBy}
 pub use Rattle.dash_shard.specs.Steps.{Step, Reply, Get, Contains, Insert, Remove, RemoveIf, RemoveIfMut, Alter, Read, Count, AlterAll, Retain, Pair, Found, Old, Number, Pairs, Done}
 pub use Rattle.dash_shard.specs.declared.error.ConstructError.{ConstructError}
 pub use Rattle.dash_shard.specs.declared.error.ConstructError.TheVariants.{CapacityOverflow, Memory, Parallelism, ShardAmount}

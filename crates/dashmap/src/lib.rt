@@ -13,6 +13,7 @@
 #![tactic(auto)]
 
 pub use dash_map::alone::Alone;
+pub use dash_map::caller::Caller;
 pub use dash_map::map::DashMap;
 pub use dash_map::read_only::ReadOnlyView;
 pub use dash_map::t::Map;
@@ -25,7 +26,7 @@ pub use dash_shard::lock::{RwLock, RwLockReadGuard, RwLockWriteGuard};
 pub use dash_shard::query::Query;
 pub use dash_steps::kept::{Kept, KeptKey};
 pub use memo::Memo;
-pub use set::DashSet;
+pub use set::{DashSet, SetCaller};
 
 pub mod iter_set;
 pub mod memo;
@@ -54,6 +55,7 @@ pub mod hash {
 /// Recorded maps: each step is kept with its reply, and `gather` gives one history of all that threads did.
 pub mod history {
     pub use dash_history::alone::RecAlone;
+    pub use dash_history::caller::RecCaller;
     pub use dash_history::gather::{At, GatherError, gather};
     pub use dash_history::record::held::RecShardMut;
     pub use dash_history::record::map::RecordedMap;

@@ -6,6 +6,7 @@ ghost use Rattle.dashmap.specs.Words.{AnsweredKey, CallableOnPairs, CalledAtKey,
 use crate::iter_set::{Iter, OwningIter};
 use crate::setref::one::Ref;
 pub use alone::AloneSet;
+pub use caller::SetCaller;
 use crossbeam_utils::CachePadded;
 use dash_map::map::DashMap;
 use dash_map::waiting::Waiting;
@@ -24,6 +25,7 @@ use std::sync::Wait;
 use std::thread::Threads;
 
 mod alone;
+mod caller;
 mod extend;
 
 /// A set that threads share, as the original's `DashSet`: a map to unit, and its calls are the map's.

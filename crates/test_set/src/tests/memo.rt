@@ -1,9 +1,9 @@
 //! Caches: what is kept, what is computed, and what want of memory does.
 use crate::tests::checks::is;
-use dashmap::Kept;
 use dashmap::error::ConstructError;
 use dashmap::hash::{FixedState, PlaceState};
 use dashmap::memo::{Memo, MemoRefused, Rule};
+use dashmap::{Kept, KeptKey};
 use std::alloc::{AllocError, Global};
 use std::process::Abort;
 use std::sync::atomic::{AtomicU64, Ordering};
@@ -16,6 +16,8 @@ struct Square<'a> {
     computed: &'a AtomicU64,
     goes_on: &'a AtomicU64,
 }
+
+type Cache<'a> = Memo<u64, u64, Square<'a>, PlaceState>;
 
 fn rule_of<'a>(computed: &'a AtomicU64, goes_on: &'a AtomicU64) -> Square<'a> {
     Square { computed, goes_on }
@@ -126,6 +128,190 @@ fn who_does_not_wait_computes(rt: HostRuntime) {
     );
     is(&rt, (waited, passed), (Ok(1), Ok(17)));
     is(&rt, cache.len(&rt), 1);
+}
+
+// Four shards keep two values each, so eight keys by turns are kept, and of more the last is there.
+#[test]
+fn a_bound_is_kept(rt: HostRuntime) {
+    let (computed, goes_on) = (AtomicU64::new(0), AtomicU64::new(1));
+    let rule = rule_of(&computed, &goes_on);
+    let cache = Cache::with_bound_and_hasher_and_shard_amount(
+        rt.alloc(),
+        rule,
+        7,
+        PlaceState,
+        4,
+    ).expect(&rt, "refused");
+    is(&rt, cache.bound(), 2);
+    for key in 0..100u64 {
+        is(&rt, cache.ask(&rt, &key), Ok(key * key + 1));
+        is(&rt, cache.len(&rt), 8.min(key as usize + 1));
+        is(&rt, cache.try_ask(&key), Ok(key * key + 1));
+    }
+    is(
+        &rt,
+        (
+            cache.hits(),
+            cache.misses(),
+            computed.load(Ordering::SeqCst),
+        ),
+        (100, 100, 100),
+    );
+}
+
+#[test]
+fn a_bound_of_none_keeps_none(rt: HostRuntime) {
+    let (computed, goes_on) = (AtomicU64::new(0), AtomicU64::new(1));
+    let cache = Memo::with_bound(rt.alloc(), rule_of(&computed, &goes_on), 0, 1).expect(
+        &rt, "refused",
+    );
+    for _ in 0..3 {
+        is(
+            &rt,
+            (cache.ask(&rt, &5), cache.try_ask(&5)),
+            (Ok(26), Ok(26)),
+        );
+    }
+    is(
+        &rt,
+        (cache.bound(), cache.len(&rt), cache.capacity(&rt)),
+        (0, 0, 0),
+    );
+    is(
+        &rt,
+        (
+            cache.hits(),
+            cache.misses(),
+            computed.load(Ordering::SeqCst),
+        ),
+        (0, 6, 6),
+    );
+}
+
+// What is found is a hit, by either call. What isn't is a miss, also where it isn't kept.
+#[test]
+fn hits_and_misses_are_counted(rt: HostRuntime) {
+    let (computed, goes_on) = (AtomicU64::new(0), AtomicU64::new(1));
+    let rule = rule_of(&computed, &goes_on);
+    let cache = Memo::new(rt.alloc(), rule, 1).expect(&rt, "refused");
+    is(&rt, (cache.hits(), cache.misses()), (0, 0));
+    for key in [3, 3, 5, 3] {
+        is(&rt, cache.ask(&rt, &key), Ok(key * key + 1));
+    }
+    is(&rt, (cache.hits(), cache.misses()), (2, 2));
+    for key in [5, 7] {
+        is(&rt, cache.try_ask(&key), Ok(key * key + 1));
+    }
+    is(&rt, (cache.hits(), cache.misses()), (3, 3));
+    cache.clear(&rt);
+    is(&rt, cache.ask(&rt, &3), Ok(10));
+    is(&rt, (cache.hits(), cache.misses()), (3, 4));
+}
+
+// Four threads ask for 100,000 keys, each by turns for those of the others, of a cache that keeps a thousand.
+#[test]
+fn a_bound_is_kept_among_threads(rt: HostRuntime) {
+    let (computed, goes_on) = (AtomicU64::new(0), AtomicU64::new(1));
+    let cache = Memo::with_bound(rt.alloc(), rule_of(&computed, &goes_on), 1_000, 4).expect(
+        &rt, "refused",
+    );
+    let most = cache.bound().saturating_mul(16);
+    is(&rt, (cache.bound(), most), (63, 1_008));
+    let (wrong, over) = (AtomicU64::new(0), AtomicU64::new(0));
+    let mut threads = [0u64, 1, 2, 3];
+    thread::for_each_mut(
+        &rt,
+        &mut threads,
+        4,
+        &|_, thread: &mut u64| {
+            for step in 0..100_000u64 {
+                let key = step.wrapping_mul(thread.wrapping_mul(2).wrapping_add(1)) % 100_000;
+                if cache.ask(&rt, &key) != Ok(key.wrapping_mul(key).wrapping_add(1)) {
+                    wrong.fetch_add(1, Ordering::SeqCst);
+                }
+                if step % 100 == 0 && cache.len(&rt) > most {
+                    over.fetch_add(1, Ordering::SeqCst);
+                }
+            }
+        },
+    );
+    is(
+        &rt,
+        (wrong.load(Ordering::SeqCst), over.load(Ordering::SeqCst)),
+        (0, 0),
+    );
+    is(&rt, cache.hits().wrapping_add(cache.misses()), 400_000);
+    is(&rt, cache.len(&rt) > 900, true);
+}
+
+// A key that equals all others, and its value too. Once `come` was set to 0, two copies wait for each other.
+#[derive_where(PartialEq, Eq, Hash)]
+#[derive(Drop)]
+struct Met<'a> {
+    #[derive_where(skip(EqHashOrd))]
+    come: &'a AtomicU64,
+}
+
+impl Kept for Met<'_> {
+    ghost use Rattle.std.specs.Prelude.{true, refl};
+
+    ghost alike = { λ _ _. true };
+
+    ghost alike_laws = { record { refl = λ x. refl; symm = λ x y. refl; congr = λ x y z same. refl } };
+
+    fn copy(&self) -> Result<Self, AllocError> {
+        self.come.fetch_add(1, Ordering::SeqCst);
+        for _ in 0..1_000_000u64 {
+            if self.come.load(Ordering::SeqCst) >= 2 {
+                return Ok(Met { come: self.come });
+            }
+            thread::yield_now();
+        }
+        Err(AllocError)
+    }
+
+    fn same(&self, _: &Self) -> bool {
+        true
+    }
+}
+
+impl KeptKey for Met<'_> {
+    ghost use Rattle.std.specs.Prelude.{refl};
+
+    ghost alike_equal = { λ j k same. refl };
+}
+
+// The key is its value.
+#[derive(Drop)]
+struct Meeting;
+
+impl<'a> Rule<Met<'a>, Met<'a>> for Meeting {
+    ghost use Rattle.std.specs.Prelude.{refl};
+
+    ghost value_of = { λ key. key };
+
+    fn compute(&self, key: &Met<'a>) -> Result<Met<'a>, AllocError> {
+        Ok(Met { come: key.come })
+    }
+
+    ghost equal_alike = { λ j k same. refl };
+}
+
+// A hit copies its value while it holds the shard. Of two hits neither ends before the other's copy has begun, or it is refused in the end.
+#[test]
+fn two_hits_are_at_one_time(rt: HostRuntime) {
+    let come = AtomicU64::new(2);
+    let key = Met { come: &come };
+    let cache = Memo::new(rt.alloc(), Meeting, 1).expect(&rt, "refused");
+    is(&rt, cache.ask(&rt, &key).is_ok(), true);
+    come.store(0, Ordering::SeqCst);
+    let (one, other) = thread::join(&rt, || cache.ask(&rt, &key), || cache.ask(&rt, &key));
+    is(
+        &rt,
+        (one.is_ok(), other.is_ok(), cache.hits()),
+        (true, true, 2),
+    );
+    is(&rt, come.load(Ordering::SeqCst), 2);
 }
 
 // The key itself, in memory of its own.

@@ -1,11 +1,10 @@
 //! Pages whose lines are counted once.
 use crate::tests::checks::is;
-use dashmap::Memo;
-use example_uses::pages::{LineCount, lines_of};
+use example_uses::pages::{counts_of, lines_of};
 
 #[test]
 fn pages_have_lines(rt: HostRuntime) {
-    let counts = Memo::new(rt.alloc(), LineCount, 1).expect(&rt, "refused");
+    let counts = counts_of(rt.alloc(), 1_000, 1).expect(&rt, "refused");
     let page = format!(in rt.alloc(); "the fox\nsleeps\n").expect(&rt, "refused");
     for _ in 0..2 {
         is(&rt, lines_of(&rt, &counts, &page), Ok(2));

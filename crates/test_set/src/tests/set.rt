@@ -189,3 +189,29 @@ fn each_shard_without_keys_is_free(rt: HostRuntime) {
         is(&rt, lock.try_write().is_some(), true);
     }
 }
+
+#[test]
+fn a_caller_calls_the_set(rt: HostRuntime) {
+    let set = Places::with_hasher_and_shard_amount(rt.alloc(), PlaceState, 4).expect(
+        &rt, "refused",
+    );
+    let mut set = set.caller(&rt);
+    for (key, new) in [(1, true), (5, true), (1, false), (2, true)] {
+        is(&rt, set.insert(key), Ok(new));
+    }
+    is(&rt, set.get(&5).map(|found| *found.key()), Some(5));
+    is(&rt, (set.contains(&2), set.contains(&3)), (true, false));
+    is(&rt, set.remove_if(&5, |_| false), None);
+    is(&rt, set.remove(&5), Some(5));
+    is(&rt, set.fold(0, |sum: u64, key| sum.wrapping_add(*key)), 3);
+    let mut walked = 0u64;
+    for key in set.iter() {
+        walked = walked.wrapping_add(*key.expect(&rt, "refused").key());
+    }
+    is(&rt, (walked, set.len(), set.is_empty()), (3, 2, false));
+    set.retain(|key| *key == 2);
+    is(&rt, (set.len(), set.contains(&2)), (1, true));
+    set.clear();
+    set.shrink_to_fit();
+    is(&rt, (set.len(), set.capacity()), (0, 0));
+}
