@@ -38,7 +38,8 @@ pub fn forget<R: Wait + Clock>(rt: &R, ages: &Ages, name: &str) -> Option<(Strin
 
 /// Makes who has this name a year older, and says how old. Waits for the name's shard.
 pub fn have_birthday<R: Wait + Clock>(rt: &R, ages: &Ages, name: &str) -> Option<u64> {
-    let mut age = ages.get_mut(rt, name)?;
+    let mut ages = ages.caller(rt);
+    let mut age = ages.get_mut(name)?;
     *age = age.saturating_add(1);
     Some(*age)
 }

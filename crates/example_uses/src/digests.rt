@@ -19,11 +19,12 @@ pub fn count<R: Wait + Clock>(
     digests: &Digests,
     digest: &[u8],
 ) -> Result<u64, AllocError> {
-    if let Some(mut count) = digests.get_mut(rt, digest) {
+    let mut digests = digests.caller(rt);
+    if let Some(mut count) = digests.get_mut(digest) {
         *count = count.saturating_add(1);
         return Ok(*count);
     }
-    let Ok(entry) = digests.entry(rt, Vec::from_slice(alloc, digest)?) else {
+    let Ok(entry) = digests.entry(Vec::from_slice(alloc, digest)?) else {
         return Err(AllocError);
     };
     let mut count = entry.or_insert(0);

@@ -30,11 +30,12 @@ impl Ids {
         alloc: Global,
         name: &str,
     ) -> Result<u32, AllocError> {
-        if let Some(id) = self.ids.get(rt, name) {
+        let mut ids = self.ids.caller(rt);
+        if let Some(id) = ids.get(name) {
             return Ok(*id);
         }
         // Somebody may have put the name in meanwhile: then the entry has its number.
-        let Ok(entry) = self.ids.entry(rt, String::from_str(alloc, name)?) else {
+        let Ok(entry) = ids.entry(String::from_str(alloc, name)?) else {
             return Err(AllocError);
         };
         let id = entry.or_insert_with(|| self.next.fetch_add(1, Ordering::Relaxed));

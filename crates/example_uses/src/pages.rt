@@ -3,8 +3,9 @@ ghost use Rattle.std.specs.Prelude.{◌≡◌, IfOk};
 ghost use Rattle.example_uses.specs.Pages.{line_count};
 
 use dashmap::Memo;
+use dashmap::error::ConstructError;
 use dashmap::memo::{MemoRefused, Rule};
-use std::alloc::AllocError;
+use std::alloc::{AllocError, Global};
 use std::rt::Clock;
 use std::sync::Wait;
 
@@ -27,6 +28,15 @@ impl Rule<String, u64> for LineCount {
 
 /// The numbers of lines that are kept.
 pub type LineCounts = Memo<String, u64, LineCount>;
+
+/// No numbers of lines yet. Of about so many pages they will be kept, the more evenly the pages spread over the shards.
+pub fn counts_of(
+    alloc: Global,
+    most: usize,
+    parallelism: usize,
+) -> Result<LineCounts, ConstructError> {
+    Memo::with_bound(alloc, LineCount, most, parallelism)
+}
 
 /// How many lines the page has. Waits for the page's shard.
 pub fn lines_of<R: Wait + Clock>(

@@ -20,7 +20,8 @@ pub fn last_seen<R: Wait + Clock>(rt: &R, sessions: &Sessions) -> u64 {
 
 /// Notes that everybody was seen now. Waits for one shard after the other, and holds it while it writes.
 pub fn see_all<R: Wait + Clock>(rt: &R, sessions: &Sessions, now: u64) {
-    let mut walk = sessions.iter_mut(rt);
+    let mut sessions = sessions.caller(rt);
+    let mut walk = sessions.iter_mut();
     while let Some(seen) = walk.next_mut() {
         *seen = now;
     }

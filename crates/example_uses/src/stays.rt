@@ -95,7 +95,8 @@ pub type Stays = DashMap<Room, Stay>;
 
 /// Lets the guest of a room stay longer, and says for how many nights then. Waits for the room's shard.
 pub fn prolong<R: Wait + Clock>(rt: &R, stays: &Stays, room: &Room, more: u64) -> Option<u64> {
-    let mut nights = stays.get_mut(rt, room)?.map(Nights);
+    let mut stays = stays.caller(rt);
+    let mut nights = stays.get_mut(room)?.map(Nights);
     let all = nights.saturating_add(more);
     *nights = all;
     Some(all)

@@ -11,7 +11,8 @@ pub type Votes = DashMap<u64, u64>;
 
 // Counts one ballot. No vote is lost between the look-up and the write: the entry holds its shard.
 fn count<R: Wait + Clock>(rt: &R, votes: &Votes, ballot: u64) -> Result<(), EntryRefused<u64>> {
-    let mut count = votes.entry(rt, ballot)?.or_insert(0);
+    let mut votes = votes.caller(rt);
+    let mut count = votes.entry(ballot)?.or_insert(0);
     *count = count.saturating_add(1);
     Ok(())
 }
@@ -30,6 +31,7 @@ pub fn tally<R: Threads + Wait + Clock + Sync>(rt: &R, votes: &Votes, ballots: &
 
 /// A candidate's votes, or none where nobody voted for them.
 pub fn votes_of<R: Wait + Clock>(rt: &R, votes: &Votes, candidate: u64) -> Option<u64> {
-    let found = votes.get(rt, &candidate)?;
+    let mut votes = votes.caller(rt);
+    let found = votes.get(&candidate)?;
     Some(*found.value())
 }

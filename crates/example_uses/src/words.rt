@@ -21,7 +21,8 @@ pub fn count<K: Eq + Hash + Drop, S: BuildHasher, R: Wait + Clock>(
         (λ s. n ≡ min (option_map_or (λ p. p.1) (at K.eq (pairs s) key) 0 + 1) (2 ^ 64 - 1))) }
     ensures refused { IfErr result (λ e. e.key ≡ key) }
 {
-    let mut count = counts.entry(rt, key)?.or_insert(0);
+    let mut counts = counts.caller(rt);
+    let mut count = counts.entry(key)?.or_insert(0);
     let now = count.saturating_add(1);
     *count = now;
     Ok(now)
@@ -48,6 +49,7 @@ pub fn start_anew<K: Eq + Hash, S: BuildHasher, R: Wait + Clock, Q: Query<K>>(
     ensures was { SawServing ⟦<DashMap<K, u64, S> as Keyed>⟧.by counts.now (Q.names key)
         (λ s. result ≡ option_map (λ p. p.1) (at_named (Q.names key) (pairs s))) }
 {
-    let mut count = counts.get_mut(rt, key)?;
+    let mut counts = counts.caller(rt);
+    let mut count = counts.get_mut(key)?;
     Some(mem::take(&mut *count))
 }
