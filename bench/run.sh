@@ -12,10 +12,10 @@ top=$(CDPATH='' cd -- "$(dirname -- "$0")/.." && pwd)
 registry=/usr/share/cargo/registry
 rounds=${ROUNDS:-5}
 works=("$@")
-[ "$#" -gt 0 ] || works=(hit miss small-hit small-miss hostile insert insert0 worst remove iterate alone-iterate view-iterate retain get-mut
+[ "$#" -gt 0 ] || works=(hit caller-hit miss small-hit small-miss hostile insert insert0 worst remove iterate alone-iterate view-iterate retain get-mut
     small-update small-cycle alter entry read exchange grow contend hold extend extend0 par-extend par-extend0 par-map-collect memory
     hit-mask miss-mask insert0-mask remove-mask read-mask exchange-mask grow-mask
-    string-hit string-insert0 string-remove random-hit random-insert0 random-remove)
+    string-hit string-insert0 string-remove memo-hit memo-mix random-hit random-insert0 random-remove)
 
 [ -d "$registry" ] || { echo "run.sh: install librust-dashmap-dev first" >&2; exit 2; }
 (cd "$top/bench/rust" && cargo build --release --offline --quiet \

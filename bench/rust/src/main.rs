@@ -1,5 +1,6 @@
 //! `rust_bench WORK THREADS [SHARDS]`: what `tool_bench` does, over the Rust crate `dashmap`, with the same keys, hasher and shards.
 
+mod caches;
 mod hash;
 mod keys;
 mod lists;
@@ -8,7 +9,9 @@ mod texts;
 mod work;
 mod worker;
 mod zero;
+mod zipf;
 
+use caches::Cached;
 use lists::Call;
 use run::{Measured, SHARDS};
 use texts::Text;
@@ -20,6 +23,9 @@ fn measure(name: &str, threads: usize, shards: usize) -> Option<Measured> {
     }
     if let Some(text) = Text::of_name(name) {
         return Some(texts::measure(text, threads, shards));
+    }
+    if let Some(cached) = Cached::of_name(name) {
+        return Some(caches::measure(cached, threads, shards));
     }
     Some(run::measure(Work::of_name(name)?, threads, shards))
 }

@@ -51,6 +51,7 @@ impl Work {
             "hit" => Work::Hit,
             "hit-mask" => Work::HitMask,
             "random-hit" => Work::RandomHit,
+            "caller-hit" => Work::Hit,
             "miss" => Work::Miss,
             "miss-mask" => Work::MissMask,
             "small-hit" => Work::SmallHit,

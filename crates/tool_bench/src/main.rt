@@ -4,6 +4,7 @@
 //! shard for absent keys, and again after a million of its pairs were exchanged.
 #![tactic(auto)]
 
+mod caches;
 mod churn;
 mod keys;
 mod lists;
@@ -12,12 +13,15 @@ mod run;
 mod texts;
 mod work;
 mod worker;
+mod zipf;
 
+use caches::Cached;
 use dash_map::extend::ExtendRefused;
 use dash_ref::mapref::entry::EntryRefused;
 use dash_shard::error::ConstructError;
 use dash_shard::hash::is_shard_amount;
 use dash_shard::shard::InsertRefused;
+use dashmap::memo::MemoRefused;
 use lists::Call;
 use run::Measured;
 use std::alloc::{AllocError, AllocFailed, Global};
@@ -49,6 +53,8 @@ pub enum Refused {
     Clock,
     #[error("no thread")]
     Thread,
+    #[error("a cache keeps more than its bound")]
+    Bound,
 }
 
 impl From<AllocError> for Refused {
@@ -87,6 +93,12 @@ impl From<ExtendRefused<u64, u64>> for Refused {
     }
 }
 
+impl From<MemoRefused> for Refused {
+    fn from(_: MemoRefused) -> Refused {
+        Refused::Memory
+    }
+}
+
 impl From<io::Error> for Refused {
     fn from(_: io::Error) -> Refused {
         Refused::Clock
@@ -116,11 +128,12 @@ struct Asked {
     shards: usize,
 }
 
-// Work of threads on a map, the same on a map of texts, or one call that starts the threads.
+// Work of threads on a map, the same on a map of texts or on a cache, or one call that starts the threads.
 #[derive(Clone, Copy)]
 enum Kind {
     Work(Work),
     Text(Text),
+    Cached(Cached),
     Call(Call),
 }
 
@@ -131,6 +144,9 @@ impl Kind {
         }
         if let Some(text) = Text::of_name(name) {
             return Some(Kind::Text(text));
+        }
+        if let Some(cached) = Cached::of_name(name) {
+            return Some(Kind::Cached(cached));
         }
         Some(Kind::Work(Work::of_name(name)?))
     }
@@ -149,6 +165,7 @@ fn measure<R: Threads + Wait + Clock + Files + AllocGlobal + RandomSource + Sync
     match kind {
         Kind::Work(work) => run::measure(rt, alloc, work, threads, shards),
         Kind::Text(text) => texts::measure(rt, alloc, text, threads, shards),
+        Kind::Cached(cached) => caches::measure(rt, alloc, cached, threads, shards),
         Kind::Call(call) => lists::measure(rt, alloc, call, threads, shards),
     }
 }

@@ -7,6 +7,8 @@ pub enum Work {
     Hit,
     HitMask,
     RandomHit,
+    /// The same by a caller of the map.
+    CallerHit,
     /// Looks up keys that are absent, among a million.
     Miss,
     MissMask,
@@ -62,10 +64,11 @@ pub enum Work {
 }
 
 // How a command line names each.
-static NAMES: [(&str, Work); 33] = [
+static NAMES: [(&str, Work); 34] = [
     ("hit", Work::Hit),
     ("hit-mask", Work::HitMask),
     ("random-hit", Work::RandomHit),
+    ("caller-hit", Work::CallerHit),
     ("miss", Work::Miss),
     ("miss-mask", Work::MissMask),
     ("small-hit", Work::SmallHit),

@@ -81,6 +81,7 @@ impl<D: Keys> Worker<D> {
             Work::Hit | Work::HitMask | Work::RandomHit | Work::SmallHit => {
                 self.look_up(rt, map, STEPS, 0)
             }
+            Work::CallerHit => self.look_up_as_caller(rt, map),
             Work::Miss | Work::MissMask | Work::SmallMiss => {
                 self.look_up(rt, map, STEPS, ABSENT)
             }
@@ -131,6 +132,22 @@ impl<D: Keys> Worker<D> {
         for step in first..end {
             let number = keys.below(step.wrapping_mul(7), pairs);
             self.find(rt, map, keys.key(from.wrapping_add(number)));
+        }
+        Ok(())
+    }
+
+    fn look_up_as_caller<R: Wait + Clock, S: BuildHasher>(
+        &mut self,
+        rt: &R,
+        map: &Map<S>,
+    ) -> Result<(), Refused> {
+        let (first, end) = self.share(STEPS);
+        let (keys, pairs) = (self.keys, self.pairs as u64);
+        let mut map = map.caller(rt);
+        for step in first..end {
+            let number = keys.below(step.wrapping_mul(7), pairs);
+            let found = map.get(&keys.key(number));
+            self.count(found.map_or(1, |found| *found.value()));
         }
         Ok(())
     }
