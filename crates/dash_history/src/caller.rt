@@ -132,8 +132,8 @@ impl<
     /// The log, for `gather`. It waits for nobody.
     #[inline]
     pub fn end(self) -> CallerLog<K, V, A>
-        ensures log { result ≡ self.log }
-        ensures caller { result.caller < self.map.callers }
+        ensures log { result ≡ self.entry.log }
+        ensures caller { result.caller < self.entry.map.callers }
     {
         self.log
     }
