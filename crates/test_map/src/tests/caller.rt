@@ -42,7 +42,11 @@ fn pairs_come_and_go(rt: HostRuntime) {
         (map.contains_key(&1), map.contains_key(&2)),
         (true, false),
     );
-    is(&rt, map.view(&1, |key, value| key.wrapping_add(*value)), Some(12));
+    is(
+        &rt,
+        map.view(&1, |key, value| key.wrapping_add(*value)),
+        Some(12),
+    );
     is(&rt, map.remove_if(&1, |_, value| *value == 10), None);
     is(
         &rt,
