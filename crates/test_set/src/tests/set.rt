@@ -192,9 +192,7 @@ fn each_shard_without_keys_is_free(rt: HostRuntime) {
 
 #[test]
 fn a_caller_calls_the_set(rt: HostRuntime) {
-    let set = Places::with_hasher_and_shard_amount(rt.alloc(), PlaceState, 4).expect(
-        &rt, "refused",
-    );
+    let set = Places::with_hasher(rt.alloc(), PlaceState, 1).expect(&rt, "refused");
     let mut set = set.caller(&rt);
     for (key, new) in [(1, true), (5, true), (1, false), (2, true)] {
         is(&rt, set.insert(key), Ok(new));
